@@ -13,8 +13,8 @@ NO_INPUT = 4
 # of a crate: its built library, and what checks of it kept
 RLIB, KEPT = "out/rlib", "out/incremental"
 GIGABYTES = 4
-# seconds that a crate takes on a quiet machine: for itself, for each crate below it, for a line of src/, and to compile a program
-FIRST, BELOW, LINE, COMPILED = 13.5, 2.8, 0.05, 34
+# seconds that a crate takes on a quiet machine: for itself, for a line of src/, for each crate below in a line, and to compile a program
+FIRST, LINE, BELOW, COMPILED = 5, 0.048, 0.0024, 34
 # processor seconds of that for each second: the large crates take two processors, and provers side by side slow one another. A build
 # of all beside other work took 38 minutes and 95 processor minutes, which is more than on a quiet machine
 BUSY = 2.1
@@ -129,7 +129,7 @@ class Build:
     def seconds_for(self, name):
         """Returns about how long the proof of a crate takes on a quiet machine, and for a program its code."""
         below = len(with_below(self.deps, name)) - 1
-        return FIRST + BELOW * below + LINE * self.lines[name] + COMPILED * (name in self.programs)
+        return FIRST + (LINE + BELOW * below) * self.lines[name] + COMPILED * (name in self.programs)
 
     def chain(self, name, seconds):
         """Returns how long a crate and the longest chain of crates above it take, where each takes so many seconds."""

@@ -23,7 +23,7 @@ extern long write(int, const void *, size);
 #define END_OF_ALL 231
 /* where launch finds an unproved program: an installed one lies elsewhere, and has no ./build beside it */
 #define PLACE "/out/unproved/" PROGRAM
-#define LINE PROGRAM ": this program was compiled without proof, and takes about three times as long as the proved one, which ./build makes\n"
+#define LINE PROGRAM ": this program was compiled without proof, and checks each index and sum: the proved one, which ./build makes, is about three times as fast\n"
 
 static int worked_long(void) {
     struct duration worked;

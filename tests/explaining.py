@@ -18,6 +18,11 @@ WARNING = re.compile(
     r"explain: (?:under (\S+): )?(\d+) of (\d+) packets from outside are dropped as no-binding or not-ours\n(?:  .*\n){2}"
 )
 START = 1_700_000_000 * captures.SECOND
+# what who and log say of captures that are not of the configuration's numbers
+OTHER_NUMBERS = (
+    "explain: these captures are of a gateway with other numbers: {} of {} answers from outside do not find here who asked for them "
+    "(--as-napt tells of the run of napt)\n"
+)
 
 
 def packet_of(dice, source, destination):

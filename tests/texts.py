@@ -1,7 +1,7 @@
 """Texts of packets, captures and runs: what tests/runs, tests/followed and tests/calls are written in.
 
 '#' begins a comment; an indented line goes on with the one above it. `511 times ..` is a line so often: '+2' behind an
-address or a number adds 2 to it at each time but the first. `run WORDS` begins a run; what stands above the first such
+address or a number adds 2 to it at each time but the first, and '-2' takes 2 away. `run WORDS` begins a run; what stands above the first such
 line stands at the beginning of each. A packet is
     udp 10.0.0.2:5000 > 198.51.100.7:53
                                  UDP without payload, with lifetime 64, identification 1 and right checksums
@@ -59,7 +59,7 @@ def repeated(line):
     def grown(number, by):
         return str(ipaddress.IPv4Address(number) + by) if "." in number else str(int(number) + by)
 
-    places = re.compile(r"([\d.]+)\+(\d+)")
+    places = re.compile(r"([\d.]+)([+-]\d+)")
     return [places.sub(lambda it: grown(it[1], time * int(it[2])), found[2]) for time in range(int(found[1]))]
 
 

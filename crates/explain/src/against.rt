@@ -95,16 +95,12 @@ impl<'a> Against<'a> {
 
     /// Prints what there is to warn of, and the counts of both runs. Fails with `Differ` if any packet, selected or not,
     /// ended differently.
-    pub fn tell<R: Print + Eprint>(
-        &self,
-        rt: &R,
-        options: &Options<'_>,
-        other_path: &str,
-    ) -> Result<(), Stop> {
+    pub fn tell<R: Print + Eprint>(&self, rt: &R, options: &Options<'_>) -> Result<(), Stop> {
         let path = options.files.config.as_ref();
         let path = path.map_or("the built-in configuration", |path| path.as_str());
         tell_warning(rt, options.outside, Some(path), &self.first.losses);
-        tell_warning(rt, options.outside, Some(other_path), &self.second.losses);
+        let other = options.others.first().map(|path| path.as_str());
+        tell_warning(rt, options.outside, other, &self.second.losses);
         self.tell_counts(rt)?;
         if self.different > 0 {
             return Err(Stop::Differ);

@@ -1,13 +1,11 @@
 //! The blocks of numbers of a configuration's inside hosts (RFC 7422), in CSV.
 
-use crate::digits::address_text;
+use crate::page::Page;
 use crate::stop::Stop;
-use csv::{ErrorKind, Writer, WriterBuilder};
-use napt_config::Config;
+use napt_config::{Address, Config};
 use napt_program::Streams;
-use serde::Serialize;
-use std::alloc::{AllocError, Global};
-use std::io;
+use std::alloc::AllocError;
+use std::fmt::Write;
 
 /// The first number of an address that a block has.
 const FIRST: u32 = 1024;
@@ -15,17 +13,8 @@ const FIRST: u32 = 1024;
 /// How many blocks an address has at most: those of 64 numbers.
 pub const MOST_BLOCKS: u32 = 1008;
 
-/// The names of the fields of the table.
-const HEADER: &[&[u8]] = &[b"host", b"address", b"first", b"last"];
-
-/// A line of the table: the host, its external address, and the first and the last number of its block.
-#[derive(Drop, Serialize)]
-struct Record {
-    host: String,
-    address: String,
-    first: u16,
-    last: u16,
-}
+/// The names of the fields of the table: the host, its external address, and the first and the last number of its block.
+const HEADER: &str = "host,address,first,last\n";
 
 /// Prints the table of all blocks, by the index of the host. A configuration without blocks is reported.
 pub fn tell_blocks<R: Print + Eprint + AllocGlobal>(
@@ -34,65 +23,33 @@ pub fn tell_blocks<R: Print + Eprint + AllocGlobal>(
     config: &Config,
 ) -> Result<(), Stop> {
     let Some(size) = config.block() else {
-        let _ = eprintln!(rt; "explain: --blocks: the configuration has no `block`");
+        let _ = eprintln!(rt; "explain: the configuration has no `block`");
         return Err(Stop::Told(napt_program::Stop::Usage));
     };
     if !streams.output {
         return Err(Stop::NoOutput);
     }
-    let mut setup = WriterBuilder::new();
-    let writer = setup.has_headers(false).from_writer(io::writer(rt));
-    match put_blocks(rt.alloc(), writer, config, size) {
-        Ok(()) => Ok(()),
-        Err(error) => Err(match error.into_kind() {
-            ErrorKind::Io(error) => Stop::Output(error),
-            _ => Stop::from(AllocError),
-        }),
-    }
-}
-
-fn put_blocks<W: io::Write + Drop>(
-    alloc: Global,
-    writer: Writer<W>,
-    config: &Config,
-    size: u16,
-) -> Result<(), csv::Error> {
-    let mut writer = writer;
-    writer.write_fields(HEADER)?;
+    let mut page = Page::new(rt.alloc());
+    page.text.push_str(HEADER)?;
     for nth in 0..MOST_BLOCKS {
         for address in config.pool() {
             let Some(host) = host_of_block(config, size, *address, nth) else {
-                return writer.flush();
+                return page.end(rt);
             };
-            put_block(alloc, &mut writer, config, host)?;
+            add_block(&mut page.text, config, host)?;
+            page.turn(rt)?;
         }
     }
-    writer.flush()
+    page.end(rt)
 }
 
-/// Writes the line of a host, if it has a block.
-fn put_block<W: io::Write + Drop>(
-    alloc: Global,
-    writer: &mut Writer<W>,
-    config: &Config,
-    host: u32,
-) -> Result<(), csv::Error> {
-    match record_of(alloc, config, host).map_err(|_| csv::Error::out_of_memory())? {
-        Some(record) => writer.serialize(alloc, &record),
-        None => Ok(()),
-    }
-}
-
-fn record_of(alloc: Global, config: &Config, host: u32) -> Result<Option<Record>, AllocError> {
+/// Appends the line of a host, if it has a block.
+fn add_block(text: &mut String, config: &Config, host: u32) -> Result<(), AllocError> {
     let Some((first, last)) = numbers_of(config, host) else {
-        return Ok(None);
+        return Ok(());
     };
-    Ok(Some(Record {
-        host: address_text(alloc, host)?,
-        address: address_text(alloc, config.pair(host))?,
-        first,
-        last,
-    }))
+    let address = Address(config.pair(host));
+    writeln!(text, "{},{address},{first},{last}", Address(host))
 }
 
 /// The first and the last number of a host's block.
@@ -113,7 +70,7 @@ pub fn host_of_block(config: &Config, size: u16, address: u32, nth: u32) -> Opti
 pub fn tell_needless<R: Eprint>(rt: &R, config: &Config) {
     if config.block().is_some() {
         let _ = eprintln!(rt;
-            "explain: each host has a block of its own: who had an endpoint needs no log (--who, --blocks)"
+            "explain: each host has a block of its own: who had an endpoint needs no log (explain who, explain blocks)"
         );
     }
 }

@@ -1,6 +1,7 @@
 //! How much captures show: what figures for a plan need and captures may lack.
 
-use napt_account::LoggedStep;
+use crate::warning::begin_warning;
+use napt_account::{Listed, LoggedStep};
 use napt_sequential::{Input, Outcome};
 use napt_wire::{Cause, Side};
 
@@ -15,6 +16,8 @@ pub struct Coverage {
     truncated: u64,
     made: u64,
     ended: u64,
+    /// The longest time from the last packet of a binding to its end, in ns.
+    longest: u64,
     /// The times of the first and the latest packet, in ns.
     first: u64,
     last: u64,
@@ -29,6 +32,7 @@ impl Coverage {
             truncated: 0,
             made: 0,
             ended: 0,
+            longest: 0,
             first: u64::MAX,
             last: 0,
         }
@@ -46,6 +50,7 @@ impl Coverage {
         }
         self.made = self.made.saturating_add(step.made.len() as u64);
         self.ended = self.ended.saturating_add(step.ended.len() as u64);
+        self.end(&step.ended);
         self.first = self.first.min(input.clock);
         self.last = self.last.max(input.clock);
     }
@@ -70,20 +75,34 @@ impl Coverage {
         }
     }
 
-    /// Reports that half of the bindings had not ended at the end. `under` names the configuration, where there are
-    /// several.
-    pub fn tell_living<R: Eprint>(self, rt: &R, under: Option<&str>) {
-        let living = self.made.saturating_sub(self.ended);
-        if living <= self.made / 2 {
+    /// Takes bindings that end, or would if no more packets came.
+    fn end(&mut self, entries: &[Listed]) {
+        for Listed { entry, .. } in entries {
+            let end = u64::try_from(entry.end.unwrap_or(0)).unwrap_or(u64::MAX);
+            self.longest = self.longest.max(end.saturating_sub(entry.last));
+        }
+    }
+
+    /// Reports that half of the bindings had not ended at the end, at which these live, or that the captures are shorter
+    /// than a timer. `under` names the configuration, where there are several.
+    pub fn tell_living<R: Eprint>(mut self, rt: &R, under: Option<&str>, entries: &[Listed]) {
+        self.end(entries);
+        let (living, made) = (self.made.saturating_sub(self.ended), self.made);
+        let span = self.last.saturating_sub(self.first);
+        let is_half = living > made / 2;
+        if !is_half && span >= self.longest {
             return;
         }
-        let _ = match under {
-            Some(path) => eprint!(rt; "explain: under {path}: "),
-            None => eprint!(rt; "explain: "),
+        begin_warning(rt, under);
+        let (span, longest) = (span / SECOND, self.longest / SECOND);
+        let _ = match is_half {
+            true => eprint!(rt;
+                "{living} of {made} bindings have not ended when the captures do, after {span} s"
+            ),
+            false => eprint!(rt;
+                "the captures span {span} s, less than the {longest} s that a binding lives behind its last packet"
+            ),
         };
-        let (made, span) = (self.made, self.last.saturating_sub(self.first) / SECOND);
-        let _ = eprintln!(rt;
-            "{living} of {made} bindings have not ended when the captures do, after {span} s: more at once may come"
-        );
+        let _ = eprintln!(rt; ": more at once may come");
     }
 }

@@ -4,7 +4,6 @@ use crate::blocks::tell_needless;
 use crate::flaws::Flaws;
 use crate::holders::Holders;
 use crate::lines::Line;
-use crate::living::Living;
 use crate::log_file::{LogFile, begin_log};
 use crate::losses::Losses;
 use crate::matched::Unmatched;
@@ -14,12 +13,15 @@ use crate::options::{Choice, Form, Options};
 use crate::page::Page;
 use crate::passed::{Consumer, Passing};
 use crate::progress::Progress;
+use crate::remotes::Remotes;
 use crate::replies::Replies;
 use crate::requests::Asked;
 use crate::sizes::Sizes;
+use crate::sorted::Sorted;
 use crate::stop::Stop;
 use crate::summary::{Bindings, FromOutside, Lines};
-use crate::warning::tell_warning;
+use crate::warning::{tell_astray, tell_warning};
+use crate::who::{Basis, Known};
 use napt_account::{KnownRun, Listed};
 use napt_config::Config;
 use napt_sequential::Input;
@@ -40,6 +42,8 @@ enum Told<'a> {
     /// The answers to requests.
     Holders(Holders<'a>),
     Sizes(Sizes),
+    /// Nothing beside the log.
+    Log,
 }
 
 /// What is asked for of a run, as it goes on. `W` is a file.
@@ -51,6 +55,7 @@ pub struct Explanation<'a, 'b, W> {
     told: Told<'a>,
     log: Option<LogFile<'a, W>>,
     losses: Losses,
+    remotes: Remotes,
     unmatched: Unmatched,
     progress: Progress,
     page: Page,
@@ -65,6 +70,8 @@ struct Ending<'a> {
     config: &'a Config,
     packets: u64,
     last: u64,
+    /// How far packets step back in time, in ns.
+    later: u64,
     /// In the order of the report, if they are to be printed so.
     rows: Vec<Row>,
     living: Vec<Listed>,
@@ -81,10 +88,11 @@ impl<'a> Told<'a> {
     ) -> Result<Told<'a>, AllocError> {
         Ok(match (options.form, options.choice.only) {
             (Form::Objects, _) => Told::Objects,
+            (Form::Log(_), _) => Told::Log,
             (Form::Holders(_) | Form::Requests(_), _) => Told::Holders(Holders::of(alloc, asked)?),
             (Form::Sizes, _) => Told::Sizes(Sizes::of(alloc, config, opening)?),
             (_, Some(number)) => Told::Only(Only::new(number)),
-            (_, None) => Told::Lines(Lines::new(alloc, options.choice)),
+            (_, None) => Told::Lines(Lines::new(options.choice)),
         })
     }
 
@@ -108,6 +116,7 @@ impl<'a> Told<'a> {
             }
             Told::Holders(holders) => holders.take(passing),
             Told::Sizes(sizes) => sizes.take(config, passing),
+            Told::Log => Ok(()),
         }
     }
 
@@ -131,12 +140,13 @@ impl<'a> Told<'a> {
             config,
             packets,
             last,
+            later,
             rows,
             living,
         } = ending;
         match self {
             Told::Lines(lines) => {
-                let living = Living::of(living);
+                let living = Sorted::of(living.iter().map(|it| it.entry).collect(rt.alloc())?)?;
                 let bindings = Bindings {
                     last,
                     rows: &rows,
@@ -145,15 +155,24 @@ impl<'a> Told<'a> {
                 tell_summary(rt, page, &lines, bindings, outside)
             }
             Told::Only(only) => only.tell(rt, page, &living, packets),
-            Told::Objects => Ok(()),
-            Told::Holders(holders) => holders.tell(rt, config, &living, last),
-            Told::Sizes(sizes) => tell_sizes(rt, config, &sizes),
+            Told::Objects | Told::Log => Ok(()),
+            Told::Holders(holders) => {
+                let known = Known {
+                    entries: &[],
+                    last,
+                    later,
+                    config: Some(config),
+                    basis: Basis::Run,
+                };
+                holders.tell(rt, known, &living)
+            }
+            Told::Sizes(sizes) => tell_sizes(rt, config, &sizes, &living),
         }
     }
 }
 
 /// What is asked for of a run under a configuration, before the first packet. The packets from outside may be replies.
-pub fn begin_explanation<'a, 'b, R: Files + Eprint + AllocGlobal>(
+pub fn begin_explanation<'a, 'b, R: Files + Print + Eprint + AllocGlobal>(
     rt: &R,
     options: &'a Options<'a>,
     config: &'a Config,
@@ -163,9 +182,12 @@ pub fn begin_explanation<'a, 'b, R: Files + Eprint + AllocGlobal>(
     let alloc = rt.alloc();
     let running = KnownRun::begin(alloc, config)?;
     let opening = running.living(alloc)?;
-    let log = match options.log {
-        Some(path) => Some(begin_log(rt, path, config, &opening)?),
-        None => None,
+    let log = match options.form {
+        Form::Log(path) => {
+            let is_held = options.is_of_gateway();
+            Some(begin_log(rt, path, is_held, config, &opening)?)
+        }
+        _ => None,
     };
     Ok(Explanation {
         options,
@@ -173,6 +195,7 @@ pub fn begin_explanation<'a, 'b, R: Files + Eprint + AllocGlobal>(
         told: Told::of(alloc, options, asked, config, &opening)?,
         log,
         losses: Losses::new(alloc, config)?,
+        remotes: Remotes::new(alloc),
         unmatched: Unmatched::of(options.choice, &opening),
         progress: Progress::of(rt),
         page: Page::new(alloc),
@@ -184,7 +207,7 @@ pub fn begin_explanation<'a, 'b, R: Files + Eprint + AllocGlobal>(
 
 impl<'a, 'b, W: Write + Drop> Explanation<'a, 'b, W> {
     /// Writes what was told so far.
-    fn write<R: Print + Eprint>(&mut self, rt: &R) -> Result<(), Stop> {
+    fn write<R: Files + Print + Eprint>(&mut self, rt: &R) -> Result<(), Stop> {
         if let Some(log) = &mut self.log {
             log.settle(rt)?;
         }
@@ -192,7 +215,11 @@ impl<'a, 'b, W: Write + Drop> Explanation<'a, 'b, W> {
     }
 
     /// Tells what needs the end, behind all packets.
-    pub fn end<R: Print + Eprint + AllocGlobal>(self, rt: &R, flaws: Flaws) -> Result<(), Stop> {
+    pub fn end<R: Files + Print + Eprint + AllocGlobal>(
+        self,
+        rt: &R,
+        flaws: Flaws,
+    ) -> Result<(), Stop> {
         let Explanation {
             options,
             replies,
@@ -200,6 +227,7 @@ impl<'a, 'b, W: Write + Drop> Explanation<'a, 'b, W> {
             told,
             log,
             losses,
+            remotes,
             unmatched,
             progress,
             page,
@@ -210,6 +238,9 @@ impl<'a, 'b, W: Write + Drop> Explanation<'a, 'b, W> {
         page.end(rt)?;
         progress.tell_end(rt, packets);
         flaws.tell(rt, options.form)?;
+        if options.is_of_gateway() && remotes.are_astray() {
+            return Err(tell_astray(rt, &remotes));
+        }
         tell_warning(rt, options.outside, None, &losses);
         let config = running.config();
         let rows = told.rows_of(rt.alloc(), &running)?;
@@ -220,11 +251,13 @@ impl<'a, 'b, W: Write + Drop> Explanation<'a, 'b, W> {
             config,
             packets,
             last,
+            later: flaws.back.far(),
             rows,
             living,
         };
         let outside = FromOutside {
             losses: &losses,
+            remotes: &remotes,
             replies,
         };
         told.tell(rt, &mut page, ending, outside)
@@ -237,7 +270,7 @@ fn living_after(alloc: Global, run: KnownRun<'_>) -> Result<Vec<Listed>, AllocEr
 }
 
 /// Writes the rows of the bindings that live at the end, if there is a log.
-fn finish_log<R: Eprint, W: Write + Drop>(
+fn finish_log<R: Files + Print + Eprint, W: Write + Drop>(
     rt: &R,
     log: Option<LogFile<'_, W>>,
     config: &Config,
@@ -264,7 +297,8 @@ fn tell_summary<R: Print>(
     page.end(rt)
 }
 
-impl<R: Print + Eprint + AllocGlobal, W: Write + Drop> Consumer<R> for Explanation<'_, '_, W> {
+impl<R: Files + Print + Eprint + AllocGlobal, W: Write + Drop> Consumer<R>
+    for Explanation<'_, '_, W> {
     fn take(&mut self, rt: &R, number: u64, input: &Input) -> Result<(), Stop> {
         let alloc = rt.alloc();
         let config = self.running.config();
@@ -283,6 +317,9 @@ impl<R: Print + Eprint + AllocGlobal, W: Write + Drop> Consumer<R> for Explanati
         self.packets = number;
         self.last = self.last.max(input.clock);
         self.losses.take(config, input, &step.outcome);
+        if self.replies.is_none() {
+            self.remotes.take(passing)?;
+        }
         let line = Line::of(passing, self.replies);
         self.unmatched.take(alloc, line, &step.made)?;
         if let Some(log) = &mut self.log {

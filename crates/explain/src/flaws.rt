@@ -7,7 +7,7 @@ use napt_sequential::Input;
 /// What is printed about a capture that ends inside a record.
 const CUT: &str = "is cut: its last packet is not whole, and is left out";
 
-/// A second, in ns. A shorter step back is not told: a network card with several queues makes such.
+/// A second, in ns. A shorter step back is told only with times: a network card with several queues makes such.
 const SECOND: u64 = 1_000_000_000;
 
 /// What captures show against themselves, once their end is reached.
@@ -23,15 +23,15 @@ pub struct Flaws {
 }
 
 impl Flaws {
-    /// Reports each capture that ends inside a record, whose last packet is left out; on standard error if programs
+    /// Reports each capture that ends inside a record, whose last packet is left out; on standard error unless people
     /// read standard output. A step back in time is always reported there.
     pub fn tell<R: Print + Eprint>(self, rt: &R, form: Form<'_>) -> Result<(), Stop> {
-        self.back.tell(rt);
+        self.back.tell(rt, form);
         for (side, cut) in [("inside", self.inside), (self.holds.name(), self.outside)] {
-            if cut && form.is_for_programs() {
-                let _ = eprintln!(rt; "explain: the capture {side} {CUT}");
-            } else if cut {
+            if cut && form.is_for_people() {
                 println!(rt; "the capture {side} {CUT}")?;
+            } else if cut {
+                let _ = eprintln!(rt; "explain: the capture {side} {CUT}");
             }
         }
         Ok(())
@@ -82,9 +82,14 @@ impl StepBack {
         }
     }
 
-    /// Reports a step of more than a second.
-    fn tell<R: Eprint>(self, rt: &R) {
-        if self.far <= SECOND {
+    /// How far it goes back, in ns; 0 without one.
+    pub fn far(self) -> u64 {
+        self.far
+    }
+
+    /// Reports a step of more than a second; to those who read times any step.
+    fn tell<R: Eprint>(self, rt: &R, form: Form<'_>) {
+        if self.far == 0 || (self.far <= SECOND && !form.has_times()) {
             return;
         }
         let (from, to) = (self.from, self.to);
@@ -92,6 +97,14 @@ impl StepBack {
         let _ = eprintln!(rt;
             "explain: packet {to} is {seconds}.{rest:09} s earlier than packet {from} before it"
         );
+        if form.asks_times() {
+            let _ = eprintln!(rt;
+                "  answers are for that much longer than the time asked, with all who had it then"
+            );
+        }
+        if self.far <= SECOND {
+            return;
+        }
         let _ = eprintln!(rt;
             "  until that time comes again no binding ends: were files joined in the wrong order, or was a clock set?"
         );

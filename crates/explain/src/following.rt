@@ -3,7 +3,7 @@
 ghost use Rattle.std.specs.Prelude.{◌≡◌, ◌-◌, ◌^◌, ◌<◌, OnOk};
 
 use crate::options::Outside;
-use crate::places::{Output, tell_unwritten, unexplained};
+use crate::places::{tell_unwritten, unexplained};
 use crate::replies::Replies;
 use crate::stop::Stop;
 use napt_capture::{Sink, Watched, WriteFault, Written};
@@ -87,7 +87,7 @@ pub fn write_followed<R: Files + Eprint + AllocGlobal>(
     ));
     let mut sink = match made {
         Ok(writer) => Watched::new(writer),
-        Err(error) => return Err(tell_unwritten(rt, Output::Followed, path, &error)),
+        Err(error) => return Err(tell_unwritten(rt, "FILE", path, &error)),
     };
     if put_outside(&mut sink, inputs).is_ok() {
         return Ok(());
@@ -95,8 +95,8 @@ pub fn write_followed<R: Files + Eprint + AllocGlobal>(
     // the device does not keep the system's reason: it is asked again
     let mut writer = sink.into_inner();
     match writer.flush() {
-        Err(error) => Err(tell_unwritten(rt, Output::Followed, path, &error)),
-        Ok(()) => Err(unexplained(rt, Output::Followed, path)),
+        Err(error) => Err(tell_unwritten(rt, "FILE", path, &error)),
+        Ok(()) => Err(unexplained(rt, "FILE", path)),
     }
 }
 

@@ -6,7 +6,6 @@ use crate::stop::Stop;
 use crate::wanted::Wanted;
 use crate::who::{Known, tell_answers};
 use napt_account::{Listed, in_order_of_making};
-use napt_config::Config;
 use std::alloc::{AllocError, Global};
 
 /// What a run says to requests so far: of the bindings that ended, those that are asked about.
@@ -43,22 +42,18 @@ impl<'a> Holders<'a> {
         Ok(())
     }
 
-    /// Prints the answers, once these bindings live at the last packet, at this time. Fails with `Nobody` if a request
-    /// has none.
+    /// Prints the answers, once these bindings live at the last packet. Fails with `Nobody` if a request has none.
     pub fn tell<R: Print + AllocGlobal>(
         mut self,
         rt: &R,
-        config: &Config,
+        known: Known<'_>,
         living: &[Listed],
-        last: u64,
     ) -> Result<(), Stop> {
         self.keep(living)?;
         let entries = in_order_of_making(rt.alloc(), self.ended)?;
         let known = Known {
             entries: &entries,
-            last,
-            config: Some(config),
-            is_run: true,
+            ..known
         };
         tell_answers(rt, self.asked, known)
     }

@@ -2,12 +2,12 @@
 //! `napt_log_text` defines its rows.
 
 use crate::passed::Passing;
-use crate::places::{Output, tell_unwritten};
+use crate::places::tell_unwritten;
 use crate::stop::Stop;
 use napt_account::Listed;
 use napt_config::Config;
 use napt_log_text::{add_living, add_opening, add_told};
-use std::fs::File;
+use std::fs::{self, File};
 use std::io::{self, Write};
 use std::rt::Files;
 
@@ -20,27 +20,42 @@ const LIVING: usize = 256;
 /// A log that is being written.
 #[derive(Drop)]
 pub struct LogFile<'a, W> {
-    path: &'a str,
-    file: W,
+    place: Place<'a, W>,
+    /// Whether no row is written before the end.
+    is_held: bool,
     /// The rows that are not written yet.
     text: String,
 }
 
-/// Creates the file of a log, and begins it: the names of its fields, and the redirects of the run. If that fails, prints
-/// the file and the system's reason.
-pub fn begin_log<'a, R: Files + Eprint + AllocGlobal>(
+/// Where a log is written.
+#[derive(Drop)]
+enum Place<'a, W> {
+    Output,
+    /// The file at this path, once it is whole.
+    Path(&'a str),
+    File(&'a str, W),
+}
+
+/// Begins a log: the names of its fields, and the redirects of the run. Its file, if it is not for standard output, is
+/// created now, or at its end if it is held. If that fails, prints the file and the system's reason.
+pub fn begin_log<'a, R: Files + Print + Eprint + AllocGlobal>(
     rt: &R,
-    path: &'a str,
+    path: Option<&'a str>,
+    is_held: bool,
     config: &Config,
     opening: &[Listed],
 ) -> Result<LogFile<'a, R::File>, Stop> {
-    let file = match File::create(rt, path) {
-        Ok(file) => file,
-        Err(error) => return Err(tell_unwritten(rt, Output::Log, path, &error)),
+    let place = match path {
+        None => Place::Output,
+        Some(path) if is_held => Place::Path(path),
+        Some(path) => match File::create(rt, path) {
+            Ok(file) => Place::File(path, file),
+            Err(error) => return Err(tell_unwritten(rt, "--to", path, &error)),
+        },
     };
     let mut log = LogFile {
-        path,
-        file,
+        place,
+        is_held,
         text: String::new(rt.alloc()),
     };
     add_opening(config, opening, &mut log.text)?;
@@ -50,7 +65,7 @@ pub fn begin_log<'a, R: Files + Eprint + AllocGlobal>(
 
 impl<'a, W: Write> LogFile<'a, W> {
     /// Takes what a packet did.
-    pub fn take<R: Eprint>(
+    pub fn take<R: Files + Print + Eprint>(
         &mut self,
         rt: &R,
         config: &Config,
@@ -61,7 +76,7 @@ impl<'a, W: Write> LogFile<'a, W> {
     }
 
     /// Writes the rows of the bindings that live at the end, and all that is not written yet.
-    pub fn finish<R: Eprint>(
+    pub fn finish<R: Files + Print + Eprint>(
         &mut self,
         rt: &R,
         config: &Config,
@@ -71,11 +86,12 @@ impl<'a, W: Write> LogFile<'a, W> {
             add_living(config, part, &mut self.text)?;
             self.turn(rt)?;
         }
+        self.is_held = false;
         self.settle(rt)
     }
 
     /// Writes the rows if there are enough of them.
-    fn turn<R: Eprint>(&mut self, rt: &R) -> Result<(), Stop> {
+    fn turn<R: Files + Print + Eprint>(&mut self, rt: &R) -> Result<(), Stop> {
         if self.text.len() < BUFFERED {
             return Ok(());
         }
@@ -83,12 +99,26 @@ impl<'a, W: Write> LogFile<'a, W> {
     }
 
     /// Writes the rows and forgets them. If that fails, prints the file and the system's reason.
-    pub fn settle<R: Eprint>(&mut self, rt: &R) -> Result<(), Stop> {
-        let written: io::Result<()> = self.file.write_all(self.text.as_bytes());
+    pub fn settle<R: Files + Print + Eprint>(&mut self, rt: &R) -> Result<(), Stop> {
+        if self.is_held {
+            return Ok(());
+        }
+        let written = self.write(rt);
         self.text.clear();
-        match written {
-            Ok(()) => Ok(()),
-            Err(error) => Err(tell_unwritten(rt, Output::Log, self.path, &error)),
+        match (written, &self.place) {
+            (Ok(()), _) => Ok(()),
+            (Err(error), Place::Output) => Err(Stop::Output(error)),
+            (Err(error), Place::Path(path) | Place::File(path, _)) => {
+                Err(tell_unwritten(rt, "--to", path, &error))
+            }
+        }
+    }
+
+    fn write<R: Files + Print>(&mut self, rt: &R) -> io::Result<()> {
+        match &mut self.place {
+            Place::Output => rt.write_all(self.text.as_bytes()),
+            Place::Path(path) => fs::write(rt, *path, self.text.as_str()),
+            Place::File(_, file) => file.write_all(self.text.as_bytes()),
         }
     }
 }

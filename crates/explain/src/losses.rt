@@ -34,20 +34,6 @@ impl Losses {
         })
     }
 
-    /// Those of a run over the inputs.
-    pub fn of(
-        alloc: Global,
-        config: &Config,
-        inputs: &[Input],
-        outcomes: &[Outcome],
-    ) -> Result<Losses, AllocError> {
-        let mut losses = Losses::new(alloc, config)?;
-        for (input, outcome) in inputs.iter().zip(outcomes) {
-            losses.take(config, input, outcome);
-        }
-        Ok(losses)
-    }
-
     /// Takes the next packet.
     pub fn take(&mut self, config: &Config, input: &Input, outcome: &Outcome) {
         if input.side == Side::Inside {
@@ -86,6 +72,11 @@ impl Losses {
     /// Whether more than a fifth, and more than one, found no binding or were not for the gateway.
     pub fn is_fifth_unmet(&self) -> bool {
         self.unmet() > self.all / 5 && self.unmet() > 1
+    }
+
+    /// Whether more than a fifth, and more than one, found no binding.
+    pub fn is_fifth_unbound(&self) -> bool {
+        self.no_binding > self.all / 5 && self.no_binding > 1
     }
 
     /// Whether more than half were not for the gateway.

@@ -1,13 +1,15 @@
 //! The program `explain`: what a run of `napt` does, for people to read.
 //!
-//! It takes the arguments of `napt`, makes the same run on one thread, and prints one line per packet, the bindings
-//! live at the end, and a summary; on request it also draws a picture of the run. It never writes an output file of
-//! `napt`. If `napt` would refuse a file, `explain` prints why on standard error, and exits with the same status.
+//! Each question is a command. Over captures it makes the run of `napt` on one thread, and tells what is asked: lines,
+//! the log, who had an endpoint, figures, a picture. It takes the arguments of `napt` as they are, but never writes an
+//! output file of `napt`. If `napt` would refuse a file, `explain` prints why on standard error, and exits with the same
+//! status.
 #![tactic(auto)]
 
 mod against;
 mod blocks;
 mod captures;
+mod commands;
 mod counted_run;
 mod coverage;
 mod digits;
@@ -17,7 +19,6 @@ mod flaws;
 mod following;
 mod holders;
 mod lines;
-mod living;
 mod log_file;
 mod losses;
 mod manual;
@@ -55,21 +56,23 @@ mod who;
 mod widths;
 
 use crate::blocks::tell_blocks;
+use crate::commands::Words;
 use crate::manual::{INSTALLED, OWN};
-use crate::options::{Form, Options};
+use crate::options::{Form, Options, options_of};
 use crate::reading::{GivenToLog, Written, configuration, read_given, read_given_to_log};
-use crate::requests::requests_of;
+use crate::requests::{Asked, requests_of};
 use crate::saved::{Saved, read_saved};
 use crate::setting::explain;
 use crate::stop::Stop;
-use crate::who::{Known, tell_answers};
+use crate::who::{Basis, Known, tell_answers};
+use clap::Error;
+use clap::error::ErrorKind;
 use napt_config::Config;
 use napt_program::{Call, Streams};
-use std::env;
 use std::env::Env;
-use std::io::ErrorKind;
 use std::process::ExitCode;
 use std::rt::Files;
+use std::{env, io};
 
 fn main(rt: HostRuntime) -> ExitCode {
     let streams = Streams::open_now(&rt);
@@ -91,48 +94,97 @@ fn called(rt: &HostRuntime, streams: Streams) -> Result<(), Stop> {
     }
 }
 
-/// Does what the command line asks for.
+/// Does what the command line asks for. Help and the version are printed at once; a usage error is printed and returned
+/// as an error.
 fn explained<R: Env + Files + Input + Print + Eprint + AllocGlobal>(
     rt: &R,
     streams: Streams,
     call: Call,
 ) -> Result<(), Stop> {
-    let words = words(rt)?;
-    match options::read(rt, call, &words)? {
-        Some(matches) => explained_under(rt, streams, &options::options_of(rt, call, &matches)?),
-        None => Ok(()),
+    let words = Words::of(rt.alloc(), arguments(rt)?)?;
+    let manual = call.manual(OWN, INSTALLED);
+    if let Some((option, now)) = words.earlier() {
+        let name = manual.name;
+        let _ = eprintln!(rt; "explain: --{option} is a command now: {name} {now}");
+        return Err(Stop::Told(napt_program::Stop::Usage));
+    }
+    let command_line = words.command_line(rt.alloc(), manual)?;
+    let matches = match command_line.try_get_matches_from(&words.list) {
+        Ok(matches) => matches,
+        Err(error) => return told(rt, &error),
+    };
+    match matches.subcommand() {
+        Some((command, given)) => {
+            let options = options_of(rt, call, command, given)?;
+            explained_under(rt, streams, &options)
+        }
+        None => Err(Stop::As(napt_program::Stop::Usage)),
     }
 }
 
 /// The command line's arguments. One that is not UTF-8 is a usage error.
-fn words<R: Env + AllocGlobal>(rt: &R) -> Result<Vec<String>, Stop> {
+fn arguments<R: Env + AllocGlobal>(rt: &R) -> Result<Vec<String>, Stop> {
     match env::args(rt) {
         Ok(args) => Ok(args.collect(rt.alloc())?),
-        Err(error) if error.kind() == ErrorKind::OutOfMemory => {
+        Err(error) if error.kind() == io::ErrorKind::OutOfMemory => {
             Err(Stop::As(napt_program::Stop::LineMemory))
         }
         Err(_) => Err(Stop::As(napt_program::Stop::Usage)),
     }
 }
 
-/// Reads what is named, and prints the run, or what a saved log answers.
+/// Prints the message of `clap`: help and version to standard output, a usage error to standard error.
+fn told<R: Print + Eprint + AllocGlobal>(rt: &R, error: &Error) -> Result<(), Stop> {
+    let text = error.to_string(rt.alloc())?;
+    match error.kind() {
+        ErrorKind::DisplayHelp | ErrorKind::DisplayVersion => {
+            rt.print(text)?;
+            Ok(())
+        }
+        ErrorKind::OutOfMemory => Err(Stop::As(napt_program::Stop::LineMemory)),
+        _ => {
+            let _ = rt.eprint(text);
+            Err(Stop::Told(napt_program::Stop::Usage))
+        }
+    }
+}
+
+/// Does what a command asks for.
 fn explained_under<R: Files + Input + Print + Eprint + AllocGlobal>(
     rt: &R,
     streams: Streams,
     options: &Options<'_>,
 ) -> Result<(), Stop> {
-    if let Some(path) = options.saved {
-        return answered(rt, streams, options, path);
+    if !options.pieces.is_empty() {
+        return answered(rt, streams, options);
     }
-    if let Form::Blocks = options.form {
-        let written = configuration(rt, options)?;
-        return tell_blocks(rt, streams, &written.config);
+    match options.form {
+        Form::Blocks => tell_blocks(rt, streams, &configuration(rt, options)?.config),
+        _ if options.is_of_gateway() && !options.shows_outside() => {
+            told_without_outside(rt, streams, options)
+        }
+        _ => explained_run(rt, streams, options, None),
     }
-    if !options.asks_without_captures() {
-        return explained_run(rt, streams, options, None);
-    }
+}
+
+/// Answers requests from the blocks of a configuration, and from captures if some are named. Without blocks, and for a
+/// log, packets from outside have to show that the captured gateway had the numbers of the run: that is reported.
+fn told_without_outside<R: Files + Input + Print + Eprint + AllocGlobal>(
+    rt: &R,
+    streams: Streams,
+    options: &Options<'_>,
+) -> Result<(), Stop> {
     let written = configuration(rt, options)?;
-    if written.config.block().is_some() {
+    let is_log = matches!(options.form, Form::Log(_));
+    if is_log || written.config.block().is_none() {
+        let command = if is_log { "log" } else { "who" };
+        let _ = eprintln!(rt;
+            "explain: {command} answers for a run that napt makes: give what came from outside too (--outside), so that it \
+can be seen whether the gateway had the same numbers, or say --as-napt"
+        );
+        return Err(Stop::Told(napt_program::Stop::Usage));
+    }
+    if options.is_without_captures() {
         return answered_by_blocks(rt, streams, options, &written.config);
     }
     explained_run(rt, streams, options, Some(written))
@@ -152,13 +204,14 @@ fn answered_by_blocks<R: Files + Input + Print + Eprint + AllocGlobal>(
     let known = Known {
         entries: &[],
         last: 0,
+        later: 0,
         config: Some(config),
-        is_run: false,
+        basis: Basis::Blocks,
     };
     tell_answers(rt, &asked, known)
 }
 
-/// Reads the captures, and the configuration unless it was read, and prints the run.
+/// Reads the captures, and the configuration unless it was read, and tells of the run.
 fn explained_run<R: Files + Input + Print + Eprint + AllocGlobal>(
     rt: &R,
     streams: Streams,
@@ -169,23 +222,38 @@ fn explained_run<R: Files + Input + Print + Eprint + AllocGlobal>(
     explain(rt, streams, options, given)
 }
 
-/// Answers requests from a saved log.
+/// Answers requests from a log.
 fn answered<R: Files + Input + Print + Eprint + AllocGlobal>(
     rt: &R,
     streams: Streams,
     options: &Options<'_>,
-    path: &str,
 ) -> Result<(), Stop> {
-    let GivenToLog { config, asked } = read_given_to_log(rt, options, path)?;
-    let Saved { entries, last } = read_saved(rt, path)?;
+    let GivenToLog { config, asked } = read_given_to_log(rt, options)?;
+    answered_by_log(rt, streams, options, &asked, config.as_ref())
+}
+
+/// The same under a configuration, if it is known.
+fn answered_by_log<R: Files + Input + Print + Eprint + AllocGlobal>(
+    rt: &R,
+    streams: Streams,
+    options: &Options<'_>,
+    asked: &[Asked],
+    config: Option<&Config>,
+) -> Result<(), Stop> {
+    let Saved {
+        entries,
+        first,
+        last,
+    } = read_saved(rt, &options.pieces, config)?;
     if !streams.output {
         return Err(Stop::NoOutput);
     }
     let known = Known {
         entries: &entries,
         last,
-        config: config.as_ref(),
-        is_run: true,
+        later: 0,
+        config,
+        basis: Basis::Log(first.min(last)),
     };
-    tell_answers(rt, &asked, known)
+    tell_answers(rt, asked, known)
 }

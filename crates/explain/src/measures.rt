@@ -9,6 +9,7 @@ use crate::sizes::quotas::Quota;
 use crate::sizes::refusals::Refusals;
 use crate::sizes::spaces::Space;
 use crate::stop::Stop;
+use napt_account::Listed;
 use napt_config::{Address, Config};
 use napt_records::protocol_name;
 
@@ -23,9 +24,10 @@ pub fn tell_sizes<R: Print + Eprint + AllocGlobal>(
     rt: &R,
     config: &Config,
     sizes: &Sizes,
+    living: &[Listed],
 ) -> Result<(), Stop> {
     sizes.coverage.tell(rt);
-    sizes.coverage.tell_living(rt, None);
+    sizes.coverage.tell_living(rt, None, living);
     let (usage, trials) = (&sizes.usage, &sizes.trials);
     for space in &usage.spaces {
         tell_space(rt, space)?;

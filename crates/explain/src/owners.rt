@@ -3,7 +3,7 @@
 use crate::blocks::{MOST_BLOCKS, host_of_block, numbers_of};
 use crate::page::Page;
 use crate::requests::Asked;
-use crate::who::{Known, mark};
+use crate::who::{Basis, Known, mark};
 use napt_account::Party;
 use napt_config::{Address, Config, Redirect};
 use napt_log_text::Request;
@@ -22,12 +22,13 @@ pub fn add_owners(asked: &Asked, known: Known<'_>, page: &mut Page) -> Result<bo
         return Ok(false);
     };
     let text = &mut page.text;
-    let has_redirect = !known.is_run && add_redirects(asked, config, text)?;
+    let is_alone = known.basis == Basis::Blocks;
+    let has_redirect = is_alone && add_redirects(asked, config, text)?;
     let has_host = match asked.endpoint() {
         Some(endpoint) => add_host_of(asked, config, endpoint, text)?,
         None => add_hosts_of(asked, config, size, text)?,
     };
-    if !known.is_run && !has_redirect && !has_host {
+    if is_alone && !has_redirect && !has_host {
         add_nobody(asked, config, text)?;
     }
     Ok(has_redirect || has_host)
@@ -147,7 +148,7 @@ fn add_nobody(asked: &Asked, config: &Config, text: &mut String) -> Result<(), A
 }
 
 /// Appends an address, or an endpoint.
-fn add_party(party: Party, text: &mut String) -> Result<(), AllocError> {
+pub fn add_party(party: Party, text: &mut String) -> Result<(), AllocError> {
     match party.number {
         Some(number) => write!(text, "{}:{number}", Address(party.address)),
         None => write!(text, "{}", Address(party.address)),

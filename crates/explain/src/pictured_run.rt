@@ -1,6 +1,11 @@
 //! What a picture needs of a run.
 
-use napt_account::{Entry, KnownRun, LoggedStep, Use, in_order_of_making};
+use crate::lines::Line;
+use crate::losses::Losses;
+use crate::matched::Unmatched;
+use crate::options::Choice;
+use crate::passed::Passing;
+use napt_account::{Entry, KnownRun, Listed, LoggedStep, Use, in_order_of_making};
 use napt_config::Config;
 use napt_sequential::{Input, Outcome, RunFault};
 use napt_wire::Cause;
@@ -11,8 +16,11 @@ use std::alloc::{AllocError, Global};
 pub struct PicturedRun {
     /// In the order in which the bindings were made.
     pub entries: Vec<Entry>,
-    /// What each packet did.
+    /// What each chosen packet did.
     pub turns: Vec<Turn>,
+    pub losses: Losses,
+    pub unmatched: Unmatched,
+    choice: Choice,
 }
 
 /// What a packet did.
@@ -26,19 +34,60 @@ pub struct Turn {
 }
 
 impl PicturedRun {
-    /// The run over the inputs.
-    pub fn of(alloc: Global, config: &Config, inputs: &[Input]) -> Result<PicturedRun, RunFault> {
+    /// The run over the inputs, of which the packets of a host may be chosen.
+    pub fn of(
+        alloc: Global,
+        config: &Config,
+        inputs: &[Input],
+        choice: Choice,
+    ) -> Result<PicturedRun, RunFault> {
         let mut run = KnownRun::begin(alloc, config)?;
+        let mut pictured = PicturedRun {
+            entries: Vec::new(alloc),
+            turns: Vec::new(alloc),
+            losses: Losses::new(alloc, config)?,
+            unmatched: Unmatched::of(choice, &run.living(alloc)?),
+            choice,
+        };
         let mut ended = Vec::new(alloc);
-        let mut turns = Vec::new(alloc);
+        let mut number = 0u64;
         for input in inputs {
-            let mut step = run.step(alloc, input)?;
-            ended.append(&mut step.ended)?;
-            add_turn(&mut turns, input.clock, &step)?;
+            number = number.saturating_add(1);
+            pictured.take(alloc, &mut run, &mut ended, number, input)?;
         }
         ended.append(&mut run.living(alloc)?)?;
-        let entries = in_order_of_making(alloc, ended)?;
-        Ok(PicturedRun { entries, turns })
+        pictured.entries = in_order_of_making(alloc, ended)?;
+        Ok(pictured)
+    }
+
+    /// Takes the next packet, by its number, from 1, and the bindings that ended.
+    fn take(
+        &mut self,
+        alloc: Global,
+        run: &mut KnownRun<'_>,
+        ended: &mut Vec<Listed>,
+        number: u64,
+        input: &Input,
+    ) -> Result<(), RunFault> {
+        let mut step = run.step(alloc, input)?;
+        self.losses.take(run.config(), input, &step.outcome);
+        ended.append(&mut step.ended)?;
+        let passing = Passing {
+            number,
+            input,
+            step: &step,
+        };
+        if self.notes(alloc, passing)? {
+            add_turn(&mut self.turns, input.clock, &step)?;
+        }
+        Ok(())
+    }
+
+    /// Notes what a packet matches, and returns whether it is chosen.
+    fn notes(&mut self, alloc: Global, passing: Passing<'_>) -> Result<bool, AllocError> {
+        let line = Line::of(passing, None);
+        self.unmatched.take(alloc, line, &passing.step.made)?;
+        line.is_chosen(alloc, self.choice)
     }
 }
 

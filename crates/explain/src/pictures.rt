@@ -1,9 +1,11 @@
 //! The picture of a run.
 
+use crate::options::Options;
 use crate::pictured_run::PicturedRun;
-use crate::places::{Output, tell_unwritten};
-use crate::scene::{Part, Shown, scene_of};
+use crate::places::tell_unwritten;
+use crate::scene::{Shown, scene_of};
 use crate::stop::Stop;
+use crate::warning::tell_warning;
 use napt_config::Config;
 use napt_display::picture::drawing_of;
 use napt_sequential::Input;
@@ -11,26 +13,29 @@ use std::alloc::{AllocError, Global};
 use std::fs;
 use std::rt::Files;
 
-/// Writes the picture of a part of the run over the inputs to a file. If that fails, prints the file and the system's
-/// reason.
+/// Writes the picture of the chosen part of the run over the inputs to a file, and prints what there is to warn of. If
+/// that fails, prints the file and the system's reason.
 pub fn draw<R: Files + Eprint + AllocGlobal>(
     rt: &R,
     path: &str,
-    part: Part,
+    options: &Options<'_>,
     config: &Config,
     inputs: &[Input],
 ) -> Result<(), Stop> {
-    let run = PicturedRun::of(rt.alloc(), config, inputs)?;
+    let run = PicturedRun::of(rt.alloc(), config, inputs, options.choice)?;
+    tell_warning(rt, options.outside, None, &run.losses);
+    run.unmatched.tell(rt);
     let shown = Shown {
         config,
         inputs,
         run: &run,
-        part,
+        part: options.part,
+        host: options.choice.host,
     };
     let text = drawing(rt.alloc(), shown)?;
     match fs::write(rt, path, text.as_str()) {
         Ok(()) => Ok(()),
-        Err(error) => Err(tell_unwritten(rt, Output::Picture, path, &error)),
+        Err(error) => Err(tell_unwritten(rt, "FILE", path, &error)),
     }
 }
 

@@ -1,7 +1,7 @@
 //! Prints why a file of the command line cannot be used. `napt_program` has already decided that it cannot, as for
 //! `napt`.
 
-use crate::options::{Options, Outside};
+use crate::options::Options;
 use crate::stop::Stop;
 use napt_program::{MOST_BYTES, Role, is_same, place_of, unmade};
 use std::fs::File;
@@ -21,27 +21,16 @@ struct Named<'a> {
     path: Option<&'a str>,
 }
 
-/// An output. It must not be a file that an earlier option names.
-#[derive(Clone, Copy)]
-pub enum Output {
-    ToOutside,
-    ToInside,
-    Report,
-    Picture,
-    Log,
-    Followed,
-}
-
 /// Prints why the file of a role cannot be used, and returns how `napt` would stop.
 pub fn tell_file<R: Files + Eprint>(rt: &R, options: &Options<'_>, role: Role) -> Stop {
-    let files = &options.files;
+    let (files, option) = (&options.files, options.option_of(role));
     match role {
         Role::Config | Role::Log => {}
-        Role::Inside => tell_input(rt, "inside", files.inside.as_ref()),
-        Role::Outside => tell_input(rt, options.outside.name(), files.outside.as_ref()),
-        Role::ToOutside => tell_output(rt, options, Output::ToOutside, files.to_outside.as_ref()),
-        Role::ToInside => tell_output(rt, options, Output::ToInside, files.to_inside.as_ref()),
-        Role::Report => tell_output(rt, options, Output::Report, files.report.as_ref()),
+        Role::Inside => tell_input(rt, option, files.inside.as_ref()),
+        Role::Outside => tell_input(rt, option, files.outside.as_ref()),
+        Role::ToOutside => tell_output(rt, options, option, files.to_outside.as_ref()),
+        Role::ToInside => tell_output(rt, options, option, files.to_inside.as_ref()),
+        Role::Report => tell_output(rt, options, option, files.report.as_ref()),
     }
     Stop::Told(napt_program::Stop::File(role))
 }
@@ -64,46 +53,38 @@ fn stream_of(role: Role) -> &'static str {
     }
 }
 
-/// Prints that an option is `-` and another has the standard stream, and returns how `napt` would stop.
-pub fn tell_shared<R: Eprint>(rt: &R, option: &str, role: Role) -> Stop {
+/// Prints that a file is `-` and another has the standard stream, and returns how `napt` would stop. `name` names it.
+pub fn tell_shared<R: Eprint>(rt: &R, name: &str, role: Role) -> Stop {
     let stream = stream_of(role);
-    let _ = eprintln!(rt; "explain: --{option} -: another file is {stream} too");
+    let _ = eprintln!(rt; "explain: {name} -: another file is {stream} too");
     Stop::Told(napt_program::Stop::File(role))
 }
 
-/// Refuses a file that `explain` is to write if another option already names it, or if it cannot be created, and prints
-/// why.
-pub fn refuse_output<R: Files + Eprint>(
-    rt: &R,
-    options: &Options<'_>,
-    output: Output,
-    path: Option<&str>,
-) -> Result<(), Stop> {
-    let Some(path) = path else {
+/// Refuses the file that `explain` is to write, if there is one, where it is read too or cannot be created, and prints why.
+pub fn refuse_written<R: Files + Eprint>(rt: &R, options: &Options<'_>) -> Result<(), Stop> {
+    let Some((name, path)) = options.form.written() else {
         return Ok(());
     };
-    let option = option_of(output);
-    match named_again(rt, options, output, path) {
-        _ if path == "-" => tell_again(rt, option, path, "standard output"),
-        Some(name) => tell_again(rt, option, path, name),
+    match named_again(rt, options, name, path) {
+        _ if path == "-" => tell_again(rt, name, path, "standard output"),
+        Some(other) => tell_again(rt, name, path, other),
         None => match unmade(rt, path) {
-            Some(error) => tell_failed(rt, option, path, &error),
+            Some(error) => tell_failed(rt, name, path, &error),
             None => return Ok(()),
         },
     }
     Err(unwritten())
 }
 
-/// Prints that a file of `explain` cannot be written, with the system's reason, and returns how the program stops.
-pub fn tell_unwritten<R: Eprint>(rt: &R, output: Output, path: &str, error: &io::Error) -> Stop {
-    tell_failed(rt, option_of(output), path, error);
+/// Prints that the file that `explain` writes fails, with the system's reason, and returns how the program stops.
+pub fn tell_unwritten<R: Eprint>(rt: &R, name: &str, path: &str, error: &io::Error) -> Stop {
+    tell_failed(rt, name, path, error);
     unwritten()
 }
 
 /// The same where the system gives no reason.
-pub fn unexplained<R: Eprint>(rt: &R, output: Output, path: &str) -> Stop {
-    let option = option_of(output);
-    let _ = eprintln!(rt; "explain: --{option} {path}: it cannot be written whole");
+pub fn unexplained<R: Eprint>(rt: &R, name: &str, path: &str) -> Stop {
+    let _ = eprintln!(rt; "explain: {name} {path}: it cannot be written whole");
     unwritten()
 }
 
@@ -112,19 +93,19 @@ fn unwritten() -> Stop {
     Stop::Told(napt_program::Stop::File(Role::Report))
 }
 
-/// Prints that a file of an option failed, with the system's reason.
-fn tell_failed<R: Eprint>(rt: &R, option: &str, path: &str, error: &io::Error) {
-    let _ = eprintln!(rt; "explain: --{option} {path}: {error}");
+/// Prints that a file failed, with what names it and the system's reason.
+fn tell_failed<R: Eprint>(rt: &R, name: &str, path: &str, error: &io::Error) {
+    let _ = eprintln!(rt; "explain: {name} {path}: {error}");
 }
 
 /// Prints why a configuration file cannot be used (it is missing, cannot be read, or is too long), and returns how
 /// `napt` would stop.
-pub fn tell_config<R: Files + Eprint>(rt: &R, option: &str, path: &str) -> Stop {
+pub fn tell_config<R: Files + Eprint>(rt: &R, name: &str, path: &str) -> Stop {
     match failure_of_reading(rt, path) {
-        Some(error) => tell_failed(rt, option, path, &error),
+        Some(error) => tell_failed(rt, name, path, &error),
         None => {
             let _ = eprintln!(rt;
-                "explain: --{option} {path}: it cannot be read, or has more than {MOST_BYTES} bytes"
+                "explain: {name} {path}: it cannot be read, or has more than {MOST_BYTES} bytes"
             );
         }
     }
@@ -163,51 +144,39 @@ fn tell_input<R: Files + Eprint>(rt: &R, option: &str, path: Option<&String>) {
 fn tell_output<R: Files + Eprint>(
     rt: &R,
     options: &Options<'_>,
-    output: Output,
+    option: &str,
     path: Option<&String>,
 ) {
     let Some(path) = path else {
         return;
     };
-    let option = option_of(output);
-    if let Some(name) = named_again(rt, options, output, path) {
-        tell_again(rt, option, path, name);
+    if let Some(other) = named_again(rt, options, option, path) {
+        tell_again(rt, option, path, other);
     } else if let Some(error) = unmade(rt, path) {
         tell_failed(rt, option, path, &error);
     }
 }
 
 /// Prints what else names the file of an output.
-fn tell_again<R: Eprint>(rt: &R, option: &str, path: &str, name: &str) {
-    let _ = eprintln!(rt; "explain: --{option} {path}: it is the file of {name}");
+fn tell_again<R: Eprint>(rt: &R, name: &str, path: &str, other: &str) {
+    let _ = eprintln!(rt; "explain: {name} {path}: it is the file of {other}");
 }
 
-fn option_of(output: Output) -> &'static str {
-    match output {
-        Output::ToOutside => "to-outside",
-        Output::ToInside => "to-inside",
-        Output::Report => "report",
-        Output::Picture => "svg",
-        Output::Log => "log",
-        Output::Followed => "followed",
-    }
-}
-
-/// What else names the file of an output, among all that come before it.
+/// What else names the file of an output, among all files before it. `name` names the output.
 ///
 /// Files are compared by what they are (`napt_program::is_same`), so another spelling of the path, or a link, is the
 /// same file.
 fn named_again<R: Files>(
     rt: &R,
     options: &Options<'_>,
-    output: Output,
+    name: &str,
     path: &str,
 ) -> Option<&'static str> {
     let place = place_of(rt, standing(path, OUTPUT));
-    let all = all_named(options, output);
+    let all = all_named(options);
     let again = all
         .iter()
-        .take(before(output))
+        .take_while(|named| named.name != name)
         .find(|named| match named.path {
             Some(other) => is_same(place, place_of(rt, other)),
             None => false,
@@ -215,52 +184,19 @@ fn named_again<R: Files>(
     again.map(|named| named.name)
 }
 
-/// How many files of `all_named` come before an output.
-fn before(output: Output) -> usize {
-    match output {
-        Output::ToOutside => 5,
-        Output::ToInside => 6,
-        Output::Report => 7,
-        Output::Picture => 8,
-        Output::Log => 9,
-        Output::Followed => 10,
-    }
-}
-
-/// All named files, in the order of the options. For those that only `explain` writes, standard output always counts.
-fn all_named<'a>(options: &'a Options<'_>, output: Output) -> [Named<'a>; 10] {
+/// The files of the options of `napt`, in their order.
+fn all_named<'a>(options: &'a Options<'_>) -> [Named<'a>; 8] {
     let files = &options.files;
-    let has_input = files.inside.is_none();
-    let has_output = files.to_outside.is_none() || before(output) >= before(Output::Picture);
     [
         option_file("--config", files.config.as_ref(), INPUT),
         option_file("--inside", files.inside.as_ref(), INPUT),
-        stream_file("standard input", INPUT, has_input),
-        option_file(
-            outside_option(options.outside),
-            files.outside.as_ref(),
-            INPUT,
-        ),
-        stream_file("standard output", OUTPUT, has_output),
+        stream_file("standard input", INPUT, files.inside.is_none()),
+        option_file(options.outside.option(), files.outside.as_ref(), INPUT),
+        stream_file("standard output", OUTPUT, files.to_outside.is_none()),
         option_file("--to-outside", files.to_outside.as_ref(), OUTPUT),
         option_file("--to-inside", files.to_inside.as_ref(), OUTPUT),
         option_file("--report", files.report.as_ref(), OUTPUT),
-        Named {
-            name: "--svg",
-            path: options.svg,
-        },
-        Named {
-            name: "--log",
-            path: options.log,
-        },
     ]
-}
-
-fn outside_option(outside: Outside) -> &'static str {
-    match outside {
-        Outside::Packets => "--outside",
-        Outside::Replies => "--replies",
-    }
 }
 
 /// The path of a file, or of the standard stream for `-`.

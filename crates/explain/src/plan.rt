@@ -56,14 +56,14 @@ impl<'a> Plans<'a> {
             run.coverage.tell(rt);
         }
         let mut lines = Vec::new(rt.alloc());
-        for (path, run) in options.plans.iter().zip(&self.runs) {
+        for (path, run) in options.others.iter().zip(&self.runs) {
             tell_warning(rt, options.outside, Some(path), &run.losses);
-            run.coverage.tell_living(rt, Some(path));
+            run.tell_living(rt, path)?;
             lines.push(run.figures(rt.alloc())?)?;
         }
         match options.form {
-            Form::PlansInCsv => write_sheet(rt, &options.plans, &lines)?,
-            _ => tell_table(rt, &options.plans, &lines)?,
+            Form::PlansInCsv => write_sheet(rt, &options.others, &lines)?,
+            _ => tell_table(rt, &options.others, &lines)?,
         }
         if lines.iter().all(|figures| figures.to_outside == 0) {
             return Err(Stop::Nothing);

@@ -1,7 +1,7 @@
 //! Reads the configurations and opens the captures as `napt` does, and explains what it refuses.
 
-use crate::options::{Form, Options};
-use crate::places::{Output, refuse_output, tell_closed, tell_config, tell_file, tell_shared};
+use crate::options::Options;
+use crate::places::{refuse_written, tell_closed, tell_config, tell_file, tell_shared};
 use crate::refused;
 use crate::requests::{Asked, requests_of};
 use crate::stop::Stop;
@@ -20,10 +20,8 @@ const BUILT_IN_PREFIXES: &str = "10.0.0.0/8 172.16.0.0/12 192.168.0.0/16";
 #[derive(Drop)]
 pub struct Given<S, F> {
     pub written: Written,
-    /// The configuration to compare with.
-    pub other: Option<Config>,
-    /// The configurations of a plan.
-    pub plans: Vec<Config>,
+    /// The configurations of a plan, or the one to compare with.
+    pub others: Vec<Config>,
     pub asked: Vec<Asked>,
     pub files: InputFiles<S, F>,
 }
@@ -53,16 +51,14 @@ pub fn read_given<R: Files + Input + Eprint + AllocGlobal>(
         Some(written) => written,
         None => configuration(rt, options)?,
     };
-    let other = other_configuration(rt, options)?;
-    let plans = plans(rt, options)?;
+    let others = other_configurations(rt, options)?;
     let asked = requests_of(rt, options.form)?;
     let files = explain_file(rt, options, open_inputs(rt, &options.files))?;
     explain_file(rt, options, refuse_unmade(rt, &options.files))?;
-    refuse_outputs(rt, options)?;
+    refuse_written(rt, options)?;
     Ok(Given {
         written,
-        other,
-        plans,
+        others,
         asked,
         files,
     })
@@ -73,11 +69,10 @@ pub fn read_given<R: Files + Input + Eprint + AllocGlobal>(
 pub fn read_given_to_log<R: Files + Input + Eprint + AllocGlobal>(
     rt: &R,
     options: &Options<'_>,
-    path: &str,
 ) -> Result<GivenToLog, Stop> {
-    refuse_shared_with_log(rt, options, path)?;
+    refuse_shared_with_log(rt, options)?;
     let config = match &options.files.config {
-        Some(path) => Some(configuration_at(rt, "config", path)?),
+        Some(path) => Some(configuration_at(rt, "--config", path)?),
         None => None,
     };
     let asked = requests_of(rt, options.form)?;
@@ -87,37 +82,26 @@ pub fn read_given_to_log<R: Files + Input + Eprint + AllocGlobal>(
 /// Refuses the first option that wants a standard stream which another has, and prints why.
 fn refuse_shared<R: Eprint>(rt: &R, options: &Options<'_>) -> Result<(), Stop> {
     if let Some(role) = options.files.standard_again() {
-        return Err(tell_shared(rt, options.name_of(role), role));
+        return Err(tell_shared(rt, options.option_of(role), role));
     }
     let most = if options.takes_input() { 0 } else { 1 };
     if options.more_from_input() > most {
-        let name = options.form.name_of_configurations();
-        return Err(tell_shared(rt, name, Role::Config));
+        return Err(tell_shared(rt, options.form.name_of_read(), Role::Config));
     }
     Ok(())
 }
 
-/// Refuses a saved log from standard input if the configuration or the requests come from it too, and prints why.
-fn refuse_shared_with_log<R: Eprint>(
-    rt: &R,
-    options: &Options<'_>,
-    path: &str,
-) -> Result<(), Stop> {
-    let taken = options.files.is_stream(Role::Config) || options.more_from_input() > 0;
-    if path == "-" && taken {
-        return Err(tell_shared(rt, "saved-log", Role::Config));
-    }
-    if options.files.is_stream(Role::Config) && options.more_from_input() > 0 {
-        return Err(tell_shared(rt, "requests", Role::Config));
+/// Refuses standard input for more than one of the configuration, the requests and the pieces of a log, and prints why.
+fn refuse_shared_with_log<R: Eprint>(rt: &R, options: &Options<'_>) -> Result<(), Stop> {
+    let most = if options.files.is_stream(Role::Config) {
+        0
+    } else {
+        1
+    };
+    if options.more_from_input() > most {
+        return Err(tell_shared(rt, "--from-log", Role::Config));
     }
     Ok(())
-}
-
-/// Refuses the first file that `explain` is to write and cannot, and prints why.
-fn refuse_outputs<R: Files + Eprint>(rt: &R, options: &Options<'_>) -> Result<(), Stop> {
-    refuse_output(rt, options, Output::Picture, options.svg)?;
-    refuse_output(rt, options, Output::Log, options.log)?;
-    refuse_output(rt, options, Output::Followed, options.followed)
 }
 
 /// What was opened. If a file was refused, prints why.
@@ -156,7 +140,7 @@ pub fn configuration<R: Files + Input + Eprint + AllocGlobal>(
     options: &Options<'_>,
 ) -> Result<Written, Stop> {
     if let Some(path) = &options.files.config {
-        return written_at(rt, "config", path);
+        return written_at(rt, "--config", path);
     }
     match Config::built_in(rt.alloc()) {
         Ok(config) => Ok(Written { config, text: None }),
@@ -164,47 +148,36 @@ pub fn configuration<R: Files + Input + Eprint + AllocGlobal>(
     }
 }
 
-/// The configuration to compare with, if there is one.
-fn other_configuration<R: Files + Input + Eprint + AllocGlobal>(
-    rt: &R,
-    options: &Options<'_>,
-) -> Result<Option<Config>, Stop> {
-    match options.form {
-        Form::Differences(path) => Ok(Some(configuration_at(rt, "against", path)?)),
-        _ => Ok(None),
-    }
-}
-
-/// The configurations of a plan. The first refusal is explained.
-fn plans<R: Files + Input + Eprint + AllocGlobal>(
+/// The configurations beside the one of the captures. The first refusal is explained.
+fn other_configurations<R: Files + Input + Eprint + AllocGlobal>(
     rt: &R,
     options: &Options<'_>,
 ) -> Result<Vec<Config>, Stop> {
-    let mut plans = Vec::new(rt.alloc());
-    for path in &options.plans {
-        plans.push(configuration_at(rt, "plan", path)?)?;
+    let mut others = Vec::new(rt.alloc());
+    for path in &options.others {
+        others.push(configuration_at(rt, "FILE", path)?)?;
     }
-    Ok(plans)
+    Ok(others)
 }
 
-/// The configuration in the file that an option names. A refusal is explained.
+/// The configuration in a file, with what names it. A refusal is explained.
 fn configuration_at<R: Files + Input + Eprint + AllocGlobal>(
     rt: &R,
-    option: &str,
+    name: &str,
     path: &str,
 ) -> Result<Config, Stop> {
-    Ok(written_at(rt, option, path)?.config)
+    Ok(written_at(rt, name, path)?.config)
 }
 
 /// The same with its text.
 fn written_at<R: Files + Input + Eprint + AllocGlobal>(
     rt: &R,
-    option: &str,
+    name: &str,
     path: &str,
 ) -> Result<Written, Stop> {
     let text = match configuration_text(rt, path) {
         Ok(text) => text,
-        Err(napt_program::Stop::File(_)) => return Err(tell_config(rt, option, path)),
+        Err(napt_program::Stop::File(_)) => return Err(tell_config(rt, name, path)),
         Err(stop) => return Err(Stop::As(stop)),
     };
     let fault = match Config::read(rt.alloc(), &text) {

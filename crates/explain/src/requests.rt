@@ -8,7 +8,6 @@ use crate::stop::Stop;
 use napt_log_text::Request;
 use napt_records::protocol_name;
 use napt_wire::{Endpoint, Protocol};
-use std::alloc::{AllocError, Global};
 use std::rt::Files;
 use std::str;
 
@@ -33,20 +32,15 @@ impl Asked {
             number: party.number?,
         })
     }
-}
 
-/// What a file of requests holds.
-enum Lines {
-    Requests(Vec<Asked>),
-    Wrong(Wrong),
-}
-
-/// The first line that is no request.
-#[derive(Clone, Copy)]
-struct Wrong {
-    /// Its number, from 1.
-    line: u64,
-    why: &'static str,
+    /// The same about a time that ends so much later, in ns, if it is about one.
+    pub fn until_later(&self, by: u64) -> Asked {
+        let mut asked = *self;
+        if let Some(span) = &mut asked.request.at {
+            span.until = span.until.saturating_add(u128::from(by));
+        }
+        asked
+    }
 }
 
 /// The requests of a form, none if it has none. A file that cannot be read, or a line of it that is no request, is
@@ -73,47 +67,38 @@ fn requests_at<R: Files + Input + Eprint + AllocGlobal>(
 ) -> Result<Vec<Asked>, Stop> {
     let text = match configuration_text(rt, path) {
         Ok(text) => text,
-        Err(napt_program::Stop::File(_)) => return Err(tell_config(rt, "requests", path)),
+        Err(napt_program::Stop::File(_)) => return Err(tell_config(rt, "--requests", path)),
         Err(stop) => return Err(Stop::As(stop)),
     };
-    match lines_of(rt.alloc(), &text)? {
-        Lines::Requests(asked) => Ok(asked),
-        Lines::Wrong(Wrong { line, why }) => {
-            let _ = eprintln!(rt; "explain: --requests {path}: line {line}: {why}");
-            Err(Stop::Told(napt_program::Stop::Usage))
-        }
-    }
-}
-
-/// The requests of a text, one a line. Lines without a word are left out.
-fn lines_of(alloc: Global, text: &[u8]) -> Result<Lines, AllocError> {
-    let text = match str::from_utf8(text) {
-        Ok(text) => text,
+    let lines = match str::from_utf8(&text) {
+        Ok(lines) => lines,
         Err(error) => {
-            let line = line_at(text, error.valid_up_to());
-            return Ok(Lines::Wrong(Wrong { line, why: WANTED }));
+            let line = line_at(&text, error.valid_up_to());
+            return Err(tell_wrong(rt, path, line, WANTED));
         }
     };
-    let mut asked = Vec::new(alloc);
-    let mut number = 0u64;
-    for line in text.lines() {
-        number = number.saturating_add(1);
+    let mut asked = Vec::new(rt.alloc());
+    for (place, line) in lines.lines().enumerate() {
+        let number = (place as u64).saturating_add(1);
+        // a line without a word is left out
         if line.trim().is_empty() {
             continue;
         }
-        let request = match request_of(line) {
-            Ok(request) => request,
-            Err(no_time) => {
-                let why = no_time.words(WANTED);
-                return Ok(Lines::Wrong(Wrong { line: number, why }));
-            }
-        };
-        asked.push(Asked {
-            line: Some(number),
-            request,
-        })?;
+        match request_of(line) {
+            Ok(request) => asked.push(Asked {
+                line: Some(number),
+                request,
+            })?,
+            Err(no_time) => return Err(tell_wrong(rt, path, number, no_time.words(WANTED))),
+        }
     }
-    Ok(Lines::Requests(asked))
+    Ok(asked)
+}
+
+/// Prints which line of a file is no request, and why, and returns how the program stops.
+fn tell_wrong<R: Eprint>(rt: &R, path: &str, line: u64, why: &str) -> Stop {
+    let _ = eprintln!(rt; "explain: --requests {path}: line {line}: {why}");
+    Stop::Told(napt_program::Stop::Usage)
 }
 
 /// The number of the line that a byte of a text is in.

@@ -1,13 +1,16 @@
-//! A log that `--log` wrote, read again. docs/FORMATS.md describes the order of its rows; `napt_log_text` reads each.
+//! A log that `log` wrote, read again. docs/FORMATS.md describes the order of its rows; `napt_log_text` reads each.
 
 use crate::places::tell_config;
 use crate::stop::Stop;
 use napt_account::Entry;
-use napt_log_text::{NO_TIME, SavedBinding, SavedRow, header};
+use napt_config::{Address, Config};
+use napt_log_text::{SavedFault, SavedField, SavedLog, SavedRow};
 use napt_program::open_config;
+use napt_records::EndpointText;
+use napt_rules::Row;
 use std::alloc::{AllocFailed, Global};
 use std::io;
-use std::io::{BufRead, BufReader, ErrorKind, Read};
+use std::io::{BufReader, ErrorKind, Read};
 use std::rt::Files;
 
 /// What a saved log says of bindings.
@@ -15,14 +18,15 @@ use std::rt::Files;
 pub struct Saved {
     /// One for each binding, in the order in which they were made, without its counts and its last use.
     pub entries: Vec<Entry>,
-    /// The time of the last event.
+    /// The time at which the first binding is made, redirects not counted, and that of the last event, in ns.
+    pub first: u64,
     pub last: u64,
 }
 
 /// Why a log is refused.
 #[derive(Drop)]
 struct Refused {
-    /// The row, from 1, the names of the fields.
+    /// The row of its piece, from 1.
     row: u64,
     fault: Fault,
 }
@@ -30,147 +34,221 @@ struct Refused {
 /// What is wrong with a row.
 #[derive(Drop)]
 enum Fault {
-    Memory,
-    Unread(io::Error),
-    /// What was expected in which field.
-    Wrong(&'static str),
+    Saved(SavedFault),
+    /// The binding is outside of its host's block.
+    Elsewhere(Row),
 }
 
-impl From<io::Error> for Fault {
-    fn from(error: io::Error) -> Fault {
-        match error.kind() {
-            ErrorKind::OutOfMemory => Fault::Memory,
-            ErrorKind::InvalidData => Fault::Wrong("expected text in UTF-8"),
-            _ => Fault::Unread(error),
-        }
+impl From<SavedFault> for Fault {
+    fn from(fault: SavedFault) -> Fault {
+        Fault::Saved(fault)
     }
 }
 
 impl<T: Drop> From<AllocFailed<T>> for Fault {
     fn from(_refused: AllocFailed<T>) -> Fault {
-        Fault::Memory
+        Fault::Saved(SavedFault::Unread(io::Error::from(ErrorKind::OutOfMemory)))
     }
 }
 
-/// Reads the log at a path. Why it is refused is reported, and that its last row breaks off: that row is left out.
+/// Reads the log whose pieces have these paths, in their order. Why it is refused is reported, and that the last row of a
+/// piece breaks off: that row is left out.
 pub fn read_saved<R: Files + Input + Eprint + AllocGlobal>(
     rt: &R,
-    path: &str,
+    paths: &[String],
+    config: Option<&Config>,
 ) -> Result<Saved, Stop> {
-    let device = match open_config(rt, path) {
-        Ok(device) => device,
-        Err(napt_program::Stop::File(_)) => return Err(tell_config(rt, "saved-log", path)),
-        Err(stop) => return Err(Stop::As(stop)),
-    };
     let mut saved = Saved {
         entries: Vec::new(rt.alloc()),
+        first: u64::MAX,
         last: 0,
     };
-    match saved.read(rt.alloc(), device) {
-        Ok(None) => Ok(saved),
-        Ok(Some(row)) => {
-            let _ = eprintln!(rt;
-                "explain: --saved-log {path}: row {row}: it breaks off, and is left out"
-            );
-            Ok(saved)
-        }
-        Err(refused) => Err(tell_refused(rt, path, &refused)),
+    for (nth, path) in paths.iter().enumerate() {
+        let piece = Piece {
+            path,
+            is_first: nth == 0,
+            config,
+        };
+        piece.read(rt, &mut saved)?;
     }
+    Ok(saved)
 }
 
-/// Prints why a log is refused, and returns how the program stops.
-fn tell_refused<R: Eprint>(rt: &R, path: &str, refused: &Refused) -> Stop {
-    let row = refused.row;
-    match &refused.fault {
-        Fault::Memory => Stop::As(napt_program::MEMORY),
-        Fault::Unread(error) => {
-            let _ = eprintln!(rt; "explain: --saved-log {path}: row {row}: {error}");
-            Stop::Log
-        }
-        Fault::Wrong(why) => {
-            let _ = eprintln!(rt; "explain: --saved-log {path}: row {row}: {why}");
-            Stop::Log
-        }
-    }
+/// A piece of a log.
+#[derive(Clone, Copy)]
+struct Piece<'p, 'c> {
+    path: &'p str,
+    /// Whether it has to begin with the names of the fields.
+    is_first: bool,
+    /// The configuration of the run, if it is known.
+    config: Option<&'c Config>,
 }
 
-const NO_NAMES: &str = "expected the names of the fields, as --log writes them";
+impl Piece<'_, '_> {
+    fn read<R: Files + Input + Eprint + AllocGlobal>(
+        self,
+        rt: &R,
+        saved: &mut Saved,
+    ) -> Result<(), Stop> {
+        let path = self.path;
+        let device = match open_config(rt, path) {
+            Ok(device) => device,
+            Err(napt_program::Stop::File(_)) => return Err(tell_config(rt, "--from-log", path)),
+            Err(stop) => return Err(Stop::As(stop)),
+        };
+        match self.add_to(saved, rt.alloc(), device) {
+            Ok(()) => Ok(()),
+            Err(refused) => tell_refused(rt, path, &refused),
+        }
+    }
 
-const NO_BINDING: &str = "binding: no row above makes it, or it has ended";
-
-impl Saved {
-    /// Takes the rows of a log. Returns the number of the last one, from 1, if it has no end of a line: it is not taken.
-    fn read<D: Read + Drop>(&mut self, alloc: Global, device: D) -> Result<Option<u64>, Refused> {
-        let mut reader = match BufReader::new(alloc, device) {
-            Ok(reader) => reader,
-            Err(error) => return Err(Refused {
+    /// Adds the rows that a device has, up to one that is refused.
+    fn add_to<D: Read + Drop>(
+        self,
+        saved: &mut Saved,
+        alloc: Global,
+        device: D,
+    ) -> Result<(), Refused> {
+        let opened = match BufReader::new(alloc, device) {
+            Ok(reader) if self.is_first => SavedLog::open(alloc, reader),
+            Ok(reader) => Ok(SavedLog::piece(alloc, reader)),
+            Err(error) => Err(SavedFault::Unread(error)),
+        };
+        let mut log = match opened {
+            Ok(log) => log,
+            Err(fault) => return Err(Refused {
                 row: 1,
-                fault: Fault::from(error),
+                fault: Fault::Saved(fault),
             }),
         };
-        let mut line = String::new(alloc);
-        for row in 1..u64::MAX {
-            line.clear();
-            let taken = match reader.read_line(&mut line) {
-                Ok(_) if row == 1 && line.as_str() == header() => Ok(()),
-                Ok(_) if row == 1 => Err(Fault::Wrong(NO_NAMES)),
-                Ok(0) => return Ok(None),
-                Ok(_) => match line.strip_suffix('\n') {
-                    Some(text) => self.take(text),
-                    None => return Ok(Some(row)),
-                },
-                Err(error) => Err(Fault::from(error)),
+        let first = if self.is_first { 2 } else { 1 };
+        for row in first..u64::MAX {
+            let taken = match log.next() {
+                _ if row == 1 && log.is_at_names() => Ok(()),
+                Ok(Some(read)) => self.add_row(saved, &read),
+                Ok(None) => return Ok(()),
+                Err(fault) => Err(Fault::Saved(fault)),
             };
             if let Err(fault) = taken {
                 return Err(Refused { row, fault });
             }
         }
-        Ok(None)
+        Ok(())
     }
 
-    /// Takes a row behind the names.
-    fn take(&mut self, text: &str) -> Result<(), Fault> {
-        match SavedRow::read(text) {
-            Ok(SavedRow::Made(made)) => self.make(made),
-            Ok(SavedRow::Ended(ended)) => {
-                let at = self.time_of(ended.time)?;
-                self.end(ended, u128::from(at))
+    /// Adds a row behind the names.
+    fn add_row(self, saved: &mut Saved, row: &SavedRow) -> Result<(), Fault> {
+        match saved.take(row)? {
+            Some(made) if self.is_elsewhere(&made) => Err(Fault::Elsewhere(made)),
+            _ => Ok(()),
+        }
+    }
+
+    /// Whether a binding, no redirect, is outside of its host's block in the configuration.
+    fn is_elsewhere(self, binding: &Row) -> bool {
+        let Some(config) = self.config else {
+            return false;
+        };
+        let external = binding.external;
+        config.block().is_some()
+            && !binding.fixed
+            && config.host_of(external.address, external.number) != Some(binding.inside.address)
+    }
+}
+
+/// Prints why a log is refused or its last row left out. Of the former it returns how the program stops.
+fn tell_refused<R: Eprint>(rt: &R, path: &str, refused: &Refused) -> Result<(), Stop> {
+    let row = refused.row;
+    let why = match &refused.fault {
+        Fault::Saved(SavedFault::Unread(error)) => match error.kind() {
+            ErrorKind::OutOfMemory => return Err(Stop::As(napt_program::MEMORY)),
+            ErrorKind::InvalidData => "expected text in UTF-8",
+            _ => {
+                let _ = eprintln!(rt; "explain: --from-log {path}: row {row}: {error}");
+                return Err(Stop::Log);
             }
-            Ok(SavedRow::Living(living)) => self.live_on(living),
-            Ok(SavedRow::Refused(time)) => {
-                self.time_of(time)?;
-                Ok(())
+        },
+        Fault::Saved(SavedFault::Wrong(why)) => *why,
+        Fault::Saved(SavedFault::Torn) => {
+            let _ = eprintln!(rt;
+                "explain: --from-log {path}: row {row}: it breaks off, and is left out"
+            );
+            return Ok(());
+        }
+        Fault::Elsewhere(binding) => {
+            let (host, external) = (Address(binding.inside.address), binding.external);
+            let _ = eprintln!(rt;
+                "explain: --from-log {path}: row {row}: {host} has other numbers in the configuration than {}: \
+this is the log of another",
+                EndpointText(external)
+            );
+            return Err(Stop::Log);
+        }
+    };
+    let _ = eprintln!(rt; "explain: --from-log {path}: row {row}: {why}");
+    Err(Stop::Log)
+}
+
+const NO_TIME: &str = "observationTimeNanoseconds: expected a number";
+
+const NO_BINDING: &str = "binding: no row above makes it, or it has ended";
+
+impl Saved {
+    /// Takes a row behind the names. Returns the binding that it makes, if it makes one.
+    fn take(&mut self, row: &SavedRow) -> Result<Option<Row>, Fault> {
+        match row.event {
+            SavedField::Number(8) => {
+                let binding = binding_of(row)?;
+                self.make(row, binding)?;
+                Ok(Some(binding))
             }
-            Err(why) => Err(Fault::Wrong(why)),
+            SavedField::Number(9) => {
+                let binding = binding_of(row)?;
+                let at = self.time_of(row.time)?;
+                self.end(row.number, binding, u128::from(at))?;
+                Ok(None)
+            }
+            SavedField::Number(12 | 13) => {
+                self.time_of(row.time)?;
+                Ok(None)
+            }
+            SavedField::Empty => {
+                self.live_on(row, binding_of(row)?)?;
+                Ok(None)
+            }
+            _ => Err(wrong("natEvent: expected 8, 9, 12, 13 or nothing")),
         }
     }
 
     /// The time of an event, which is no earlier than those above.
-    fn time_of(&mut self, time: Option<u128>) -> Result<u64, Fault> {
-        let time = time.ok_or(Fault::Wrong(NO_TIME))?;
+    fn time_of(&mut self, time: SavedField) -> Result<u64, Fault> {
+        let SavedField::Number(time) = time else {
+            return Err(wrong(NO_TIME));
+        };
         match u64::try_from(time) {
             Ok(at) if at >= self.last => {
                 self.last = at;
                 Ok(at)
             }
-            Ok(_) => Err(Fault::Wrong(
-                "observationTimeNanoseconds: it is earlier than in a row above",
-            )),
-            Err(_) => Err(Fault::Wrong(NO_TIME)),
+            Ok(_) => Err(wrong("observationTimeNanoseconds: it is earlier than in a row above")),
+            Err(_) => Err(wrong(NO_TIME)),
         }
     }
 
     /// Begins the entry of a binding.
-    fn make(&mut self, saved: SavedBinding) -> Result<(), Fault> {
-        let made = self.time_of(saved.time)?;
-        let next = (self.entries.len() as u64).saturating_add(1);
-        if saved.number != Some(next) {
-            return Err(Fault::Wrong(
+    fn make(&mut self, row: &SavedRow, binding: Row) -> Result<(), Fault> {
+        let made = self.time_of(row.time)?;
+        let next = (self.entries.len() as u128).saturating_add(1);
+        if row.number != SavedField::Number(next) {
+            return Err(wrong(
                 "binding: expected the number behind that of the binding made before",
             ));
         }
+        if !binding.fixed {
+            self.first = self.first.min(made);
+        }
         self.entries.push(Entry {
-            binding: saved.binding,
+            binding,
             made,
             end: None,
             sent: 0,
@@ -183,38 +261,49 @@ impl Saved {
 
     /// Takes a binding that lives at the end of the log, with the time at which it ends if no packet comes. A redirect
     /// never does.
-    fn live_on(&mut self, saved: SavedBinding) -> Result<(), Fault> {
-        if let Some(end) = saved.time {
-            return self.end(saved, end);
-        }
-        if !saved.binding.fixed {
-            return Err(Fault::Wrong(NO_TIME));
-        }
-        match self.entry_of(saved) {
-            Some(_) => Ok(()),
-            None => Err(Fault::Wrong(NO_BINDING)),
+    fn live_on(&mut self, row: &SavedRow, binding: Row) -> Result<(), Fault> {
+        match row.time {
+            SavedField::Number(end) => self.end(row.number, binding, end),
+            SavedField::Empty if binding.fixed => match self.entry_of(row.number, binding) {
+                Some(_) => Ok(()),
+                None => Err(wrong(NO_BINDING)),
+            },
+            _ => Err(wrong(NO_TIME)),
         }
     }
 
     /// Ends the entry of a binding.
-    fn end(&mut self, saved: SavedBinding, end: u128) -> Result<(), Fault> {
-        match self.entry_of(saved) {
-            Some(entry) if entry.end.is_none() && !saved.binding.fixed => {
+    fn end(&mut self, number: SavedField, binding: Row, end: u128) -> Result<(), Fault> {
+        match self.entry_of(number, binding) {
+            Some(entry) if entry.end.is_none() && !binding.fixed => {
                 entry.end = Some(end);
                 Ok(())
             }
-            _ => Err(Fault::Wrong(NO_BINDING)),
+            _ => Err(wrong(NO_BINDING)),
         }
     }
 
     /// The entry of a binding, if a row above made it.
-    fn entry_of(&mut self, saved: SavedBinding) -> Option<&mut Entry> {
-        let place = usize::try_from(saved.number?.checked_sub(1)?).ok()?;
+    fn entry_of(&mut self, number: SavedField, binding: Row) -> Option<&mut Entry> {
+        let SavedField::Number(number) = number else {
+            return None;
+        };
+        let place = usize::try_from(number.checked_sub(1)?).ok()?;
         let entry = self.entries.get_mut(place)?;
-        if entry.binding == saved.binding {
+        if entry.binding == binding {
             Some(entry)
         } else {
             None
         }
     }
+}
+
+/// The binding of a row.
+fn binding_of(row: &SavedRow) -> Result<Row, Fault> {
+    row.binding().map_err(wrong)
+}
+
+/// The fault of a row that is none of a log: what was expected.
+fn wrong(why: &'static str) -> Fault {
+    Fault::Saved(SavedFault::Wrong(why))
 }

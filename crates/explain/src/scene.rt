@@ -1,9 +1,10 @@
 //! What the picture of a run shows, in the words of the printed lines.
 
+use crate::lines::has_party;
 use crate::names::Seconds;
 use crate::pictured_run::{PicturedRun, Turn};
 use jiff::Timestamp;
-use napt_account::Entry;
+use napt_account::{Entry, Party};
 use napt_config::{Address, Config};
 use napt_display::picture::{Binding, BindingKind, MOST_BARS, Pass, Scene};
 use napt_records::{EndpointText, cause_name, protocol_name};
@@ -19,6 +20,8 @@ pub struct Shown<'a> {
     pub inputs: &'a [Input],
     pub run: &'a PicturedRun,
     pub part: Part,
+    /// Only the bindings of this host or endpoint are shown.
+    pub host: Option<Party>,
 }
 
 /// The part of a run that a picture shows, in ns since the first packet.
@@ -41,13 +44,13 @@ impl<'a> Shown<'a> {
         since.map(|since| self.zero().saturating_add(since))
     }
 
-    /// How many packets came in the part shown.
+    /// How many of the chosen packets came in the part shown.
     fn packets(self) -> usize {
         let from = self.moment(self.part.from).unwrap_or(0);
         let until = self.moment(self.part.until).unwrap_or(u64::MAX);
-        let inputs = self.inputs.iter();
-        inputs
-            .filter(|input| from <= input.clock && input.clock <= until)
+        let turns = self.run.turns.iter();
+        turns
+            .filter(|turn| from <= turn.clock && turn.clock <= until)
             .count()
     }
 
@@ -57,7 +60,7 @@ impl<'a> Shown<'a> {
         entries.filter(|entry| self.has(*entry)).count()
     }
 
-    /// Whether a binding is live in the part shown; a redirect always is.
+    /// Whether a binding is chosen, and live in the part shown; a redirect always is.
     fn has(self, entry: &Entry) -> bool {
         let begins = self
             .moment(self.part.until)
@@ -65,7 +68,7 @@ impl<'a> Shown<'a> {
         let ends = self
             .moment(self.part.from)
             .is_none_or(|from| from < end_of(entry));
-        entry.binding.fixed || (begins && ends)
+        has_party(&entry.binding, self.host) && (entry.binding.fixed || (begins && ends))
     }
 
     /// Whether few enough bindings are shown for each to have a bar.
@@ -139,7 +142,7 @@ fn add_bindings(
 ) -> Result<(), AllocError> {
     let has_bars = shown.has_bars();
     for entry in &shown.run.entries {
-        let mut binding = binding_of(alloc, shown.config, entry);
+        let mut binding = binding_of(alloc, shown, entry);
         if has_bars && shown.has(entry) {
             binding.label = label_of(alloc, entry)?;
             binding.title = title_of(alloc, entry, &binding.label, shown.zero())?;
@@ -149,11 +152,11 @@ fn add_bindings(
     Ok(())
 }
 
-/// A binding without label and title.
-fn binding_of(alloc: Global, config: &Config, entry: &Entry) -> Binding {
-    let lane = match config.pool_index(entry.binding.external.address) {
-        Some(lane) => lane as usize,
-        None => usize::MAX,
+/// A binding without label and title; without a lane if it is not chosen.
+fn binding_of(alloc: Global, shown: Shown<'_>, entry: &Entry) -> Binding {
+    let lane = match shown.config.pool_index(entry.binding.external.address) {
+        Some(lane) if has_party(&entry.binding, shown.host) => lane as usize,
+        _ => usize::MAX,
     };
     Binding {
         kind: kind_of(entry),

@@ -2,6 +2,7 @@
 
 use crate::against::Against;
 use crate::captures::{Begun, Captures, Opened, Refusing};
+use crate::counted_run::CountedRun;
 use crate::explanation::begin_explanation;
 use crate::following::write_followed;
 use crate::options::{Form, Options, Outside};
@@ -12,6 +13,7 @@ use crate::reading::{Given, Written};
 use crate::replies::ends_of;
 use crate::requests::Asked;
 use crate::stop::Stop;
+use crate::warning::tell_warning;
 use napt_capture::{NoPackets, Source, Watched};
 use napt_config::Config;
 use napt_program::{InputFiles, Streams};
@@ -27,10 +29,7 @@ pub struct Setting<'a> {
     streams: Streams,
     options: &'a Options<'a>,
     written: &'a Written,
-    /// The configuration to compare with.
-    other: Option<&'a Config>,
-    /// The configurations of a plan.
-    plans: &'a [Config],
+    others: &'a [Config],
     asked: &'a [Asked],
 }
 
@@ -46,8 +45,7 @@ where
 {
     let Given {
         written,
-        other,
-        plans,
+        others,
         asked,
         files,
     } = given;
@@ -55,8 +53,7 @@ where
         streams,
         options,
         written: &written,
-        other: other.as_ref(),
-        plans: &plans,
+        others: &others,
         asked: &asked,
     };
     setting.read(rt, files)
@@ -132,22 +129,21 @@ impl<'a> Setting<'a> {
         if !self.streams.output {
             return Err(Stop::NoOutput);
         }
-        match (self.options.form, self.other) {
-            (Form::Differences(path), Some(other)) => {
-                self.explain_against(rt, captures, path, other)
-            }
+        match (self.options.form, self.others.first()) {
+            (Form::Differences, Some(other)) => self.explain_against(rt, captures, other),
             (Form::Plans | Form::PlansInCsv, _) => self.explain_plans(rt, captures),
-            _ if self.options.keeps_packets() => self.explain_kept(rt, captures),
+            (Form::Picture(path), _) => self.draw(rt, captures, path),
+            (Form::Followed(path), _) => self.follow(rt, captures, path),
+            _ if self.options.outside.follows() => self.explain_replies(rt, captures),
             _ => self.explain_passing(rt, captures),
         }
     }
 
-    /// Explains what ends differently under the configuration at a path.
+    /// Explains what ends differently under another configuration.
     fn explain_against<R: Print + Eprint + AllocGlobal, A: Source, B: Source>(
         self,
         rt: &R,
         captures: &mut Captures<'_, '_, '_, A, B>,
-        path: &str,
         other: &'a Config,
     ) -> Result<(), Stop> {
         let options = self.options;
@@ -160,7 +156,7 @@ impl<'a> Setting<'a> {
             captures.hand_over(rt, &mut against)?;
         }
         captures.flaws().tell(rt, options.form)?;
-        against.tell(rt, options, path)
+        against.tell(rt, options)
     }
 
     /// Explains the runs of a plan.
@@ -170,7 +166,7 @@ impl<'a> Setting<'a> {
         captures: &mut Captures<'_, '_, '_, A, B>,
     ) -> Result<(), Stop> {
         let options = self.options;
-        let mut plans = Plans::begin(rt.alloc(), self.plans)?;
+        let mut plans = Plans::begin(rt.alloc(), self.others)?;
         if options.outside.follows() {
             let inputs = captures.all(rt)?;
             plans.follow(rt.alloc(), options.outside, &inputs)?;
@@ -198,8 +194,49 @@ impl<'a> Setting<'a> {
         explanation.end(rt, captures.flaws())
     }
 
-    /// Explains the packets once all are there, for what needs all of them: a picture, and replies that follow.
-    fn explain_kept<R: Files + Print + Eprint + AllocGlobal, A: Source, B: Source>(
+    /// Draws the run, once all packets are there.
+    fn draw<R: Files + Print + Eprint + AllocGlobal, A: Source, B: Source>(
+        self,
+        rt: &R,
+        captures: &mut Captures<'_, '_, '_, A, B>,
+        path: &str,
+    ) -> Result<(), Stop> {
+        let (options, config) = (self.options, &self.written.config);
+        let inputs = self.inputs(rt, captures)?;
+        captures.flaws().tell(rt, options.form)?;
+        draw(rt, path, options, config, &inputs)
+    }
+
+    /// Writes the outside capture that replies make, once all packets are there, and prints what there is to warn of.
+    fn follow<R: Files + Print + Eprint + AllocGlobal, A: Source, B: Source>(
+        self,
+        rt: &R,
+        captures: &mut Captures<'_, '_, '_, A, B>,
+        path: &str,
+    ) -> Result<(), Stop> {
+        let inputs = self.inputs(rt, captures)?;
+        captures.flaws().tell(rt, self.options.form)?;
+        let mut run = CountedRun::begin(rt.alloc(), &self.written.config)?;
+        for input in &inputs {
+            run.step(rt.alloc(), input)?;
+        }
+        tell_warning(rt, self.options.outside, None, &run.losses);
+        write_followed(rt, path, &inputs)
+    }
+
+    /// All packets, as the run gets them.
+    fn inputs<R: Eprint + AllocGlobal, A: Source, B: Source>(
+        self,
+        rt: &R,
+        captures: &mut Captures<'_, '_, '_, A, B>,
+    ) -> Result<Vec<Input>, Stop> {
+        let (outside, config) = (self.options.outside, &self.written.config);
+        let inputs = captures.all(rt)?;
+        Ok(outside.inputs_under(rt.alloc(), config, inputs)?)
+    }
+
+    /// Explains packets of which replies follow the run, once all are there.
+    fn explain_replies<R: Files + Print + Eprint + AllocGlobal, A: Source, B: Source>(
         self,
         rt: &R,
         captures: &mut Captures<'_, '_, '_, A, B>,
@@ -208,12 +245,6 @@ impl<'a> Setting<'a> {
         let mut inputs = captures.all(rt)?;
         let ends = named_ends(rt.alloc(), options, &mut inputs)?;
         let inputs = options.outside.inputs_under(rt.alloc(), config, inputs)?;
-        if let Some(path) = options.followed {
-            write_followed(rt, path, &inputs)?;
-        }
-        if let Some(path) = options.svg {
-            draw(rt, path, options.part, config, &inputs)?;
-        }
         let replies = options.outside.replies(config, &ends);
         let mut explanation = begin_explanation(rt, options, config, self.asked, replies)?;
         take_all(rt, &inputs, &mut explanation)?;

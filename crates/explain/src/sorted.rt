@@ -1,18 +1,18 @@
-//! The entries of a log by their external endpoints, for many requests.
+//! The entries of bindings by their external endpoints.
 
 use napt_account::Entry;
-use napt_wire::Endpoint;
+use napt_wire::{Endpoint, Protocol};
 use std::alloc::{AllocError, Global};
 
-/// Entries in the order of their external endpoints; those of one endpoint in the order in which they were made.
+/// Entries in the order of their external endpoints; those of one are in the order in which they were given.
 #[derive(Drop)]
 pub struct Sorted {
     entries: Vec<Entry>,
 }
 
 impl Sorted {
-    pub fn of(alloc: Global, entries: &[Entry]) -> Result<Sorted, AllocError> {
-        let mut entries: Vec<Entry> = entries.iter().copied().collect(alloc)?;
+    pub fn of(entries: Vec<Entry>) -> Result<Sorted, AllocError> {
+        let mut entries = entries;
         // the sort is stable: those of one endpoint keep their order
         entries.sort_by_key(|entry| place_of(entry.binding.external))?;
         Ok(Sorted { entries })
@@ -28,6 +28,13 @@ impl Sorted {
             .entries
             .partition_point(|entry| place_of(entry.binding.external) <= place);
         self.entries.get(begin..end).unwrap_or(&[])
+    }
+
+    /// The first of an external endpoint and a protocol.
+    pub fn entry_of(&self, protocol: Protocol, external: Endpoint) -> Option<&Entry> {
+        self.at(external)
+            .iter()
+            .find(|entry| entry.binding.protocol == protocol)
     }
 }
 

@@ -24,18 +24,21 @@ pub enum Stop {
     Nobody,
     /// No packet of a plan leaves for the outside.
     Nothing,
+    /// The captures are of a gateway that had other numbers, which was already printed.
+    Others,
     /// A saved log is refused, for a reason that was already printed.
     Log,
 }
 
 impl Stop {
     /// The exit status: that of `napt`; 6 if standard output fails, as for a file; 4 if a saved log is refused, as for a
-    /// capture; 1 if packets differ, if nobody had an endpoint asked about, or if nothing leaves that a plan could count.
+    /// capture; 7 if captures are of a gateway with other numbers; 1 if packets differ, if nobody had an endpoint asked about, or if nothing leaves that a plan could count.
     pub fn status(&self) -> u8 {
         match self {
             Stop::Told(stop) | Stop::As(stop) => stop_status(stop),
             Stop::NoOutput | Stop::Output(_) => 6,
             Stop::Log => 4,
+            Stop::Others => 7,
             Stop::Differ | Stop::Nobody | Stop::Nothing => 1,
         }
     }
@@ -43,7 +46,12 @@ impl Stop {
     /// Prints the reason, unless it was already printed, or is that nobody reads on.
     pub fn tell<R: Eprint>(&self, rt: &R) {
         let _ = match self {
-            Stop::Told(_) | Stop::Differ | Stop::Nobody | Stop::Nothing | Stop::Log => Ok(()),
+            Stop::Told(_)
+            | Stop::Differ
+            | Stop::Nobody
+            | Stop::Nothing
+            | Stop::Others
+            | Stop::Log => Ok(()),
             Stop::As(stop) => eprintln!(rt; "explain: {stop}"),
             // as of a program that the pipe's end stops
             Stop::Output(error) if error.kind() == ErrorKind::BrokenPipe => Ok(()),

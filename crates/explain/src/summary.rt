@@ -3,13 +3,13 @@
 use crate::digits::add_seconds;
 use crate::ended::{add_binding, add_end};
 use crate::lines::{Line, has_party};
-use crate::living::Living;
 use crate::losses::Losses;
 use crate::names::Seconds;
 use crate::options::Choice;
 use crate::page::Page;
 use crate::remotes::Remotes;
 use crate::replies::{Replies, advice_of_replies};
+use crate::sorted::Sorted;
 use crate::stop::Stop;
 use crate::widths::Widths;
 use napt_account::{Entry, Listed};
@@ -31,7 +31,6 @@ pub struct Lines {
     choice: Choice,
     widths: Widths,
     counts: Counts,
-    remotes: Remotes,
 }
 
 /// The live bindings at the last packet's time, in ns.
@@ -39,24 +38,24 @@ pub struct Lines {
 pub struct Bindings<'a> {
     pub last: u64,
     pub rows: &'a [Row],
-    pub living: &'a Living,
+    pub living: &'a Sorted,
 }
 
 /// What became of the packets from outside, and whether they are replies.
 #[derive(Clone, Copy)]
 pub struct FromOutside<'a> {
     pub losses: &'a Losses,
+    pub remotes: &'a Remotes,
     pub replies: Option<Replies<'a>>,
 }
 
 impl Lines {
     /// Before the first packet.
-    pub fn new(alloc: Global, choice: Choice) -> Lines {
+    pub fn new(choice: Choice) -> Lines {
         Lines {
             choice,
             widths: Widths::new(),
             counts: Counts::new(),
-            remotes: Remotes::new(alloc),
         }
     }
 
@@ -70,9 +69,6 @@ impl Lines {
         ended: &[Listed],
     ) -> Result<(), AllocError> {
         self.counts.count(line.outcome);
-        if line.replies.is_none() {
-            self.remotes.take(line.input, line.outcome)?;
-        }
         self.widths.take(line.number, line.input);
         for listed in ended {
             if self.has_chosen(&listed.entry) {
@@ -157,7 +153,7 @@ impl Lines {
     ) -> Result<(), AllocError> {
         let is_answered = outside.replies.is_none()
             && matches!(cause, Cause::NoBinding | Cause::NotOurs)
-            && self.remotes.are_answers();
+            && outside.remotes.are_answers();
         if is_answered {
             writeln!(text, "    many packets end so: {OTHER_NUMBERS}")?;
         }

@@ -2,29 +2,33 @@
 
 use crate::losses::Losses;
 use crate::options::Outside;
-
-/// Whether there is something to warn of.
-pub fn has_warning(outside: Outside, losses: &Losses) -> bool {
-    match outside {
-        Outside::Packets => losses.is_fifth_unmet(),
-        Outside::Replies => losses.is_half_not_ours(),
-    }
-}
+use crate::remotes::Remotes;
+use crate::stop::Stop;
 
 /// Prints that many packets from outside were dropped, what that says of the captures, and what to do. `under` names the
 /// configuration, where there are several.
 pub fn tell_warning<R: Eprint>(rt: &R, outside: Outside, under: Option<&str>, losses: &Losses) {
-    if !has_warning(outside, losses) {
+    let tell = match outside {
+        Outside::Packets => losses.is_fifth_unmet(),
+        Outside::Replies => losses.is_half_not_ours() || losses.is_fifth_unbound(),
+    };
+    if !tell {
         return;
     }
+    begin_warning(rt, under);
+    match outside {
+        Outside::Packets => tell_unmet(rt, losses),
+        Outside::Replies if losses.is_half_not_ours() => tell_not_ours(rt, losses),
+        Outside::Replies => tell_unbound(rt, losses),
+    }
+}
+
+/// Begins a warning, under a configuration where there are several.
+pub fn begin_warning<R: Eprint>(rt: &R, under: Option<&str>) {
     let _ = match under {
         Some(path) => eprint!(rt; "explain: under {path}: "),
         None => eprint!(rt; "explain: "),
     };
-    match outside {
-        Outside::Packets => tell_unmet(rt, losses),
-        Outside::Replies => tell_not_ours(rt, losses),
-    }
 }
 
 fn tell_unmet<R: Eprint>(rt: &R, losses: &Losses) {
@@ -45,4 +49,22 @@ fn tell_not_ours<R: Eprint>(rt: &R, losses: &Losses) {
     let _ = eprintln!(rt;
         "{not_ours} of {all} replies are not to an inside host: is this an outside capture? (--outside)"
     );
+}
+
+fn tell_unbound<R: Eprint>(rt: &R, losses: &Losses) {
+    let (no_binding, all) = (losses.no_binding, losses.all);
+    let _ = eprintln!(rt;
+        "{no_binding} of {all} replies find no binding: are they of the same time and hosts as the inside capture?"
+    );
+}
+
+/// Prints that the captured gateway had other numbers than the run has, so that this tells nothing of it, and returns how
+/// the program stops.
+pub fn tell_astray<R: Eprint>(rt: &R, remotes: &Remotes) -> Stop {
+    let (astray, answers) = (remotes.astray, remotes.answers);
+    let _ = eprintln!(rt;
+        "explain: these captures are of a gateway with other numbers: {astray} of {answers} answers from outside do not \
+find here who asked for them (--as-napt tells of the run of napt)"
+    );
+    Stop::Others
 }

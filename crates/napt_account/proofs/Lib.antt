@@ -15,3 +15,4 @@ pub mod MadeLegs
 pub mod LoggedRuns
 pub mod Numbers
 pub mod OpenEntries
+pub mod TraceLogs

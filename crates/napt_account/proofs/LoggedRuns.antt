@@ -11,6 +11,7 @@ use Rattle.napt_account.specs.declared.log.Entry.{Entry}
 use Rattle.napt_account.specs.declared.log.Shortage.{Shortage}
 use Rattle.napt_account.specs.Book.{after_trace, lost_by, use_by_trace, uses_told}
 use Rattle.napt_account.specs.Log.{begun, log_of}
+use Rattle.napt_account.specs.TraceLogs.{entries_after}
 use Rattle.napt_account.specs.Uses.{uses_of}
 use Rattle.napt_account.proofs.Attribution.{retold}
 use Rattle.napt_account.proofs.Books.{fold_joined, uses_more}
@@ -46,7 +47,7 @@ module _ (rules : Rules) (keeps : KeepsRules rules) (opens : OpeningIsSound) whe
 
   -- what the traces tell is the log
 
-  entries_told : (inputs : List Arrival) →
+  pub entries_told : (inputs : List Arrival) →
       (log_of rules inputs).entries ≡ fold after_trace first (traces rules inputs)
   entries_told inputs = (log_is rules inputs).0 ∙ sym (retold rules keeps opens inputs).entries_are
 
@@ -72,10 +73,9 @@ module _ (rules : Rules) (keeps : KeepsRules rules) (opens : OpeningIsSound) whe
         ∙ (ap (flat_map lost_by) (sym more) ∙ sym (shortages_told (before ++ input ∷ [])))))
 
     pub uses_next : uses_of rules (before ++ input ∷ [])
-        ≡ uses_of rules before ++ use_by_trace (log_of rules before).entries trace ∷ []
+        ≡ uses_of rules before ++ use_by_trace (entries_after rules (traces rules before)) trace ∷ []
     uses_next = uses_are_told (before ++ input ∷ [])
         ∙ (ap (uses_told first) more
         ∙ (uses_more first (traces rules before) trace
-        ∙ (ap (λ (us : List Use). us ++ use_by_trace (fold after_trace first (traces rules before)) trace ∷ [])
-        (sym (uses_are_told before))
-        ∙ ap (λ (es : List Entry). uses_of rules before ++ use_by_trace es trace ∷ []) (sym (entries_told before)))))
+        ∙ ap (λ (us : List Use). us ++ use_by_trace (entries_after rules (traces rules before)) trace ∷ [])
+        (sym (uses_are_told before))))

@@ -2,8 +2,6 @@
 use Rattle.std.specs.Prelude.{ℕ, ◌^◌, ◌≤◌, Bool, List, length, map}
 use Rattle.napt_config.specs.Rules.{Rules}
 use Rattle.napt_rules.specs.Prelude.{Arrival}
-use Rattle.napt_account.specs.Telling.{Told}
-use Rattle.napt_account.specs.declared.logged_run.LoggedStep.{LoggedStep}
 use Rattle.napt_sequential.specs.declared.fault.RunFault.{RunFault}
 use Rattle.napt_sequential.specs.declared.fault.RunFault.TheVariants as reasons
 
@@ -22,7 +20,3 @@ IsOfInputs inputs (reasons.Pool fault) = ⊥
 -- the inputs of a record of what it took
 abbrev pub inputs_in : List (ℕ × Arrival) → List Arrival
 inputs_in past = map (λ taken. taken.1) past
-
--- what a step tells
-abbrev pub told_of : LoggedStep → Told
-told_of step = record { ended = step.ended.items; made = step.made.items; refused = step.refused.items }

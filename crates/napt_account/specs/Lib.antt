@@ -10,3 +10,5 @@ pub mod Questions
 pub mod Telling
 pub mod Uses
 pub use Rattle.napt_rules.specs.Prelude
+pub mod TraceLogs
+pub mod KnownLogs

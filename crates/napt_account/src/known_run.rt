@@ -3,7 +3,8 @@
 ghost use Rattle.std.specs.Prelude.{◌≡◌, ◌↔◌, ◌+◌, ◌^◌, ◌≤◌, ◌++◌, [], ◌∷◌, length, OnOk, Err, IfErr, IfOk, false};
 ghost use Rattle.napt_account.specs.Telling.{living_of, told_by};
 ghost use Rattle.napt_rules.specs.Sequential as model;
-ghost use Rattle.napt_account.specs.KnownRuns.{IsOfInputs, told_of};
+ghost use Rattle.napt_account.specs.KnownRuns.{IsOfInputs};
+ghost use Rattle.napt_account.specs.LoggedRuns.{told_of};
 
 use crate::log::Listed;
 use crate::logged_run::{LoggedRun, LoggedStep};

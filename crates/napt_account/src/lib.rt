@@ -3,15 +3,18 @@
 #![tactic(auto)]
 
 mod account;
+mod known_log;
 mod known_run;
 mod legs;
 mod log;
 mod logged_run;
 mod open_entries;
 mod question;
+mod trace_log;
 mod uses;
 
 pub use crate::account::{Note, Use};
+pub use crate::known_log::KnownLog;
 pub use crate::known_run::KnownRun;
 pub use crate::log::{
     Entry, Listed, Shortage, ended_entries_stay, in_order_of_making, log_attributes,
@@ -19,3 +22,4 @@ pub use crate::log::{
 };
 pub use crate::logged_run::{LoggedRun, LoggedStep};
 pub use crate::question::Party;
+pub use crate::trace_log::{LoggedTrace, traces_tell_the_log};

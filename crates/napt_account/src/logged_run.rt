@@ -9,18 +9,18 @@ ghost use Rattle.napt_account.specs.Telling.{living_of};
 
 use crate::account::Use;
 use crate::log::{Listed, Shortage};
-use crate::open_entries::OpenEntries;
+use crate::trace_log::{TraceLog, traces_tell_the_log};
 use napt_config::Config;
 use napt_sequential::{Input, Outcome, RunFault, SequentialRun};
 use napt_table::{Row, opening_is_sound};
 use std::alloc::{AllocError, Global};
 
-/// A run on one thread after some inputs, and the entries of its log whose bindings have not ended. It keeps nothing
-/// else of the inputs, so its memory is that of the bindings that live.
+/// A run on one thread after some inputs, and its log. It keeps nothing else of the inputs, so its memory is that of the
+/// bindings that live.
 #[derive(Drop)]
 pub struct LoggedRun {
     pub(crate) run: SequentialRun,
-    pub(crate) entries: OpenEntries,
+    pub(crate) log: TraceLog,
 }
 
 /// What an input of a run did: its outcome, and what the log has to say with it.
@@ -45,12 +45,9 @@ impl LoggedRun {
     pub fn begin(alloc: Global, config: &Config) -> Result<LoggedRun, AllocError>
         ensures { IfOk result (IsLogged config.now []) }
     {
-        opening_is_sound();
-        // called for its clause alone: a configuration keeps its rules
-        let _pool = config.pool();
         let run = SequentialRun::begin(alloc, config)?;
-        let entries = OpenEntries::begin(alloc, config)?;
-        Ok(LoggedRun { run, entries })
+        let log = TraceLog::begin(alloc, config)?;
+        Ok(LoggedRun { run, log })
     }
 
     /// Passes the next input through the run, at the latest clock so far, its own included; returns its outcome, what it
@@ -74,17 +71,15 @@ impl LoggedRun {
         ensures never_pool { IfErr result IsOneThreadFault }
     {
         opening_is_sound();
-        // called for its clause alone: a configuration keeps its rules
-        let _pool = config.pool();
+        traces_tell_the_log();
         let stepped = self.run.step(alloc, config, input)?;
-        let ended = self.entries.take_ended(alloc, stepped.trace.now)?;
-        let legs = self.entries.tell(alloc, stepped.trace)?;
+        let told = self.log.enter(alloc, stepped.trace)?;
         Ok(LoggedStep {
             outcome: stepped.outcome,
-            used: legs.used,
-            ended,
-            made: legs.made,
-            refused: legs.refused,
+            used: told.used,
+            ended: told.ended,
+            made: told.made,
+            refused: told.refused,
         })
     }
 
@@ -94,7 +89,8 @@ impl LoggedRun {
         ensures { (rules : Rules) (inputs : List Arrival) → IsLogged rules inputs self.now →
             IfOk result (λ living. living.items ≡ living_of rules inputs) }
     {
-        let living = self.entries.list(alloc)?;
+        traces_tell_the_log();
+        let living = self.log.living(alloc)?;
         Ok(living)
     }
 

@@ -7,11 +7,8 @@ use Rattle.napt_config.specs.Rules.{Rules}
 use Rattle.napt_rules.specs.declared.Row.{Row}
 use Rattle.napt_rules.specs.Prelude.{of, opening, Arrival, rows_of, rows, Course, run, last_clock, legs_at, Ran, ran, Kept, kept_after_all}
 use Rattle.napt_rules.specs.declared.Leg.{Leg}
-use Rattle.napt_rules.specs.declared.Answer.{Answer}
 use Rattle.napt_translate.specs.Translators.{TranslatorState, begun, kept_of, with_kept, left_by}
 use Rattle.napt_pool.specs.declared.closing.Ended.{Ended}
-use Rattle.napt_pool.specs.declared.machine.Machine.{Ghosts}
-use Rattle.napt_pool.specs.Histories.{after}
 use Rattle.napt_pool.specs.Pools.{zip_with}
 use Rattle.napt_rules.specs.declared.Outcome.{Outcome}
 use Rattle.napt_sequential.specs.Faults.{is_gate_fault}
@@ -45,26 +42,30 @@ flat_each h k (x ∷ xs) (a ∷ pool) d e same =
 latest : (last clock at : ℕ) → last ≡ clock → at ≤ clock → max last at ≡ clock
 latest last clock at e le = omega arith
 
-module _ (g : Ghosts TranslatorState Leg Answer) (stepped_is : (s : TranslatorState) (leg : Leg) → g.stepped s leg
-    ≡ left_by leg s) where
-  after_kept : (s : TranslatorState) (legs : List Leg) → after g s legs
-      ≡ with_kept s (kept_after_all s.rules s.table.address legs (kept_of s.table))
-  after_kept s [] = refl
-  after_kept s (leg ∷ legs) = rw (stepped_is s leg) (after_kept (left_by leg s) legs)
+module _ (f : TranslatorState → List Leg → TranslatorState) where
+  after_kept : ((s : TranslatorState) → f s [] ≡ s) →
+      ((s : TranslatorState) (leg : Leg) (legs : List Leg) → f s (leg ∷ legs) ≡ f (left_by leg s) legs) →
+      (s : TranslatorState) (legs : List Leg) →
+      f s legs ≡ with_kept s (kept_after_all s.rules s.table.address legs (kept_of s.table))
+  after_kept none more s [] = none s
+  after_kept none more s (leg ∷ legs) = more s leg legs ∙ after_kept none more (left_by leg s) legs
 
   pub workers_shown : (rules : Rules) (inputs : List Arrival) (starts : List TranslatorState)
       (accepts : List (List Leg)) (machines : List TranslatorState) (outcomes : List Outcome) (numbers : List ℕ)
       (last : ℕ) (bindings : List Row) →
-      starts ≡ started rules (length rules.pool) → machines ≡ zip_with (after g) starts accepts →
+      starts ≡ started rules (length rules.pool) → machines ≡ zip_with f starts accepts →
       IsDispatched rules inputs accepts outcomes numbers → last ≡ last_clock 0 inputs →
       bindings ≡ flat_map (rows_after last) machines →
+      ((s : TranslatorState) → f s [] ≡ s) →
+      ((s : TranslatorState) (leg : Leg) (legs : List Leg) → f s (leg ∷ legs) ≡ f (left_by leg s) legs) →
       (let r : Ran = record { outcomes = outcomes; bindings = bindings; legs = numbers } in r ≡ ran rules inputs)
   unfolding ran
-  workers_shown rules inputs starts accepts machines outcomes numbers last bindings began left done clock shown =
+  workers_shown rules inputs starts accepts machines outcomes numbers last bindings began left done clock shown none
+      more =
       let n : ℕ = length rules.pool in
       let course : Course = run rules inputs (opening rules) in
       let give : List (List Leg) = map (λ (address : ℕ). legs_at address course.acts) rules.pool in
-      let states : List TranslatorState = zip_with (after g) (started rules n) give in
+      let states : List TranslatorState = zip_with f (started rules n) give in
       let states_are : machines ≡ states = rw (left, began, done.legs) refl in
       let long : length (started rules n) ≡ n = length_started rules n in
       let long_give : length give ≡ n = length-map rules.pool (λ (address : ℕ). legs_at address course.acts) in
@@ -73,7 +74,7 @@ module _ (g : Ghosts TranslatorState Leg Answer) (stepped_is : (s : TranslatorSt
       let all : flat_map (rows_after last) machines ≡ at_last =
       ap (flat_map (rows_after last)) states_are
       ∙ flat_each (rows_after last) (λ (address : ℕ). rows rules.timers (last_clock 0 inputs) (of address course.list))
-      states rules.pool (begun 0 rules) (zip_long (after g) (started rules n) give (long ∙ sym long_give)
+      states rules.pool (begun 0 rules) (zip_long f (started rules n) give (long ∙ sym long_give)
       ∙ long_give)
       (λ w lt.
       let address : ℕ = slice_index rules.pool w in
@@ -83,11 +84,11 @@ module _ (g : Ghosts TranslatorState Leg Answer) (stepped_is : (s : TranslatorSt
       (seen rules inputs (opening rules) address).leaves in
       let state_is : slice_index_or states w (begun 0 rules) ≡ with_kept (begun w rules) kept =
       rw (
-        zip_index (after g) (started rules n) give w (begun 0 rules) (begun 0 rules) (omega arith) (omega arith),
+        zip_index f (started rules n) give w (begun 0 rules) (begun 0 rules) (omega arith) (omega arith),
         started_at rules n w (begun 0 rules) lt,
         map_index (λ (a : ℕ). legs_at a course.acts) rules.pool w lt,
       )
-      (after_kept (begun w rules) legs) in
+      (after_kept none more (begun w rules) legs) in
       ap (rows_after last) state_is
       ∙ (ap (λ (t : ℕ). rows rules.timers t kept.list) (latest last (last_clock 0 inputs) kept.at clock once.past)
       ∙ ap rows_of once.agrees.same)) in
@@ -97,12 +98,12 @@ pub started_more : (rules : Rules) (n : ℕ) → started rules (n + 1) ≡ start
 started_more rules n = let e : n + 1 ≡ suc n = omega arith in ap (started rules) e
 
 -- the rows of the workers as they ended, by their translators
-pub rows_shown : (last : ℕ) (bindings : List Row) (ended lent : List (Ended TranslatorState Leg Answer)) →
+pub rows_shown : {A : Type 0} (last : ℕ) (bindings : List Row) (ended lent : List (Ended TranslatorState Leg A)) →
     bindings ≡ flat_map (λ e. rows_after last e.machine) lent → lent ≡ ended →
     bindings ≡ flat_map (rows_after last) (map (λ e. e.machine) ended)
-rows_shown last bindings ended lent is same =
-    is ∙ (ap (flat_map (λ (e : Ended TranslatorState Leg Answer). rows_after last e.machine)) same
-    ∙ sym (flat_map-map (rows_after last) (λ (e : Ended TranslatorState Leg Answer). e.machine) ended))
+rows_shown {A} last bindings ended lent is same =
+    is ∙ (ap (flat_map (λ (e : Ended TranslatorState Leg A). rows_after last e.machine)) same
+    ∙ sym (flat_map-map (rows_after last) (λ (e : Ended TranslatorState Leg A). e.machine) ended))
 
 -- FAULTS
 

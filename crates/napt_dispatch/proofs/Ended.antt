@@ -6,8 +6,6 @@ use Rattle.std.proofs.Math.ListN.{get_or-append}
 use Rattle.std.proofs.Math.Seq.{get_or-append_seam}
 use Rattle.napt_config.specs.Rules.{Rules}
 use Rattle.napt_rules.specs.declared.Leg.{Leg}
-use Rattle.napt_rules.specs.declared.Answer.{Answer}
-use Rattle.napt_rules.specs.Prelude.{kept_answer, kept_replies}
 use Rattle.napt_translate.specs.Translators.{TranslatorState, begun, kept_of, left_by}
 use Rattle.napt_pool.specs.declared.machine.Machine.{Ghosts}
 use Rattle.napt_pool.specs.Histories.{replies, AllBegin}
@@ -15,6 +13,10 @@ use Rattle.napt_pool.specs.Pools.{zip_with}
 use Rattle.napt_laws.specs.Dispatching.{IsFront}
 use Rattle.napt_dispatch.specs.Dispatch.{started, of_worker, fresh, Right}
 use Rattle.napt_dispatch.proofs.Lanes.{fronts_both}
+use Rattle.napt_sequential.specs.declared.passage.Passage.{Passage}
+use Rattle.napt_sequential.specs.declared.telling.Told.{Told}
+use Rattle.napt_sequential.specs.CountedTranslators.{told_at}
+use Rattle.napt_sequential.specs.Steps.{told_replies}
 
 -- LISTS
 
@@ -76,21 +78,24 @@ started_at rules (suc n) w d lt =
           ∙ started_at rules n w d (omega arith)
     ]
 
-module _ (g : Ghosts TranslatorState Leg Answer) (stepped_is : (s : TranslatorState) (leg : Leg) → g.stepped s leg
-    ≡ left_by leg s) (reply_is : (s : TranslatorState) (leg : Leg) → g.reply s leg
-    ≡ kept_answer s.rules s.table.address leg (kept_of s.table)) where
-  replies_kept : (s : TranslatorState) (legs : List Leg) → replies g s legs ≡ kept_replies s.rules s.table.address legs
-      (kept_of s.table)
-  replies_kept s [] = refl
-  replies_kept s (leg ∷ legs) = rw (reply_is s leg, stepped_is s leg, replies_kept (left_by leg s) legs) refl
+module _ {P : Type 0} (tells : Passage → P) {g : Ghosts TranslatorState Leg (Told P)} where
+  replies_kept : ((s : TranslatorState) (leg : Leg) → g.stepped s leg ≡ left_by leg s) →
+      ((s : TranslatorState) (leg : Leg) → g.reply s leg ≡ told_at tells leg s) → (s : TranslatorState)
+      (legs : List Leg) → replies g s legs ≡ told_replies tells s.rules s.table.address legs (kept_of s.table)
+  replies_kept stepped_is reply_is s [] = refl
+  replies_kept stepped_is reply_is s (leg ∷ legs) =
+      rw (reply_is s leg, stepped_is s leg, replies_kept stepped_is reply_is (left_by leg s) legs) refl
 
   -- what the workers answered is right
   pub right_since : (rules : Rules) (starts : List TranslatorState) (offered : List (List Leg))
-      (taken : List (List Answer)) → starts ≡ started rules (length rules.pool) → length offered ≡ length rules.pool →
-      taken ≡ zip_with (replies g) starts offered → Right rules offered taken
-  right_since rules starts offered taken began many is_taken = λ w lt.
+      (taken : List (List (Told P))) → starts ≡ started rules (length rules.pool) →
+      taken ≡ zip_with (replies g) starts offered →
+      ((s : TranslatorState) (leg : Leg) → g.stepped s leg ≡ left_by leg s) →
+      ((s : TranslatorState) (leg : Leg) → g.reply s leg ≡ told_at tells leg s) →
+      length offered ≡ length rules.pool → Right tells rules offered taken
+  right_since rules starts offered taken began is_taken stepped_is reply_is many = λ w lt.
       let long = length_started rules (length rules.pool) in
-      let is : of_worker taken w ≡ kept_replies rules (slice_index rules.pool w) (of_worker offered w)
+      let is : of_worker taken w ≡ told_replies tells rules (slice_index rules.pool w) (of_worker offered w)
       (fresh rules (slice_index rules.pool w)) =
       rw (
         is_taken,
@@ -99,17 +104,20 @@ module _ (g : Ghosts TranslatorState Leg Answer) (stepped_is : (s : TranslatorSt
             (omega arith) (omega arith),
         started_at rules (length rules.pool) w (begun w rules) lt,
       )
-      (replies_kept (begun w rules) (of_worker offered w)) in
+      (replies_kept stepped_is reply_is (begun w rules) (of_worker offered w)) in
       ([], append-nil (of_worker taken w) ∙ is)
 
   -- so is what begins it
   pub right_begin : (rules : Rules) (starts : List TranslatorState) (offered : List (List Leg))
-      (taken : List (List Answer)) → starts ≡ started rules (length rules.pool) → length offered ≡ length rules.pool →
-      AllBegin taken (zip_with (replies g) starts offered) → Right rules offered taken
-  right_begin rules starts offered taken began many begin = λ w lt.
+      (taken : List (List (Told P))) → starts ≡ started rules (length rules.pool) →
+      AllBegin taken (zip_with (replies g) starts offered) →
+      ((s : TranslatorState) (leg : Leg) → g.stepped s leg ≡ left_by leg s) →
+      ((s : TranslatorState) (leg : Leg) → g.reply s leg ≡ told_at tells leg s) →
+      length offered ≡ length rules.pool → Right tells rules offered taken
+  right_begin rules starts offered taken began begin stepped_is reply_is many = λ w lt.
       let long : length starts ≡ length offered = ap length began ∙ (length_started rules (length rules.pool)
       ∙ sym many) in
       let all : length (zip_with (replies g) starts offered) ≡ length offered = zip_long
       (replies g) starts offered long in
       fronts_both _ _ _ (begin_at taken (zip_with (replies g) starts offered) w (omega (arith, lt, many, all)) begin)
-      (right_since rules starts offered (zip_with (replies g) starts offered) began many refl w lt)
+      (right_since rules starts offered (zip_with (replies g) starts offered) began refl stepped_is reply_is many w lt)

@@ -2,73 +2,75 @@
 use Rattle.std.proofs.Common.{◌≡◌, ℕ, Bool, false, inr, List, [], ◌++◌, length, replicate, Option, Some, None, MatchOption, refl, sym, ◌∙◌, ap, subst, arith, append-nil}
 use Rattle.std.proofs.lemmas.List.{length-map}
 use Rattle.napt_config.specs.Rules.{Rules}
-use Rattle.napt_rules.specs.Prelude.{Arrival, opening, run}
+use Rattle.napt_rules.specs.Prelude.{Arrival}
 use Rattle.napt_laws.specs.Dispatching.{IsFront}
-use Rattle.napt_laws.proofs.Grown.{outcomes_long}
 use Rattle.napt_sequential.specs.declared.fault.RunFault.{RunFault}
 use Rattle.napt_sequential.specs.declared.fault.RunFault.TheVariants.{Memory}
 use Rattle.napt_rules.specs.declared.Leg.{Leg}
-use Rattle.napt_rules.specs.declared.Answer.{Answer}
 use Rattle.napt_pool.specs.declared.pool.Pool.{Pool}
 use Rattle.napt_pool.specs.Pools.{accepts, takes as taken}
-use Rattle.napt_rules.specs.declared.Outcome.{Outcome}
 use Rattle.napt_dispatch.specs.declared.dispatcher.Dispatcher.{Dispatcher}
 use Rattle.napt_dispatch.specs.declared.dispatcher.Dispatched.{Dispatched}
 use Rattle.napt_dispatch.specs.declared.dispatcher.Ending.{Ending}
 use Rattle.napt_dispatch.specs.declared.dispatcher.Ending.TheVariants as endings
 use Rattle.napt_dispatch.specs.declared.dispatcher.reading.EndOfInputs.{EndOfInputs}
 use Rattle.napt_pool.specs.Workers.{machine_of, accepted_of, taken_of}
-use Rattle.napt_dispatch.specs.Dispatch.{of_worker}
+use Rattle.napt_dispatch.specs.Dispatch.{of_worker, departed}
 use Rattle.napt_dispatch.specs.QueueStates.{unused, counts_in}
-use Rattle.napt_dispatch.specs.Windows.{progress_in}
+use Rattle.napt_dispatch.specs.Windows.{progress_in, whole_of}
 use Rattle.napt_dispatch.specs.Standing.{state_of, Stands}
 use Rattle.napt_dispatch.specs.Passing.{timed, HasCome, Reads, ReadsAll, ReadsSome, ReadsToHalt, EndsWith, EndsEarly, EndsHalted, EndsBy}
 use Rattle.napt_dispatch.proofs.Ended.{same_lengths}
 use Rattle.napt_dispatch.proofs.Passing.{many_read}
 use Rattle.napt_dispatch.proofs.Lanes.{grows_none}
-use Rattle.napt_dispatch.proofs.Windows.{length_all, left_front_of}
+use Rattle.napt_dispatch.proofs.Windows.{length_all, left_front_of, departed_long}
 use Rattle.napt_dispatch.proofs.Standing.{begin_stands, all_taken, dispatched, left_right, right_before}
+use Rattle.napt_sequential.specs.declared.telling.Told.{Told}
+use Rattle.napt_sequential.specs.declared.passage.Passage.{Passage}
+use Rattle.napt_dispatch.specs.declared.departures.Departed.{Departed}
 
 -- before the first input
-pub begun : {M G : Type 0} (rules : Rules) (pool : Pool M G Leg Answer) (d : Dispatcher) (workers : ℕ) →
-    workers ≡ length rules.pool → d.queues ≡ replicate workers unused → d.progress.left ≡ [] →
-    d.progress.under_way ≡ [] →
-    accepts pool ≡ replicate (length rules.pool) [] → taken pool ≡ replicate (length rules.pool) [] →
-    (inputs : List Arrival) → Stands rules [] inputs (state_of pool d)
+pub begun : {P : Type 0} {tells : Passage → P} {M G : Type 0} (rules : Rules) (pool : Pool M G Leg (Told P))
+    (d : Dispatcher P) (workers : ℕ) → workers ≡ length rules.pool → d.queues ≡ replicate workers unused →
+    d.progress.left ≡ [] → d.progress.under_way ≡ [] → accepts pool ≡ replicate (length rules.pool) [] →
+    taken pool ≡ replicate (length rules.pool) [] → (inputs : List Arrival) →
+    Stands tells rules [] inputs (state_of pool d)
 begun rules pool d workers many queues left none unoffered untaken inputs =
     begin_stands rules inputs (accepts pool) (taken pool) d (rw many at queues) unoffered untaken (rw (left, none) refl)
 
-module _ {A F S B M G : Type 0} (rules : Rules) (hands : A → List Arrival → A → Type 0)
-    (ends : A → Option F → A → Type 0) (takes : S → List (ℕ × Outcome) → S → Type 0)
-    (fails : S → List (ℕ × Outcome) → B → S → Type 0) (is_settled : S → Type 0) (pool : Pool M G Leg Answer)
-    (d : Dispatcher) (from : A) (before : S) (later_pool : Pool M G Leg Answer) (later : Dispatcher) (left : A)
-    (after : S) (begun : (inputs : List Arrival) → Stands rules [] inputs (state_of pool d)) where
-  stand_now : (inputs : List Arrival) (went : List (ℕ × Outcome)) → Reads rules pool d inputs went later_pool later →
-      Stands rules inputs inputs (state_of later_pool later)
-  stand_now inputs went r = subst (λ all. Stands rules inputs all (state_of later_pool later)) (append-nil inputs)
+module _ {P : Type 0} {tells : Passage → P} {A F S B M G : Type 0} (rules : Rules)
+    (hands : A → List Arrival → A → Type 0)
+    (ends : A → Option F → A → Type 0) (takes : S → List (ℕ × Departed P) → S → Type 0)
+    (fails : S → List (ℕ × Departed P) → B → S → Type 0) (is_settled : S → Type 0) (pool : Pool M G Leg (Told P))
+    (d : Dispatcher P) (from : A) (before : S) (later_pool : Pool M G Leg (Told P)) (later : Dispatcher P) (left : A)
+    (after : S) (begun : (inputs : List Arrival) → Stands tells rules [] inputs (state_of pool d)) where
+  stand_now : (inputs : List Arrival) (went : List (ℕ × Departed P)) →
+      Reads tells rules pool d inputs went later_pool later →
+      Stands tells rules inputs inputs (state_of later_pool later)
+  stand_now inputs went r = subst (λ all. Stands tells rules inputs all (state_of later_pool later)) (append-nil inputs)
       (r.served [] (begun (inputs ++ [])))
 
   -- as many workers as addresses
-  module _ (inputs : List Arrival) (went : List (ℕ × Outcome)) (r : Reads rules pool d inputs went later_pool later)
-    where
-      abbrev stands : Stands rules inputs inputs (state_of later_pool later)
-      stands = stand_now inputs went r
+  module _ (inputs : List Arrival) (went : List (ℕ × Departed P))
+      (r : Reads tells rules pool d inputs went later_pool later) where
+    abbrev stands : Stands tells rules inputs inputs (state_of later_pool later)
+    stands = stand_now inputs went r
 
-      many_offered : length (accepts later_pool) ≡ length rules.pool
-      many_offered = length-map _ accepted_of ∙ (sym (length-map _ machine_of) ∙ (sym r.sized ∙ stands.many))
+    many_offered : length (accepts later_pool) ≡ length rules.pool
+    many_offered = length-map _ accepted_of ∙ (sym (length-map _ machine_of) ∙ (sym r.sized ∙ stands.many))
 
-      many_taken : length (taken later_pool) ≡ length rules.pool
-      many_taken = length-map _ taken_of ∙ (sym (length-map _ machine_of) ∙ (sym r.sized ∙ stands.many))
+    many_taken : length (taken later_pool) ≡ length rules.pool
+    many_taken = length-map _ taken_of ∙ (sym (length-map _ machine_of) ∙ (sym r.sized ∙ stands.many))
 
   pub ends_with : (end : EndOfInputs F) (done : Dispatched F B) →
-      ReadsAll rules hands ends takes fails is_settled pool d from before later_pool later left after end →
+      ReadsAll tells rules hands ends takes fails is_settled pool d from before later_pool later left after end →
       done.legs.items ≡ counts_in later.queues → done.clock ≡ end.clock →
-      EndsWith rules hands ends takes fails is_settled from before later_pool left after end.fault done
+      EndsWith tells rules hands ends takes fails is_settled from before later_pool left after end.fault done
   ends_with end done r legs clock =
       let inputs : List Arrival = r.to_end.inputs in
-      let went : List (ℕ × Outcome) = r.to_end.went in
-      let reads : Reads rules pool d inputs went later_pool later = r.to_end.reads in
-      let s : Stands rules inputs inputs (state_of later_pool later) = stand_now inputs went reads in
+      let went : List (ℕ × Departed P) = r.to_end.went in
+      let reads : Reads tells rules pool d inputs went later_pool later = r.to_end.reads in
+      let s : Stands tells rules inputs inputs (state_of later_pool later) = stand_now inputs went reads in
       let many : length (accepts later_pool) ≡ length rules.pool = many_offered inputs went reads in
       record {
         inputs = inputs;
@@ -94,8 +96,8 @@ module _ {A F S B M G : Type 0} (rules : Rules) (hands : A → List Arrival → 
       }
 
   pub ends_early : (fault : B) →
-      ReadsSome rules hands ends takes fails is_settled pool d from before later_pool later left after fault →
-      EndsEarly rules hands ends takes fails is_settled from before later_pool left after fault
+      ReadsSome tells rules hands ends takes fails is_settled pool d from before later_pool later left after fault →
+      EndsEarly tells rules hands ends takes fails is_settled from before later_pool left after fault
   ends_early fault r = record {
     inputs = r.inputs;
     went = r.went;
@@ -108,18 +110,19 @@ module _ {A F S B M G : Type 0} (rules : Rules) (hands : A → List Arrival → 
   }
 
 -- and where there was a fault of dispatching
-pub ends_halted : {A F S B M G : Type 0} (rules : Rules) (hands : A → List Arrival → A → Type 0)
-    (ends : A → Option F → A → Type 0) (takes : S → List (ℕ × Outcome) → S → Type 0)
-    (fails : S → List (ℕ × Outcome) → B → S → Type 0) (is_settled : S → Type 0) (pool : Pool M G Leg Answer)
-    (d : Dispatcher) (from : A) (before : S) (later_pool : Pool M G Leg Answer) (later : Dispatcher) (left : A)
-    (after : S) (open_gate : Bool) (fault : RunFault) →
-    ((inputs : List Arrival) → Stands rules [] inputs (state_of pool d)) →
-    ReadsToHalt rules hands ends takes fails is_settled pool d from before later_pool later left after open_gate fault →
-    EndsHalted rules hands ends takes fails is_settled from before later_pool left after
-ends_halted rules hands ends takes fails is_settled pool d from before later_pool later left after open_gate fault begun
-    r =
+pub ends_halted : {P : Type 0} {tells : Passage → P} {A F S B M G : Type 0} (rules : Rules)
+    (hands : A → List Arrival → A → Type 0) (ends : A → Option F → A → Type 0)
+    (takes : S → List (ℕ × Departed P) → S → Type 0) (fails : S → List (ℕ × Departed P) → B → S → Type 0)
+    (is_settled : S → Type 0) (pool : Pool M G Leg (Told P)) (d : Dispatcher P) (from : A) (before : S)
+    (later_pool : Pool M G Leg (Told P)) (later : Dispatcher P) (left : A) (after : S) (open_gate : Bool)
+    (fault : RunFault) → ((inputs : List Arrival) → Stands tells rules [] inputs (state_of pool d)) →
+    ReadsToHalt tells rules hands ends takes fails is_settled pool d from before later_pool later left after open_gate
+    fault →
+    EndsHalted tells rules hands ends takes fails is_settled from before later_pool left after
+ends_halted {tells = tells} rules hands ends takes fails is_settled pool d from before later_pool later left after
+    open_gate fault begun r =
     let all : List Arrival = r.inputs ++ r.unread in
-    let s : Stands rules r.inputs all (state_of r.last_pool r.last) = r.reads.served r.unread (begun all) in
+    let s : Stands tells rules r.inputs all (state_of r.last_pool r.last) = r.reads.served r.unread (begun all) in
     record {
       inputs = all;
       went = r.went;
@@ -130,19 +133,20 @@ ends_halted rules hands ends takes fails is_settled pool d from before later_poo
       right = λ right.
           let known = (s.reaches (right_before rules r.inputs all r.last_pool later_pool r.last s r.halted.grows
           right)).known in
-          subst (λ went. IsFront went (timed all (run rules all (opening rules)).outcomes)) r.reads.left_is
-          (left_front_of (run rules all (opening rules)) r.last.progress r.inputs r.unread r.reads.times_are known
-          (outcomes_long rules 0 0 all (opening rules)));
+          subst (λ went. IsFront went (timed all (departed tells rules all))) r.reads.left_is
+          (left_front_of (whole_of tells rules all) r.last.progress r.inputs r.unread r.reads.times_are known
+          (departed_long tells rules all));
     }
 
 -- also where all left before it
-pub ends_after : {A F S B M G : Type 0} (rules : Rules) (hands : A → List Arrival → A → Type 0)
-    (ends : A → Option F → A → Type 0) (takes : S → List (ℕ × Outcome) → S → Type 0)
-    (fails : S → List (ℕ × Outcome) → B → S → Type 0) (is_settled : S → Type 0) (pool : Pool M G Leg Answer)
-    (d : Dispatcher) (from : A) (before : S) (later_pool : Pool M G Leg Answer) (later : Dispatcher) (left : A)
-    (after : S) → ((inputs : List Arrival) → Stands rules [] inputs (state_of pool d)) → (end : EndOfInputs F) →
-    ReadsAll rules hands ends takes fails is_settled pool d from before later_pool later left after end →
-    EndsHalted rules hands ends takes fails is_settled from before later_pool left after
+pub ends_after : {P : Type 0} {tells : Passage → P} {A F S B M G : Type 0} (rules : Rules)
+    (hands : A → List Arrival → A → Type 0)
+    (ends : A → Option F → A → Type 0) (takes : S → List (ℕ × Departed P) → S → Type 0)
+    (fails : S → List (ℕ × Departed P) → B → S → Type 0) (is_settled : S → Type 0) (pool : Pool M G Leg (Told P))
+    (d : Dispatcher P) (from : A) (before : S) (later_pool : Pool M G Leg (Told P)) (later : Dispatcher P) (left : A)
+    (after : S) → ((inputs : List Arrival) → Stands tells rules [] inputs (state_of pool d)) → (end : EndOfInputs F) →
+    ReadsAll tells rules hands ends takes fails is_settled pool d from before later_pool later left after end →
+    EndsHalted tells rules hands ends takes fails is_settled from before later_pool left after
 ends_after rules hands ends takes fails is_settled pool d from before later_pool later left after begun end r =
     ends_halted rules hands ends takes fails is_settled pool d from before later_pool later left after false Memory
     begun
@@ -159,13 +163,13 @@ ends_after rules hands ends takes fails is_settled pool d from before later_pool
       halted = record { grows = grows_none later_pool; fault_is = tt };
     })
 
-pub ends_by : {A F S B M G : Type 0} (rules : Rules) (hands : A → List Arrival → A → Type 0)
-    (ends : A → Option F → A → Type 0) (takes : S → List (ℕ × Outcome) → S → Type 0)
-    (fails : S → List (ℕ × Outcome) → B → S → Type 0) (is_settled : S → Type 0) (from : A) (before : S)
-    (pool : Pool M G Leg Answer) (left : A) (after : S) (done : Dispatched F B) (fault : Option F)
-    (ending : Ending F B) →
+pub ends_by : {P : Type 0} {tells : Passage → P} {A F S B M G : Type 0} (rules : Rules)
+    (hands : A → List Arrival → A → Type 0) (ends : A → Option F → A → Type 0)
+    (takes : S → List (ℕ × Departed P) → S → Type 0) (fails : S → List (ℕ × Departed P) → B → S → Type 0)
+    (is_settled : S → Type 0) (from : A) (before : S) (pool : Pool M G Leg (Told P)) (left : A) (after : S)
+    (done : Dispatched F B) (fault : Option F) (ending : Ending F B) →
     MatchOption fault (ending ≡ endings.Whole) (λ f. ending ≡ endings.Arrival f) →
-    EndsWith rules hands ends takes fails is_settled from before pool left after fault done →
-    EndsBy rules hands ends takes fails is_settled from before pool left after done ending
+    EndsWith tells rules hands ends takes fails is_settled from before pool left after fault done →
+    EndsBy tells rules hands ends takes fails is_settled from before pool left after done ending
 ends_by rules hands ends takes fails is_settled from before pool left after done None ending is e = rw is e
 ends_by rules hands ends takes fails is_settled from before pool left after done (Some f) ending is e = rw is e

@@ -4,13 +4,13 @@ use Rattle.std.specs.Prelude.{slice_index, slice_set, slice_get}
 use Rattle.std.proofs.lemmas.Bool.{cases_eq, eq-eqb, ne_eqb}
 use Rattle.std.proofs.lemmas.List.{get_or-set_same, get_or-set_other, length-map}
 use Rattle.napt_rules.specs.declared.Leg.{Leg}
-use Rattle.napt_rules.specs.declared.Answer.{Answer}
 use Rattle.napt_pool.specs.declared.pool.Pool.{Pool}
 use Rattle.napt_pool.specs.Pools.{starts, accepts, takes}
 use Rattle.napt_laws.specs.Dispatching.{IsFront}
 use Rattle.napt_sequential.specs.declared.fault.RunFault.{RunFault}
 use Rattle.napt_dispatch.specs.Dispatch.{of_worker}
 use Rattle.napt_dispatch.specs.Standing.{added, Grows, HaltsBy}
+use Rattle.napt_sequential.specs.declared.telling.Told.{Told}
 
 -- FRONTS
 
@@ -60,8 +60,8 @@ set_added lists w xs lt = everywhere (λ v. elim (cases_eq v w) [
 
 -- A POOL THAT GROWS
 
-module _ {M G : Type 0} where
-  pub grows_not : {pool later_pool : Pool M G Leg Answer} → starts later_pool ≡ starts pool →
+module _ {P M G : Type 0} where
+  pub grows_not : {pool later_pool : Pool M G Leg (Told P)} → starts later_pool ≡ starts pool →
       accepts later_pool ≡ accepts pool → takes later_pool ≡ takes pool → Grows pool later_pool
   grows_not {pool} began offered taken = record {
     starts_stay = began;
@@ -69,10 +69,10 @@ module _ {M G : Type 0} where
     taken = λ w. rw taken (front_none (of_worker (takes pool) w));
   }
 
-  pub grows_none : (pool : Pool M G Leg Answer) → Grows pool pool
+  pub grows_none : (pool : Pool M G Leg (Told P)) → Grows pool pool
   grows_none pool = grows_not refl refl refl
 
-  pub grows_both : {pool mid_pool later_pool : Pool M G Leg Answer} → Grows pool mid_pool →
+  pub grows_both : {pool mid_pool later_pool : Pool M G Leg (Told P)} → Grows pool mid_pool →
       Grows mid_pool later_pool → Grows pool later_pool
   grows_both a b = record {
     starts_stay = b.starts_stay ∙ a.starts_stay;
@@ -80,7 +80,7 @@ module _ {M G : Type 0} where
     taken = λ w. fronts_both _ _ _ (a.taken w) (b.taken w);
   }
 
-  module _ (w : ℕ) (pool later_pool : Pool M G Leg Answer) (within : w < length (starts pool))
+  module _ (w : ℕ) (pool later_pool : Pool M G Leg (Told P)) (within : w < length (starts pool))
       (began : starts later_pool ≡ starts pool) where
     pub grows_offered : (legs : List Leg) → takes later_pool ≡ takes pool →
         accepts later_pool ≡ slice_set (accepts pool) w (of_worker (accepts pool) w ++ legs) → Grows pool later_pool
@@ -94,7 +94,7 @@ module _ {M G : Type 0} where
           taken = λ v. rw same (front_none (of_worker (takes pool) v));
         }
 
-    pub grows_taken : (answers : List Answer) → accepts later_pool ≡ accepts pool →
+    pub grows_taken : (answers : List (Told P)) → accepts later_pool ≡ accepts pool →
         takes later_pool ≡ slice_set (takes pool) w (of_worker (takes pool) w ++ answers) → Grows pool later_pool
     grows_taken answers same more =
         let now : of_worker (takes later_pool) ≡ added w answers (of_worker (takes pool)) =
@@ -102,12 +102,12 @@ module _ {M G : Type 0} where
         record {
           starts_stay = began;
           offered = λ v. rw same (front_none (of_worker (accepts pool) v));
-          taken = λ v. subst (λ (lists : ℕ → List Answer). IsFront (of_worker (takes pool) v) (lists v)) (sym now)
+          taken = λ v. subst (λ (lists : ℕ → List (Told P)). IsFront (of_worker (takes pool) v) (lists v)) (sym now)
               (added_front w answers (of_worker (takes pool)) v);
         }
 
   -- a fault after that
-  pub halts_after : {open_gate : Bool} {fault : RunFault} {pool mid_pool later_pool : Pool M G Leg Answer} →
+  pub halts_after : {open_gate : Bool} {fault : RunFault} {pool mid_pool later_pool : Pool M G Leg (Told P)} →
       Grows pool mid_pool → HaltsBy open_gate mid_pool later_pool fault → HaltsBy open_gate pool later_pool fault
   halts_after a b = record { grows = grows_both a b.grows; fault_is = b.fault_is }
 

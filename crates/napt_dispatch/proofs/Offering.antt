@@ -4,8 +4,6 @@ use Rattle.std.specs.Prelude.{slice_set}
 use Rattle.std.proofs.lemmas.Bool.{cases_lt}
 use Rattle.std.proofs.lemmas.List.{length-map}
 use Rattle.napt_rules.specs.declared.Leg.{Leg}
-use Rattle.napt_rules.specs.declared.Answer.{Answer}
-use Rattle.napt_rules.specs.declared.Outcome.{Outcome}
 use Rattle.napt_pool.specs.declared.pool.Pool.{Pool}
 use Rattle.napt_pool.specs.Pools.{starts, accepts, takes, capacity_of}
 use Rattle.napt_dispatch.specs.declared.dispatcher.Dispatcher.{Dispatcher}
@@ -13,7 +11,7 @@ use Rattle.napt_dispatch.specs.declared.dispatcher.holding.Front.{Front}
 use Rattle.napt_dispatch.specs.declared.dispatcher.holding.Front.TheVariants as fronts
 use Rattle.napt_dispatch.specs.declared.dispatcher.holding.Held.TheVariants.{Ready}
 use Rattle.napt_dispatch.specs.declared.dispatcher.progress.Progress.{Progress}
-use Rattle.napt_dispatch.specs.declared.dispatcher.progress.Progress.TheVariants.{Awaited, Told}
+use Rattle.napt_dispatch.specs.declared.dispatcher.progress.Progress.TheVariants.{Returning, Answered}
 use Rattle.napt_dispatch.specs.Dispatch.{of_worker}
 use Rattle.napt_dispatch.specs.QueueStates.{QueueState, queue_of, all_held, many_owed, front_of, readied, answered, with_offers, with_queue}
 use Rattle.napt_dispatch.specs.Windows.{Window, progress_in, IsWritten, IsMarked}
@@ -21,49 +19,54 @@ use Rattle.napt_dispatch.specs.Standing.{Journal, journal_of, state_with, state_
 use Rattle.napt_dispatch.proofs.Lanes.{grows_none, added_own, added_other, added_none, added_more, set_added}
 use Rattle.napt_dispatch.proofs.QueueStates.{queue_own, queue_other, sum_with, nothing}
 use Rattle.napt_dispatch.proofs.Standing.{queues_keep, offers_keep, readied_keeps, answer_keeps}
+use Rattle.napt_sequential.specs.declared.telling.Told.{Told}
+use Rattle.napt_sequential.specs.declared.passage.Passage.{Passage}
+use Rattle.napt_dispatch.specs.declared.departures.Departed.{Departed}
 
 -- WHAT STANDS FIRST
 
-journal_as : {times times' : List ℕ} {left left' : List (ℕ × Outcome)} → times ≡ times' → left ≡ left' →
-    (let j : Journal = record { times = times; left = left } in j) ≡ record { times = times'; left = left' }
+journal_as : {P : Type 0} {times times' : List ℕ} {left left' : List (ℕ × Departed P)} → times ≡ times' → left ≡ left' →
+    (let j : Journal P = record { times = times; left = left } in j) ≡ record { times = times'; left = left' }
 journal_as a b = λ i. record { times = a i; left = b i }
 
-pub written_same : (number : ℕ) (p : Progress) (window later : Window) → IsWritten number p window later →
-    journal_of later ≡ journal_of window
+pub written_same : {P : Type 0} (number : ℕ) (p : Progress P) (window later : Window P) →
+    IsWritten number p window later → journal_of later ≡ journal_of window
 written_same number p window later is = journal_as is.times_stay is.left_stays
 
-pub marked_same : (number : ℕ) (mark : Bool) (window later : Window) → IsMarked number mark window later →
-    journal_of later ≡ journal_of window
+pub marked_same : {P : Type 0} (number : ℕ) (mark : Bool) (window later : Window P) →
+    IsMarked number mark window later → journal_of later ≡ journal_of window
 marked_same number mark window later m = journal_as m.times_stay m.left_stays
 
-set_forgets : (progress : List Progress) (number : ℕ) → Forgets progress (slice_set progress number Awaited)
-set_forgets [] number i h = h
-set_forgets (p ∷ ps) zero zero h = refl
-set_forgets (p ∷ ps) zero (suc i) h = h
-set_forgets (p ∷ ps) (suc number) zero h = h
-set_forgets (p ∷ ps) (suc number) (suc i) h = set_forgets ps number i h
+set_forgets : {P : Type 0} (progress : List (Progress P)) (number : ℕ) (first : P) →
+    Forgets progress (slice_set progress number (Returning first))
+set_forgets [] number first i h = h
+set_forgets (p ∷ ps) zero first zero h = refl
+set_forgets (p ∷ ps) zero first (suc i) h = h
+set_forgets (p ∷ ps) (suc number) first zero h = h
+set_forgets (p ∷ ps) (suc number) first (suc i) h = set_forgets ps number first i h
 
-resolved_on : (front : Front) (second : Option Leg) (window later : Window) → Resolves front window second later →
+resolved_on : {P : Type 0} (front : Front) (second : Option Leg) (window later : Window P) →
+    Resolves front window second later →
     (journal_of later ≡ journal_of window) × Forgets (progress_in window) (progress_in later)
 resolved_on fronts.Nothing second window later is = (ap journal_of is, λ n h. rw is h)
 resolved_on fronts.FirstLeg second window later is = (ap journal_of is, λ n h. rw is h)
 resolved_on (fronts.FirstPlace number) None window later is =
     (marked_same number false window later is.0, λ n h. rw is.0.progress_stays h)
 resolved_on (fronts.FirstPlace number) (Some leg) window later is = (
-  written_same number Awaited window later is.0,
-  rw is.0.progress_is (set_forgets (progress_in window) number),
+  written_same number (Returning is.first) window later is.written,
+  rw is.written.progress_is (set_forgets (progress_in window) number is.first),
 )
 
 -- OFFERS
 
 -- what waits goes on waiting
-waits_on : (progress later : List Progress) (front : Front) → Forgets progress later → waits progress front ≡ true →
-    waits later front ≡ true
+waits_on : {P : Type 0} (progress later : List (Progress P)) (front : Front) → Forgets progress later →
+    waits progress front ≡ true → waits later front ≡ true
 waits_on progress later fronts.Nothing forgets h = refl
 waits_on progress later fronts.FirstLeg forgets h = h
 waits_on progress later (fronts.FirstPlace number) forgets h = forgets number h
 
-pub readies_none : (w : ℕ) (d : Dispatcher) → Readies w d d
+pub readies_none : {P : Type 0} {tells : Passage → P} (w : ℕ) (d : Dispatcher P) → Readies tells w d d
 readies_none w d = record {
   journal_stays = refl;
   keeps = λ offered taken rules done all s. s;
@@ -71,9 +74,10 @@ readies_none w d = record {
   forgets = λ number h. h;
 }
 
-pub readies_first : (w : ℕ) (d later : Dispatcher) (second : Option Leg) → w < length d.queues →
+pub readies_first : {P : Type 0} {tells : Passage → P} (w : ℕ) (d later : Dispatcher P) (second : Option Leg) →
+    w < length d.queues →
     waits_behind d w ≡ false → Resolves (front_of (queue_of d.queues w).held) d.progress second later.progress →
-    later.queues ≡ with_queue w (readied second) d.queues → Readies w d later
+    later.queues ≡ with_queue w (readied second) d.queues → Readies tells w d later
 readies_first w d later second within goes is queues =
     let on = resolved_on (front_of (queue_of d.queues w).held) second d.progress later.progress is in
     record {
@@ -85,7 +89,8 @@ readies_first w d later second within goes is queues =
       forgets = on.1;
     }
 
-pub readies_both : {w : ℕ} {d mid later : Dispatcher} → Readies w d mid → Readies w mid later → Readies w d later
+pub readies_both : {P : Type 0} {tells : Passage → P} {w : ℕ} {d mid later : Dispatcher P} → Readies tells w d mid →
+    Readies tells w mid later → Readies tells w d later
 readies_both a b = record {
   journal_stays = b.journal_stays ∙ a.journal_stays;
   keeps = λ offered taken rules done all s.
@@ -95,8 +100,8 @@ readies_both a b = record {
 }
 
 -- a message of as many legs as there are and as fit takes the ring's room, or all that can be offered
-pub offers_all : (progress : List Progress) (q : QueueState) (most count : ℕ) → count ≡ min (length q.ready) most →
-    (waits progress (front_of q.held) ≡ true) ⊎ (most ≤ length q.ready) →
+pub offers_all : {P : Type 0} (progress : List (Progress P)) (q : QueueState) (most count : ℕ) →
+    count ≡ min (length q.ready) most → (waits progress (front_of q.held) ≡ true) ⊎ (most ≤ length q.ready) →
     (waits progress (front_of (map (λ leg. Ready leg) (drop count q.ready) ++ q.held)) ≡ true) ⊎ (count ≡ most)
 offers_all progress q most count is (inr full) = inr (omega (arith, is, full))
 offers_all progress q most count is (inl goes) = elim (cases_lt (length q.ready) most) [
@@ -104,12 +109,13 @@ offers_all progress q most count is (inl goes) = elim (cases_lt (length q.ready)
   | inr le ↦ inr (omega (arith, is, le))
 ]
 
-module _ {M G : Type 0} where
-  pub over_pool : {pool later_pool : Pool M G Leg Answer} {d later : Dispatcher} →
-      Keeps (state_of pool d) (state_of later_pool later) → KeepsAt pool d later_pool later
+module _ {P M G : Type 0} where
+  pub over_pool : {tells : Passage → P} {pool later_pool : Pool M G Leg (Told P)} {d later : Dispatcher P} →
+      Keeps tells (state_of pool d) (state_of later_pool later) → KeepsAt tells pool d later_pool later
   over_pool keeps = λ rules done all s. record { stands = keeps rules done all s.stands }
 
-  module _ (w most : ℕ) (pool : Pool M G Leg Answer) (d mid : Dispatcher) (r : Readies w d mid)
+  module _ {tells : Passage → P} (w most : ℕ) (pool : Pool M G Leg (Told P)) (d mid : Dispatcher P)
+      (r : Readies tells w d mid)
       (room : length (of_worker (accepts pool) w) + most ≡ length (of_worker (takes pool) w) + capacity_of pool)
       (all : (waits_behind mid w ≡ true) ⊎ (most ≤ length (queue_of mid.queues w).ready)) where
     -- nothing could be sent
@@ -119,7 +125,7 @@ module _ {M G : Type 0} where
       | inr full ↦ inr (omega (arith, room, full))
     ]
 
-    pub none_continue : IsSizedFor pool mid → Continues pool d pool mid
+    pub none_continue : IsSizedFor pool mid → Continues tells pool d pool mid
     none_continue sized = record {
       starts_stay = refl;
       grows = grows_none pool;
@@ -140,10 +146,9 @@ module _ {M G : Type 0} where
     }
 
     -- legs were sent
-    module _ (legs : List Leg) (later_pool : Pool M G Leg Answer) (later : Dispatcher)
+    module _ (legs : List Leg) (later_pool : Pool M G Leg (Told P)) (later : Dispatcher P)
         (within : w < length (starts pool)) (inside : w < length mid.queues)
-        (queues : later.queues ≡ with_queue w (with_offers legs) mid.queues)
-        (same : later.progress ≡ mid.progress)
+        (queues : later.queues ≡ with_queue w (with_offers legs) mid.queues) (same : later.progress ≡ mid.progress)
         (accepted : accepts later_pool ≡ slice_set (accepts pool) w (of_worker (accepts pool) w ++ legs))
         (took : takes later_pool ≡ takes pool) where
       offered_now : of_worker (accepts later_pool) ≡ added w legs (of_worker (accepts pool))
@@ -169,7 +174,7 @@ module _ {M G : Type 0} where
       }
 
       pub sent_keeps : (count : ℕ) → legs ≡ take count (queue_of mid.queues w).ready → length legs ≡ count →
-          Keeps (state_of pool d) (state_of later_pool later)
+          Keeps tells (state_of pool d) (state_of later_pool later)
       sent_keeps count first long = λ rules done all s.
           let ready = (queue_of mid.queues w).ready in
           let parts : ready ≡ legs ++ drop (length legs) ready =
@@ -193,8 +198,8 @@ module _ {M G : Type 0} where
           ]
 
   -- what was offered all that it can be still is after offers to another worker
-  pub offered_still : (w : ℕ) (pool : Pool M G Leg Answer) (d : Dispatcher) (later_pool : Pool M G Leg Answer)
-      (later : Dispatcher) → OffersOnlyTo w pool d later_pool later → (v : ℕ) → v ≢ w → HasOffered pool d v →
+  pub offered_still : (w : ℕ) (pool : Pool M G Leg (Told P)) (d : Dispatcher P) (later_pool : Pool M G Leg (Told P))
+      (later : Dispatcher P) → OffersOnlyTo w pool d later_pool later → (v : ℕ) → v ≢ w → HasOffered pool d v →
       HasOffered later_pool later v
   offered_still w pool d later_pool later o v n (inl h) =
       inl (ap (λ lane. waits (progress_in later.progress) (front_of (all_held lane.queue))) (o.others v n)
@@ -207,29 +212,31 @@ module _ {M G : Type 0} where
 
 -- ANSWERS
 
-pub notes_none : (w : ℕ) (d : Dispatcher) → NotesAll w [] d d
-notes_none w d = record {
+pub notes_none : {P : Type 0} {tells : Passage → P} (w : ℕ) (d : Dispatcher P) → NotesAll tells w [] d d
+notes_none {P} {tells} w d = record {
   journal_stays = refl;
-  keeps = λ offered taken. subst (λ (f : ℕ → List Answer). Keeps (state_with offered taken d) (state_with offered f d))
+  keeps = λ offered taken. subst
+      (λ (f : ℕ → List (Told P)). Keeps tells (state_with offered taken d) (state_with offered f d))
       (sym (added_none w taken)) (λ rules done all s. s);
 }
 
-module _ (w : ℕ) (answer : Answer) (mid later : Dispatcher) (within : w < length mid.queues)
-    (n : Noted w answer mid later) where
+module _ {P : Type 0} {tells : Passage → P} (w : ℕ) (told : Told P) (mid later : Dispatcher P)
+    (within : w < length mid.queues) (n : Noted tells w told mid later) where
   -- one answer more was noted
-  pub notes_more : (answers : List Answer) (d : Dispatcher) → NotesAll w answers d mid →
-      NotesAll w (answers ++ answer ∷ []) d later
+  pub notes_more : (answers : List (Told P)) (d : Dispatcher P) → NotesAll tells w answers d mid →
+      NotesAll tells w (answers ++ told ∷ []) d later
   notes_more answers d a = record {
-    journal_stays = written_same answer.number (Told n.owed answer.end) mid.progress later.progress n.written
-        ∙ a.journal_stays;
-    keeps = λ offered taken. subst (λ (f : ℕ → List Answer). Keeps (state_with offered taken d)
-        (state_with offered f later)) (sym (added_more w answers taken (answer ∷ []))) (λ rules done all s.
+    journal_stays = written_same told.answer.number (Answered n.owed told.answer.end n.passages.0 n.passages.1)
+        mid.progress later.progress n.written ∙ a.journal_stays;
+    keeps = λ offered taken. subst (λ (f : ℕ → List (Told P)). Keeps tells (state_with offered taken d)
+        (state_with offered f later)) (sym (added_more w answers taken (told ∷ []))) (λ rules done all s.
         queues_keep w mid later answered offered offered (added w answers taken)
-        (added w (answer ∷ []) (added w answers taken)) within n.answers.later_is
-        (λ v m. (refl, added_other w (answer ∷ []) (added w answers taken) v m))
-        (λ rules all. rw (added_own w (answer ∷ []) (added w answers taken), n.written.progress_is)
-        (answer_keeps rules all w answer n.owed (offered w) (added w answers taken w)
-        (queue_of mid.queues w) n.answers.first (progress_in mid.progress)))
+        (added w (told ∷ []) (added w answers taken)) within n.answers.later_is
+        (λ v m. (refl, added_other w (told ∷ []) (added w answers taken) v m))
+        (λ rules all. rw (added_own w (told ∷ []) (added w answers taken), n.written.progress_is)
+        (answer_keeps tells rules all w told n.owed n.passages (offered w) (added w answers taken w)
+        (queue_of mid.queues w) n.answers.first
+        (progress_in mid.progress) n.awaited.was n.awaited.there n.awaited.told))
         rules done all (a.keeps offered taken rules done all s));
   }
 
@@ -244,32 +251,33 @@ module _ (w : ℕ) (answer : Answer) (mid later : Dispatcher) (within : w < leng
       omega (arith, all, one, now)
 
 -- answers were taken from the pool and noted
-pub answered_keeps : {M G : Type 0} (w : ℕ) (answers : List Answer) (pool : Pool M G Leg Answer) (d : Dispatcher)
-    (later_pool : Pool M G Leg Answer) (later : Dispatcher) → w < length (starts pool) →
-    accepts later_pool ≡ accepts pool →
-    takes later_pool ≡ slice_set (takes pool) w (of_worker (takes pool) w ++ answers) → NotesAll w answers d later →
-    Keeps (state_of pool d) (state_of later_pool later)
-answered_keeps w answers pool d later_pool later within same took n =
+pub answered_keeps : {P : Type 0} {tells : Passage → P} {M G : Type 0} (w : ℕ) (answers : List (Told P))
+    (pool : Pool M G Leg (Told P)) (d : Dispatcher P) (later_pool : Pool M G Leg (Told P)) (later : Dispatcher P) →
+    w < length (starts pool) → accepts later_pool ≡ accepts pool →
+    takes later_pool ≡ slice_set (takes pool) w (of_worker (takes pool) w ++ answers) →
+    NotesAll tells w answers d later → Keeps tells (state_of pool d) (state_of later_pool later)
+answered_keeps {P} {tells} w answers pool d later_pool later within same took n =
     let taken_now : of_worker (takes later_pool) ≡ added w answers (of_worker (takes pool)) =
     ap of_worker took ∙ set_added (takes pool) w answers (rw length-map (rw length-map at within)) in
-    subst (λ (f : ℕ → List Answer). Keeps (state_of pool d) (state_with (of_worker (accepts later_pool)) f later))
+    subst (λ (f : ℕ → List (Told P)). Keeps tells (state_of pool d) (state_with (of_worker (accepts later_pool)) f
+    later))
     (sym taken_now)
-    (subst (λ (lists : List (List Leg)). Keeps (state_of pool d) (state_with (of_worker lists)
+    (subst (λ (lists : List (List Leg)). Keeps tells (state_of pool d) (state_with (of_worker lists)
     (added w answers (of_worker (takes pool))) later)) (sym same)
     (n.keeps (of_worker (accepts pool)) (of_worker (takes pool))))
 
 -- some were taken after others, or none
-pub taken_more : (d mid later : Dispatcher) (any more both : Bool) → both ≡ (more || any) → HasTaken d mid any →
-    HasTaken mid later more → HasTaken d later both
+pub taken_more : {P : Type 0} (d mid later : Dispatcher P) (any more both : Bool) → both ≡ (more || any) →
+    HasTaken d mid any → HasTaken mid later more → HasTaken d later both
 taken_more d mid later true true both e a b = rw e (omega arith)
 taken_more d mid later false true both e a b = rw e (rw a.0 at b)
 taken_more d mid later true false both e a b = rw (e, b.0) a
 taken_more d mid later false false both e a b = rw e (b.0 ∙ a.0, b.1 ∙ a.1)
 
-pub taken_on : (d mid later : Dispatcher) (any more : Bool) → more ≡ true → HasTaken d mid any →
+pub taken_on : {P : Type 0} (d mid later : Dispatcher P) (any more : Bool) → more ≡ true → HasTaken d mid any →
     HasTaken mid later more → HasTaken d later true
 taken_on d mid later any more e a b = taken_more d mid later any more true (sym (ap (λ m. m || any) e)) a b
 
-pub taken_none : (d mid later : Dispatcher) (more : Bool) → more ≡ false → IsSame d mid → HasTaken mid later more →
-    IsSame d later
+pub taken_none : {P : Type 0} (d mid later : Dispatcher P) (more : Bool) → more ≡ false → IsSame d mid →
+    HasTaken mid later more → IsSame d later
 taken_none d mid later more e a b = taken_more d mid later false more false (sym (ap (λ m. m || false) e)) a b

@@ -1,33 +1,41 @@
 -- Runs from arrivals to departures, step by step.
-use Rattle.std.proofs.Common.{◌≡◌, ℕ, max, Bool, List, [], ◌∷◌, ◌++◌, length, map, Option, Result, Ok, Err, refl, sym, ◌∙◌, ap, subst, arith, append-nil, append_assoc}
+use Rattle.std.proofs.Common.{◌≡◌, ℕ, max, Bool, List, [], ◌∷◌, ◌++◌, length, map, Option, Some, Result, Ok, Err, refl, sym, ◌∙◌, ap, subst, arith, append-nil, append_assoc}
+use Rattle.std.specs.Prelude.{slice_get}
 use Rattle.std.proofs.lemmas.List.{map-append, length-map}
+use Rattle.napt_wire.specs.declared.Way.{Way}
+use Rattle.napt_wire.specs.declared.Side.{Side}
+use Rattle.napt_wire.specs.declared.Side.TheVariants.{Inside, Outside}
 use Rattle.napt_config.specs.Rules.{Rules}
 use Rattle.napt_rules.specs.declared.Leg.{Leg}
-use Rattle.napt_rules.specs.declared.Answer.{Answer}
 use Rattle.napt_pool.specs.declared.pool.Pool.{Pool}
 use Rattle.napt_pool.specs.Pools.{accepts, takes as taken}
-use Rattle.napt_rules.specs.declared.Outcome.{Outcome}
-use Rattle.napt_rules.specs.Prelude.{Arrival, last_clock}
+use Rattle.napt_rules.specs.Prelude.{opening, way_from, Arrival, run, last_clock}
 use Rattle.napt_sequential.specs.Inputs.{Came}
 use Rattle.napt_sequential.specs.declared.fault.RunFault.{RunFault}
+use Rattle.napt_laws.specs.Places.{second_legs}
 use Rattle.napt_laws.proofs.Grown.{clock_more}
+use Rattle.napt_sequential.proofs.Joined.{input_there}
+use Rattle.napt_sequential.proofs.Traced.{outside_alone}
 use Rattle.napt_dispatch.specs.declared.dispatcher.Dispatcher.{Dispatcher}
-use Rattle.napt_dispatch.specs.Windows.{Window, IsHandedOver, times_in, progress_in, expecting}
+use Rattle.napt_dispatch.specs.Windows.{Window, IsHandedOver, times_in, progress_in, expecting, NoneBehind, whole_of}
 use Rattle.napt_dispatch.specs.QueueStates.{many_held}
 use Rattle.napt_dispatch.specs.Dispatch.{of_worker}
-use Rattle.napt_dispatch.specs.Standing.{journal_of, state_of, IsSizedFor, Stands, Keeps, Continues, ContinuesUnlessFault, HaltsBy, Admits, HasRoom, IsDone}
+use Rattle.napt_dispatch.specs.Standing.{journal_of, state_of, IsSizedFor, Stands, Continues, ContinuesOr, HaltsBy, Admits, HasRoom, IsDone}
 use Rattle.napt_dispatch.proofs.QueueStates.{held_none}
 use Rattle.napt_dispatch.proofs.Lanes.{grows_none, grows_both, halts_after}
-use Rattle.napt_dispatch.proofs.Standing.{known_keeps}
+use Rattle.napt_dispatch.proofs.Standing.{known_stands}
 use Rattle.napt_dispatch.proofs.Windows.{known_push, times_long, expecting_times, expecting_progress}
 use Rattle.napt_dispatch.specs.declared.stopped.Halted.{Halted}
 use Rattle.napt_dispatch.specs.declared.stopped.Halted.TheVariants as halts
 use Rattle.napt_dispatch.specs.declared.dispatcher.reading.EndOfInputs.{EndOfInputs}
 use Rattle.napt_dispatch.specs.declared.dispatcher.progress.Progress.TheVariants.{Awaited}
 use Rattle.napt_dispatch.specs.Passing.{Fails, GoesOn, LetsGo, HaltsIn, HaltsAt, Serves, Reads, HasCome, ReadsToEnd, ReadsHalted}
+use Rattle.napt_sequential.specs.declared.passage.Passage.{Passage}
+use Rattle.napt_sequential.specs.declared.telling.Told.{Told}
+use Rattle.napt_dispatch.specs.declared.departures.Departed.{Departed}
 
-pub many_read : (d : Dispatcher) (inputs : List Arrival) → times_in d.progress ≡ map (λ i. i.time) inputs →
-    length inputs ≡ length (progress_in d.progress)
+pub many_read : {P : Type 0} (d : Dispatcher P) (inputs : List Arrival) →
+    times_in d.progress ≡ map (λ i. i.time) inputs → length inputs ≡ length (progress_in d.progress)
 many_read d inputs times =
     let one : length (map (λ (i : Arrival). i.time) inputs) ≡ length inputs =
     length-map inputs (λ (i : Arrival). i.time) in
@@ -41,9 +49,16 @@ clock_on inputs input clock own now was same is =
 
 -- OVER A POOL
 
-module _ {M G : Type 0} where
+-- an input from outside has no second leg
+none_behind : (rules : Rules) (all : List Arrival) (number : ℕ) (input : Arrival) →
+    slice_get all number ≡ Some input → (side : Side) → input.side ≡ side →
+    NoneBehind (way_from input.side) (second_legs number (run rules all (opening rules)).acts)
+none_behind rules all number input there Inside is = rw is tt
+none_behind rules all number input there Outside is = rw is (outside_alone rules all number input there is)
+
+module _ {P M G : Type 0} {tells : Passage → P} where
   -- nothing was done
-  pub goes_none : {pool : Pool M G Leg Answer} {d : Dispatcher} → IsSizedFor pool d → GoesOn pool d [] pool d
+  pub goes_none : {pool : Pool M G Leg (Told P)} {d : Dispatcher P} → IsSizedFor pool d → GoesOn tells pool d [] pool d
   goes_none {pool} {d} sized = record {
     starts_stay = refl;
     grows = grows_none pool;
@@ -54,9 +69,9 @@ module _ {M G : Type 0} where
   }
 
   -- outcomes left, and nothing else was done
-  pub goes_over : (pool : Pool M G Leg Answer) (d later : Dispatcher) (went : List (ℕ × Outcome)) →
+  pub goes_over : (pool : Pool M G Leg (Told P)) (d later : Dispatcher P) (went : List (ℕ × Departed P)) →
       IsSizedFor pool d → later.queues ≡ d.queues → IsHandedOver went d.progress later.progress →
-      GoesOn pool d went pool later
+      GoesOn tells pool d went pool later
   goes_over pool d later went sized queues over = record {
     starts_stay = refl;
     grows = grows_none pool;
@@ -64,15 +79,15 @@ module _ {M G : Type 0} where
     times_stay = over.times_stay;
     left_is = over.left_is;
     keeps = λ rules done all s.
-        let kept : Keeps (state_of pool d) (state_of pool later) =
-        rw queues (known_keeps (length d.queues) (state_of pool d).lane (progress_in d.progress)
-        (progress_in later.progress) over.known) in
-        record { stands = kept rules done all s.stands };
+        record {
+          stands = rw queues (known_stands rules done all (length d.queues) (state_of pool d).lane
+              (progress_in d.progress) (progress_in later.progress) (over.known (whole_of tells rules all)) s.stands);
+        };
   }
 
-  module _ {pool mid_pool later_pool : Pool M G Leg Answer} {d mid later : Dispatcher} where
-    pub continues_both : Continues pool d mid_pool mid → Continues mid_pool mid later_pool later →
-        Continues pool d later_pool later
+  module _ {pool mid_pool later_pool : Pool M G Leg (Told P)} {d mid later : Dispatcher P} where
+    pub continues_both : Continues tells pool d mid_pool mid → Continues tells mid_pool mid later_pool later →
+        Continues tells pool d later_pool later
     continues_both a b = record {
       starts_stay = b.starts_stay ∙ a.starts_stay;
       grows = grows_both a.grows b.grows;
@@ -81,8 +96,8 @@ module _ {M G : Type 0} where
       keeps = λ rules done all s. b.keeps rules done all (a.keeps rules done all s);
     }
 
-    pub goes_more : {xs ys : List (ℕ × Outcome)} → GoesOn pool d xs mid_pool mid →
-        GoesOn mid_pool mid ys later_pool later → GoesOn pool d (xs ++ ys) later_pool later
+    pub goes_more : {xs ys : List (ℕ × Departed P)} → GoesOn tells pool d xs mid_pool mid →
+        GoesOn tells mid_pool mid ys later_pool later → GoesOn tells pool d (xs ++ ys) later_pool later
     goes_more {xs} {ys} a b = record {
       starts_stay = b.starts_stay ∙ a.starts_stay;
       grows = grows_both a.grows b.grows;
@@ -93,8 +108,8 @@ module _ {M G : Type 0} where
     }
 
     -- answers were taken and legs offered, and nothing left
-    pub goes_then : {xs : List (ℕ × Outcome)} → GoesOn pool d xs mid_pool mid →
-        Continues mid_pool mid later_pool later → GoesOn pool d xs later_pool later
+    pub goes_then : {xs : List (ℕ × Departed P)} → GoesOn tells pool d xs mid_pool mid →
+        Continues tells mid_pool mid later_pool later → GoesOn tells pool d xs later_pool later
     goes_then a b = record {
       starts_stay = b.starts_stay ∙ a.starts_stay;
       grows = grows_both a.grows b.grows;
@@ -104,45 +119,50 @@ module _ {M G : Type 0} where
       keeps = λ rules done all s. b.keeps rules done all (a.keeps rules done all s);
     }
 
-  pub continues_then : {X : Type 0} {pool mid_pool : Pool M G Leg Answer} {d mid : Dispatcher} →
-      Continues pool d mid_pool mid → (open_gate : Bool) (later_pool : Pool M G Leg Answer) (later : Dispatcher)
-      (result : Result X RunFault) → ContinuesUnlessFault open_gate mid_pool mid later_pool later result →
-      ContinuesUnlessFault open_gate pool d later_pool later result
+  pub continues_then : {X : Type 0} {pool mid_pool : Pool M G Leg (Told P)} {d mid : Dispatcher P} →
+      Continues tells pool d mid_pool mid → (open_gate : Bool) (later_pool : Pool M G Leg (Told P))
+      (later : Dispatcher P)
+      (result : Result X RunFault) → ContinuesOr tells open_gate mid_pool mid later_pool later result →
+      ContinuesOr tells open_gate pool d later_pool later result
   continues_then a open_gate later_pool later (Ok done) b = continues_both a b
   continues_then a open_gate later_pool later (Err fault) b = halts_after a.grows b
 
   -- WHAT IS READ
 
   -- a place was made for an input, its first leg was held, and then perhaps answers were taken and legs offered
-  pub serves_as : (rules : Rules) (now number : ℕ) (input : Arrival) (pool : Pool M G Leg Answer)
-      (d admitted : Dispatcher) (window : Window) (later_pool : Pool M G Leg Answer) (later : Dispatcher) →
-      window ≡ expecting input.time d.progress → number ≡ length (progress_in d.progress) →
-      Admits rules number now input (record d { progress = window }) admitted →
-      journal_of admitted.progress ≡ journal_of window → Continues pool admitted later_pool later →
-      Serves rules now input pool d later_pool later
+  pub serves_as : (rules : Rules) (now number : ℕ) (input : Arrival) (pool : Pool M G Leg (Told P))
+      (d admitted : Dispatcher P) (window : Window P) (later_pool : Pool M G Leg (Told P)) (later : Dispatcher P) →
+      window ≡ expecting input.time (way_from input.side) d.progress → number ≡ length (progress_in d.progress) →
+      Admits tells rules number now input (record d { progress = window }) admitted →
+      journal_of admitted.progress ≡ journal_of window → Continues tells pool admitted later_pool later →
+      Serves tells rules now input pool d later_pool later
   serves_as rules now number input pool d admitted window later_pool later is at admits journal goes = record {
     starts_stay = goes.starts_stay;
     grows = goes.grows;
     sized = goes.sized;
     times_are = ap (λ j. j.times) (goes.journal_stays ∙ journal)
-        ∙ (ap times_in is ∙ expecting_times input.time d.progress);
-    left_stays = ap (λ j. j.left) (goes.journal_stays ∙ journal) ∙ ap (λ (w : Window). w.left) is;
+        ∙ (ap times_in is ∙ expecting_times input.time (way_from input.side) d.progress);
+    left_stays = ap (λ j. j.left) (goes.journal_stays ∙ journal) ∙ ap (λ (w : Window P). w.left) is;
     served = λ done rest long clock s.
         let all : List Arrival = (done ++ input ∷ []) ++ rest in
-        let expected : Keeps (state_of pool d) (state_of pool (record d { progress = window })) =
-        rw (ap progress_in is ∙ expecting_progress input.time d.progress)
-        (known_keeps (length d.queues) (state_of pool d).lane (progress_in d.progress) (progress_in d.progress
-        ++ Awaited ∷ []) (λ course known. known_push course (progress_in d.progress) known)) in
+        let way : Way = way_from input.side in
+        let none : NoneBehind way (second_legs (length (progress_in d.progress)) (run rules all (opening rules)).acts) =
+        none_behind rules all (length (progress_in d.progress)) input
+        (input_there done rest input (length (progress_in d.progress)) long) input.side refl in
+        let expected : Stands tells rules done all (state_of pool (record d { progress = window })) =
+        rw (ap progress_in is ∙ expecting_progress input.time way d.progress)
+        (known_stands rules done all (length d.queues) (state_of pool d).lane (progress_in d.progress)
+        (progress_in d.progress ++ Awaited way ∷ [])
+        (known_push (whole_of tells rules all) (progress_in d.progress) way none) s) in
         (goes.keeps rules (done ++ input ∷ []) all (record {
-          stands = admits (of_worker (accepts pool)) (of_worker (taken pool)) done rest (long ∙ sym at) clock
-              (expected rules done all s);
+          stands = admits (of_worker (accepts pool)) (of_worker (taken pool)) done rest (long ∙ sym at) clock expected;
         })).stands;
   }
 
   -- WHAT WAS READ
 
-  pub reads_none : (rules : Rules) (pool : Pool M G Leg Answer) (d : Dispatcher) → IsSizedFor pool d →
-      d.progress.left ≡ [] → d.progress.under_way ≡ [] → Reads rules pool d [] [] pool d
+  pub reads_none : (rules : Rules) (pool : Pool M G Leg (Told P)) (d : Dispatcher P) → IsSizedFor pool d →
+      d.progress.left ≡ [] → d.progress.under_way ≡ [] → Reads tells rules pool d [] [] pool d
   reads_none rules pool d sized left none = record {
     starts_stay = refl;
     grows = grows_none pool;
@@ -152,10 +172,10 @@ module _ {M G : Type 0} where
     served = λ rest s. s;
   }
 
-  module _ {rules : Rules} {pool mid_pool later_pool : Pool M G Leg Answer} {d mid later : Dispatcher}
+  module _ {rules : Rules} {pool mid_pool later_pool : Pool M G Leg (Told P)} {d mid later : Dispatcher P}
       {inputs : List Arrival} where
-    pub reads_on : {xs ys : List (ℕ × Outcome)} → Reads rules pool d inputs xs mid_pool mid →
-        GoesOn mid_pool mid ys later_pool later → Reads rules pool d inputs (xs ++ ys) later_pool later
+    pub reads_on : {xs ys : List (ℕ × Departed P)} → Reads tells rules pool d inputs xs mid_pool mid →
+        GoesOn tells mid_pool mid ys later_pool later → Reads tells rules pool d inputs (xs ++ ys) later_pool later
     reads_on {ys = ys} a b = record {
       starts_stay = b.starts_stay ∙ a.starts_stay;
       grows = grows_both a.grows b.grows;
@@ -166,10 +186,10 @@ module _ {M G : Type 0} where
     }
 
     -- one input more
-    pub reads_more : {went : List (ℕ × Outcome)} {now : ℕ} {input : Arrival} →
-        Reads rules pool d inputs went mid_pool mid → now ≡ last_clock 0 (inputs ++ input ∷ []) →
-        Serves rules now input mid_pool mid later_pool later →
-        Reads rules pool d (inputs ++ input ∷ []) went later_pool later
+    pub reads_more : {went : List (ℕ × Departed P)} {now : ℕ} {input : Arrival} →
+        Reads tells rules pool d inputs went mid_pool mid → now ≡ last_clock 0 (inputs ++ input ∷ []) →
+        Serves tells rules now input mid_pool mid later_pool later →
+        Reads tells rules pool d (inputs ++ input ∷ []) went later_pool later
     reads_more {input = input} a clock b = record {
       starts_stay = b.starts_stay ∙ a.starts_stay;
       grows = grows_both a.grows b.grows;
@@ -181,12 +201,12 @@ module _ {M G : Type 0} where
           let whole : (inputs ++ input ∷ []) ++ rest ≡ inputs ++ (input ∷ rest) =
           append_assoc inputs (input ∷ []) rest in
           b.served inputs rest (many_read mid inputs a.times_are) (sym (clock ∙ clock_more 0 inputs input))
-          (subst (λ all. Stands rules inputs all (state_of mid_pool mid)) (sym whole)
-          (a.served (input ∷ rest) (subst (λ all. Stands rules [] all (state_of pool d)) whole s)));
+          (subst (λ all. Stands tells rules inputs all (state_of mid_pool mid)) (sym whole)
+          (a.served (input ∷ rest) (subst (λ all. Stands tells rules [] all (state_of pool d)) whole s)));
     }
 
 -- where nothing is held and all outcomes left there is room
-pub room_idle : (d : Dispatcher) → IsDone d → d.progress.under_way ≡ [] → HasRoom d
+pub room_idle : {P : Type 0} (d : Dispatcher P) → IsDone d → d.progress.under_way ≡ [] → HasRoom d
 room_idle d done none =
     let held : many_held d.queues ≡ 0 = held_none d.queues done.held in
     let under_way : length d.progress.under_way ≡ 0 = ap length none in
@@ -194,9 +214,10 @@ room_idle d done none =
 
 -- OUTCOMES THAT LEAVE
 
-module _ {S F : Type 0} {takes : S → List (ℕ × Outcome) → S → Type 0} (fails : S → List (ℕ × Outcome) → F → S → Type 0)
-    (more : (x y z : S) (xs ys : List (ℕ × Outcome)) → takes x xs y → takes y ys z → takes x (xs ++ ys) z) where
-  fails_after : {before mid after : S} {xs ys : List (ℕ × Outcome)} {fault : F} → takes before xs mid →
+module _ {P S F : Type 0} {takes : S → List (ℕ × Departed P) → S → Type 0}
+    (fails : S → List (ℕ × Departed P) → F → S → Type 0)
+    (more : (x y z : S) (xs ys : List (ℕ × Departed P)) → takes x xs y → takes y ys z → takes x (xs ++ ys) z) where
+  fails_after : {before mid after : S} {xs ys : List (ℕ × Departed P)} {fault : F} → takes before xs mid →
       Fails takes fails mid ys fault after → Fails takes fails before (xs ++ ys) fault after
   fails_after {before} {mid} {xs = xs} took f = record {
     first = xs ++ f.first;
@@ -207,21 +228,23 @@ module _ {S F : Type 0} {takes : S → List (ℕ × Outcome) → S → Type 0} (
     failed = f.failed;
   }
 
-  module _ {M G : Type 0} {pool mid_pool : Pool M G Leg Answer} (later_pool : Pool M G Leg Answer) {d mid : Dispatcher}
-      (later : Dispatcher) {before between : S} (after : S) where
-    pub lets_more : LetsGo takes pool d before mid_pool mid between →
-        LetsGo takes mid_pool mid between later_pool later after → LetsGo takes pool d before later_pool later after
+  module _ {tells : Passage → P} {M G : Type 0} {pool mid_pool : Pool M G Leg (Told P)}
+      (later_pool : Pool M G Leg (Told P)) {d mid : Dispatcher P}
+      (later : Dispatcher P) {before between : S} (after : S) where
+    pub lets_more : LetsGo tells takes pool d before mid_pool mid between →
+        LetsGo tells takes mid_pool mid between later_pool later after →
+        LetsGo tells takes pool d before later_pool later after
     lets_more a b = record {
       went = a.went ++ b.went;
       goes = goes_more a.goes b.goes;
       took = more before between after a.went b.went a.took b.took;
     }
 
-  pub lets_halt : {M G : Type 0} {pool mid_pool : Pool M G Leg Answer} (later_pool : Pool M G Leg Answer)
-      {d mid : Dispatcher} (later : Dispatcher) {before between : S} (after : S) (open_gate : Bool) (e : Halted F) →
-      LetsGo takes pool d before mid_pool mid between →
-      HaltsAt open_gate takes fails mid_pool mid between later_pool later after e →
-      HaltsAt open_gate takes fails pool d before later_pool later after e
+  pub lets_halt : {tells : Passage → P} {M G : Type 0} {pool mid_pool : Pool M G Leg (Told P)}
+      (later_pool : Pool M G Leg (Told P)) {d mid : Dispatcher P} (later : Dispatcher P) {before between : S}
+      (after : S) (open_gate : Bool) (e : Halted F) → LetsGo tells takes pool d before mid_pool mid between →
+      HaltsAt tells open_gate takes fails mid_pool mid between later_pool later after e →
+      HaltsAt tells open_gate takes fails pool d before later_pool later after e
   lets_halt later_pool later after open_gate (halts.Departure fault) a b = record {
     went = a.went ++ b.went;
     goes = goes_more a.goes b.goes;
@@ -235,11 +258,11 @@ module _ {S F : Type 0} {takes : S → List (ℕ × Outcome) → S → Type 0} (
   }
 
   -- outcomes left, and then there was a fault of dispatching
-  pub lets_stop : {M G : Type 0} {pool mid_pool later_pool : Pool M G Leg Answer} {d mid handed : Dispatcher}
-      {before between after : S} {open_gate : Bool} {fault : RunFault} →
-      LetsGo takes pool d before mid_pool mid between →
-      LetsGo takes mid_pool mid between mid_pool handed after → HaltsBy open_gate mid_pool later_pool fault →
-      HaltsIn open_gate takes pool d before later_pool after fault
+  pub lets_stop : {tells : Passage → P} {M G : Type 0} {pool mid_pool later_pool : Pool M G Leg (Told P)}
+      {d mid handed : Dispatcher P} {before between after : S} {open_gate : Bool} {fault : RunFault} →
+      LetsGo tells takes pool d before mid_pool mid between →
+      LetsGo tells takes mid_pool mid between mid_pool handed after → HaltsBy open_gate mid_pool later_pool fault →
+      HaltsIn tells open_gate takes pool d before later_pool after fault
   lets_stop {mid_pool = mid_pool} {handed = handed} {after = after} a b stop = record {
     last_pool = mid_pool;
     last = handed;
@@ -248,29 +271,32 @@ module _ {S F : Type 0} {takes : S → List (ℕ × Outcome) → S → Type 0} (
   }
 
   -- outcomes left, and then answers were taken and legs offered
-  pub lets_turn : {M G : Type 0} {pool mid_pool later_pool : Pool M G Leg Answer} {d mid handed later : Dispatcher}
-      {before between after : S} → LetsGo takes pool d before mid_pool mid between →
-      LetsGo takes mid_pool mid between mid_pool handed after → Continues mid_pool handed later_pool later →
-      LetsGo takes pool d before later_pool later after
+  pub lets_turn : {tells : Passage → P} {M G : Type 0} {pool mid_pool later_pool : Pool M G Leg (Told P)}
+      {d mid handed later : Dispatcher P}
+      {before between after : S} → LetsGo tells takes pool d before mid_pool mid between →
+      LetsGo tells takes mid_pool mid between mid_pool handed after → Continues tells mid_pool handed later_pool later →
+      LetsGo tells takes pool d before later_pool later after
   lets_turn a b c = let both = lets_more _ _ _ a b in
       record { went = both.went; goes = goes_then both.goes c; took = both.took }
 
   -- what left was settled
-  pub lets_settle : {M G : Type 0} {pool later_pool : Pool M G Leg Answer} {d later : Dispatcher}
-      {before between after : S} → LetsGo takes pool d before later_pool later between → takes between [] after →
-      LetsGo takes pool d before later_pool later after
+  pub lets_settle : {tells : Passage → P} {M G : Type 0} {pool later_pool : Pool M G Leg (Told P)}
+      {d later : Dispatcher P} {before between after : S} → LetsGo tells takes pool d before later_pool later between →
+      takes between [] after → LetsGo tells takes pool d before later_pool later after
   lets_settle a b = lets_more _ _ _ a (record { went = []; goes = goes_none a.goes.sized; took = b })
 
   -- WHAT WAS READ
 
-  module _ {A B : Type 0} {rules : Rules} {hands : A → List Arrival → A → Type 0} {ends : A → Option B → A → Type 0}
-      (is_settled : S → Type 0) {M G : Type 0} {pool mid_pool : Pool M G Leg Answer}
-      (later_pool : Pool M G Leg Answer) {d mid : Dispatcher} (later : Dispatcher) {from left : A}
-      {before between : S} (after : S) {inputs : List Arrival} {went : List (ℕ × Outcome)} where
-    pub reads_halt : (open_gate : Bool) (e : Halted F) → Reads rules pool d inputs went mid_pool mid →
+  module _ {tells : Passage → P} {A B : Type 0} {rules : Rules} {hands : A → List Arrival → A → Type 0}
+      {ends : A → Option B → A → Type 0}
+      (is_settled : S → Type 0) {M G : Type 0} {pool mid_pool : Pool M G Leg (Told P)}
+      (later_pool : Pool M G Leg (Told P)) {d mid : Dispatcher P} (later : Dispatcher P) {from left : A}
+      {before between : S} (after : S) {inputs : List Arrival} {went : List (ℕ × Departed P)} where
+    pub reads_halt : (open_gate : Bool) (e : Halted F) → Reads tells rules pool d inputs went mid_pool mid →
         takes before went between → HasCome hands ends from inputs left →
-        HaltsAt open_gate takes fails mid_pool mid between later_pool later after e →
-        ReadsHalted rules hands ends takes fails is_settled pool d from before later_pool later left after open_gate e
+        HaltsAt tells open_gate takes fails mid_pool mid between later_pool later after e →
+        ReadsHalted tells rules hands ends takes fails is_settled pool d from before later_pool later left after
+        open_gate e
     reads_halt open_gate (halts.Departure fault) reads took come b = record {
       inputs = inputs;
       went = went ++ b.went;
@@ -291,10 +317,10 @@ module _ {S F : Type 0} {takes : S → List (ℕ × Outcome) → S → Type 0} (
     }
 
     -- the end was told, or a fault
-    pub reads_over : (end : EndOfInputs B) → Reads rules pool d inputs went mid_pool mid → takes before went between →
-        LetsGo takes mid_pool mid between later_pool later after → Came hands ends from inputs end.fault left →
-        end.clock ≡ last_clock 0 inputs →
-        ReadsToEnd rules hands ends takes fails is_settled pool d from before later_pool later left after end
+    pub reads_over : (end : EndOfInputs B) → Reads tells rules pool d inputs went mid_pool mid →
+        takes before went between → LetsGo tells takes mid_pool mid between later_pool later after →
+        Came hands ends from inputs end.fault left → end.clock ≡ last_clock 0 inputs →
+        ReadsToEnd tells rules hands ends takes fails is_settled pool d from before later_pool later left after end
     reads_over end reads took b came clock = record {
       inputs = inputs;
       went = went ++ b.went;

@@ -1,14 +1,12 @@
 -- What a run passes on, by what dispatching came to and the answers that the workers were right to give.
-use Rattle.std.proofs.Common.{◌≡◌, ℕ, List, [], ◌++◌, length, map, Option, None, Some, Result, Ok, Err, refl, sym, ◌∙◌, ap, subst, append-nil, inl, inr}
+use Rattle.std.proofs.Common.{◌≡◌, ℕ, List, [], ◌++◌, length, map, Option, None, Some, Result, Ok, Err, sym, ◌∙◌, ap, subst, append-nil, inl, inr}
 use Rattle.std.specs.Prelude.{IfOk, OnErr}
 use Rattle.napt_config.specs.Rules.{Rules}
 use Rattle.napt_rules.specs.declared.Leg.{Leg}
-use Rattle.napt_rules.specs.declared.Answer.{Answer}
 use Rattle.napt_rules.specs.declared.Outcome.{Outcome}
-use Rattle.napt_rules.specs.Prelude.{opening, Arrival, run, Ran, ran}
+use Rattle.napt_rules.specs.Prelude.{Arrival, Ran, ran}
 use Rattle.napt_pool.specs.declared.pool.Pool.{Pool}
 use Rattle.napt_pool.specs.Pools.{accepts, takes as taken}
-use Rattle.napt_laws.specs.Dispatching.{IsFront}
 use Rattle.napt_sequential.proofs.Inputs.{came_whole}
 use Rattle.napt_dispatch.specs.declared.collected.Collected.{Collected}
 use Rattle.napt_dispatch.specs.declared.dispatcher.Dispatched.{Dispatched}
@@ -18,42 +16,36 @@ use Rattle.napt_sequential.specs.declared.fault.RunFault.{RunFault}
 use Rattle.napt_dispatch.specs.declared.workers.Passed.{Passed}
 use Rattle.napt_dispatch.specs.Collecting.{outcome_of, Collects}
 use Rattle.napt_dispatch.specs.Dispatch.{IsDispatched, Right}
-use Rattle.napt_dispatch.specs.Passing.{timed, EndsWith, EndsEarly, EndsHalted, EndsBy, PassesTo, PassesWell, PassesEarly, PassesHalted}
+use Rattle.napt_dispatch.specs.Passing.{EndsWith, EndsEarly, EndsHalted, EndsBy, PassesTo, PassesWell, PassesEarly, PassesHalted}
+use Rattle.napt_sequential.specs.declared.telling.Told.{Told}
+use Rattle.napt_sequential.specs.declared.telling.Untold.{Untold}
+use Rattle.napt_sequential.specs.declared.passage.Passage.{Passage}
+use Rattle.napt_dispatch.specs.declared.departures.Departed.{Departed}
 
--- the outcomes of a run are those of its course
-ran_outcomes : (rules : Rules) (inputs : List Arrival) →
-    (run rules inputs (opening rules)).outcomes ≡ (ran rules inputs).outcomes
-unfolding ran
-ran_outcomes rules inputs = refl
-
-timed_ran : (rules : Rules) (inputs : List Arrival) →
-    timed inputs (run rules inputs (opening rules)).outcomes ≡ timed inputs (ran rules inputs).outcomes
-timed_ran rules inputs = ap (timed inputs) (ran_outcomes rules inputs)
-
-module _ {A F S B M G : Type 0} (rules : Rules) (hands : A → List Arrival → A → Type 0)
-    (ends : A → Option F → A → Type 0) (takes : S → List (ℕ × Outcome) → S → Type 0)
-    (fails : S → List (ℕ × Outcome) → B → S → Type 0) (is_settled : S → Type 0) (from : A) (before : S)
-    (pool : Pool M G Leg Answer) (left : A) (after : S) (right : Right rules (accepts pool) (taken pool)) where
+module _ {P : Type 0} {tells : Passage → P} {A F S B M G : Type 0} (rules : Rules)
+    (hands : A → List Arrival → A → Type 0)
+    (ends : A → Option F → A → Type 0) (takes : S → List (ℕ × Departed P) → S → Type 0)
+    (fails : S → List (ℕ × Departed P) → B → S → Type 0) (is_settled : S → Type 0) (from : A) (before : S)
+    (pool : Pool M G Leg (Told P)) (left : A) (after : S) (right : Right tells rules (accepts pool) (taken pool)) where
   pub passes_to : (end : Option F) (done : Dispatched F B) →
-      EndsWith rules hands ends takes fails is_settled from before pool left after end done →
-      PassesTo rules hands ends takes fails is_settled from before left after end
+      EndsWith tells rules hands ends takes fails is_settled from before pool left after end done →
+      PassesTo tells rules hands ends takes fails is_settled from before left after end
   passes_to end done e = record {
     inputs = e.inputs;
     came = e.came;
-    took = subst (λ (pairs : List (ℕ × Outcome)). takes before pairs after)
-        ((e.right right).0 ∙ timed_ran rules e.inputs) e.took;
+    took = subst (λ (pairs : List (ℕ × Departed P)). takes before pairs after) (e.right right).0 e.took;
     settled = e.settled;
     few = e.few;
   }
 
   pub passes_well : (done : Dispatched F B) (passed : Passed)
-      (e : EndsWith rules hands ends takes fails is_settled from before pool left after None done) →
+      (e : EndsWith tells rules hands ends takes fails is_settled from before pool left after None done) →
       (let r : Ran = record {
         outcomes = map outcome_of e.went;
         bindings = passed.bindings.items;
         legs = passed.legs.items;
       } in r ≡ ran rules e.inputs) →
-      PassesWell rules hands ends takes fails is_settled from before left after passed
+      PassesWell tells rules hands ends takes fails is_settled from before left after passed
   unfolding passes_to
   passes_well done passed e is = record {
     whole = passes_to None done e;
@@ -62,57 +54,58 @@ module _ {A F S B M G : Type 0} (rules : Rules) (hands : A → List Arrival → 
   }
 
   pub passes_early : (fault : B) →
-      EndsEarly rules hands ends takes fails is_settled from before pool left after fault →
-      PassesEarly rules hands ends takes fails is_settled from before left after fault
+      EndsEarly tells rules hands ends takes fails is_settled from before pool left after fault →
+      PassesEarly tells rules hands ends takes fails is_settled from before left after fault
   passes_early fault e = record {
     inputs = e.inputs;
     went = e.went;
     come = e.come;
-    front = subst (λ (pairs : List (ℕ × Outcome)). IsFront e.went pairs) (timed_ran rules e.inputs) (e.right right);
+    front = e.right right;
     failed = e.failed;
   }
 
   -- where the run itself failed
-  passes_halt : EndsHalted rules hands ends takes fails is_settled from before pool left after →
-      PassesHalted rules hands ends takes fails is_settled from before left after
+  passes_halt : EndsHalted tells rules hands ends takes fails is_settled from before pool left after →
+      PassesHalted tells rules hands ends takes fails is_settled from before left after
   passes_halt e = record {
     inputs = e.inputs;
     went = e.went;
     come = e.come;
-    front = subst (λ (pairs : List (ℕ × Outcome)). IsFront e.went pairs) (timed_ran rules e.inputs) (e.right right);
+    front = e.right right;
     took = inl e.took;
   }
 
   passes_late : (end : Option F) (done : Dispatched F B) →
-      EndsWith rules hands ends takes fails is_settled from before pool left after end done →
-      PassesHalted rules hands ends takes fails is_settled from before left after
+      EndsWith tells rules hands ends takes fails is_settled from before pool left after end done →
+      PassesHalted tells rules hands ends takes fails is_settled from before left after
   passes_late end done e = record {
     inputs = e.inputs;
     went = e.went;
     come = inr (end, e.came);
-    front = ([], append-nil e.went ∙ ((e.right right).0 ∙ timed_ran rules e.inputs));
+    front = ([], append-nil e.went ∙ (e.right right).0);
     took = inl e.took;
   }
 
-  passes_failed : (fault : B) → EndsEarly rules hands ends takes fails is_settled from before pool left after fault →
-      PassesHalted rules hands ends takes fails is_settled from before left after
+  passes_failed : (fault : B) →
+      EndsEarly tells rules hands ends takes fails is_settled from before pool left after fault →
+      PassesHalted tells rules hands ends takes fails is_settled from before left after
   passes_failed fault e = record {
     inputs = e.inputs;
     went = e.went;
     come = e.come;
-    front = subst (λ (pairs : List (ℕ × Outcome)). IsFront e.went pairs) (timed_ran rules e.inputs) (e.right right);
+    front = e.right right;
     took = inr (fault, e.failed);
   }
 
 -- the run itself failed, however dispatching ended
-module _ {A F S B M G : Type 0} (rules : Rules) (hands : A → List Arrival → A → Type 0)
-    (ends : A → Option F → A → Type 0) (takes : S → List (ℕ × Outcome) → S → Type 0)
-    (fails : S → List (ℕ × Outcome) → B → S → Type 0) (is_settled : S → Type 0) (from : A) (before : S)
-    (pool : Pool M G Leg Answer) (left : A) (after : S)
-    (right : length (accepts pool) ≡ length rules.pool → Right rules (accepts pool) (taken pool)) where
+module _ {P : Type 0} {tells : Passage → P} {A F S B M G : Type 0} (rules : Rules)
+    (hands : A → List Arrival → A → Type 0) (ends : A → Option F → A → Type 0)
+    (takes : S → List (ℕ × Departed P) → S → Type 0) (fails : S → List (ℕ × Departed P) → B → S → Type 0)
+    (is_settled : S → Type 0) (from : A) (before : S) (pool : Pool M G Leg (Told P)) (left : A) (after : S)
+    (right : length (accepts pool) ≡ length rules.pool → Right tells rules (accepts pool) (taken pool)) where
   pub passes_ended : (done : Dispatched F B) (ending : Ending F B) →
-      EndsBy rules hands ends takes fails is_settled from before pool left after done ending →
-      PassesHalted rules hands ends takes fails is_settled from before left after
+      EndsBy tells rules hands ends takes fails is_settled from before pool left after done ending →
+      PassesHalted tells rules hands ends takes fails is_settled from before left after
   passes_ended done endings.Whole e =
       passes_late rules hands ends takes fails is_settled from before pool left after (right e.offered_many) None done e
   passes_ended done (endings.Arrival fault) e =
@@ -121,24 +114,22 @@ module _ {A F S B M G : Type 0} (rules : Rules) (hands : A → List Arrival → 
   passes_ended done (endings.Departure fault) e =
       passes_failed rules hands ends takes fails is_settled from before pool left after (right e.offered_many) fault e
 
-  pub passes_closed : (result : Result (Dispatched F B) RunFault) →
-      IfOk result (λ done. EndsBy rules hands ends takes fails is_settled from before pool left after done
-      done.ending) →
-      OnErr result (EndsHalted rules hands ends takes fails is_settled from before pool left after) →
-      PassesHalted rules hands ends takes fails is_settled from before left after
+  pub passes_closed : (result : Result (Dispatched F B) RunFault) → IfOk result
+      (λ done. EndsBy tells rules hands ends takes fails is_settled from before pool left after done done.ending) →
+      OnErr result (EndsHalted tells rules hands ends takes fails is_settled from before pool left after) →
+      PassesHalted tells rules hands ends takes fails is_settled from before left after
   passes_closed (Ok done) ended halted = passes_ended done done.ending ended
   passes_closed (Err fault) ended halted =
       passes_halt rules hands ends takes fails is_settled from before pool left after (right halted.offered_many) halted
 
 -- WHERE THE INPUTS COME OFF A LIST
 
-pub dispatched_whole : {A F B M G : Type 0} (rules : Rules) (list : A → List Arrival)
-    (fails : Collected → List (ℕ × Outcome) → B → Collected → Type 0) (is_settled : Collected → Type 0) (from : A)
-    (none : Collected) (pool : Pool M G Leg Answer) (left : A) (some : Collected) (done : Dispatched F B) →
-    EndsWith rules (λ x xs y. list x ≡ xs ++ list y) (λ x end y. list x ≡ []) Collects fails is_settled from none
-    pool left
-    some None done → none.outcomes.items ≡ [] →
-    (length (accepts pool) ≡ length rules.pool → Right rules (accepts pool) (taken pool)) →
+pub dispatched_whole : {tells : Passage → Untold} {A F B M G : Type 0} (rules : Rules) (list : A → List Arrival)
+    (fails : Collected → List (ℕ × Departed Untold) → B → Collected → Type 0) (is_settled : Collected → Type 0)
+    (from : A) (none : Collected) (pool : Pool M G Leg (Told Untold)) (left : A) (some : Collected)
+    (done : Dispatched F B) → EndsWith tells rules (λ x xs y. list x ≡ xs ++ list y)
+    (λ x end y. list x ≡ []) Collects fails is_settled from none pool left some None done → none.outcomes.items ≡ [] →
+    (length (accepts pool) ≡ length rules.pool → Right tells rules (accepts pool) (taken pool)) →
     IsDispatched rules (list from) (accepts pool) some.outcomes.items done.legs.items
 dispatched_whole rules list fails is_settled from none pool left some done e empty right =
     let outcomes : some.outcomes.items ≡ map outcome_of e.went = e.took

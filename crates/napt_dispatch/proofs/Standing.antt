@@ -1,5 +1,5 @@
 -- What stands while a dispatcher hands out the legs of a run.
-use Rattle.std.proofs.Common.{◌≡◌, ◌≢◌, ℕ, suc, ◌+◌, ◌<◌, ◌≤◌, ◌==◌, max, Bool, true, false, cond, List, [], ◌∷◌, ◌++◌, length, map, replicate, Option, Some, None, option_to_list, Ok, Err, refl, sym, ◌∙◌, ap, subst, arith, inl, inr, append_assoc, append-nil, length-append}
+use Rattle.std.proofs.Common.{◌≡◌, ◌≢◌, ℕ, zero, suc, ◌+◌, ◌<◌, ◌≤◌, ◌==◌, max, Bool, true, false, cond, List, [], ◌∷◌, ◌++◌, length, map, replicate, Option, Some, None, option_to_list, Ok, Err, refl, sym, ◌∙◌, ap, subst, arith, inl, inr, append_assoc, append-nil, length-append}
 use Rattle.std.specs.Prelude.{IfSome, drop, flat_map, slice_index, slice_get, slice_set}
 use Rattle.std.proofs.lemmas.Bool.{cases_eq, eq-eqb, ne_eqb}
 use Rattle.std.proofs.lemmas.List.{length_push, map-append, length-replicate, length-map, get_or-map}
@@ -12,9 +12,8 @@ use Rattle.napt_wire.specs.declared.Side.TheVariants.{Inside, Outside}
 use Rattle.napt_wire.specs.Fields.{destination}
 use Rattle.napt_wire.specs.Packet.{IsPacket}
 use Rattle.napt_config.specs.Rules.{Rules, place_of}
-use Rattle.napt_rules.specs.Prelude.{Each, opening, way_from, served_at, Acted, act, follow_by, Arrival, admission, Act, Course, run, last_clock, acts_at, legs_at, answer_of, Kept, kept_after, kept_answer, kept_replies}
+use Rattle.napt_rules.specs.Prelude.{Each, opening, way_from, served_at, Acted, act, follow_by, Arrival, admission, Act, Course, run, last_clock, acts_at, legs_at, Kept, kept_after}
 use Rattle.napt_rules.specs.declared.Leg.{Leg}
-use Rattle.napt_rules.specs.declared.Answer.{Answer}
 use Rattle.napt_rules.specs.declared.End.{End}
 use Rattle.napt_rules.specs.declared.End.TheVariants as ends
 use Rattle.napt_rules.specs.declared.Outcome.{Outcome}
@@ -25,27 +24,40 @@ use Rattle.napt_dispatch.specs.declared.dispatcher.holding.Held.{Held}
 use Rattle.napt_dispatch.specs.declared.dispatcher.holding.Held.TheVariants.{Ready, Place}
 use Rattle.napt_dispatch.specs.declared.dispatcher.holding.Owed.{Owed}
 use Rattle.napt_dispatch.specs.declared.dispatcher.progress.Progress.{Progress}
-use Rattle.napt_dispatch.specs.declared.dispatcher.progress.Progress.TheVariants.{Told}
+use Rattle.napt_dispatch.specs.declared.dispatcher.progress.Progress.TheVariants.{Awaited, Returning, Answered}
+use Rattle.napt_dispatch.specs.declared.departures.Departed.{Departed}
 use Rattle.napt_dispatch.specs.declared.dispatcher.Dispatcher.{Dispatcher}
-use Rattle.napt_laws.specs.Dispatching.{IsFront, IsTold, IsForetold, OnwardIsForetold}
-use Rattle.napt_laws.specs.Places.{first_act, second_of, IsSeconded}
-use Rattle.napt_laws.proofs.Dispatched.{right_answers, answers_tell}
+use Rattle.napt_laws.specs.Dispatching.{IsFront, outcome_told, IsTold, IsForetold, OnwardIsForetold}
+use Rattle.napt_laws.specs.Places.{first_act, second_legs, second_of, IsSeconded}
+use Rattle.napt_laws.proofs.Dispatched.{answers_tell}
 use Rattle.napt_laws.proofs.Grown.{outcomes_long}
 use Rattle.napt_laws.proofs.OneInput.{acts_begin, outcomes_begin, get_at, grown}
 use Rattle.napt_laws.proofs.Places.{legs_append, answers_fill, cond_map, place_stands, acts_grow}
 use Rattle.napt_laws.proofs.Pools.{stands_at}
 use Rattle.napt_pool.specs.declared.pool.Pool.{Pool}
 use Rattle.napt_pool.specs.Pools.{accepts, takes}
-use Rattle.napt_dispatch.specs.Dispatch.{of_worker, fresh, Distinct, IsDispatched, Right}
+use Rattle.napt_dispatch.specs.Dispatch.{of_worker, fresh, Distinct, IsDispatched, Right, departed, departed_of}
 use Rattle.napt_dispatch.specs.Collecting.{outcome_of}
 use Rattle.napt_dispatch.specs.Passing.{timed}
 use Rattle.napt_dispatch.specs.QueueStates.{QueueState, unused, queue_of, counts_in, all_held, count_held, front_of, owed_of, first_leg, readied, answered, with_offers, with_queue, Holds, AllHold, only_at, place_at}
-use Rattle.napt_dispatch.specs.Windows.{Window, progress_in, times_in, is_incoming, refused, asked, IsKnown, AllKnown}
+use Rattle.napt_dispatch.specs.Windows.{Window, Whole, whole_of, progress_in, times_in, is_incoming, departed_with, passages_after, refused, refused_at, asked_by, first_by, NoneBehind, IsKnown, AllKnown}
 use Rattle.napt_dispatch.specs.Standing.{Grows, Lane, DispatchState, state_with, state_of, LaneStands, resolved, lane_legs, IsRight, AreRight, Reaches, Stands, Keeps, Admits, Resolves, waits, IsDone}
 use Rattle.napt_dispatch.proofs.Ended.{map_at}
 use Rattle.napt_dispatch.proofs.Lanes.{fronts_both, place_within}
 use Rattle.napt_dispatch.proofs.QueueStates.{queue_own, queue_other, length_with, nothing, of_replicate}
-use Rattle.napt_dispatch.proofs.Windows.{known_set, awaited_set, ended_known, second_known, left_front, left_whole, timed_outcomes}
+use Rattle.napt_dispatch.proofs.Windows.{known_set, returning_known, ended_known, second_known, left_front, left_whole, timed_outcomes, departed_long, departed_outcomes}
+use Rattle.napt_sequential.specs.declared.telling.Told.{Told}
+use Rattle.napt_sequential.specs.declared.passage.Passage.TheVariants.{Nothing}
+use Rattle.napt_sequential.specs.declared.passage.Trace.{Trace}
+use Rattle.napt_sequential.specs.CountedTranslators.{told_of, told_by}
+use Rattle.napt_sequential.specs.Steps.{steps, told_replies}
+use Rattle.napt_sequential.specs.Traces.{passage_of, traces}
+use Rattle.napt_sequential.proofs.Joined.{steps_get, refused_trace}
+use Rattle.napt_sequential.proofs.ToldAlone.{right_told}
+use Rattle.napt_sequential.proofs.Traced.{IsTraced, IsPlaced, legs_traced}
+use Rattle.napt_config.specs.declared.settings.Timers.{Timers}
+use Rattle.std.proofs.lemmas.Option.{same_Some}
+use Rattle.napt_sequential.specs.declared.passage.Passage.{Passage}
 
 -- FRONTS
 
@@ -59,37 +71,40 @@ short_front (x ∷ xs) (y ∷ ys) zs le h =
     let more = short_front xs ys zs (omega arith) (h.0, rest) in
     (more.0, (cc))
 
-length_replies : (rules : Rules) (address : ℕ) (legs : List Leg) (kept : Kept) →
-    length (kept_replies rules address legs kept) ≡ length legs
-length_replies rules address [] kept = refl
-length_replies rules address (l ∷ legs) kept =
-    ap suc (length_replies rules address legs (kept_after rules address l kept))
+length_replies : {P : Type 0} (tells : Passage → P) (rules : Rules) (address : ℕ) (legs : List Leg) (kept : Kept) →
+    length (told_replies tells rules address legs kept) ≡ length legs
+length_replies tells rules address [] kept = refl
+length_replies tells rules address (l ∷ legs) kept =
+    ap suc (length_replies tells rules address legs (kept_after rules address l kept))
 
-replies_more : (rules : Rules) (address : ℕ) (legs more : List Leg) (kept : Kept) → (others : List Answer)
-    × (kept_replies rules address (legs ++ more) kept ≡ kept_replies rules address legs kept ++ others)
-replies_more rules address [] more kept = (kept_replies rules address more kept, refl)
-replies_more rules address (l ∷ legs) more kept =
-    let rest = replies_more rules address legs more (kept_after rules address l kept) in
-    (rest.0, ap (λ (xs : List Answer). kept_answer rules address l kept ∷ xs) rest.1)
+replies_more : {P : Type 0} (tells : Passage → P) (rules : Rules) (address : ℕ) (legs more : List Leg) (kept : Kept) →
+    (others : List (Told P))
+    × (told_replies tells rules address (legs ++ more) kept ≡ told_replies tells rules address legs kept ++ others)
+replies_more tells rules address [] more kept = (told_replies tells rules address more kept, refl)
+replies_more {P} tells rules address (l ∷ legs) more kept =
+    let rest = replies_more tells rules address legs more (kept_after rules address l kept) in
+    (rest.0, ap (λ (xs : List (Told P)). told_by tells rules address l kept ∷ xs) rest.1)
 
 -- answers that are right at last were right before
-pub right_before : {M G : Type 0} (rules : Rules) (done all : List Arrival) (pool last_pool : Pool M G Leg Answer)
-    (d : Dispatcher) → Stands rules done all (state_of pool d) → Grows pool last_pool →
-    Right rules (accepts last_pool) (takes last_pool) → AreRight rules (state_of pool d)
-right_before rules done all pool last_pool d s grows right = λ w lt.
+pub right_before : {P : Type 0} {tells : Passage → P} {M G : Type 0} (rules : Rules) (done all : List Arrival)
+    (pool last_pool : Pool M G Leg (Told P))
+    (d : Dispatcher P) → Stands tells rules done all (state_of pool d) → Grows pool last_pool →
+    Right tells rules (accepts last_pool) (takes last_pool) → AreRight tells rules (state_of pool d)
+right_before {P} {tells} rules done all pool last_pool d s grows right = λ w lt.
     let address : ℕ = slice_index rules.pool w in
-    let lane : Lane = (state_of pool d).lane w in
+    let lane : Lane P = (state_of pool d).lane w in
     let o = s.lanes w lt in
     let more = grows.offered w in
-    let others = replies_more rules address lane.offered more.0 (fresh rules address) in
-    let whole : IsFront lane.taken (kept_replies rules address lane.offered (fresh rules address) ++ others.0) =
-    subst (λ l. IsFront lane.taken l) (ap (λ legs. kept_replies rules address legs (fresh rules address)) (sym more.1)
+    let others = replies_more tells rules address lane.offered more.0 (fresh rules address) in
+    let whole : IsFront lane.taken (told_replies tells rules address lane.offered (fresh rules address) ++ others.0) =
+    subst (λ l. IsFront lane.taken l)
+    (ap (λ legs. told_replies tells rules address legs (fresh rules address)) (sym more.1)
     ∙ others.1) (fronts_both _ _ _ (grows.taken w) (right w lt)) in
-    let long : length (kept_replies rules address lane.offered (fresh rules address)) ≡ length lane.offered =
-    length_replies rules address lane.offered (fresh rules address) in
+    let long : length (told_replies tells rules address lane.offered (fresh rules address)) ≡ length lane.offered =
+    length_replies tells rules address lane.offered (fresh rules address) in
     let parts : length lane.offered ≡ length o.before + length o.rest =
     ap length o.parts ∙ length-append o.before o.rest in
-    short_front lane.taken (kept_replies rules address lane.offered (fresh rules address)) others.0
+    short_front lane.taken (told_replies tells rules address lane.offered (fresh rules address)) others.0
     (omega (arith, long, parts, o.long)) whole
 
 -- a front of a front
@@ -99,9 +114,9 @@ front_less xs ys zs h = (ys ++ h.0, sym (append_assoc xs ys h.0) ∙ h.1)
 -- ONE LANE
 
 -- what was offered to a worker begins its legs of the whole run
-offered_front : (rules : Rules) (done all : List Arrival) (state : DispatchState) → Stands rules done all state →
-    Reaches rules done all state → (w : ℕ) → w < length rules.pool → IsFront (state.lane w).offered
-    (legs_at (slice_index rules.pool w) (run rules all (opening rules)).acts)
+offered_front : {P : Type 0} {tells : Passage → P} (rules : Rules) (done all : List Arrival) (state : DispatchState P) →
+    Stands tells rules done all state → Reaches tells rules done all state → (w : ℕ) → w < length rules.pool →
+    IsFront (state.lane w).offered (legs_at (slice_index rules.pool w) (run rules all (opening rules)).acts)
 offered_front rules done all state s r w lt =
     let address : ℕ = slice_index rules.pool w in
     let more : IsFront (run rules done (opening rules)).acts (run rules all (opening rules)).acts =
@@ -118,22 +133,23 @@ offered_front rules done all state s r w lt =
     )
 
 -- a lane and the progress of the inputs change, so that what stands goes on standing
-pub record LaneKeeps (rules : Rules) (all : List Arrival) (w : ℕ) (one two : Lane) (progress later : List Progress)
-    : Type 0 where
+pub record LaneKeeps {P : Type 0} (tells : Passage → P) (rules : Rules) (all : List Arrival) (w : ℕ) (one two : Lane P)
+    (progress later : List (Progress P)) : Type 0 where
   pub stands : LaneStands one → LaneStands two
-  pub right : LaneStands one → IsRight rules w two → IsRight rules w one
-  pub legs : AllKnown (run rules all (opening rules)) progress →
+  pub right : LaneStands one → IsRight tells rules w two → IsRight tells rules w one
+  pub legs : AllKnown (whole_of tells rules all) progress →
       lane_legs (run rules all (opening rules)).acts two ≡ lane_legs (run rules all (opening rules)).acts one
-  pub known : LaneStands one → IsRight rules w two →
+  pub known : LaneStands one → IsRight tells rules w two →
       IsFront one.offered (legs_at (slice_index rules.pool w) (run rules all (opening rules)).acts) →
-      AllKnown (run rules all (opening rules)) progress → AllKnown (run rules all (opening rules)) later
+      AllKnown (whole_of tells rules all) progress → AllKnown (whole_of tells rules all) later
 
-lane_keeps : (w : ℕ) (state later : DispatchState) (one two : Lane) → w < state.many → later.many ≡ state.many →
+lane_keeps : {P : Type 0} {tells : Passage → P} (w : ℕ) (state later : DispatchState P) (one two : Lane P) →
+    w < state.many → later.many ≡ state.many →
     state.lane w ≡ one → later.lane w ≡ two → ((v : ℕ) → v ≢ w → later.lane v ≡ state.lane v) →
-    ((rules : Rules) (all : List Arrival) → LaneKeeps rules all w one two state.progress later.progress) →
-    Keeps state later
-lane_keeps w state later one two lt many was is others step = λ rules done all s.
-    let k : LaneKeeps rules all w one two state.progress later.progress = step rules all in
+    ((rules : Rules) (all : List Arrival) → LaneKeeps tells rules all w one two state.progress later.progress) →
+    Keeps tells state later
+lane_keeps {tells = tells} w state later one two lt many was is others step = λ rules done all s.
+    let k : LaneKeeps tells rules all w one two state.progress later.progress = step rules all in
     let within : w < length rules.pool = rw s.many at lt in
     let own : LaneStands one = rw was at (s.lanes w within) in
     record {
@@ -145,8 +161,8 @@ lane_keeps w state later one two lt many was is others step = λ rules done all 
         | inr n ↦ rw (others v n) (s.lanes v lt)
       ];
       reaches = λ right.
-          let here : IsRight rules w two = rw is at (right w within) in
-          let r : Reaches rules done all state = s.reaches (λ v lt. elim (cases_eq v w) [
+          let here : IsRight tells rules w two = rw is at (right w within) in
+          let r : Reaches tells rules done all state = s.reaches (λ v lt. elim (cases_eq v w) [
             | inl e ↦ rw (e, was) (k.right own here)
             | inr n ↦ rw (others v n) at (right v lt)
           ]) in
@@ -160,14 +176,15 @@ lane_keeps w state later one two lt many was is others step = λ rules done all 
     }
 
 -- the queues of one worker, and perhaps what it was offered and answered
-pub queues_keep : (w : ℕ) (d later : Dispatcher) (change : QueueState → QueueState) (offered more : ℕ → List Leg)
-    (taken answers : ℕ → List Answer) → w < length d.queues → later.queues ≡ with_queue w change d.queues →
+pub queues_keep : {P : Type 0} {tells : Passage → P} (w : ℕ) (d later : Dispatcher P)
+    (change : QueueState → QueueState) (offered more : ℕ → List Leg)
+    (taken answers : ℕ → List (Told P)) → w < length d.queues → later.queues ≡ with_queue w change d.queues →
     ((v : ℕ) → v ≢ w → (more v ≡ offered v) × (answers v ≡ taken v)) →
-    ((rules : Rules) (all : List Arrival) → LaneKeeps rules all w
+    ((rules : Rules) (all : List Arrival) → LaneKeeps tells rules all w
     (record { offered = offered w; taken = taken w; queue = queue_of d.queues w })
     (record { offered = more w; taken = answers w; queue = change (queue_of d.queues w) })
     (progress_in d.progress) (progress_in later.progress)) →
-    Keeps (state_with offered taken d) (state_with more answers later)
+    Keeps tells (state_with offered taken d) (state_with more answers later)
 queues_keep w d later change offered more taken answers lt is others step =
     lane_keeps w (state_with offered taken d) (state_with more answers later)
     (record { offered = offered w; taken = taken w; queue = queue_of d.queues w })
@@ -185,35 +202,36 @@ queues_keep w d later change offered more taken answers lt is others step =
     })
     step
 
--- only more is known, or as much
-pub known_keeps : (many : ℕ) (lane : ℕ → Lane) (progress later : List Progress) →
-    ((course : Course) → AllKnown course progress → AllKnown course later) →
-    Keeps (record { many = many; lane = lane; progress = progress }) (record {
-      many = many;
-      lane = lane;
-      progress = later;
-    })
-known_keeps many lane progress later known = λ rules done all s. record {
+-- only more is known, or as much, after some inputs
+pub known_stands : {P : Type 0} {tells : Passage → P} (rules : Rules) (done all : List Arrival) (many : ℕ)
+    (lane : ℕ → Lane P) (progress later : List (Progress P)) →
+    (AllKnown (whole_of tells rules all) progress → AllKnown (whole_of tells rules all) later) →
+    Stands tells rules done all (record { many = many; lane = lane; progress = progress }) →
+    Stands tells rules done all (record { many = many; lane = lane; progress = later })
+known_stands {tells = tells} rules done all many lane progress later known s = record {
   rest = s.rest;
   whole = s.whole;
   many = s.many;
   lanes = s.lanes;
   reaches = λ right.
-      let r : Reaches rules done all (record { many = many; lane = lane; progress = progress }) = s.reaches right in
-      record { reached = r.reached; known = known (run rules all (opening rules)) r.known };
+      let r : Reaches tells rules done all (record { many = many; lane = lane; progress = progress }) =
+      s.reaches right in
+      record { reached = r.reached; known = known r.known };
 }
 
 -- AN OFFER
 
 -- the first legs of the next message are counted as offered
-pub offers_keep : (rules : Rules) (all : List Arrival) (w : ℕ) (legs : List Leg) (offered : List Leg)
-    (taken : List Answer) (q : QueueState) (progress : List Progress) → q.ready ≡ legs ++ drop (length legs) q.ready →
-    LaneKeeps rules all w (record { offered = offered; taken = taken; queue = q })
+pub offers_keep : {P : Type 0} {tells : Passage → P} (rules : Rules) (all : List Arrival) (w : ℕ) (legs : List Leg)
+    (offered : List Leg)
+    (taken : List (Told P)) (q : QueueState) (progress : List (Progress P)) → q.ready ≡ legs ++ drop
+    (length legs) q.ready →
+    LaneKeeps tells rules all w (record { offered = offered; taken = taken; queue = q })
     (record { offered = offered ++ legs; taken = taken; queue = with_offers legs q }) progress progress
-offers_keep rules all w legs offered taken q progress ready_is =
+offers_keep {tells = tells} rules all w legs offered taken q progress ready_is =
     let address : ℕ = slice_index rules.pool w in
-    let more = replies_more rules address offered legs (fresh rules address) in
-    let replies = length_replies rules address offered (fresh rules address) in
+    let more = replies_more tells rules address offered legs (fresh rules address) in
+    let replies = length_replies tells rules address offered (fresh rules address) in
     record {
       stands = λ o. record {
         before = o.before;
@@ -225,7 +243,7 @@ offers_keep rules all w legs offered taken q progress ready_is =
       };
       right = λ o right.
           let all = ap length o.parts ∙ length-append o.before o.rest in
-          short_front taken (kept_replies rules address offered (fresh rules address)) more.0
+          short_front taken (told_replies tells rules address offered (fresh rules address)) more.0
           (omega (arith, all, o.long, replies)) (rw more.1 at right);
       legs = λ known.
           let rest = drop (length legs) q.ready in
@@ -237,42 +255,47 @@ offers_keep rules all w legs offered taken q progress ready_is =
 
 -- WHAT IS HELD FIRST
 
-resolves_known : (course : Course) (front : Front) (window later : Window) (second : Option Leg) →
-    Resolves front window second later → AllKnown course (progress_in window) → AllKnown course (progress_in later)
-resolves_known course fronts.Nothing window later second is known = rw is known
-resolves_known course fronts.FirstLeg window later second is known = rw is known
-resolves_known course (fronts.FirstPlace number) window later None is known = rw is.0.progress_stays known
-resolves_known course (fronts.FirstPlace number) window later (Some leg) is known =
-    rw is.0.progress_is (awaited_set course (progress_in window) number known)
+resolves_known : {P : Type 0} (whole : Whole P) (front : Front) (window later : Window P) (second : Option Leg) →
+    waits (progress_in window) front ≡ false → Resolves front window second later →
+    AllKnown whole (progress_in window) → AllKnown whole (progress_in later)
+resolves_known whole fronts.Nothing window later second goes is known = rw is known
+resolves_known whole fronts.FirstLeg window later second goes is known = rw is known
+resolves_known whole (fronts.FirstPlace number) window later None goes is known = rw is.0.progress_stays known
+resolves_known whole (fronts.FirstPlace number) window later (Some leg) goes is known =
+    let legs = second_known whole (progress_in window) number (Some leg) goes is.asks known in
+    rw is.written.progress_is (known_set whole (progress_in window) number (Returning is.first)
+    (returning_known whole number is.asks.p leg is.first legs is.first_is (known number is.asks.p is.asks.there))
+    known)
 
-first_stands : (course : Course) (held : List Held) (window later : Window) (second : Option Leg) →
+first_stands : {P : Type 0} (whole : Whole P) (held : List Held) (window later : Window P) (second : Option Leg) →
     waits (progress_in window) (front_of held) ≡ false → Resolves (front_of held) window second later →
-    AllKnown course (progress_in window) →
-    flat_map (resolved course.acts) held ≡ first_leg second held ++ flat_map (resolved course.acts) (drop 1 held)
-first_stands course [] window later second goes is known = absurd cc
-first_stands course (Ready leg ∷ rest) window later second goes is known = refl
-first_stands course (Place number ∷ rest) window later None goes is known =
-    ap (λ ls. ls ++ flat_map (resolved course.acts) rest)
-    (second_known course (progress_in window) number None goes is.1 known)
-first_stands course (Place number ∷ rest) window later (Some leg) goes is known =
-    ap (λ ls. ls ++ flat_map (resolved course.acts) rest)
-    (second_known course (progress_in window) number (Some leg) goes is.1 known)
+    AllKnown whole (progress_in window) →
+    flat_map (resolved whole.acts) held ≡ first_leg second held ++ flat_map (resolved whole.acts) (drop 1 held)
+first_stands whole [] window later second goes is known = absurd cc
+first_stands whole (Ready leg ∷ rest) window later second goes is known = refl
+first_stands whole (Place number ∷ rest) window later None goes is known =
+    ap (λ ls. ls ++ flat_map (resolved whole.acts) rest)
+    (second_known whole (progress_in window) number None goes is.1 known)
+first_stands whole (Place number ∷ rest) window later (Some leg) goes is known =
+    ap (λ ls. ls ++ flat_map (resolved whole.acts) rest)
+    (second_known whole (progress_in window) number (Some leg) goes is.asks known)
 
 -- it becomes a leg of the next message, or was a placeholder that stands for none
-pub readied_keeps : (rules : Rules) (all : List Arrival) (w : ℕ) (offered : List Leg) (taken : List Answer)
-    (q : QueueState) (window later : Window) (second : Option Leg) →
+pub readied_keeps : {P : Type 0} {tells : Passage → P} (rules : Rules) (all : List Arrival) (w : ℕ)
+    (offered : List Leg) (taken : List (Told P))
+    (q : QueueState) (window later : Window P) (second : Option Leg) →
     waits (progress_in window) (front_of q.held) ≡ false → Resolves (front_of q.held) window second later →
-    LaneKeeps rules all w (record { offered = offered; taken = taken; queue = q })
+    LaneKeeps tells rules all w (record { offered = offered; taken = taken; queue = q })
     (record { offered = offered; taken = taken; queue = readied second q }) (progress_in window) (progress_in later)
-readied_keeps rules all w offered taken q window later second goes is =
-    let course : Course = run rules all (opening rules) in
+readied_keeps {tells = tells} rules all w offered taken q window later second goes is =
+    let whole : Whole _ = whole_of tells rules all in
     record {
       stands = λ o. o;
       right = λ o right. right;
       legs = λ known. ap (λ ls. offered ++ ls)
-          (append_assoc q.ready (first_leg second q.held) (flat_map (resolved course.acts) (drop 1 q.held))
-          ∙ ap (λ ls. q.ready ++ ls) (sym (first_stands course q.held window later second goes is known)));
-      known = λ o right front known. resolves_known course (front_of q.held) window later second is known;
+          (append_assoc q.ready (first_leg second q.held) (flat_map (resolved whole.acts) (drop 1 q.held))
+          ∙ ap (λ ls. q.ready ++ ls) (sym (first_stands whole q.held window later second goes is known)));
+      known = λ o right front known. resolves_known whole (front_of q.held) window later second goes is known;
     }
 
 -- AN ANSWER
@@ -283,38 +306,46 @@ each_at P address (a ∷ acts) h =
     elim (a.address == address) as (λ v. Each P (cond v (a ∷ acts_at address acts) (acts_at address acts)))
     [ true ↦ (h.0, each_at P address acts h.1) | false ↦ each_at P address acts h.1 ]
 
-each_both : (P Q : Act → Type 0) (acts : List Act) → Each P acts → Each Q acts → Each (λ a. P a × Q a) acts
-each_both P Q [] h g = tt
-each_both P Q (a ∷ acts) h g = ((h.0, g.0), each_both P Q acts h.1 g.1)
-
--- the act of a leg and its answer, which stand at one place
-pub record ActOf (P : Act → Type 0) (leg : Leg) (answer : Answer) : Type 0 where
+-- the act of a leg and what is told of it, which stand at one place
+pub record ActOf {P : Type 0} (tells : Passage → P) (timers : Timers) (Q : Act → Type 0) (leg : Leg) (told : Told P)
+    : Type 0 where
   pub a : Act
   pub leg_is : a.leg ≡ leg
-  pub answer_is : answer_of a ≡ answer
-  pub holds : P a
+  pub told_is : told_of tells timers a ≡ told
+  pub holds : Q a
 
-act_at : (P : Act → Type 0) (acts : List Act) (before more : List Leg) (leg : Leg) (taken rest : List Answer)
-    (answer : Answer) → length before ≡ length taken → Each P acts →
-    before ++ leg ∷ more ≡ map (λ (a : Act). a.leg) acts → (taken ++ answer ∷ []) ++ rest ≡ map answer_of acts →
-    ActOf P leg answer
-act_at P [] [] more leg taken rest answer long each legs answers = cc (legs)
-act_at P [] (l ∷ before) more leg taken rest answer long each legs answers = cc (legs)
-act_at P (a ∷ acts) [] more leg [] rest answer long each legs answers = record {
+act_at : {P : Type 0} (tells : Passage → P) (timers : Timers) (Q : Act → Type 0) (acts : List Act)
+    (before more : List Leg) (leg : Leg) (taken rest : List (Told P)) (told : Told P) → length before ≡ length taken →
+    Each Q acts → before ++ leg ∷ more ≡ map (λ (a : Act). a.leg) acts →
+    (taken ++ told ∷ []) ++ rest ≡ map (told_of tells timers) acts → ActOf tells timers Q leg told
+act_at tells timers Q [] [] more leg taken rest told long each legs answers = cc (legs)
+act_at tells timers Q [] (l ∷ before) more leg taken rest told long each legs answers = cc (legs)
+act_at tells timers Q (a ∷ acts) [] more leg [] rest told long each legs answers = record {
   a = a;
   leg_is = sym (cc (legs));
-  answer_is = sym (cc (answers));
+  told_is = sym (cc (answers));
   holds = each.0;
 }
-act_at P (a ∷ acts) [] more leg (t ∷ taken) rest answer long each legs answers = absurd (omega arith)
-act_at P (a ∷ acts) (l ∷ before) more leg [] rest answer long each legs answers = absurd (omega arith)
-act_at P (a ∷ acts) (l ∷ before) more leg (t ∷ taken) rest answer long each legs answers =
-    act_at P acts before more leg taken rest answer (omega arith) each.1 (cc (legs)) (cc (answers))
+act_at tells timers Q (a ∷ acts) [] more leg (t ∷ taken) rest told long each legs answers = absurd (omega arith)
+act_at tells timers Q (a ∷ acts) (l ∷ before) more leg [] rest told long each legs answers = absurd (omega arith)
+act_at tells timers Q (a ∷ acts) (l ∷ before) more leg (t ∷ taken) rest told long each legs answers =
+    act_at tells timers Q acts before more leg taken rest told (omega arith) each.1 (cc (legs)) (cc (answers))
 
-abbrev Tells : Course → Act → Type 0
-Tells course a = IsTold course.outcomes a × IsSeconded course.acts a
+record Tells (rules : Rules) (all : List Arrival) (a : Act) : Type 0 where
+  pub told : IsTold (run rules all (opening rules)).outcomes a
+  pub seconded : IsSeconded (run rules all (opening rules)).acts a
+  pub traced : IsTraced rules.timers (traces rules all) (run rules all (opening rules)).acts a
 
-second_asked : (leg : Leg) (e : End) → second_of leg e ≡ option_to_list (asked leg.number (Told (owed_of leg) e))
+each_tells : (rules : Rules) (all : List Arrival) (acts : List Act) →
+    Each (IsTold (run rules all (opening rules)).outcomes) acts →
+    Each (IsSeconded (run rules all (opening rules)).acts) acts →
+    Each (IsTraced rules.timers (traces rules all) (run rules all (opening rules)).acts) acts →
+    Each (Tells rules all) acts
+each_tells rules all [] h g k = tt
+each_tells rules all (a ∷ acts) h g k =
+    (record { told = h.0; seconded = g.0; traced = k.0 }, each_tells rules all acts h.1 g.1 k.1)
+
+second_asked : (leg : Leg) (e : End) → second_of leg e ≡ option_to_list (asked_by leg.number leg.now e)
 second_asked leg (ends.ToOutside packet) = refl
 second_asked leg (ends.ToInside packet) = refl
 second_asked leg (ends.Onward place packet) = refl
@@ -324,67 +355,193 @@ is_outgoing : (way : Way) → is_incoming way ≡ false → way ≡ Outgoing
 is_outgoing Outgoing h = refl
 is_outgoing Incoming h = absurd cc
 
-act_tells : (course : Course) (leg : Leg) (answer : Answer) → ActOf (Tells course) leg answer →
-    IsKnown course answer.number (Told (owed_of leg) answer.end)
-act_tells course leg answer x =
-    subst (λ (l : Leg). IsKnown course answer.number (Told (owed_of l) answer.end)) x.leg_is
-    (subst (λ (a : Answer). IsKnown course a.number (Told (owed_of x.a.leg) a.end)) x.answer_is
-    (x.holds.0, λ out. x.holds.1 (is_outgoing x.a.leg.way out) ∙ second_asked x.a.leg x.a.end))
+get_map : {X Y : Type 0} (f : X → Y) (xs : List X) (n : ℕ) (x : X) → slice_get xs n ≡ Some x →
+    slice_get (map f xs) n ≡ Some (f x)
+get_map f [] n x h = cc
+get_map f (y ∷ xs) zero x h = let same : y ≡ x = cc (h) in ap (λ z. Some (f z)) same
+get_map f (y ∷ xs) (suc n) x h = get_map f xs n x h
+
+-- what is told of an act, and what is known of its input then
+module _ {P : Type 0} (tells : Passage → P) (rules : Rules) (all : List Arrival) (a : Act) (said : Tells rules all a)
+  where
+    abbrev number : ℕ
+    number = a.leg.number
+
+    abbrev whole_here : Whole P
+    whole_here = whole_of tells rules all
+
+    abbrev trace : Trace
+    trace = said.traced.trace
+
+    abbrev did : P
+    did = tells (passage_of rules.timers a)
+
+    abbrev legs_here : List Leg
+    legs_here = second_legs number (run rules all (opening rules)).acts
+
+    -- the input came to that, if the leg told its outcome
+    abbrev Departs : P → P → Option Outcome → Type 0
+    Departs first second outcome = IfSome (departed_with a.leg.now first second outcome)
+        (λ d. slice_get whole_here.departed number ≡ Some d)
+
+    departs : (first second : P) → tells trace.first ≡ first → tells trace.second ≡ second →
+        (outcome : Option Outcome) →
+        IfSome outcome (λ o. slice_get (run rules all (opening rules)).outcomes number ≡ Some o) →
+        Departs first second outcome
+    departs first second one two None h = tt
+    departs first second one two (Some o) h =
+        get_map (departed_of tells) (steps rules all) number (record { outcome = o; trace = trace })
+        (steps_get rules all number o trace h said.traced.there)
+        ∙ ap Some (λ i. let d : Departed P = record {
+          outcome = o;
+          now = said.traced.time i;
+          first = one i;
+          second = two i;
+        } in d)
+
+    -- or its packet goes onward
+    onward : (first second : P) (place : ℕ) (packet : List ℕ) → a.end ≡ ends.Onward place packet →
+        Departs first second (outcome_told a.end)
+    onward first second place packet is = rw is tt
+
+    first_there : slice_get whole_here.firsts number ≡ Some (tells trace.first)
+    first_there = get_map (λ (t : Trace). tells t.first) (traces rules all) number trace said.traced.there
+
+    first_known : (first : P) → slice_get whole_here.firsts number ≡ Some first → (e : End) →
+        IfSome (first_by first e) (λ f. slice_get whole_here.firsts number ≡ Some f)
+    first_known first is (ends.ToOutside packet) = tt
+    first_known first is (ends.ToInside packet) = tt
+    first_known first is (ends.Onward place packet) = is
+    first_known first is (ends.Dropped cause) = tt
+
+    abbrev IsKnownNow : P × P → Type 0
+    IsKnownNow passages = IsKnown whole_here number (Answered (owed_of a.leg) a.end passages.0 passages.1)
+
+    known_now : (first second : P) → slice_get whole_here.firsts number ≡ Some first →
+        Departs first second (outcome_told a.end) → IsKnownNow (first, second)
+    known_now first second is departs = record {
+      departed = departs;
+      first = first_known first is a.end;
+      second = λ out. said.seconded (is_outgoing a.leg.way out) ∙ second_asked a.leg a.end;
+    }
+
+    -- a first leg
+    first_told : (way : Way) → a.leg.way ≡ way → NoneBehind way legs_here →
+        IsPlaced rules.timers trace legs_here a → IsKnownNow (did, tells Nothing)
+    first_told way goes none (inl only) =
+        known_now did (tells Nothing) (first_there ∙ ap (λ p. Some (tells p)) only.first)
+        (departs did (tells Nothing) (ap tells only.first) (ap tells only.second) (outcome_told a.end) said.told)
+    first_told way goes none (inr (inl first)) =
+        known_now did (tells Nothing) (first_there ∙ ap (λ p. Some (tells p)) first.first)
+        (onward did (tells Nothing) first.place first.packet first.goes)
+    first_told Outgoing goes none (inr (inr second)) =
+        let comes : a.leg.way ≡ Incoming = second.comes in
+        let out : Outgoing ≡ Incoming = sym goes ∙ comes in
+        absurd cc
+    first_told Incoming goes none (inr (inr second)) =
+        let some : legs_here ≡ second.leg ∷ [] = second.some in
+        let no : [] ≡ second.leg ∷ [] = sym none ∙ some in
+        absurd cc
+
+    -- the second
+    second_told : (first : P) → slice_get whole_here.firsts number ≡ Some first →
+        ((leg : Leg) × (legs_here ≡ leg ∷ [])) → IsPlaced rules.timers trace legs_here a → IsKnownNow (first, did)
+    second_told first is some (inl only) =
+        let no : [] ≡ some.0 ∷ [] = sym only.none ∙ some.1 in
+        absurd cc
+    second_told first is some (inr (inl early)) =
+        known_now first did is (onward first did early.place early.packet early.goes)
+    second_told first is some (inr (inr second)) =
+        known_now first did is (departs first did (same_Some _ _ (sym first_there ∙ is)) (ap tells second.second)
+        (outcome_told a.end) said.told)
+
+    told_known : (was : Progress P) (way : Way) → a.leg.way ≡ way → IsKnown whole_here number was →
+        (passages : P × P) → passages_after (tells Nothing) was way did ≡ Some passages → IsKnownNow passages
+    told_known (Awaited Outgoing) Outgoing goes known passages is =
+        subst IsKnownNow (same_Some _ _ is) (first_told Outgoing goes tt said.traced.placed)
+    told_known (Awaited Outgoing) Incoming goes known passages is = cc
+    told_known (Awaited Incoming) Outgoing goes known passages is = cc
+    told_known (Awaited Incoming) Incoming goes known passages is =
+        subst IsKnownNow (same_Some _ _ is) (first_told Incoming goes known.second said.traced.placed)
+    told_known (Returning first) Outgoing goes known passages is = cc
+    told_known (Returning first) Incoming goes known passages is =
+        subst IsKnownNow (same_Some _ _ is) (second_told first known.first known.second said.traced.placed)
+    told_known (Answered owed end first second) way goes known passages is = cc
+
+act_tells : {P : Type 0} (tells : Passage → P) (rules : Rules) (all : List Arrival) (leg : Leg) (told : Told P)
+    (was : Progress P) (passages : P × P) → ActOf tells rules.timers (Tells rules all) leg told →
+    passages_after (tells Nothing) was leg.way told.passage ≡ Some passages →
+    IsKnown (whole_of tells rules all) told.answer.number was →
+    IsKnown (whole_of tells rules all) told.answer.number (Answered (owed_of leg) told.answer.end passages.0 passages.1)
+act_tells tells rules all leg told was passages x is known =
+    rw (← x.leg_is, ← x.told_is)
+    (told_known tells rules all x.a x.holds was x.a.leg.way refl (rw (← x.told_is) at known)
+    passages (rw (← x.leg_is, ← x.told_is) at is))
 
 first_owed : (legs : List Leg) (o : Owed) (os : List Owed) → o ∷ os ≡ map owed_of legs → (leg : Leg) × (rest : List Leg)
     × (legs ≡ leg ∷ rest) × (o ≡ owed_of leg) × (os ≡ map owed_of rest)
 first_owed [] o os h = cc
 first_owed (leg ∷ legs) o os h = (leg, legs, refl, cc, cc)
 
-module _ (rules : Rules) (all : List Arrival) (w : ℕ) (answer : Answer) (owed : Owed) (offered : List Leg)
-    (taken : List Answer) (q : QueueState) (owes : q.owed ≡ owed ∷ drop 1 q.owed) where
+module _ {P : Type 0} (tells : Passage → P) (rules : Rules) (all : List Arrival) (w : ℕ) (told : Told P)
+    (owed : Owed) (passages : P × P) (offered : List Leg) (taken : List (Told P)) (q : QueueState)
+    (owes : q.owed ≡ owed ∷ drop 1 q.owed) where
   abbrev course : Course
   course = run rules all (opening rules)
 
   abbrev address : ℕ
   address = slice_index rules.pool w
 
-  abbrev one : Lane
+  abbrev one : Lane P
   one = record { offered = offered; taken = taken; queue = q }
 
-  abbrev two : Lane
-  two = record { offered = offered; taken = taken ++ answer ∷ []; queue = answered q }
+  abbrev two : Lane P
+  two = record { offered = offered; taken = taken ++ told ∷ []; queue = answered q }
+
+  abbrev now_told : Owed → Progress P
+  now_told o = Answered o told.answer.end passages.0 passages.1
 
   head : (o : LaneStands one) → (leg : Leg) × (rest : List Leg) × (o.rest ≡ leg ∷ rest) × (owed ≡ owed_of leg)
       × (drop 1 q.owed ≡ map owed_of rest)
   head o = first_owed o.rest owed (drop 1 q.owed) (sym owes ∙ o.owed_is)
 
-  answer_known : LaneStands one → IsRight rules w two → IsFront offered (legs_at address course.acts) →
-      IsKnown course answer.number (Told owed answer.end)
-  answer_known o right front =
+  answer_known : (was : Progress P) → passages_after (tells Nothing) was owed.way told.passage ≡ Some passages →
+      LaneStands one → IsRight tells rules w two → IsFront offered (legs_at address course.acts) →
+      IsKnown (whole_of tells rules all) told.answer.number was →
+      IsKnown (whole_of tells rules all) told.answer.number (now_told owed)
+  answer_known was is o right front known =
       let first = head o in
-      let told_front = right_answers rules all (opening rules) address offered (taken ++ answer ∷ []) front right in
-      let each : Each (Tells course) (acts_at address course.acts) =
-      each_at (Tells course) address course.acts (each_both (IsTold course.outcomes) (IsSeconded course.acts)
-      course.acts (answers_tell rules all (opening rules)) (answers_fill rules all (opening rules))) in
+      let told_front = right_told tells rules address all (opening rules) offered (taken ++ told ∷ []) front right in
+      let each : Each (Tells rules all) (acts_at address course.acts) =
+      each_at (Tells rules all) address course.acts (each_tells rules all course.acts
+      (answers_tell rules all (opening rules)) (answers_fill rules all (opening rules)) (legs_traced rules all)) in
       let legs : o.before ++ first.0 ∷ (first.1 ++ front.0) ≡ map (λ (a : Act). a.leg) (acts_at address course.acts) =
       rw (o.parts, first.2, append_assoc) at front.1 in
-      subst (λ (o : Owed). IsKnown course answer.number (Told o answer.end)) (sym first.3)
-      (act_tells course first.0 answer (act_at (Tells course) (acts_at address course.acts) o.before
-      (first.1 ++ front.0) first.0 taken told_front.0 answer o.long each legs told_front.1))
+      subst (λ (o : Owed). IsKnown (whole_of tells rules all) told.answer.number (now_told o)) (sym first.3)
+      (act_tells tells rules all first.0 told was passages (act_at tells rules.timers (Tells rules all)
+      (acts_at address course.acts) o.before (first.1 ++ front.0) first.0 taken told_front.0 told o.long each legs
+      told_front.1) (ap (λ (o : Owed). passages_after (tells Nothing) was o.way told.passage) (sym first.3) ∙ is) known)
 
-  pub answer_keeps : (progress : List Progress) →
-      LaneKeeps rules all w one two progress (slice_set progress answer.number (Told owed answer.end))
-  answer_keeps progress = record {
+  pub answer_keeps : (progress : List (Progress P)) (was : Progress P) →
+      slice_get progress told.answer.number ≡ Some was →
+      passages_after (tells Nothing) was owed.way told.passage ≡ Some passages →
+      LaneKeeps tells rules all w one two progress (slice_set progress told.answer.number (now_told owed))
+  answer_keeps progress was there is = record {
     stands = λ o.
         let first = head o in
         record {
           before = o.before ++ first.0 ∷ [];
           rest = first.1;
           parts = o.parts ∙ (ap (λ ls. o.before ++ ls) first.2 ∙ sym (append_assoc o.before (first.0 ∷ []) first.1));
-          long = length_push o.before first.0 ∙ (ap (λ n. n + 1) o.long ∙ sym (length_push taken answer));
+          long = length_push o.before first.0 ∙ (ap (λ n. n + 1) o.long ∙ sym (length_push taken told));
           owed_is = first.4;
           counted = o.counted;
         };
-    right = λ o right. front_less taken (answer ∷ []) (kept_replies rules address offered (fresh rules address)) right;
+    right = λ o right.
+        front_less taken (told ∷ []) (told_replies tells rules address offered (fresh rules address)) right;
     legs = λ known. refl;
-    known = λ o right front known. known_set course progress answer.number (Told owed answer.end)
-        (answer_known o right front) known;
+    known = λ o right front known. known_set (whole_of tells rules all) progress told.answer.number (now_told owed)
+        (answer_known was is o right front (known told.answer.number was there)) known;
   }
 
 -- ONE INPUT MORE
@@ -425,7 +582,8 @@ legs_held : (acts : List Act) (q : QueueState) →
 legs_held acts q = legs_behind acts q.ready q.held
 
 -- one worker holds more
-lane_more : (acts : List Act) (offered : List Leg) (taken : List Answer) (q later : QueueState) (more : List Held) →
+lane_more : {P : Type 0} (acts : List Act) (offered : List Leg) (taken : List (Told P)) (q later : QueueState)
+    (more : List Held) →
     Holds more q later → lane_legs acts (record { offered = offered; taken = taken; queue = later })
     ≡ lane_legs acts (record { offered = offered; taken = taken; queue = q }) ++ flat_map (resolved acts) more
 lane_more acts offered taken q later more h =
@@ -434,9 +592,9 @@ lane_more acts offered taken q later more h =
     ∙ ap (λ ls. ls ++ flat_map (resolved acts) more) (legs_held acts q))))
     ∙ sym (append_assoc offered (q.ready ++ flat_map (resolved acts) q.held) (flat_map (resolved acts) more))
 
-module _ (rules : Rules) (distinct : Distinct rules.pool) (done rest : List Arrival) (input : Arrival) (number now : ℕ)
-    (long : length done ≡ number) (clock : max (last_clock 0 done) input.clock ≡ now) (offered : ℕ → List Leg)
-    (taken : ℕ → List Answer) (d later : Dispatcher) where
+module _ {P : Type 0} (tells : Passage → P) (rules : Rules) (distinct : Distinct rules.pool) (done rest : List Arrival)
+    (input : Arrival) (number now : ℕ) (long : length done ≡ number) (clock : max (last_clock 0 done) input.clock ≡ now)
+    (offered : ℕ → List Leg) (taken : ℕ → List (Told P)) (d later : Dispatcher P) where
   abbrev all_of : List Arrival
   all_of = (done ++ input ∷ []) ++ rest
 
@@ -450,21 +608,20 @@ module _ (rules : Rules) (distinct : Distinct rules.pool) (done rest : List Arri
   at_place v = slice_index rules.pool v
 
   -- the same, but for more that is held and known, with the legs of one input more
-  grown_stands : (extra : ℕ → List Held) → length later.queues ≡ length d.queues →
-      AllHold extra d.queues later.queues →
-      ((v : ℕ) → v < length rules.pool → legs_at (at_place v) (run rules now_done (opening rules)).acts
-      ≡ legs_at (at_place v) (run rules done (opening rules)).acts ++ flat_map (resolved acts_all) (extra v)) →
-      (AllKnown (run rules all_of (opening rules)) (progress_in d.progress) →
-      AllKnown (run rules all_of (opening rules)) (progress_in later.progress)) →
-      Stands rules done all_of (state_with offered taken d) →
-      Stands rules now_done all_of (state_with offered taken later)
+  grown_stands : (extra : ℕ → List Held) → length later.queues ≡ length d.queues → AllHold extra d.queues later.queues →
+      ((v : ℕ) → v < length rules.pool → legs_at (at_place v) (run rules now_done (opening rules)).acts ≡ legs_at
+      (at_place v) (run rules done (opening rules)).acts ++ flat_map (resolved acts_all) (extra v)) →
+      (AllKnown (whole_of tells rules all_of) (progress_in d.progress) → AllKnown (whole_of tells rules all_of)
+      (progress_in later.progress)) →
+      Stands tells rules done all_of (state_with offered taken d) →
+      Stands tells rules now_done all_of (state_with offered taken later)
   grown_stands extra many holds legs known s = record {
     rest = rest;
     whole = refl;
     many = many ∙ s.many;
     lanes = λ v lt. rw ((holds v).offered_stays, (holds v).owed_stays) (s.lanes v lt);
     reaches = λ right.
-        let r : Reaches rules done all_of (state_with offered taken d) = s.reaches right in
+        let r : Reaches tells rules done all_of (state_with offered taken d) = s.reaches right in
         record {
           reached = λ v lt. lane_more acts_all (offered v) (taken v) (queue_of d.queues v) (queue_of later.queues v)
               (extra v) (holds v)
@@ -474,9 +631,9 @@ module _ (rules : Rules) (distinct : Distinct rules.pool) (done rest : List Arri
   }
 
   pub refused_stands : (cause : Cause) → admission rules input ≡ Err cause → later.queues ≡ d.queues →
-      progress_in later.progress ≡ slice_set (progress_in d.progress) number (refused cause) →
-      Stands rules done all_of (state_with offered taken d) →
-      Stands rules now_done all_of (state_with offered taken later)
+      progress_in later.progress ≡ slice_set (progress_in d.progress) number (refused (tells Nothing) now cause) →
+      Stands tells rules done all_of (state_with offered taken d) →
+      Stands tells rules now_done all_of (state_with offered taken later)
   refused_stands cause is queues written =
       let before : Course = run rules done (opening rules) in
       let acts : (run rules now_done (opening rules)).acts ≡ before.acts =
@@ -494,8 +651,12 @@ module _ (rules : Rules) (distinct : Distinct rules.pool) (done rest : List Arri
       grown_stands (λ v. []) (ap length queues)
       (λ v. rw queues (record { offered_stays = refl; owed_stays = refl; held_is = sym (append-nil _) }))
       (λ v lt. rw (acts, append-nil) refl)
-      (λ known. rw written (known_set (run rules all_of (opening rules)) (progress_in d.progress) number
-      (refused cause) (ended_known (run rules all_of (opening rules)) number (outcomes.Dropped cause) there) known))
+      (λ known. rw written (known_set (whole_of tells rules all_of) (progress_in d.progress) number
+      (refused (tells Nothing) now cause) (ended_known (whole_of tells rules all_of) number
+      (refused_at (tells Nothing) now cause) (get_map (departed_of tells) (steps rules all_of) number
+      (record { outcome = outcomes.Dropped cause; trace = record { now = now; first = Nothing; second = Nothing } })
+      (steps_get rules all_of number (outcomes.Dropped cause) _ there (refused_trace rules done rest input number now
+      long clock cause is)))) known))
 
   module _ (packet : List ℕ) (admitted : admission rules input ≡ Ok packet) (foretold : OnwardIsForetold)
       (is : IsPacket packet) (w : ℕ) (within : w < length rules.pool) (served : at_place w
@@ -512,8 +673,8 @@ module _ (rules : Rules) (distinct : Distinct rules.pool) (done rest : List Arri
     pub alone_stands : (input.side ≡ Inside → place_of rules (destination packet).address ≡ None) →
         length later.queues ≡ length d.queues →
         AllHold (λ v. only_at w (Ready leg_of ∷ []) v ++ []) d.queues later.queues →
-        Stands rules done all_of (state_with offered taken d) →
-        Stands rules now_done all_of (state_with offered taken later)
+        Stands tells rules done all_of (state_with offered taken d) →
+        Stands tells rules now_done all_of (state_with offered taken later)
     alone_stands none many holds s =
         grown_stands (λ v. only_at w (Ready leg_of ∷ []) v ++ []) many holds
         (λ v lt.
@@ -543,8 +704,8 @@ module _ (rules : Rules) (distinct : Distinct rules.pool) (done rest : List Arri
     pub placed_stands : (to : ℕ) → to < length rules.pool → at_place to ≡ (destination packet).address →
         input.side ≡ Inside → length later.queues ≡ length d.queues →
         AllHold (λ v. only_at w (Ready leg_of ∷ []) v ++ only_at to (Place number ∷ []) v) d.queues later.queues →
-        Stands rules done all_of (state_with offered taken d) →
-        Stands rules now_done all_of (state_with offered taken later)
+        Stands tells rules done all_of (state_with offered taken d) →
+        Stands tells rules now_done all_of (state_with offered taken later)
     placed_stands to to_within goes side many holds s =
         grown_stands (λ v. only_at w (Ready leg_of ∷ []) v ++ only_at to (Place number ∷ []) v) many holds
         (λ v lt. rw (
@@ -560,16 +721,19 @@ module _ (rules : Rules) (distinct : Distinct rules.pool) (done rest : List Arri
         (λ known. rw same known) s
 
 -- an input that is dropped before any leg
-pub refused_admits : (rules : Rules) (number now : ℕ) (input : Arrival) (d later : Dispatcher) (cause : Cause) →
+pub refused_admits : {P : Type 0} {tells : Passage → P} (rules : Rules) (number now : ℕ) (input : Arrival)
+    (d later : Dispatcher P) (cause : Cause) →
     Distinct rules.pool → admission rules input ≡ Err cause → later.queues ≡ d.queues →
-    progress_in later.progress ≡ slice_set (progress_in d.progress) number (refused cause) →
-    Admits rules number now input d later
-refused_admits rules number now input d later cause distinct is queues written =
+    progress_in later.progress ≡ slice_set (progress_in d.progress) number (refused (tells Nothing) now cause) →
+    Admits tells rules number now input d later
+refused_admits {tells = tells} rules number now input d later cause distinct is queues written =
     λ offered taken done rest long clock s.
-    refused_stands rules distinct done rest input number now long clock offered taken d later cause is queues written s
+    refused_stands tells rules distinct done rest input number now long clock offered taken d later cause is queues
+    written s
 
 -- an input with a first leg, and perhaps a place for its second
-pub admitted_admits : (rules : Rules) (number now : ℕ) (input : Arrival) (d later : Dispatcher) (packet : List ℕ)
+pub admitted_admits : {P : Type 0} {tells : Passage → P} (rules : Rules) (number now : ℕ) (input : Arrival)
+    (d later : Dispatcher P) (packet : List ℕ)
     (w : ℕ) → Distinct rules.pool → OnwardIsForetold → IsPacket packet → admission rules input ≡ Ok packet →
     slice_get rules.pool w ≡ Some (served_at rules (way_from input.side) packet) →
     progress_in later.progress ≡ progress_in d.progress →
@@ -578,14 +742,18 @@ pub admitted_admits : (rules : Rules) (number now : ℕ) (input : Arrival) (d la
     length later.queues ≡ length d.queues →
     (let leg : Leg = record { number = number; now = now; way = way_from input.side; packet = packet } in
     AllHold (λ v. only_at w (Ready leg ∷ []) v ++ place_at number to v) d.queues later.queues) →
-    Admits rules number now input d later
-admitted_admits rules number now input d later packet w distinct foretold is admitted place same None some none many e =
+    Admits tells rules number now input d later
+admitted_admits
+    {tells = tells} rules number now input d later packet w distinct foretold is admitted place same None some none many
+    e =
     λ offered taken done rest long clock s.
     let p : (w < length rules.pool) × (slice_index rules.pool w ≡ served_at rules (way_from input.side) packet) =
     place_within rules.pool w (served_at rules (way_from input.side) packet) place in
-    alone_stands rules distinct done rest input number now long clock offered taken d later packet admitted foretold is
+    alone_stands tells rules distinct done rest input number now long clock offered taken d later packet admitted
+    foretold is
     w p.0 p.1 same (none refl) many e s
-admitted_admits rules number now input d later packet w distinct foretold is admitted place same (Some v) some none many
+admitted_admits {tells = tells} rules number now input d later packet w distinct foretold is admitted place same
+    (Some v) some none many
     e =
     λ offered taken done rest long clock s.
     let p : (w < length rules.pool) × (slice_index rules.pool w ≡ served_at rules (way_from input.side) packet) =
@@ -593,20 +761,22 @@ admitted_admits rules number now input d later packet w distinct foretold is adm
     let q : (v < length rules.pool) × (slice_index rules.pool v ≡ (destination packet).address) =
     place_within rules.pool v (destination packet).address
     (stands_at rules.pool (destination packet).address v some.1) in
-    placed_stands rules distinct done rest input number now long clock offered taken d later packet admitted foretold is
+    placed_stands tells rules distinct done rest input number now long clock offered taken d later packet admitted
+    foretold is
     w p.0 p.1 same v q.0 q.1 some.0 many e s
 
 -- THE START
 
-none_known : (course : Course) (i : ℕ) (p : Progress) → slice_get (let ps : List Progress = [] in ps) i ≡ Some p →
-    IsKnown course i p
-none_known course i p h = cc
+none_known : {P : Type 0} (whole : Whole P) (i : ℕ) (p : Progress P) →
+    slice_get (let ps : List (Progress P) = [] in ps) i ≡ Some p → IsKnown whole i p
+none_known whole i p h = cc
 
-pub begin_stands : (rules : Rules) (inputs : List Arrival) (offered : List (List Leg)) (taken : List (List Answer))
-    (d : Dispatcher) → d.queues ≡ replicate (length rules.pool) unused →
+pub begin_stands : {P : Type 0} {tells : Passage → P} (rules : Rules) (inputs : List Arrival)
+    (offered : List (List Leg)) (taken : List (List (Told P)))
+    (d : Dispatcher P) → d.queues ≡ replicate (length rules.pool) unused →
     offered ≡ replicate (length rules.pool) [] → taken ≡ replicate (length rules.pool) [] →
-    progress_in d.progress ≡ [] → Stands rules [] inputs (state_with (of_worker offered) (of_worker taken) d)
-begin_stands rules inputs offered taken d is no_legs no_answers progress =
+    progress_in d.progress ≡ [] → Stands tells rules [] inputs (state_with (of_worker offered) (of_worker taken) d)
+begin_stands {tells = tells} rules inputs offered taken d is no_legs no_answers progress =
     let n : ℕ = length rules.pool in
     let none : (v : ℕ) → of_worker offered v ≡ [] = λ v. rw no_legs (of_replicate n v []) in
     let no : (v : ℕ) → of_worker taken v ≡ [] = λ v. rw no_answers (of_replicate n v []) in
@@ -625,51 +795,52 @@ begin_stands rules inputs offered taken d is no_legs no_answers progress =
       });
       reaches = λ right. record {
         reached = λ v lt. rw (none v, queue v) refl;
-        known = λ i p h. none_known (run rules inputs (opening rules)) i p (rw progress at h);
+        known = λ i p h. none_known (whole_of tells rules inputs) i p (rw progress at h);
       };
     }
 
 -- THE END
 
 -- all answers were taken
-pub all_taken : (lane : Lane) → LaneStands lane → lane.queue.owed ≡ [] → length lane.taken ≡ length lane.offered
+pub all_taken : {P : Type 0} (lane : Lane P) → LaneStands lane → lane.queue.owed ≡ [] → length lane.taken
+    ≡ length lane.offered
 all_taken lane o none =
     let no_rest : length o.rest ≡ 0 = sym (length-map o.rest owed_of) ∙ ap length (sym o.owed_is ∙ none) in
     let all : length lane.offered ≡ length o.before + length o.rest =
     ap length o.parts ∙ length-append o.before o.rest in
     omega (arith, no_rest, all, o.long)
 
-module _ (rules : Rules) (inputs : List Arrival) (offered : List (List Leg)) (taken : ℕ → List Answer) (d : Dispatcher)
-    (s : Stands rules inputs inputs (state_with (of_worker offered) taken d))
+module _ {P : Type 0} {tells : Passage → P} (rules : Rules) (inputs : List Arrival) (offered : List (List Leg))
+    (taken : ℕ → List (Told P)) (d : Dispatcher P)
+    (s : Stands tells rules inputs inputs (state_with (of_worker offered) taken d))
     (times : times_in d.progress ≡ map (λ i. i.time) inputs)
-    (right : AreRight rules (state_with (of_worker offered) taken d)) where
-  abbrev whole : Course
-  whole = run rules inputs (opening rules)
-
-  run_long : length whole.outcomes ≡ length inputs
-  run_long = outcomes_long rules 0 0 inputs (opening rules)
+    (right : AreRight tells rules (state_with (of_worker offered) taken d)) where
+  abbrev whole : Whole P
+  whole = whole_of tells rules inputs
 
   -- what left is the front of what the run gives
-  pub left_right : IsFront d.progress.left (timed inputs whole.outcomes)
-  left_right = left_front whole d.progress inputs times (s.reaches right).known run_long
+  pub left_right : IsFront d.progress.left (timed inputs (departed tells rules inputs))
+  left_right = left_front whole d.progress inputs times (s.reaches right).known (departed_long tells rules inputs)
 
   -- all of it, where no input is open
   pub dispatched : length offered ≡ length rules.pool → IsDone d → d.progress.under_way ≡ [] →
-      (d.progress.left ≡ timed inputs whole.outcomes)
+      (d.progress.left ≡ timed inputs (departed tells rules inputs))
       × IsDispatched rules inputs offered (map outcome_of d.progress.left) (counts_in d.queues)
   dispatched many idle none =
+      let long = departed_long tells rules inputs in
       let reached : (w : ℕ) → w < length rules.pool → of_worker offered w
       ≡ legs_at (slice_index rules.pool w) whole.acts = λ w lt.
       let q : QueueState = queue_of d.queues w in
       let none : count_held q ≡ 0 = idle.held w in
       rw (nothing q.ready (omega (arith, none)), nothing q.held (omega (arith, none)), append-nil)
       at ((s.reaches right).reached w lt) in
-      let left : d.progress.left ≡ timed inputs whole.outcomes =
-      left_whole whole d.progress inputs times (s.reaches right).known run_long none in (
+      let left : d.progress.left ≡ timed inputs (departed tells rules inputs) =
+      left_whole whole d.progress inputs times (s.reaches right).known long none in (
         left,
         record {
           legs = map_at (λ address. legs_at address whole.acts) offered [] rules.pool many reached;
-          outcomes_are = ap (map outcome_of) left ∙ timed_outcomes inputs whole.outcomes run_long;
+          outcomes_are = ap (map outcome_of) left ∙ (timed_outcomes inputs (departed tells rules inputs) long
+              ∙ departed_outcomes tells rules inputs);
           numbers_are = map_at (λ address. length (legs_at address whole.acts)) (counts_in d.queues) 0 rules.pool
               (length-map d.queues (λ q. q.offered) ∙ s.many)
               (λ w lt. get_or-map (λ q. q.offered) d.queues w unused 0 (rw s.many lt)

@@ -1,21 +1,29 @@
 -- What is known of the inputs that were read.
 use Rattle.std.proofs.Common.{◌≡◌, ◌⊎◌, inl, inr, ℕ, zero, suc, ◌+◌, ◌<◌, ◌≤◌, Bool, true, false, List, [], ◌∷◌, ◌++◌, length, map, set, get_or, Option, Some, None, option_to_list, refl, sym, ◌∙◌, ap, subst, arith, append-nil, append_assoc, length-append}
-use Rattle.std.specs.Prelude.{slice_get, slice_set}
+use Rattle.std.specs.Prelude.{IfSome, slice_get, slice_set}
 use Rattle.std.proofs.lemmas.List.{map-set, map-append, get_or-map, length-map}
 use Rattle.napt_pool.proofs.Lists.{map-kept}
+use Rattle.napt_wire.specs.declared.Way.{Way}
 use Rattle.napt_rules.specs.declared.Leg.{Leg}
 use Rattle.napt_rules.specs.declared.Outcome.{Outcome}
 use Rattle.napt_rules.specs.declared.Outcome.TheVariants as outcomes
-use Rattle.napt_rules.specs.Prelude.{Arrival, Course}
+use Rattle.napt_config.specs.Rules.{Rules}
+use Rattle.napt_rules.specs.Prelude.{opening, Arrival, run}
+use Rattle.napt_sequential.specs.declared.outcome.Stepped.{Stepped}
+use Rattle.napt_sequential.specs.declared.passage.Passage.{Passage}
+use Rattle.napt_sequential.specs.Steps.{steps}
+use Rattle.napt_sequential.proofs.Joined.{steps_long, steps_outcomes}
+use Rattle.napt_dispatch.specs.Dispatch.{departed, departed_of}
 use Rattle.napt_laws.specs.Dispatching.{IsFront, outcome_told}
 use Rattle.napt_laws.specs.Places.{second_legs}
 use Rattle.napt_dispatch.specs.declared.dispatcher.progress.Progress.{Progress}
-use Rattle.napt_dispatch.specs.declared.dispatcher.progress.Progress.TheVariants.{Awaited}
+use Rattle.napt_dispatch.specs.declared.dispatcher.progress.Progress.TheVariants.{Awaited, Returning, Answered}
 use Rattle.napt_dispatch.specs.declared.dispatcher.progress.OpenInput.{OpenInput}
 use Rattle.napt_dispatch.specs.Collecting.{outcome_of}
-use Rattle.napt_dispatch.specs.Standing.{IsSecond, IsSecondOf}
+use Rattle.napt_dispatch.specs.Standing.{AnswersTo, IsSecond, IsSecondOf}
 use Rattle.napt_dispatch.specs.Passing.{timed}
-use Rattle.napt_dispatch.specs.Windows.{Window, time_in, end_of, ended, ended_in, Asks, unmarked, known_in, arrived, mark_of, progress_in, times_in, marks_in, outcome_in, is_unknown, opened, expecting, IsUnmarked, IsWritten, HasMark, IsMarked, Leaves, IsKnown, AllKnown, IsHandedOver}
+use Rattle.napt_dispatch.specs.Windows.{Window, Whole, time_in, end_of, ended, ended_in, asked, Asks, first_by, first_in, unmarked, known_in, arrived, mark_of, progress_in, times_in, marks_in, departed_with, departed_in, is_unknown, passages_after, opened, expecting, IsUnmarked, IsWritten, HasMark, IsMarked, FirstMayLeave, Leaves, NoneBehind, KnowsSecond, IsKnown, AllKnown, IsHandedOver}
+use Rattle.napt_dispatch.specs.declared.departures.Departed.{Departed}
 
 -- LISTS
 
@@ -37,7 +45,7 @@ get_at (y ∷ xs) (suc i) x lt is = get_at xs i x (omega arith) is
 
 -- WHAT IS KNOWN
 
-get_set : (xs : List Progress) (n i : ℕ) (v x : Progress) → slice_get (set xs n v) i ≡ Some x →
+get_set : {P : Type 0} (xs : List (Progress P)) (n i : ℕ) (v x : Progress P) → slice_get (set xs n v) i ≡ Some x →
     ((i ≡ n) × (v ≡ x)) ⊎ (slice_get xs i ≡ Some x)
 get_set [] n i v x h = inr h
 get_set (o ∷ os) zero zero v x h = inl (refl, (cc))
@@ -45,68 +53,92 @@ get_set (o ∷ os) zero (suc i) v x h = inr h
 get_set (o ∷ os) (suc n) zero v x h = inr h
 get_set (o ∷ os) (suc n) (suc i) v x h = elim (get_set os n i v x h) [ inl e ↦ inl (ap suc e.0, e.1) | inr e ↦ inr e ]
 
-pub known_set : (course : Course) (progress : List Progress) (n : ℕ) (p : Progress) → IsKnown course n p →
-    AllKnown course progress → AllKnown course (slice_set progress n p)
-known_set course progress n p here known = λ i q h. elim (get_set progress n i p q h) [
-  | inl e ↦ subst (IsKnown course i) e.1 (subst (λ (k : ℕ). IsKnown course k p) (sym e.0) here)
+pub known_set : {P : Type 0} (whole : Whole P) (progress : List (Progress P)) (n : ℕ) (p : Progress P) →
+    IsKnown whole n p → AllKnown whole progress → AllKnown whole (slice_set progress n p)
+known_set whole progress n p here known = λ i q h. elim (get_set progress n i p q h) [
+  | inl e ↦ subst (IsKnown whole i) e.1 (subst (λ (k : ℕ). IsKnown whole k p) (sym e.0) here)
   | inr e ↦ known i q e
 ]
 
-get_push : (xs : List Progress) (x : Progress) (i : ℕ) (y : Progress) → slice_get (xs ++ x ∷ []) i ≡ Some y →
-    (slice_get xs i ≡ Some y) ⊎ (x ≡ y)
-get_push [] x zero y h = inr (cc)
+get_push : {X : Type 0} (xs : List X) (x : X) (i : ℕ) (y : X) → slice_get (xs ++ x ∷ []) i ≡ Some y →
+    (slice_get xs i ≡ Some y) ⊎ ((i ≡ length xs) × (x ≡ y))
+get_push [] x zero y h = inr (refl, (cc))
 get_push [] x (suc i) y h = cc
 get_push (z ∷ xs) x zero y h = inl h
-get_push (z ∷ xs) x (suc i) y h = get_push xs x i y h
+get_push (z ∷ xs) x (suc i) y h = elim (get_push xs x i y h) [ inl e ↦ inl e | inr e ↦ inr (ap suc e.0, e.1) ]
 
-awaited_known : (course : Course) (n : ℕ) → IsKnown course n Awaited
-awaited_known course n = (tt, λ h. absurd cc)
-
-pub awaited_set : (course : Course) (progress : List Progress) (n : ℕ) → AllKnown course progress →
-    AllKnown course (slice_set progress n Awaited)
-awaited_set course progress n known = known_set course progress n Awaited (awaited_known course n) known
+-- a second leg was taken out, which the last answer asks for
+pub returning_known : {P : Type 0} (whole : Whole P) (n : ℕ) (p : Progress P) (leg : Leg) (first : P) →
+    second_legs n whole.acts ≡ leg ∷ [] → first_in p ≡ Some first → IsKnown whole n p →
+    IsKnown whole n (Returning first)
+returning_known whole n p leg first legs is known =
+    record { departed = tt; first = rw is at known.first; second = (leg, legs) }
 
 told_end : (o : Outcome) → outcome_told (end_of o) ≡ Some o
 told_end (outcomes.ToOutside packet) = refl
 told_end (outcomes.ToInside packet) = refl
 told_end (outcomes.Dropped cause) = refl
 
-pub ended_known : (course : Course) (n : ℕ) (o : Outcome) → slice_get course.outcomes n ≡ Some o →
-    IsKnown course n (ended o)
-ended_known course n o is = (rw (told_end o) is, λ h. absurd cc)
+no_first : {P : Type 0} (first : P) (o : Outcome) → first_by first (end_of o) ≡ None
+no_first first (outcomes.ToOutside packet) = refl
+no_first first (outcomes.ToInside packet) = refl
+no_first first (outcomes.Dropped cause) = refl
 
--- nothing is known of one more
-pub known_push : (course : Course) (progress : List Progress) → AllKnown course progress →
-    AllKnown course (progress ++ Awaited ∷ [])
-known_push course progress known = λ i p h. elim (get_push progress Awaited i p h) [
+departed_ended : {P : Type 0} (d : Departed P) → departed_in (ended d) ≡ Some d
+departed_ended d = ap (departed_with d.now d.first d.second) (told_end d.outcome)
+
+pub ended_known : {P : Type 0} (whole : Whole P) (n : ℕ) (d : Departed P) → slice_get whole.departed n ≡ Some d →
+    IsKnown whole n (ended d)
+ended_known whole n d is = record {
+  departed = rw (told_end d.outcome) is;
+  first = rw (no_first d.first d.outcome) tt;
+  second = λ h. absurd cc;
+}
+
+-- nothing is known of one more, but that none is behind a first leg that comes in
+pub known_push : {P : Type 0} (whole : Whole P) (progress : List (Progress P)) (way : Way) →
+    NoneBehind way (second_legs (length progress) whole.acts) → AllKnown whole progress →
+    AllKnown whole (progress ++ Awaited way ∷ [])
+known_push whole progress way none known = λ i p h. elim (get_push progress (Awaited way) i p h) [
   | inl e ↦ known i p e
-  | inr e ↦ subst (IsKnown course i) e (awaited_known course i)
+  | inr e ↦ subst (IsKnown whole i) e.1 (record {
+    departed = tt;
+    first = tt;
+    second = subst (λ (k : ℕ). NoneBehind way (second_legs k whole.acts)) (sym e.0) none;
+  })
 ]
 
-known_outcome : (course : Course) (i : ℕ) (p : Progress) (o : Outcome) → outcome_in p ≡ Some o → IsKnown course i p →
-    slice_get course.outcomes i ≡ Some o
-known_outcome course i p o is known = rw is at known.0
+known_departed : {P : Type 0} (whole : Whole P) (i : ℕ) (p : Progress P) (d : Departed P) → departed_in p ≡ Some d →
+    IsKnown whole i p → slice_get whole.departed i ≡ Some d
+known_departed whole i p d is known = rw is at known.departed
 
--- the outcomes that have left
-left_known : (course : Course) (i : ℕ) (pair : ℕ × Outcome) → IsKnown course i (ended_in pair) →
-    slice_get course.outcomes i ≡ Some pair.1
-left_known course i pair known = known_outcome course i (ended_in pair) pair.1 (told_end pair.1) known
+-- what has left
+left_known : {P : Type 0} (whole : Whole P) (i : ℕ) (pair : ℕ × Departed P) → IsKnown whole i (ended_in pair) →
+    slice_get whole.departed i ≡ Some pair.1
+left_known whole i pair known = known_departed whole i (ended_in pair) pair.1 (departed_ended pair.1) known
+
+second_by : {P : Type 0} (legs : List Leg) (number : ℕ) (p : Progress P) → is_unknown (Some p) ≡ false →
+    KnowsSecond legs number p → legs ≡ option_to_list (asked number p)
+second_by legs number (Awaited way) goes knows = absurd cc
+second_by legs number (Returning first) goes knows = absurd cc
+second_by legs number (Answered owed end first second) goes knows = knows goes
 
 -- the second leg that is asked for
-pub second_known : (course : Course) (progress : List Progress) (number : ℕ) (second : Option Leg) →
-    is_unknown (slice_get progress number) ≡ false → Asks number progress second → AllKnown course progress →
-    second_legs number course.acts ≡ option_to_list second
-second_known course progress number second goes asks known =
-    (known number asks.p asks.there).1 (rw asks.there at goes) ∙ ap option_to_list asks.asked_is
+pub second_known : {P : Type 0} (whole : Whole P) (progress : List (Progress P)) (number : ℕ) (second : Option Leg) →
+    is_unknown (slice_get progress number) ≡ false → Asks number progress second → AllKnown whole progress →
+    second_legs number whole.acts ≡ option_to_list second
+second_known whole progress number second goes asks known =
+    second_by (second_legs number whole.acts) number asks.p (rw asks.there at goes)
+    (known number asks.p asks.there).second ∙ ap option_to_list asks.asked_is
 
 -- A WINDOW
 
-abbrev window_of : List (ℕ × Outcome) → List OpenInput → Window
+abbrev window_of : {P : Type 0} → List (ℕ × Departed P) → List (OpenInput P) → Window P
 window_of left items = record { left = left; under_way = items }
 
 -- what is read of all inputs, where one open input changes
-module _ {X : Type 0} (f : ℕ × Outcome → X) (h : OpenInput → X) (left : List (ℕ × Outcome)) (items : List OpenInput)
-    (number place : ℕ) (later : OpenInput) where
+module _ {P X : Type 0} (f : ℕ × Departed P → X) (h : OpenInput P → X) (left : List (ℕ × Departed P))
+    (items : List (OpenInput P)) (number place : ℕ) (later : OpenInput P) where
   reads_set : (x : X) → number ≡ length left + place → h later ≡ x →
       map f left ++ map h (set items place later) ≡ set (map f left ++ map h items) number x
   reads_set x n same =
@@ -114,19 +146,19 @@ module _ {X : Type 0} (f : ℕ × Outcome → X) (h : OpenInput → X) (left : L
       ap (λ ys. map f left ++ ys) (map-set h items place later ∙ ap (set (map h items) place) same)
       ∙ sym (set_behind (map f left) (map h items) number place x place_is)
 
-  reads_same : (o : OpenInput) → o ≡ get_or items place o → h later ≡ h o →
+  reads_same : (o : OpenInput P) → o ≡ get_or items place o → h later ≡ h o →
       map f left ++ map h (set items place later) ≡ map f left ++ map h items
   reads_same o at same = ap (λ ys. map f left ++ ys) (map-kept h items place later o at same)
 
-module _ (left : List (ℕ × Outcome)) (items : List OpenInput) (window : Window) (is : window_of left items ≡ window)
-    (number place : ℕ) (n : number ≡ length window.left + place) (within : place < length window.under_way)
-    (o : OpenInput) (at : o ≡ get_or items place o) where
+module _ {P : Type 0} (left : List (ℕ × Departed P)) (items : List (OpenInput P)) (window : Window P)
+    (is : window_of left items ≡ window) (number place : ℕ) (n : number ≡ length window.left + place)
+    (within : place < length window.under_way) (o : OpenInput P) (at : o ≡ get_or items place o) where
   lt : place < length items
-  lt = let one : length window.under_way ≡ length items = ap (λ (w : Window). length w.under_way) (sym is) in
+  lt = let one : length window.under_way ≡ length items = ap (λ (w : Window P). length w.under_way) (sym is) in
       omega (arith, within, one)
 
   n_is : number ≡ length left + place
-  n_is = let same : length window.left ≡ length left = ap (λ (w : Window). length w.left) (sym is) in
+  n_is = let same : length window.left ≡ length left = ap (λ (w : Window P). length w.left) (sym is) in
       omega (arith, n, same)
 
   -- the progress of an open input
@@ -136,61 +168,70 @@ module _ (left : List (ℕ × Outcome)) (items : List OpenInput) (window : Windo
       let here : slice_get (map known_in items) place ≡ Some o.progress =
       get_at (map known_in items) place o.progress (omega (arith, lt, length-map items known_in))
       (ap known_in at ∙ sym (get_or-map known_in items place o o.progress lt)) in
-      ap (λ (w : Window). slice_get (progress_in w) number) (sym is)
+      ap (λ (w : Window P). slice_get (progress_in w) number) (sym is)
       ∙ (get_behind (map ended_in left) (map known_in items) number place place_is ∙ here)
 
+  -- what is told of its legs, once this is told of one that it awaits
+  pub open_answers : (none : P) (way : Way) (passage : P) (passages : Option (P × P)) →
+      passages ≡ passages_after none o.progress way passage → IfSome passages (AnswersTo none window number way passage)
+  open_answers none way passage None e = tt
+  open_answers none way passage (Some both) e = record { was = o.progress; there = open_get; told = sym e }
+
   -- its progress is set
-  pub open_written : (later : OpenInput) (p : Progress) → later.time ≡ o.time → later.progress ≡ p →
+  pub open_written : (later : OpenInput P) (p : Progress P) → later.time ≡ o.time → later.progress ≡ p →
       IsWritten number p window (window_of left (set items place later))
   open_written later p time same = record {
-    left_stays = ap (λ (w : Window). w.left) is;
+    left_stays = ap (λ (w : Window P). w.left) is;
     times_stay = reads_same time_in arrived left items number place later o at time ∙ ap times_in is;
     progress_is = reads_set ended_in known_in left items number place later p n_is same
-        ∙ ap (λ (w : Window). set (progress_in w) number p) is;
+        ∙ ap (λ (w : Window P). set (progress_in w) number p) is;
   }
 
   -- its mark is set or cleared
-  pub open_has_mark : (later : OpenInput) (m : Bool) → later.has_place ≡ m →
+  pub open_has_mark : (later : OpenInput P) (m : Bool) → later.has_place ≡ m →
       HasMark number m window (window_of left (set items place later))
   open_has_mark later m same =
       reads_set unmarked mark_of left items number place later m n_is same
-      ∙ ap (λ (w : Window). set (marks_in w) number m) is
+      ∙ ap (λ (w : Window P). set (marks_in w) number m) is
 
-  pub open_marked : (later : OpenInput) (m : Bool) → later.time ≡ o.time → later.progress ≡ o.progress →
+  pub open_marked : (later : OpenInput P) (m : Bool) → later.time ≡ o.time → later.progress ≡ o.progress →
       later.has_place ≡ m → IsMarked number m window (window_of left (set items place later))
   open_marked later m time progress mark = record {
-    left_stays = ap (λ (w : Window). w.left) is;
+    left_stays = ap (λ (w : Window P). w.left) is;
     times_stay = reads_same time_in arrived left items number place later o at time ∙ ap times_in is;
     progress_stays = reads_same ended_in known_in left items number place later o at progress ∙ ap progress_in is;
     marks_are = open_has_mark later m mark;
   }
 
   -- or not
-  pub open_unmarked : (later : OpenInput) → later.has_place ≡ o.has_place →
+  pub open_unmarked : (later : OpenInput P) → later.has_place ≡ o.has_place →
       marks_in (window_of left (set items place later)) ≡ marks_in window
   open_unmarked later same = reads_same unmarked mark_of left items number place later o at same ∙ ap marks_in is
 
   -- its second leg
-  pub open_second : (later : OpenInput) (second : Option Leg) → IsSecondOf number o later second →
+  pub open_second : (later : OpenInput P) (second : Option Leg) → IsSecondOf number o later second →
       IsSecond number window (window_of left (set items place later)) second
   open_second later None s = (
     open_marked later false (ap arrived s.0) (ap known_in s.0) (ap mark_of s.0),
     record { p = o.progress; there = open_get; asked_is = s.1 },
   )
-  open_second later (Some leg) s = (
-    open_written later Awaited (ap arrived s.0) (ap known_in s.0),
-    record { p = o.progress; there = open_get; asked_is = s.1 },
-    open_has_mark later false (ap mark_of s.0),
-  )
+  open_second later (Some leg) s = record {
+    asks = record { p = o.progress; there = open_get; asked_is = s.2 };
+    first = s.0;
+    first_is = s.3;
+    written = open_written later (Returning s.0) (ap arrived s.1) (ap known_in s.1);
+    mark = open_has_mark later false (ap mark_of s.1);
+  }
 
 -- nothing of the second leg of one whose outcome left
-pub left_unknown : (left : List (ℕ × Outcome)) (ps : List Progress) (number : ℕ) → number < length left →
-    is_unknown (slice_get (map ended_in left ++ ps) number) ≡ true
+pub left_unknown : {P : Type 0} (left : List (ℕ × Departed P)) (ps : List (Progress P)) (number : ℕ) →
+    number < length left → is_unknown (slice_get (map ended_in left ++ ps) number) ≡ true
 left_unknown [] ps number lt = absurd (omega arith)
 left_unknown (x ∷ left) ps zero lt = refl
 left_unknown (x ∷ left) ps (suc number) lt = left_unknown left ps number (omega arith)
 
-past_unknown : (ps : List Progress) (number : ℕ) → length ps ≤ number → is_unknown (slice_get ps number) ≡ true
+past_unknown : {P : Type 0} (ps : List (Progress P)) (number : ℕ) → length ps ≤ number → is_unknown
+    (slice_get ps number) ≡ true
 past_unknown [] number le = refl
 past_unknown (p ∷ ps) zero le = absurd (omega arith)
 past_unknown (p ∷ ps) (suc number) le = past_unknown ps number (omega arith)
@@ -198,62 +239,83 @@ past_unknown (p ∷ ps) (suc number) le = past_unknown ps number (omega arith)
 length_of : {X : Type 0} {m n : ℕ} (xs ys : List X) → length xs ≡ m → length ys ≡ n → length (xs ++ ys) ≡ m + n
 length_of xs ys one two = omega (arith, one, two, length-append xs ys)
 
-pub length_all : (window : Window) → length (progress_in window) ≡ length window.left + length window.under_way
+pub length_all : {P : Type 0} (window : Window P) → length (progress_in window)
+    ≡ length window.left + length window.under_way
 length_all window = length_of (map ended_in window.left) (map known_in window.under_way)
     (length-map window.left ended_in) (length-map window.under_way known_in)
 
-length_marks : (window : Window) → length (marks_in window) ≡ length window.left + length window.under_way
+length_marks : {P : Type 0} (window : Window P) → length (marks_in window)
+    ≡ length window.left + length window.under_way
 length_marks window = length_of (map unmarked window.left) (map mark_of window.under_way)
     (length-map window.left unmarked) (length-map window.under_way mark_of)
 
-pub times_long : (window : Window) → length (times_in window) ≡ length (progress_in window)
+pub times_long : {P : Type 0} (window : Window P) → length (times_in window) ≡ length (progress_in window)
 times_long window =
     length_of (map time_in window.left) (map arrived window.under_way) (length-map window.left time_in)
     (length-map window.under_way arrived) ∙ sym (length_all window)
 
 -- a number that no open input has
-pub unread_unknown : (left : List (ℕ × Outcome)) (items : List OpenInput) (number : ℕ) →
+pub unread_unknown : {P : Type 0} (left : List (ℕ × Departed P)) (items : List (OpenInput P)) (number : ℕ) →
     length left + length items ≤ number → is_unknown (slice_get (progress_in (window_of left items)) number) ≡ true
 unread_unknown left items number le =
     past_unknown (progress_in (window_of left items)) number (omega (arith, le, length_all (window_of left items)))
 
 -- STEPS
 
-pub expecting_times : (time : ℕ) (window : Window) → times_in (expecting time window) ≡ times_in window ++ time ∷ []
-expecting_times time window =
-    rw (map-append arrived window.under_way (opened time ∷ []))
+pub expecting_times : {P : Type 0} (time : ℕ) (way : Way) (window : Window P) → times_in (expecting time way window)
+    ≡ times_in window ++ time ∷ []
+expecting_times time way window =
+    rw (map-append arrived window.under_way (opened time way ∷ []))
     (sym (append_assoc (map time_in window.left) (map arrived window.under_way) (time ∷ [])))
 
-pub expecting_progress : (time : ℕ) (window : Window) → progress_in (expecting time window)
-    ≡ progress_in window ++ Awaited ∷ []
-expecting_progress time window =
-    rw (map-append known_in window.under_way (opened time ∷ []))
-    (sym (append_assoc (map ended_in window.left) (map known_in window.under_way) (Awaited ∷ [])))
+pub expecting_progress : {P : Type 0} (time : ℕ) (way : Way) (window : Window P) →
+    progress_in (expecting time way window) ≡ progress_in window ++ Awaited way ∷ []
+expecting_progress time way window =
+    rw (map-append known_in window.under_way (opened time way ∷ []))
+    (sym (append_assoc (map ended_in window.left) (map known_in window.under_way) (Awaited way ∷ [])))
 
-pub expecting_marks : (time : ℕ) (window : Window) → marks_in (expecting time window)
+pub expecting_marks : {P : Type 0} (time : ℕ) (way : Way) (window : Window P) → marks_in (expecting time way window)
     ≡ marks_in window ++ false ∷ []
-expecting_marks time window =
-    rw (map-append mark_of window.under_way (opened time ∷ []))
+expecting_marks time way window =
+    rw (map-append mark_of window.under_way (opened time way ∷ []))
     (sym (append_assoc (map unmarked window.left) (map mark_of window.under_way) (false ∷ [])))
 
-pub expecting_unmarked : (time number : ℕ) (window later : Window) → number ≡ length (progress_in window) →
-    later ≡ expecting time window → IsUnmarked number later
-expecting_unmarked time number window later n is =
+pub expecting_unmarked : {P : Type 0} (time : ℕ) (way : Way) (number : ℕ) (window later : Window P) →
+    number ≡ length (progress_in window) → later ≡ expecting time way window → IsUnmarked number later
+expecting_unmarked {P} time way number window later n is =
     let long : number ≡ length (marks_in window) + 0 = omega (arith, n, length_all window, length_marks window) in
-    let left : later.left ≡ window.left = ap (λ (w : Window). w.left) is in
+    let left : later.left ≡ window.left = ap (λ (w : Window P). w.left) is in
     record {
       open_is = omega (arith, n, length_all window, ap length left);
-      mark = ap (λ (w : Window). slice_get (marks_in w) number) is
-          ∙ (ap (λ ms. slice_get ms number) (expecting_marks time window)
+      mark = ap (λ (w : Window P). slice_get (marks_in w) number) is
+          ∙ (ap (λ ms. slice_get ms number) (expecting_marks time way window)
           ∙ get_behind (marks_in window) (false ∷ []) number 0 long);
     }
 
+-- the first open input may leave
+pub first_leaves : {P : Type 0} (window : Window P) (first : OpenInput P) (rest : List (OpenInput P)) (d : Departed P)
+    (left : List (ℕ × Departed P)) → window.under_way ≡ first ∷ rest → FirstMayLeave window.under_way →
+    departed_in first.progress ≡ Some d → left ≡ window.left ++ (first.time, d) ∷ [] →
+    Leaves (first.time, d) window (window_of left rest)
+first_leaves {P} window first rest d left is may ends more =
+    let mark : first.has_place ≡ false = (subst (λ (os : List (OpenInput P)). FirstMayLeave os) is may).1 in
+    record {
+      progress = first.progress;
+      first = is ∙ ap (λ (b : Bool). let o : OpenInput P = record {
+        time = first.time;
+        progress = first.progress;
+        has_place = b;
+      } in o ∷ rest) mark;
+      ended = ends;
+      left_is = more;
+    }
+
 -- one outcome left
-pub leaves_over : (pair : ℕ × Outcome) (window later : Window) → Leaves pair window later →
+pub leaves_over : {P : Type 0} (pair : ℕ × Departed P) (window later : Window P) → Leaves pair window later →
     IsHandedOver (pair ∷ []) window later
-leaves_over pair window later l =
-    let lefts : List Progress = map ended_in window.left in
-    let rest : List Progress = map known_in later.under_way in
+leaves_over {P} pair window later l =
+    let lefts : List (Progress P) = map ended_in window.left in
+    let rest : List (Progress P) = map known_in later.under_way in
     let was : progress_in window ≡ lefts ++ l.progress ∷ rest = ap (λ xs. lefts ++ map known_in xs) l.first in
     let now : progress_in later ≡ lefts ++ ended_in pair ∷ rest =
     ap (λ xs. map ended_in xs ++ rest) l.left_is
@@ -276,70 +338,70 @@ leaves_over pair window later l =
           ∙ (ap (λ xs. xs ++ map mark_of later.under_way) (map-append unmarked window.left (pair ∷ []))
           ∙ (append_assoc (map unmarked window.left) (false ∷ []) (map mark_of later.under_way)
           ∙ sym (ap (λ xs. map unmarked window.left ++ map mark_of xs) l.first)));
-      known = λ course known.
-          rw set_is (known_set course (progress_in window) (length window.left) (ended_in pair)
-          (ended_known course (length window.left) pair.1 (known_outcome course (length window.left) l.progress pair.1
+      known = λ whole known.
+          rw set_is (known_set whole (progress_in window) (length window.left) (ended_in pair)
+          (ended_known whole (length window.left) pair.1 (known_departed whole (length window.left) l.progress pair.1
           l.ended (known (length window.left) l.progress there))) known);
     }
 
-pub over_none : (window : Window) → IsHandedOver [] window window
+pub over_none : {P : Type 0} (window : Window P) → IsHandedOver [] window window
 over_none window = record {
   left_is = sym (append-nil window.left);
   times_stay = refl;
   marks_stay = refl;
-  known = λ course known. known;
+  known = λ whole known. known;
 }
 
-pub over_more : (xs ys : List (ℕ × Outcome)) (window middle later : Window) → IsHandedOver xs window middle →
-    IsHandedOver ys middle later → IsHandedOver (xs ++ ys) window later
+pub over_more : {P : Type 0} (xs ys : List (ℕ × Departed P)) (window middle later : Window P) →
+    IsHandedOver xs window middle → IsHandedOver ys middle later → IsHandedOver (xs ++ ys) window later
 over_more xs ys window middle later a b = record {
   left_is = b.left_is ∙ (ap (λ l. l ++ ys) a.left_is ∙ append_assoc window.left xs ys);
   times_stay = b.times_stay ∙ a.times_stay;
   marks_stay = b.marks_stay ∙ a.marks_stay;
-  known = λ course known. b.known course (a.known course known);
+  known = λ whole known. b.known whole (a.known whole known);
 }
 
 -- THE END
 
-get_left : (left : List (ℕ × Outcome)) (ps : List Progress) (i : ℕ) (pair : ℕ × Outcome) →
+get_left : {P : Type 0} (left : List (ℕ × Departed P)) (ps : List (Progress P)) (i : ℕ) (pair : ℕ × Departed P) →
     slice_get left i ≡ Some pair → slice_get (map ended_in left ++ ps) i ≡ Some (ended_in pair)
 get_left [] ps i pair h = cc
 get_left (x ∷ left) ps zero pair h = cc
 get_left (x ∷ left) ps (suc i) pair h = get_left left ps i pair h
 
-front_by : (left : List (ℕ × Outcome)) (more : List ℕ) (inputs : List Arrival) (outs : List Outcome) →
-    length outs ≡ length inputs → map time_in left ++ more ≡ map (λ i. i.time) inputs →
-    ((i : ℕ) (pair : ℕ × Outcome) → slice_get left i ≡ Some pair → slice_get outs i ≡ Some pair.1) →
+front_by : {P : Type 0} (left : List (ℕ × Departed P)) (more : List ℕ) (inputs : List Arrival)
+    (outs : List (Departed P)) → length outs ≡ length inputs → map time_in left ++ more ≡ map (λ i. i.time) inputs →
+    ((i : ℕ) (pair : ℕ × Departed P) → slice_get left i ≡ Some pair → slice_get outs i ≡ Some pair.1) →
     IsFront left (timed inputs outs)
 front_by [] more inputs outs long times h = (timed inputs outs, refl)
 front_by (x ∷ left) more [] outs long times h = cc
 front_by (x ∷ left) more (i ∷ inputs) [] long times h = absurd (omega arith)
-front_by (x ∷ left) more (i ∷ inputs) (o ∷ outs) long times h =
+front_by {P} (x ∷ left) more (i ∷ inputs) (o ∷ outs) long times h =
     let here : Some o ≡ Some x.1 = h zero x refl in
     let rest : IsFront left (timed inputs outs) =
     front_by left more inputs outs (omega arith) (cc (times)) (λ k pair g. h (suc k) pair g) in
     let time : x.0 ≡ i.time = cc (times) in
     let outcome : x.1 ≡ o = cc (here) in
-    (rest.0, ap (λ l. x ∷ l) rest.1 ∙ ap (λ (y : ℕ × Outcome). y ∷ timed inputs outs) (rw (time, outcome) refl))
+    (rest.0, ap (λ l. x ∷ l) rest.1 ∙ ap (λ (y : ℕ × Departed P). y ∷ timed inputs outs) (rw (time, outcome) refl))
 
-pub left_front : (course : Course) (window : Window) (inputs : List Arrival) →
-    times_in window ≡ map (λ i. i.time) inputs → AllKnown course (progress_in window) →
-    length course.outcomes ≡ length inputs → IsFront window.left (timed inputs course.outcomes)
-left_front course window inputs times known long =
-    front_by window.left (map arrived window.under_way) inputs course.outcomes long times
-    (λ i pair g. left_known course i pair (known i (ended_in pair)
+pub left_front : {P : Type 0} (whole : Whole P) (window : Window P) (inputs : List Arrival) →
+    times_in window ≡ map (λ i. i.time) inputs → AllKnown whole (progress_in window) →
+    length whole.departed ≡ length inputs → IsFront window.left (timed inputs whole.departed)
+left_front whole window inputs times known long =
+    front_by window.left (map arrived window.under_way) inputs whole.departed long times
+    (λ i pair g. left_known whole i pair (known i (ended_in pair)
     (get_left window.left (map known_in window.under_way) i pair g)))
 
 -- the same where more inputs came than were read
-pub left_front_of : (course : Course) (window : Window) (inputs unread : List Arrival) →
-    times_in window ≡ map (λ i. i.time) inputs → AllKnown course (progress_in window) →
-    length course.outcomes ≡ length (inputs ++ unread) → IsFront window.left (timed (inputs ++ unread) course.outcomes)
-left_front_of course window inputs unread times known long =
+pub left_front_of : {P : Type 0} (whole : Whole P) (window : Window P) (inputs unread : List Arrival) →
+    times_in window ≡ map (λ i. i.time) inputs → AllKnown whole (progress_in window) →
+    length whole.departed ≡ length (inputs ++ unread) → IsFront window.left (timed (inputs ++ unread) whole.departed)
+left_front_of whole window inputs unread times known long =
     let more : List ℕ = map (λ (i : Arrival). i.time) unread in
-    front_by window.left (map arrived window.under_way ++ more) (inputs ++ unread) course.outcomes long
+    front_by window.left (map arrived window.under_way ++ more) (inputs ++ unread) whole.departed long
     (sym (append_assoc (map time_in window.left) (map arrived window.under_way) more)
     ∙ (ap (λ ts. ts ++ more) times ∙ sym (map-append (λ (i : Arrival). i.time) inputs unread)))
-    (λ i pair g. left_known course i pair (known i (ended_in pair)
+    (λ i pair g. left_known whole i pair (known i (ended_in pair)
     (get_left window.left (map known_in window.under_way) i pair g)))
 
 no_more : {X : Type 0} (xs ys zs : List X) → xs ++ ys ≡ zs → length xs ≡ length zs → xs ≡ zs
@@ -350,17 +412,17 @@ no_more (x ∷ xs) ys (z ∷ zs) e long = let rest : xs ≡ zs = no_more xs ys z
     let first : x ≡ z = cc (e) in
     rw (first, rest) refl
 
-length_timed : (inputs : List Arrival) (outs : List Outcome) → length outs ≡ length inputs →
+length_timed : {X : Type 0} (inputs : List Arrival) (outs : List X) → length outs ≡ length inputs →
     length (timed inputs outs) ≡ length inputs
 length_timed [] outs e = refl
 length_timed (i ∷ inputs) [] e = absurd (omega arith)
 length_timed (i ∷ inputs) (o ∷ outs) e = ap suc (length_timed inputs outs (omega arith))
 
-pub left_whole : (course : Course) (window : Window) (inputs : List Arrival) →
-    times_in window ≡ map (λ i. i.time) inputs → AllKnown course (progress_in window) →
-    length course.outcomes ≡ length inputs → window.under_way ≡ [] → window.left ≡ timed inputs course.outcomes
-left_whole course window inputs times known long none =
-    let front : IsFront window.left (timed inputs course.outcomes) = left_front course window inputs times known long in
+pub left_whole : {P : Type 0} (whole : Whole P) (window : Window P) (inputs : List Arrival) →
+    times_in window ≡ map (λ i. i.time) inputs → AllKnown whole (progress_in window) →
+    length whole.departed ≡ length inputs → window.under_way ≡ [] → window.left ≡ timed inputs whole.departed
+left_whole whole window inputs times known long none =
+    let front : IsFront window.left (timed inputs whole.departed) = left_front whole window inputs times known long in
     let all : map time_in window.left ≡ map (λ (i : Arrival). i.time) inputs =
     sym (append-nil (map time_in window.left)) ∙ (ap (λ xs. map time_in window.left ++ map arrived xs) (sym none)
     ∙ times) in
@@ -368,12 +430,26 @@ left_whole course window inputs times known long none =
     let two : length (map (λ (i : Arrival). i.time) inputs) ≡ length inputs =
     length-map inputs (λ (i : Arrival). i.time) in
     let same : length (map time_in window.left) ≡ length (map (λ (i : Arrival). i.time) inputs) = ap length all in
-    no_more window.left front.0 (timed inputs course.outcomes) front.1
-    (omega (arith, one, two, same, length_timed inputs course.outcomes long))
+    no_more window.left front.0 (timed inputs whole.departed) front.1
+    (omega (arith, one, two, same, length_timed inputs whole.departed long))
 
-pub timed_outcomes : (inputs : List Arrival) (outs : List Outcome) → length outs ≡ length inputs →
-    map outcome_of (timed inputs outs) ≡ outs
+pub timed_outcomes : {P : Type 0} (inputs : List Arrival) (outs : List (Departed P)) → length outs ≡ length inputs →
+    map outcome_of (timed inputs outs) ≡ map (λ d. d.outcome) outs
 timed_outcomes [] [] e = refl
 timed_outcomes [] (o ∷ outs) e = absurd (omega arith)
 timed_outcomes (i ∷ inputs) [] e = absurd (omega arith)
-timed_outcomes (i ∷ inputs) (o ∷ outs) e = ap (λ l. o ∷ l) (timed_outcomes inputs outs (omega arith))
+timed_outcomes (i ∷ inputs) (o ∷ outs) e = ap (λ l. o.outcome ∷ l) (timed_outcomes inputs outs (omega arith))
+
+-- what the inputs of a run come to has its outcomes
+same_outcomes : {P : Type 0} (tells : Passage → P) (all : List Stepped) →
+    map (λ d. d.outcome) (map (departed_of tells) all) ≡ map (λ s. s.outcome) all
+same_outcomes tells [] = refl
+same_outcomes tells (s ∷ all) = ap (λ l. s.outcome ∷ l) (same_outcomes tells all)
+
+pub departed_outcomes : {P : Type 0} (tells : Passage → P) (rules : Rules) (inputs : List Arrival) →
+    map (λ d. d.outcome) (departed tells rules inputs) ≡ (run rules inputs (opening rules)).outcomes
+departed_outcomes tells rules inputs = same_outcomes tells (steps rules inputs) ∙ steps_outcomes rules inputs
+
+pub departed_long : {P : Type 0} (tells : Passage → P) (rules : Rules) (inputs : List Arrival) →
+    length (departed tells rules inputs) ≡ length inputs
+departed_long tells rules inputs = length-map (steps rules inputs) (departed_of tells) ∙ steps_long rules inputs

@@ -4,15 +4,19 @@
 -- right is a premise here: it is proved once the workers are joined.
 use Rattle.std.specs.Prelude.{◌≡◌, ⊤, ℕ, zero, suc, ◌<◌, max, Bool, true, false, List, [], ◌∷◌, ◌++◌, map, length, slice_index, slice_index_or, Result, Ok, Err}
 use Rattle.napt_config.specs.Rules.{Rules}
-use Rattle.napt_rules.specs.Prelude.{of, opening, Arrival, rows, run, legs_at, Kept, kept_replies}
+use Rattle.napt_rules.specs.Prelude.{of, opening, Arrival, rows, run, legs_at, Kept}
 use Rattle.napt_rules.specs.declared.Row.{Row}
 use Rattle.napt_rules.specs.declared.Leg.{Leg}
-use Rattle.napt_rules.specs.declared.Answer.{Answer}
 use Rattle.napt_translate.specs.Translators.{TranslatorState, begun}
 use Rattle.napt_pool.specs.Faults.{IsFaultOf, is_shut}
 use Rattle.napt_pool.specs.declared.fault.PoolFault.{PoolFault}
 use Rattle.napt_rules.specs.declared.Outcome.{Outcome}
 use Rattle.napt_sequential.specs.declared.fault.RunFault.{RunFault}
+use Rattle.napt_sequential.specs.declared.passage.Passage.{Passage}
+use Rattle.napt_sequential.specs.declared.telling.Told.{Told}
+use Rattle.napt_sequential.specs.declared.outcome.Stepped.{Stepped}
+use Rattle.napt_sequential.specs.Steps.{steps, told_replies}
+use Rattle.napt_dispatch.specs.declared.departures.Departed.{Departed}
 use Rattle.napt_sequential.specs.declared.fault.RunFault.TheVariants as faults
 use Rattle.napt_laws.specs.Dispatching.{IsFront}
 
@@ -49,12 +53,26 @@ rows_after now state = rows state.rules.timers (max now state.table.at) state.ta
 abbrev pub fresh : Rules → ℕ → Kept
 fresh rules address = record { list = of address (opening rules); at = 0 }
 
--- the answers taken from each worker are its translator's, to the legs that it was offered
-abbrev pub Right : Rules → List (List Leg) → List (List Answer) → Type 0
-Right rules offered taken =
+-- the answers taken from each worker, and what is told with them, are its translator's, to the legs that it was offered
+abbrev pub Right : {P : Type 0} → (Passage → P) → Rules → List (List Leg) → List (List (Told P)) → Type 0
+Right tells rules offered taken =
     (w : ℕ) → w < length rules.pool →
     let address : ℕ = slice_index rules.pool w in
-    IsFront (of_worker taken w) (kept_replies rules address (of_worker offered w) (fresh rules address))
+    IsFront (of_worker taken w) (told_replies tells rules address (of_worker offered w) (fresh rules address))
+
+-- WHAT INPUTS COME TO
+
+-- what an input of the run came to, as these are told of its legs
+abbrev pub departed_of : {P : Type 0} → (Passage → P) → Stepped → Departed P
+departed_of tells step = record {
+  outcome = step.outcome;
+  now = step.trace.now;
+  first = tells step.trace.first;
+  second = tells step.trace.second;
+}
+
+abbrev pub departed : {P : Type 0} → (Passage → P) → Rules → List Arrival → List (Departed P)
+departed tells rules inputs = map (departed_of tells) (steps rules inputs)
 
 -- LEGS
 

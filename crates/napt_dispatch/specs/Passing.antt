@@ -1,12 +1,13 @@
 -- A run from arrivals to departures.
 use Rattle.std.specs.Prelude.{◌≡◌, ◌⊎◌, ⊤, ℕ, ◌^◌, ◌<◌, max, Bool, List, [], ◌∷◌, ◌++◌, map, length, Option, Some, None, Result, Ok, Err, MatchResult}
 use Rattle.napt_config.specs.Rules.{Rules, KeepsRules}
-use Rattle.napt_rules.specs.Prelude.{opening, Arrival, run, last_clock, ran}
+use Rattle.napt_rules.specs.Prelude.{Arrival, last_clock, ran}
 use Rattle.napt_rules.specs.declared.Leg.{Leg}
-use Rattle.napt_rules.specs.declared.Answer.{Answer}
 use Rattle.napt_pool.specs.declared.pool.Pool.{Pool}
 use Rattle.napt_pool.specs.Pools.{starts, accepts, zip_with, takes as taken}
-use Rattle.napt_rules.specs.declared.Outcome.{Outcome}
+use Rattle.napt_sequential.specs.declared.passage.Passage.{Passage}
+use Rattle.napt_sequential.specs.declared.telling.Told.{Told}
+use Rattle.napt_dispatch.specs.declared.departures.Departed.{Departed}
 use Rattle.napt_sequential.specs.Inputs.{Came}
 use Rattle.napt_laws.specs.Dispatching.{IsFront}
 use Rattle.napt_dispatch.specs.declared.dispatcher.Dispatcher.{Dispatcher}
@@ -20,98 +21,99 @@ use Rattle.napt_dispatch.specs.declared.stopped.Stopped.{Stopped}
 use Rattle.napt_dispatch.specs.declared.stopped.Stopped.TheVariants as stops
 use Rattle.napt_dispatch.specs.declared.workers.Passed.{Passed}
 use Rattle.napt_dispatch.specs.Collecting.{outcome_of}
-use Rattle.napt_dispatch.specs.Dispatch.{IsFaultUnder, IsDispatched, Right}
+use Rattle.napt_dispatch.specs.Dispatch.{IsFaultUnder, IsDispatched, Right, departed}
 use Rattle.napt_dispatch.specs.Windows.{Window, progress_in, times_in, IsHandedOver}
 use Rattle.napt_dispatch.specs.Standing.{state_of, IsSizedFor, Stands, KeepsAt, IsDone, Grows, HaltsBy}
 use Rattle.napt_sequential.specs.declared.fault.RunFault.{RunFault}
 
 -- OUTCOMES THAT LEAVE
 
--- the outcomes of inputs, with their arrival times
-abbrev pub timed : List Arrival → List Outcome → List (ℕ × Outcome)
-timed inputs outcomes = zip_with (λ input outcome. (input.time, outcome)) inputs outcomes
+-- what inputs came to, with their arrival times
+abbrev pub timed : {X : Type 0} → List Arrival → List X → List (ℕ × X)
+timed inputs xs = zip_with (λ input x. (input.time, x)) inputs xs
 
 -- the first of these outcomes were taken, and the fault came while taking the others
-pub record Fails {S F : Type 0} (takes : S → List (ℕ × Outcome) → S → Type 0)
-    (fails : S → List (ℕ × Outcome) → F → S → Type 0) (before : S) (went : List (ℕ × Outcome)) (fault : F) (after : S)
-    : Type 0 where
-  pub first : List (ℕ × Outcome)
-  pub others : List (ℕ × Outcome)
+pub record Fails {P S F : Type 0} (takes : S → List (ℕ × Departed P) → S → Type 0)
+    (fails : S → List (ℕ × Departed P) → F → S → Type 0) (before : S) (went : List (ℕ × Departed P)) (fault : F)
+    (after : S) : Type 0 where
+  pub first : List (ℕ × Departed P)
+  pub others : List (ℕ × Departed P)
   pub middle : S
   pub went_is : went ≡ first ++ others
   pub took : takes before first middle
   pub failed : fails middle others fault after
 
 -- the outcomes that left the window were taken
-pub record HandsOver {S : Type 0} (takes : S → List (ℕ × Outcome) → S → Type 0) (before : S) (window : Window)
-    (after : S) (later : Window) : Type 0 where
-  pub went : List (ℕ × Outcome)
+pub record HandsOver {P S : Type 0} (takes : S → List (ℕ × Departed P) → S → Type 0) (before : S)
+    (window : Window P) (after : S) (later : Window P) : Type 0 where
+  pub went : List (ℕ × Departed P)
   pub handed : IsHandedOver went window later
   pub took : takes before went after
 
 -- or taking them failed
-pub record FailsOver {S F : Type 0} (takes : S → List (ℕ × Outcome) → S → Type 0)
-    (fails : S → List (ℕ × Outcome) → F → S → Type 0) (before : S) (window : Window) (after : S) (later : Window)
-    (fault : F) : Type 0 where
-  pub went : List (ℕ × Outcome)
+pub record FailsOver {P S F : Type 0} (takes : S → List (ℕ × Departed P) → S → Type 0)
+    (fails : S → List (ℕ × Departed P) → F → S → Type 0) (before : S) (window : Window P) (after : S)
+    (later : Window P) (fault : F) : Type 0 where
+  pub went : List (ℕ × Departed P)
   pub handed : IsHandedOver went window later
   pub failed : Fails takes fails before went fault after
 
 -- OVER A POOL
 
 -- the pool has the same workers, the dispatcher's invariant still holds, and these outcomes left
-pub record GoesOn {M G : Type 0} (pool : Pool M G Leg Answer) (d : Dispatcher) (went : List (ℕ × Outcome))
-    (later_pool : Pool M G Leg Answer) (later : Dispatcher) : Type 0 where
+pub record GoesOn {P M G : Type 0} (tells : Passage → P) (pool : Pool M G Leg (Told P)) (d : Dispatcher P)
+    (went : List (ℕ × Departed P)) (later_pool : Pool M G Leg (Told P)) (later : Dispatcher P) : Type 0 where
   pub starts_stay : starts later_pool ≡ starts pool
   pub grows : Grows pool later_pool
   pub sized : IsSizedFor later_pool later
   pub times_stay : times_in later.progress ≡ times_in d.progress
   pub left_is : later.progress.left ≡ d.progress.left ++ went
-  pub keeps : KeepsAt pool d later_pool later
+  pub keeps : KeepsAt tells pool d later_pool later
 
 -- and were taken
-pub record LetsGo {M G S : Type 0} (takes : S → List (ℕ × Outcome) → S → Type 0) (pool : Pool M G Leg Answer)
-    (d : Dispatcher) (before : S) (later_pool : Pool M G Leg Answer) (later : Dispatcher) (after : S) : Type 0 where
-  pub went : List (ℕ × Outcome)
-  pub goes : GoesOn pool d went later_pool later
+pub record LetsGo {P M G S : Type 0} (tells : Passage → P) (takes : S → List (ℕ × Departed P) → S → Type 0)
+    (pool : Pool M G Leg (Told P)) (d : Dispatcher P) (before : S) (later_pool : Pool M G Leg (Told P))
+    (later : Dispatcher P) (after : S) : Type 0 where
+  pub went : List (ℕ × Departed P)
+  pub goes : GoesOn tells pool d went later_pool later
   pub took : takes before went after
 
 -- or taking them failed
-pub record StopsAt {M G S F : Type 0} (takes : S → List (ℕ × Outcome) → S → Type 0)
-    (fails : S → List (ℕ × Outcome) → F → S → Type 0) (pool : Pool M G Leg Answer) (d : Dispatcher) (before : S)
-    (later_pool : Pool M G Leg Answer) (later : Dispatcher) (after : S) (fault : F) : Type 0 where
-  pub went : List (ℕ × Outcome)
-  pub goes : GoesOn pool d went later_pool later
+pub record StopsAt {P M G S F : Type 0} (tells : Passage → P) (takes : S → List (ℕ × Departed P) → S → Type 0)
+    (fails : S → List (ℕ × Departed P) → F → S → Type 0) (pool : Pool M G Leg (Told P)) (d : Dispatcher P) (before : S)
+    (later_pool : Pool M G Leg (Told P)) (later : Dispatcher P) (after : S) (fault : F) : Type 0 where
+  pub went : List (ℕ × Departed P)
+  pub goes : GoesOn tells pool d went later_pool later
   pub failed : Fails takes fails before went fault after
 
 -- or there was a fault of dispatching, after these outcomes were taken
-pub record HaltsIn {M G S : Type 0} (open_gate : Bool) (takes : S → List (ℕ × Outcome) → S → Type 0)
-    (pool : Pool M G Leg Answer) (d : Dispatcher) (before : S) (later_pool : Pool M G Leg Answer) (after : S)
-    (fault : RunFault) : Type 0 where
-  pub last_pool : Pool M G Leg Answer
-  pub last : Dispatcher
-  pub lets : LetsGo takes pool d before last_pool last after
+pub record HaltsIn {P M G S : Type 0} (tells : Passage → P) (open_gate : Bool)
+    (takes : S → List (ℕ × Departed P) → S → Type 0) (pool : Pool M G Leg (Told P)) (d : Dispatcher P) (before : S)
+    (later_pool : Pool M G Leg (Told P)) (after : S) (fault : RunFault) : Type 0 where
+  pub last_pool : Pool M G Leg (Told P)
+  pub last : Dispatcher P
+  pub lets : LetsGo tells takes pool d before last_pool last after
   pub halted : HaltsBy open_gate last_pool later_pool fault
 
-abbrev pub HaltsAt : {M G S F : Type 0} → Bool → (S → List (ℕ × Outcome) → S → Type 0) →
-    (S → List (ℕ × Outcome) → F → S → Type 0) → Pool M G Leg Answer → Dispatcher → S → Pool M G Leg Answer →
-    Dispatcher → S → Halted F → Type 0
-HaltsAt open_gate takes fails pool d before later_pool later after (halts.Departure fault) =
-    StopsAt takes fails pool d before later_pool later after fault
-HaltsAt open_gate takes fails pool d before later_pool later after (halts.Run fault) =
-    HaltsIn open_gate takes pool d before later_pool after fault
+abbrev pub HaltsAt : {P M G S F : Type 0} → (Passage → P) → Bool → (S → List (ℕ × Departed P) → S → Type 0) →
+    (S → List (ℕ × Departed P) → F → S → Type 0) → Pool M G Leg (Told P) → Dispatcher P → S → Pool M G Leg (Told P) →
+    Dispatcher P → S → Halted F → Type 0
+HaltsAt tells open_gate takes fails pool d before later_pool later after (halts.Departure fault) =
+    StopsAt tells takes fails pool d before later_pool later after fault
+HaltsAt tells open_gate takes fails pool d before later_pool later after (halts.Run fault) =
+    HaltsIn tells open_gate takes pool d before later_pool after fault
 
-abbrev pub LetsGoUnlessFault : {M G S F X : Type 0} → Bool → (S → List (ℕ × Outcome) → S → Type 0) →
-    (S → List (ℕ × Outcome) → F → S → Type 0) → Pool M G Leg Answer → Dispatcher → S → Pool M G Leg Answer →
-    Dispatcher → S → Result X (Halted F) → Type 0
-LetsGoUnlessFault open_gate takes fails pool d before later_pool later after result =
-    MatchResult result (λ done. LetsGo takes pool d before later_pool later after)
-    (HaltsAt open_gate takes fails pool d before later_pool later after)
+abbrev pub LetsGoUnlessFault : {P M G S F X : Type 0} → (Passage → P) → Bool →
+    (S → List (ℕ × Departed P) → S → Type 0) → (S → List (ℕ × Departed P) → F → S → Type 0) → Pool M G Leg (Told P) →
+    Dispatcher P → S → Pool M G Leg (Told P) → Dispatcher P → S → Result X (Halted F) → Type 0
+LetsGoUnlessFault tells open_gate takes fails pool d before later_pool later after result =
+    MatchResult result (λ done. LetsGo tells takes pool d before later_pool later after)
+    (HaltsAt tells open_gate takes fails pool d before later_pool later after)
 
 -- READING
 
 -- before the first input: the pool has a worker for each address, and the dispatcher queues for each worker
-pub record Begins {M G : Type 0} (rules : Rules) (pool : Pool M G Leg Answer) (d : Dispatcher) : Type 0 where
+pub record Begins {P M G : Type 0} (rules : Rules) (pool : Pool M G Leg (Told P)) (d : Dispatcher P) : Type 0 where
   pub keeps : KeepsRules rules
   pub count : length (starts pool) ≡ length rules.pool
   pub sized : IsSizedFor pool d
@@ -119,8 +121,9 @@ pub record Begins {M G : Type 0} (rules : Rules) (pool : Pool M G Leg Answer) (d
   pub under_way : d.progress.under_way ≡ []
 
 -- one more input was read, at this time
-pub record Serves {M G : Type 0} (rules : Rules) (now : ℕ) (input : Arrival) (pool : Pool M G Leg Answer)
-    (d : Dispatcher) (later_pool : Pool M G Leg Answer) (later : Dispatcher) : Type 0 where
+pub record Serves {P M G : Type 0} (tells : Passage → P) (rules : Rules) (now : ℕ) (input : Arrival)
+    (pool : Pool M G Leg (Told P))
+    (d : Dispatcher P) (later_pool : Pool M G Leg (Told P)) (later : Dispatcher P) : Type 0 where
   pub starts_stay : starts later_pool ≡ starts pool
   pub grows : Grows pool later_pool
   pub sized : IsSizedFor later_pool later
@@ -128,19 +131,20 @@ pub record Serves {M G : Type 0} (rules : Rules) (now : ℕ) (input : Arrival) (
   pub left_stays : later.progress.left ≡ d.progress.left
   pub served : (done rest : List Arrival) → length done ≡ length (progress_in d.progress) →
       max (last_clock 0 done) input.clock ≡ now →
-      Stands rules done ((done ++ input ∷ []) ++ rest) (state_of pool d) →
-      Stands rules (done ++ input ∷ []) ((done ++ input ∷ []) ++ rest) (state_of later_pool later)
+      Stands tells rules done ((done ++ input ∷ []) ++ rest) (state_of pool d) →
+      Stands tells rules (done ++ input ∷ []) ((done ++ input ∷ []) ++ rest) (state_of later_pool later)
 
 -- these are all inputs read so far, and all outcomes that have left
-pub record Reads {M G : Type 0} (rules : Rules) (pool : Pool M G Leg Answer) (d : Dispatcher) (inputs : List Arrival)
-    (went : List (ℕ × Outcome)) (later_pool : Pool M G Leg Answer) (later : Dispatcher) : Type 0 where
+pub record Reads {P M G : Type 0} (tells : Passage → P) (rules : Rules) (pool : Pool M G Leg (Told P))
+    (d : Dispatcher P) (inputs : List Arrival)
+    (went : List (ℕ × Departed P)) (later_pool : Pool M G Leg (Told P)) (later : Dispatcher P) : Type 0 where
   pub starts_stay : starts later_pool ≡ starts pool
   pub grows : Grows pool later_pool
   pub sized : IsSizedFor later_pool later
   pub times_are : times_in later.progress ≡ map (λ i. i.time) inputs
   pub left_is : later.progress.left ≡ went
-  pub served : (rest : List Arrival) → Stands rules [] (inputs ++ rest) (state_of pool d) →
-      Stands rules inputs (inputs ++ rest) (state_of later_pool later)
+  pub served : (rest : List Arrival) → Stands tells rules [] (inputs ++ rest) (state_of pool d) →
+      Stands tells rules inputs (inputs ++ rest) (state_of later_pool later)
 
 -- these inputs came, and then perhaps the end or a fault
 abbrev pub HasCome : {A F : Type 0} → (A → List Arrival → A → Type 0) → (A → Option F → A → Type 0) → A → List Arrival →
@@ -148,18 +152,18 @@ abbrev pub HasCome : {A F : Type 0} → (A → List Arrival → A → Type 0) �
 HasCome {A} {F} hands ends before inputs after =
     hands before inputs after ⊎ ((end : Option F) × Came hands ends before inputs end after)
 
-module _ {A F S B : Type 0} (rules : Rules) (hands : A → List Arrival → A → Type 0) (ends : A → Option F → A → Type 0)
-    (takes : S → List (ℕ × Outcome) → S → Type 0) (fails : S → List (ℕ × Outcome) → B → S → Type 0)
-    (is_settled : S → Type 0) where
-  module _ {M G : Type 0} (pool : Pool M G Leg Answer) (d : Dispatcher) (from : A) (before : S)
-      (later_pool : Pool M G Leg Answer) (later : Dispatcher) (left : A) (after : S) where
+module _ {P A F S B : Type 0} (tells : Passage → P) (rules : Rules) (hands : A → List Arrival → A → Type 0)
+    (ends : A → Option F → A → Type 0) (takes : S → List (ℕ × Departed P) → S → Type 0)
+    (fails : S → List (ℕ × Departed P) → B → S → Type 0) (is_settled : S → Type 0) where
+  module _ {M G : Type 0} (pool : Pool M G Leg (Told P)) (d : Dispatcher P) (from : A) (before : S)
+      (later_pool : Pool M G Leg (Told P)) (later : Dispatcher P) (left : A) (after : S) where
     -- the arrivals ended or failed, and every input before that was read
     pub record ReadsToEnd (end : EndOfInputs F) : Type 0 where
       pub inputs : List Arrival
-      pub went : List (ℕ × Outcome)
+      pub went : List (ℕ × Departed P)
       pub came : Came hands ends from inputs end.fault left
       pub clock : end.clock ≡ last_clock 0 inputs
-      pub reads : Reads rules pool d inputs went later_pool later
+      pub reads : Reads tells rules pool d inputs went later_pool later
       pub took : takes before went after
 
     -- and every outcome has left and is settled
@@ -173,20 +177,20 @@ module _ {A F S B : Type 0} (rules : Rules) (hands : A → List Arrival → A �
     -- the departures failed after some inputs
     pub record ReadsSome (fault : B) : Type 0 where
       pub inputs : List Arrival
-      pub went : List (ℕ × Outcome)
+      pub went : List (ℕ × Departed P)
       pub come : HasCome hands ends from inputs left
-      pub reads : Reads rules pool d inputs went later_pool later
+      pub reads : Reads tells rules pool d inputs went later_pool later
       pub failed : Fails takes fails before went fault after
 
     -- there was a fault of dispatching after some inputs, of which the last may not have been read
     pub record ReadsToHalt (open_gate : Bool) (fault : RunFault) : Type 0 where
       pub inputs : List Arrival
       pub unread : List Arrival
-      pub went : List (ℕ × Outcome)
+      pub went : List (ℕ × Departed P)
       pub come : HasCome hands ends from (inputs ++ unread) left
-      pub last_pool : Pool M G Leg Answer
-      pub last : Dispatcher
-      pub reads : Reads rules pool d inputs went last_pool last
+      pub last_pool : Pool M G Leg (Told P)
+      pub last : Dispatcher P
+      pub reads : Reads tells rules pool d inputs went last_pool last
       pub took : takes before went after
       pub halted : HaltsBy open_gate last_pool later_pool fault
 
@@ -196,11 +200,11 @@ module _ {A F S B : Type 0} (rules : Rules) (hands : A → List Arrival → A �
 
   -- THE RESULT OF DISPATCHING
 
-  module _ {M G : Type 0} (from : A) (before : S) (pool : Pool M G Leg Answer) (left : A) (after : S) where
+  module _ {M G : Type 0} (from : A) (before : S) (pool : Pool M G Leg (Told P)) (left : A) (after : S) where
     -- the arrivals ended or failed, and the outcomes of all inputs before that left
     pub record EndsWith (end : Option F) (done : Dispatched F B) : Type 0 where
       pub inputs : List Arrival
-      pub went : List (ℕ × Outcome)
+      pub went : List (ℕ × Departed P)
       pub came : Came hands ends from inputs end left
       pub clock : done.clock ≡ last_clock 0 inputs
       pub took : takes before went after
@@ -208,29 +212,28 @@ module _ {A F S B : Type 0} (rules : Rules) (hands : A → List Arrival → A �
       pub few : length inputs < 2 ^ 64
       pub offered_many : length (accepts pool) ≡ length rules.pool
       pub answered : map length (taken pool) ≡ map length (accepts pool)
-      pub right : Right rules (accepts pool) (taken pool) →
-          (went ≡ timed inputs (run rules inputs (opening rules)).outcomes)
+      pub right : Right tells rules (accepts pool) (taken pool) → (went ≡ timed inputs (departed tells rules inputs))
           × IsDispatched rules inputs (accepts pool) (map outcome_of went) done.legs.items
 
     -- the departures failed
     pub record EndsEarly (fault : B) : Type 0 where
       pub inputs : List Arrival
-      pub went : List (ℕ × Outcome)
+      pub went : List (ℕ × Departed P)
       pub come : HasCome hands ends from inputs left
       pub failed : Fails takes fails before went fault after
       pub offered_many : length (accepts pool) ≡ length rules.pool
-      pub right : Right rules (accepts pool) (taken pool) →
-          IsFront went (timed inputs (run rules inputs (opening rules)).outcomes)
+      pub right : Right tells rules (accepts pool) (taken pool) →
+          IsFront went (timed inputs (departed tells rules inputs))
 
     -- there was a fault of dispatching
     pub record EndsHalted : Type 0 where
       pub inputs : List Arrival
-      pub went : List (ℕ × Outcome)
+      pub went : List (ℕ × Departed P)
       pub come : HasCome hands ends from inputs left
       pub took : takes before went after
       pub offered_many : length (accepts pool) ≡ length rules.pool
-      pub right : Right rules (accepts pool) (taken pool) →
-          IsFront went (timed inputs (run rules inputs (opening rules)).outcomes)
+      pub right : Right tells rules (accepts pool) (taken pool) →
+          IsFront went (timed inputs (departed tells rules inputs))
 
     abbrev pub EndsBy : Dispatched F B → Ending F B → Type 0
     EndsBy done endings.Whole = EndsWith None done
@@ -244,7 +247,7 @@ module _ {A F S B : Type 0} (rules : Rules) (hands : A → List Arrival → A �
     pub record PassesTo (end : Option F) : Type 0 where
       pub inputs : List Arrival
       pub came : Came hands ends from inputs end left
-      pub took : takes before (timed inputs (ran rules inputs).outcomes) after
+      pub took : takes before (timed inputs (departed tells rules inputs)) after
       pub settled : is_settled after
       pub few : length inputs < 2 ^ 64
 
@@ -256,18 +259,18 @@ module _ {A F S B : Type 0} (rules : Rules) (hands : A → List Arrival → A �
     -- the departures failed, and what left before are the first outcomes of the sequential run
     pub record PassesEarly (fault : B) : Type 0 where
       pub inputs : List Arrival
-      pub went : List (ℕ × Outcome)
+      pub went : List (ℕ × Departed P)
       pub come : HasCome hands ends from inputs left
-      pub front : IsFront went (timed inputs (ran rules inputs).outcomes)
+      pub front : IsFront went (timed inputs (departed tells rules inputs))
       pub failed : Fails takes fails before went fault after
 
     -- the run itself failed, and what left before are the first outcomes of the sequential run. Taking them may have
     -- failed too
     pub record PassesHalted : Type 0 where
       pub inputs : List Arrival
-      pub went : List (ℕ × Outcome)
+      pub went : List (ℕ × Departed P)
       pub come : HasCome hands ends from inputs left
-      pub front : IsFront went (timed inputs (ran rules inputs).outcomes)
+      pub front : IsFront went (timed inputs (departed tells rules inputs))
       pub took : takes before went after ⊎ ((fault : B) × Fails takes fails before went fault after)
 
     abbrev pub Passes : Result Passed (Stopped F B) → Type 0

@@ -5,15 +5,19 @@
 -- right is a premise here: it is proved once the workers are joined.
 use Rattle.std.specs.Prelude.{◌≡◌, ◌≢◌, ◌⊎◌, ℕ, ◌+◌, ◌<◌, ◌≤◌, ◌==◌, max, Bool, true, false, if◌then◌else◌, List, [], ◌∷◌, ◌++◌, map, flat_map, length, slice_index, slice_get, Option, Some, None, Result, MatchResult}
 use Rattle.napt_config.specs.Rules.{Rules}
-use Rattle.napt_rules.specs.Prelude.{opening, Arrival, Act, run, last_clock, legs_at, kept_replies}
+use Rattle.napt_rules.specs.Prelude.{opening, Arrival, Act, run, last_clock, legs_at}
 use Rattle.napt_rules.specs.declared.Leg.{Leg}
-use Rattle.napt_rules.specs.declared.Answer.{Answer}
 use Rattle.napt_pool.specs.declared.pool.Pool.{Pool}
 use Rattle.napt_pool.specs.Pools.{starts, accepts, takes, capacity_of}
 use Rattle.napt_sequential.specs.declared.fault.RunFault.{RunFault}
-use Rattle.napt_rules.specs.declared.Outcome.{Outcome}
+use Rattle.napt_sequential.specs.declared.passage.Passage.{Passage}
+use Rattle.napt_sequential.specs.declared.passage.Passage.TheVariants.{Nothing}
+use Rattle.napt_sequential.specs.declared.telling.Told.{Told}
+use Rattle.napt_sequential.specs.Steps.{told_replies}
+use Rattle.napt_wire.specs.declared.Way.{Way}
 use Rattle.napt_laws.specs.Dispatching.{IsFront}
 use Rattle.napt_laws.specs.Places.{second_legs}
+use Rattle.napt_dispatch.specs.declared.departures.Departed.{Departed}
 use Rattle.napt_dispatch.specs.declared.dispatcher.Dispatcher.{Dispatcher}
 use Rattle.napt_dispatch.specs.declared.dispatcher.holding.Front.{Front}
 use Rattle.napt_dispatch.specs.declared.dispatcher.holding.Front.TheVariants as fronts
@@ -22,36 +26,36 @@ use Rattle.napt_dispatch.specs.declared.dispatcher.holding.Held.TheVariants.{Rea
 use Rattle.napt_dispatch.specs.declared.dispatcher.holding.Owed.{Owed}
 use Rattle.napt_dispatch.specs.declared.dispatcher.progress.OpenInput.{OpenInput}
 use Rattle.napt_dispatch.specs.declared.dispatcher.progress.Progress.{Progress}
-use Rattle.napt_dispatch.specs.declared.dispatcher.progress.Progress.TheVariants.{Awaited, Told}
+use Rattle.napt_dispatch.specs.declared.dispatcher.progress.Progress.TheVariants.{Returning, Answered}
 use Rattle.napt_dispatch.specs.declared.dispatcher.taking.Until.{Until}
 use Rattle.napt_dispatch.specs.declared.dispatcher.taking.Until.TheVariants as untils
 use Rattle.napt_dispatch.specs.Dispatch.{of_worker, fresh, IsDispatchFault}
 use Rattle.napt_dispatch.specs.QueueStates.{QueueState, AnswersAt, all_held, count_held, front_of, queue_of, owed_of, many_owed, many_held}
-use Rattle.napt_dispatch.specs.Windows.{Window, progress_in, times_in, is_unknown, asked, Asks, AllKnown, IsWritten, HasMark, IsMarked}
+use Rattle.napt_dispatch.specs.Windows.{Window, progress_in, times_in, is_unknown, passages_after, asked, Asks, first_in, whole_of, AllKnown, IsWritten, HasMark, IsMarked}
 
 -- A DISPATCHER'S STATE
 
 -- one worker: the legs offered to it, the answers taken from it, and its queues
-pub record Lane : Type 0 where
+pub record Lane (P : Type 0) : Type 0 where
   pub offered : List Leg
-  pub taken : List Answer
+  pub taken : List (Told P)
   pub queue : QueueState
 
 -- a lane for each worker, and the progress of each input read
-pub record DispatchState : Type 0 where
+pub record DispatchState (P : Type 0) : Type 0 where
   pub many : ℕ
-  pub lane : ℕ → Lane
-  pub progress : List Progress
+  pub lane : ℕ → Lane P
+  pub progress : List (Progress P)
 
 -- with the legs offered to each worker, and the answers taken from it
-abbrev pub state_with : (ℕ → List Leg) → (ℕ → List Answer) → Dispatcher → DispatchState
+abbrev pub state_with : {P : Type 0} → (ℕ → List Leg) → (ℕ → List (Told P)) → Dispatcher P → DispatchState P
 state_with offered taken d = record {
   many = length d.queues;
   lane = λ w. record { offered = offered w; taken = taken w; queue = queue_of d.queues w };
   progress = progress_in d.progress;
 }
 
-abbrev pub state_of : {M G : Type 0} → Pool M G Leg Answer → Dispatcher → DispatchState
+abbrev pub state_of : {P M G : Type 0} → Pool M G Leg (Told P) → Dispatcher P → DispatchState P
 state_of pool d = state_with (of_worker (accepts pool)) (of_worker (takes pool)) d
 
 -- more at the end of the list of worker w
@@ -61,7 +65,8 @@ added w xs lists v = if v == w then lists v ++ xs else lists v
 -- THE INVARIANT
 
 -- a worker has answered the first of the legs that it was offered, and owes the answers to the others
-pub record IsOwed (offered : List Leg) (taken : List Answer) (count : ℕ) (owed : List Owed) : Type 0 where
+pub record IsOwed {P : Type 0} (offered : List Leg) (taken : List (Told P)) (count : ℕ) (owed : List Owed)
+    : Type 0 where
   pub before : List Leg
   pub rest : List Leg
   pub parts : offered ≡ before ++ rest
@@ -69,7 +74,7 @@ pub record IsOwed (offered : List Leg) (taken : List Answer) (count : ℕ) (owed
   pub owed_is : owed ≡ map owed_of rest
   pub counted : count ≡ length offered
 
-abbrev pub LaneStands : Lane → Type 0
+abbrev pub LaneStands : {P : Type 0} → Lane P → Type 0
 LaneStands lane = IsOwed lane.offered lane.taken lane.queue.offered lane.queue.owed
 
 -- the legs that something held turns into
@@ -78,181 +83,202 @@ resolved acts (Ready leg) = leg ∷ []
 resolved acts (Place number) = second_legs number acts
 
 -- the legs offered to a worker, and those that are held for it
-abbrev pub lane_legs : List Act → Lane → List Leg
+abbrev pub lane_legs : {P : Type 0} → List Act → Lane P → List Leg
 lane_legs acts lane = lane.offered ++ (lane.queue.ready ++ flat_map (resolved acts) lane.queue.held)
 
--- the answers of worker w are its translator's
-abbrev pub IsRight : Rules → ℕ → Lane → Type 0
-IsRight rules w lane = let address : ℕ = slice_index rules.pool w in
-    IsFront lane.taken (kept_replies rules address lane.offered (fresh rules address))
+-- the answers of worker w, and what is told with them, are its translator's
+abbrev pub IsRight : {P : Type 0} → (Passage → P) → Rules → ℕ → Lane P → Type 0
+IsRight tells rules w lane = let address : ℕ = slice_index rules.pool w in
+    IsFront lane.taken (told_replies tells rules address lane.offered (fresh rules address))
 
-abbrev pub AreRight : Rules → DispatchState → Type 0
-AreRight rules state = (w : ℕ) → w < length rules.pool → IsRight rules w (state.lane w)
+abbrev pub AreRight : {P : Type 0} → (Passage → P) → Rules → DispatchState P → Type 0
+AreRight tells rules state = (w : ℕ) → w < length rules.pool → IsRight tells rules w (state.lane w)
 
 -- if the answers are right
-pub record Reaches (rules : Rules) (done all : List Arrival) (state : DispatchState) : Type 0 where
+pub record Reaches {P : Type 0} (tells : Passage → P) (rules : Rules) (done all : List Arrival)
+    (state : DispatchState P) : Type 0 where
   pub reached : (w : ℕ) → w < length rules.pool → lane_legs (run rules all (opening rules)).acts (state.lane w)
       ≡ legs_at (slice_index rules.pool w) (run rules done (opening rules)).acts
-  pub known : AllKnown (run rules all (opening rules)) state.progress
+  pub known : AllKnown (whole_of tells rules all) state.progress
 
 -- after the inputs `done`, the first of `all`
-pub record Stands (rules : Rules) (done all : List Arrival) (state : DispatchState) : Type 0 where
+pub record Stands {P : Type 0} (tells : Passage → P) (rules : Rules) (done all : List Arrival)
+    (state : DispatchState P) : Type 0 where
   pub rest : List Arrival
   pub whole : done ++ rest ≡ all
   pub many : state.many ≡ length rules.pool
   pub lanes : (w : ℕ) → w < length rules.pool → LaneStands (state.lane w)
-  pub reaches : AreRight rules state → Reaches rules done all state
+  pub reaches : AreRight tells rules state → Reaches tells rules done all state
 
 -- the invariant still holds, after the same inputs
-abbrev pub Keeps : DispatchState → DispatchState → Type 0
-Keeps state later = (rules : Rules) (done all : List Arrival) → Stands rules done all state →
-    Stands rules done all later
+abbrev pub Keeps : {P : Type 0} → (Passage → P) → DispatchState P → DispatchState P → Type 0
+Keeps tells state later = (rules : Rules) (done all : List Arrival) → Stands tells rules done all state →
+    Stands tells rules done all later
 
 -- OVER A POOL
 
--- the arrival times of the inputs read, and the outcomes that have left
-pub record Journal : Type 0 where
+-- the arrival times of the inputs read, and what has left
+pub record Journal (P : Type 0) : Type 0 where
   pub times : List ℕ
-  pub left : List (ℕ × Outcome)
+  pub left : List (ℕ × Departed P)
 
-abbrev pub journal_of : Window → Journal
+abbrev pub journal_of : {P : Type 0} → Window P → Journal P
 journal_of window = record { times = times_in window; left = window.left }
 
 -- the dispatcher has queues for each worker of the pool
-abbrev pub IsSizedFor : {M G : Type 0} → Pool M G Leg Answer → Dispatcher → Type 0
+abbrev pub IsSizedFor : {P M G : Type 0} → Pool M G Leg (Told P) → Dispatcher P → Type 0
 IsSizedFor pool d = length d.queues ≡ length (starts pool)
 
 -- the invariant of a dispatcher, with what its pool accepted and gave
-pub record StandsAt {M G : Type 0} (rules : Rules) (done all : List Arrival) (pool : Pool M G Leg Answer)
-    (d : Dispatcher) : Type 0 where
-  pub stands : Stands rules done all (state_of pool d)
+pub record StandsAt {P M G : Type 0} (tells : Passage → P) (rules : Rules) (done all : List Arrival)
+    (pool : Pool M G Leg (Told P)) (d : Dispatcher P) : Type 0 where
+  pub stands : Stands tells rules done all (state_of pool d)
 
-abbrev pub KeepsAt : {M G : Type 0} → Pool M G Leg Answer → Dispatcher → Pool M G Leg Answer → Dispatcher → Type 0
-KeepsAt pool d later_pool later = (rules : Rules) (done all : List Arrival) → StandsAt rules done all pool d →
-    StandsAt rules done all later_pool later
+abbrev pub KeepsAt : {P M G : Type 0} → (Passage → P) → Pool M G Leg (Told P) → Dispatcher P →
+    Pool M G Leg (Told P) → Dispatcher P → Type 0
+KeepsAt tells pool d later_pool later = (rules : Rules) (done all : List Arrival) →
+    StandsAt tells rules done all pool d → StandsAt tells rules done all later_pool later
 
 -- the pool has the same workers, and what they were offered and what was taken from them stays: there may be more
-pub record Grows {M G : Type 0} (pool later_pool : Pool M G Leg Answer) : Type 0 where
+pub record Grows {P M G : Type 0} (pool later_pool : Pool M G Leg (Told P)) : Type 0 where
   pub starts_stay : starts later_pool ≡ starts pool
   pub offered : (w : ℕ) → IsFront (of_worker (accepts pool) w) (of_worker (accepts later_pool) w)
   pub taken : (w : ℕ) → IsFront (of_worker (takes pool) w) (of_worker (takes later_pool) w)
 
 -- a fault of dispatching
-pub record HaltsBy {M G : Type 0} (open_gate : Bool) (pool later_pool : Pool M G Leg Answer) (fault : RunFault) : Type 0
-  where
-    pub grows : Grows pool later_pool
-    pub fault_is : IsDispatchFault open_gate fault
+pub record HaltsBy {P M G : Type 0} (open_gate : Bool) (pool later_pool : Pool M G Leg (Told P)) (fault : RunFault)
+    : Type 0 where
+  pub grows : Grows pool later_pool
+  pub fault_is : IsDispatchFault open_gate fault
 
 -- the pool has the same workers, and the dispatcher's invariant still holds
-pub record Continues {M G : Type 0} (pool : Pool M G Leg Answer) (d : Dispatcher) (later_pool : Pool M G Leg Answer)
-    (later : Dispatcher) : Type 0 where
+pub record Continues {P M G : Type 0} (tells : Passage → P) (pool : Pool M G Leg (Told P)) (d : Dispatcher P)
+    (later_pool : Pool M G Leg (Told P)) (later : Dispatcher P) : Type 0 where
   pub starts_stay : starts later_pool ≡ starts pool
   pub grows : Grows pool later_pool
   pub sized : IsSizedFor later_pool later
   pub journal_stays : journal_of later.progress ≡ journal_of d.progress
-  pub keeps : KeepsAt pool d later_pool later
+  pub keeps : KeepsAt tells pool d later_pool later
 
 -- or there was a fault of dispatching
-abbrev pub ContinuesUnlessFault : {M G X : Type 0} → Bool → Pool M G Leg Answer → Dispatcher → Pool M G Leg Answer →
-    Dispatcher → Result X RunFault → Type 0
-ContinuesUnlessFault open_gate pool d later_pool later result =
-    MatchResult result (λ done. Continues pool d later_pool later)
+abbrev pub ContinuesOr : {P M G X : Type 0} → (Passage → P) → Bool → Pool M G Leg (Told P) → Dispatcher P →
+    Pool M G Leg (Told P) → Dispatcher P → Result X RunFault → Type 0
+ContinuesOr tells open_gate pool d later_pool later result =
+    MatchResult result (λ done. Continues tells pool d later_pool later)
     (HaltsBy open_gate pool later_pool)
 
 -- STEPS
 
--- an answer of worker w was noted
-pub record Noted (w : ℕ) (answer : Answer) (d later : Dispatcher) : Type 0 where
+-- what is told of the legs of an input, once this is told of one that goes this way and whose answer is awaited
+pub record AnswersTo {P : Type 0} (none : P) (window : Window P) (number : ℕ) (way : Way) (passage : P)
+    (passages : P × P) : Type 0 where
+  pub was : Progress P
+  pub there : slice_get (progress_in window) number ≡ Some was
+  pub told : passages_after none was way passage ≡ Some passages
+
+-- an answer of worker w was noted, with what is told of its leg
+pub record Noted {P : Type 0} (tells : Passage → P) (w : ℕ) (told : Told P) (d later : Dispatcher P) : Type 0 where
   pub owed : Owed
   pub answers : AnswersAt w owed d.queues later.queues
-  pub written : IsWritten answer.number (Told owed answer.end) d.progress later.progress
+  pub passages : P × P
+  pub awaited : AnswersTo (tells Nothing) d.progress told.answer.number owed.way told.passage passages
+  pub written : IsWritten told.answer.number (Answered owed told.answer.end passages.0 passages.1) d.progress
+      later.progress
 
 -- taking out the second leg of an open input, if it has one
-abbrev pub IsSecondOf : ℕ → OpenInput → OpenInput → Option Leg → Type 0
+abbrev pub IsSecondOf : {P : Type 0} → ℕ → OpenInput P → OpenInput P → Option Leg → Type 0
 IsSecondOf number input later None =
     (later ≡ record input { has_place = false }) × (asked number input.progress ≡ None)
-IsSecondOf number input later (Some leg) =
-    (later ≡ record input { progress = Awaited; has_place = false }) × (asked number input.progress ≡ Some leg)
+IsSecondOf {P} number input later (Some leg) = (first : P)
+    × (later ≡ record input { progress = Returning first; has_place = false })
+    × (asked number input.progress ≡ Some leg) × (first_in input.progress ≡ Some first)
 
--- the same for an input by its number
-abbrev pub IsSecond : ℕ → Window → Window → Option Leg → Type 0
+-- the same for an input by its number: it has this second leg
+pub record Returns {P : Type 0} (number : ℕ) (window later : Window P) (leg : Leg) : Type 0 where
+  pub asks : Asks number (progress_in window) (Some leg)
+  pub first : P
+  pub first_is : first_in asks.p ≡ Some first
+  pub written : IsWritten number (Returning first) window later
+  pub mark : HasMark number false window later
+
+-- or none
+abbrev pub IsSecond : {P : Type 0} → ℕ → Window P → Window P → Option Leg → Type 0
 IsSecond number window later None = IsMarked number false window later × Asks number (progress_in window) None
-IsSecond number window later (Some leg) =
-    IsWritten number Awaited window later × Asks number (progress_in window) (Some leg)
-    × HasMark number false window later
+IsSecond number window later (Some leg) = Returns number window later leg
 
 -- if it was not known whether an input has a second leg, it still is not
-abbrev pub Forgets : List Progress → List Progress → Type 0
+abbrev pub Forgets : {P : Type 0} → List (Progress P) → List (Progress P) → Type 0
 Forgets progress later = (number : ℕ) → is_unknown (slice_get progress number) ≡ true →
     is_unknown (slice_get later number) ≡ true
 
 -- no queue changed, and no progress
-abbrev pub IsSame : Dispatcher → Dispatcher → Type 0
+abbrev pub IsSame : {P : Type 0} → Dispatcher P → Dispatcher P → Type 0
 IsSame d later = (later.queues ≡ d.queues) × (later.progress ≡ d.progress)
 
 -- what is held first cannot be offered: there is nothing, or a waiting placeholder
-abbrev pub waits : List Progress → Front → Bool
+abbrev pub waits : {P : Type 0} → List (Progress P) → Front → Bool
 waits progress fronts.Nothing = true
 waits progress fronts.FirstLeg = false
 waits progress (fronts.FirstPlace number) = is_unknown (slice_get progress number)
 
-abbrev pub waits_at : Dispatcher → ℕ → Bool
+abbrev pub waits_at : {P : Type 0} → Dispatcher P → ℕ → Bool
 waits_at d w = waits (progress_in d.progress) (front_of (all_held (queue_of d.queues w)))
 
 -- behind the legs of the next message
-abbrev pub waits_behind : Dispatcher → ℕ → Bool
+abbrev pub waits_behind : {P : Type 0} → Dispatcher P → ℕ → Bool
 waits_behind d w = waits (progress_in d.progress) (front_of (queue_of d.queues w).held)
 
 -- the second leg for what is held first, where that is a placeholder
-abbrev pub Resolves : Front → Window → Option Leg → Window → Type 0
+abbrev pub Resolves : {P : Type 0} → Front → Window P → Option Leg → Window P → Type 0
 Resolves fronts.Nothing window second later = later ≡ window
 Resolves fronts.FirstLeg window second later = later ≡ window
 Resolves (fronts.FirstPlace number) window second later = IsSecond number window later second
 
 -- one more input was read
-abbrev pub Admits : Rules → ℕ → ℕ → Arrival → Dispatcher → Dispatcher → Type 0
-Admits rules number now input d later =
-    (offered : ℕ → List Leg) (taken : ℕ → List Answer) (done rest : List Arrival) → length done ≡ number →
+abbrev pub Admits : {P : Type 0} → (Passage → P) → Rules → ℕ → ℕ → Arrival → Dispatcher P → Dispatcher P → Type 0
+Admits {P} tells rules number now input d later =
+    (offered : ℕ → List Leg) (taken : ℕ → List (Told P)) (done rest : List Arrival) → length done ≡ number →
     max (last_clock 0 done) input.clock ≡ now →
-    Stands rules done ((done ++ input ∷ []) ++ rest) (state_with offered taken d) →
-    Stands rules (done ++ input ∷ []) ((done ++ input ∷ []) ++ rest) (state_with offered taken later)
+    Stands tells rules done ((done ++ input ∷ []) ++ rest) (state_with offered taken d) →
+    Stands tells rules (done ++ input ∷ []) ((done ++ input ∷ []) ++ rest) (state_with offered taken later)
 
 -- true: answers were taken, so fewer are owed; false: nothing changed
-abbrev pub HasTaken : Dispatcher → Dispatcher → Bool → Type 0
+abbrev pub HasTaken : {P : Type 0} → Dispatcher P → Dispatcher P → Bool → Type 0
 HasTaken d later true = many_owed later.queues < many_owed d.queues
 HasTaken d later false = IsSame d later
 
 -- these answers of worker w were noted, whatever was offered and answered before
-pub record NotesAll (w : ℕ) (answers : List Answer) (d later : Dispatcher) : Type 0 where
+pub record NotesAll {P : Type 0} (tells : Passage → P) (w : ℕ) (answers : List (Told P)) (d later : Dispatcher P)
+    : Type 0 where
   pub journal_stays : journal_of later.progress ≡ journal_of d.progress
-  pub keeps : (offered : ℕ → List Leg) (taken : ℕ → List Answer) → Keeps (state_with offered taken d)
+  pub keeps : (offered : ℕ → List Leg) (taken : ℕ → List (Told P)) → Keeps tells (state_with offered taken d)
       (state_with offered (added w answers taken) later)
 
 -- OFFERS
 
 -- what is held for worker w was put behind the legs of its next message, or was a placeholder without a leg
-pub record Readies (w : ℕ) (d later : Dispatcher) : Type 0 where
+pub record Readies {P : Type 0} (tells : Passage → P) (w : ℕ) (d later : Dispatcher P) : Type 0 where
   pub journal_stays : journal_of later.progress ≡ journal_of d.progress
-  pub keeps : (offered : ℕ → List Leg) (taken : ℕ → List Answer) →
-      Keeps (state_with offered taken d) (state_with offered taken later)
+  pub keeps : (offered : ℕ → List Leg) (taken : ℕ → List (Told P)) →
+      Keeps tells (state_with offered taken d) (state_with offered taken later)
   pub others : (v : ℕ) → v ≢ w → queue_of later.queues v ≡ queue_of d.queues v
   pub forgets : Forgets (progress_in d.progress) (progress_in later.progress)
 
 -- the ring of a worker is full until an answer is taken
-abbrev pub IsRingFull : ℕ → Lane → Type 0
+abbrev pub IsRingFull : {P : Type 0} → ℕ → Lane P → Type 0
 IsRingFull capacity lane = length lane.offered ≡ length lane.taken + capacity
 
 -- a worker was offered all it can be: nothing is held for it, a waiting placeholder is first, or its ring is full
-abbrev pub HasOffered : {M G : Type 0} → Pool M G Leg Answer → Dispatcher → ℕ → Type 0
+abbrev pub HasOffered : {P M G : Type 0} → Pool M G Leg (Told P) → Dispatcher P → ℕ → Type 0
 HasOffered pool d w = (waits_at d w ≡ true) ⊎ IsRingFull (capacity_of pool) ((state_of pool d).lane w)
 
 -- and so was every worker
-abbrev pub HasOfferedAll : {M G : Type 0} → Pool M G Leg Answer → Dispatcher → Type 0
+abbrev pub HasOfferedAll : {P M G : Type 0} → Pool M G Leg (Told P) → Dispatcher P → Type 0
 HasOfferedAll pool d = (w : ℕ) → w < length (starts pool) → HasOffered pool d w
 
 -- the lanes of all workers but w are as they were, and no input got further
-pub record OffersOnlyTo {M G : Type 0} (w : ℕ) (pool : Pool M G Leg Answer) (d : Dispatcher)
-    (later_pool : Pool M G Leg Answer) (later : Dispatcher) : Type 0 where
+pub record OffersOnlyTo {P M G : Type 0} (w : ℕ) (pool : Pool M G Leg (Told P)) (d : Dispatcher P)
+    (later_pool : Pool M G Leg (Told P)) (later : Dispatcher P) : Type 0 where
   pub capacity_stays : capacity_of later_pool ≡ capacity_of pool
   pub others : (v : ℕ) → v ≢ w → (state_of later_pool later).lane v ≡ (state_of pool d).lane v
   pub forgets : Forgets (progress_in d.progress) (progress_in later.progress)
@@ -260,18 +286,18 @@ pub record OffersOnlyTo {M G : Type 0} (w : ℕ) (pool : Pool M G Leg Answer) (d
 -- ROOM
 
 -- one more input may be read
-pub record HasRoom (d : Dispatcher) : Type 0 where
+pub record HasRoom {P : Type 0} (d : Dispatcher P) : Type 0 where
   pub held : many_held d.queues + 2 ≤ 65536
   pub under_way : length d.progress.under_way < 131072
 
 -- THE END
 
 -- nothing is held, and every leg is answered
-pub record IsDone (d : Dispatcher) : Type 0 where
+pub record IsDone {P : Type 0} (d : Dispatcher P) : Type 0 where
   pub owed : (w : ℕ) → (queue_of d.queues w).owed ≡ []
   pub held : (w : ℕ) → count_held (queue_of d.queues w) ≡ 0
 
 -- the state that a dispatcher goes on to
-abbrev pub HasReached : Until → Dispatcher → Type 0
+abbrev pub HasReached : {P : Type 0} → Until → Dispatcher P → Type 0
 HasReached untils.Room d = HasRoom d
 HasReached untils.Done d = IsDone d

@@ -2,8 +2,8 @@
 
 ghost use Rattle.std.specs.Prelude.{◌≡◌, [], IfOk};
 
-use crate::departures::Departures;
-use napt_sequential::Outcome;
+use crate::departures::{Departed, Departures};
+use napt_sequential::{Outcome, Untold};
 use std::alloc::{AllocError, Global};
 
 /// The outcomes of a run, one for each input.
@@ -24,10 +24,12 @@ impl Collected {
 }
 
 impl Departures for Collected {
-    ghost use Rattle.std.specs.Prelude.{⊤};
+    ghost use Rattle.std.specs.Prelude.{⊤, ◌∷◌, MatchResult};
     ghost use Rattle.napt_dispatch.specs.Collecting.{Collects, collects_none, collects_more};
 
     type Fault = AllocError;
+
+    type Told = Untold;
 
     ghost takes = { Collects };
 
@@ -39,12 +41,21 @@ impl Departures for Collected {
 
     ghost takes_more = { λ x y z xs ys first second. collects_more x y z xs ys first second };
 
-    fn leave(&mut self, _time: u64, outcome: Outcome) -> Result<Option<Vec<u8>>, AllocError> {
-        self.outcomes.push(outcome)?;
+    fn leave(
+        &mut self,
+        _time: u64,
+        departed: Departed<Untold>,
+    ) -> Result<Option<Vec<u8>>, AllocError>
+        ensures { MatchResult result (λ _. Collects self.old ((_time, departed) ∷ []) self.new)
+            (λ fault. ⊤) }
+    {
+        self.outcomes.push(departed.outcome)?;
         Ok(None)
     }
 
-    fn settle(&mut self) -> Result<(), AllocError> {
+    fn settle(&mut self) -> Result<(), AllocError>
+        ensures { MatchResult result (λ _. Collects self.old [] self.new × ⊤) (λ fault. ⊤) }
+    {
         Ok(())
     }
 }

@@ -30,7 +30,7 @@ use crate::inputs::copies;
 use crate::stopped::Halted;
 use napt_config::Config;
 use napt_pool::{Gate, Machine, Pool};
-use napt_sequential::{Arrivals, Input, Outcome, RunFault};
+use napt_sequential::{Arrivals, Input, Outcome, RunFault, Telling, Untold};
 use reading::EndOfInputs;
 use run_progress::RunProgress;
 use std::alloc::{AllocError, Global};
@@ -43,18 +43,18 @@ const BATCH: usize = 32;
 
 /// The dispatcher's state: the queues of each worker and the progress of each input.
 #[derive(Drop)]
-pub(crate) struct Dispatcher {
+pub(crate) struct Dispatcher<P> {
     alloc: Global,
     /// The number of legs in a message where none waits for another reason, less one. It has ones alone as bits.
     mask: usize,
     queues: WorkerQueues,
-    progress: RunProgress,
-    vectors: Vectors,
+    progress: RunProgress<P>,
+    vectors: Vectors<P>,
 }
 
-impl Dispatcher {
+impl<P: Telling> Dispatcher<P> {
     /// The state before the first input, for a number of workers and the number of legs that fit in a ring.
-    fn new(alloc: Global, workers: u32, ring: usize) -> Result<Dispatcher, AllocError>
+    fn new(alloc: Global, workers: u32, ring: usize) -> Result<Dispatcher<P>, AllocError>
         requires { 0 < workers }
         ensures queues { IfOk result (λ d. d.queues ≡ replicate workers unused) }
         ensures left { IfOk result (λ d. d.progress.left ≡ []) }
@@ -78,7 +78,7 @@ impl Dispatcher {
 pub fn dispatch<R: Wait, G: Gate>(
     rt: &R,
     alloc: Global,
-    pool: &mut Pool<Worker, G>,
+    pool: &mut Pool<Worker<Untold>, G>,
     config: &Config,
     inputs: &[Input],
 ) -> Result<(Vec<Outcome>, Vec<u64>), RunFault>
@@ -88,9 +88,9 @@ pub fn dispatch<R: Wait, G: Gate>(
     requires untaken { takes pool.old ≡ replicate (length config.now.pool) [] }
     ensures starts { starts pool.new ≡ starts pool.old }
     ensures settled { OnOk result (map length (takes pool.new) ≡ map length (accepts pool.new)) }
-    ensures run { IfOk result (λ done. takes pool.new ≡ zip_with (replies ⟦<Worker as Machine>⟧)
-        (starts pool.new) (accepts pool.new) → IsDispatched config.now inputs.now
-        (accepts pool.new) done.0.items done.1.items) }
+    ensures run { IfOk result (λ done. takes pool.new
+        ≡ zip_with (replies ⟦<Worker<Untold> as Machine>⟧) (starts pool.new) (accepts pool.new) →
+        IsDispatched config.now inputs.now (accepts pool.new) done.0.items done.1.items) }
     ensures fault { IfErr result (IsDispatchFault G.is_open) }
 {
     let mut collected = Collected::with_capacity(alloc, inputs.len())?;
@@ -129,7 +129,7 @@ pub(crate) struct Dispatched<A, D> {
 pub(crate) fn dispatch_to<R: Wait, G: Gate, A: Arrivals, D: Departures>(
     rt: &R,
     alloc: Global,
-    pool: &mut Pool<Worker, G>,
+    pool: &mut Pool<Worker<D::Told>, G>,
     config: &Config,
     arrivals: &mut A,
     departures: &mut D,
@@ -138,15 +138,15 @@ pub(crate) fn dispatch_to<R: Wait, G: Gate, A: Arrivals, D: Departures>(
     requires unoffered { accepts pool.old ≡ replicate (length config.now.pool) [] }
     requires untaken { takes pool.old ≡ replicate (length config.now.pool) [] }
     ensures starts { starts pool.new ≡ starts pool.old }
-    ensures ends { IfOk result (λ done. EndsBy config.now A.hands A.ends D.takes D.fails
-        D.is_settled arrivals.old departures.old pool.new arrivals.new departures.new done
+    ensures ends { IfOk result (λ done. EndsBy D.Told.tells config.now A.hands A.ends D.takes
+        D.fails D.is_settled arrivals.old departures.old pool.new arrivals.new departures.new done
         done.ending) }
-    ensures halts { OnErr result (EndsHalted config.now A.hands A.ends D.takes D.fails
+    ensures halts { OnErr result (EndsHalted D.Told.tells config.now A.hands A.ends D.takes D.fails
         D.is_settled arrivals.old departures.old pool.new arrivals.new departures.new) }
     ensures fault { IfErr result (IsDispatchFault G.is_open) }
 {
     let workers = config.pool().len() as u32;
-    let mut dispatcher = Dispatcher::new(alloc, workers, config.ring())?;
+    let mut dispatcher = Dispatcher::<D::Told>::new(alloc, workers, config.ring())?;
     match dispatcher.pass_all(rt, pool, config, arrivals, departures) {
         Ok(EndOfInputs { clock, fault }) => Ok(Dispatched {
             legs: dispatcher.queues.counts(alloc)?,

@@ -12,7 +12,7 @@ mod stopped;
 mod worker;
 mod workers;
 
-pub use departures::Departures;
+pub use departures::{Departed, Departures};
 pub use dispatcher::dispatch;
 pub use stopped::Stopped;
 pub use worker::Worker;

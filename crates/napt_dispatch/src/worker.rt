@@ -4,18 +4,21 @@ ghost use Rattle.std.specs.Prelude.{◌≡◌, IfOk};
 ghost use Rattle.napt_dispatch.specs.Dispatch.{rows_after};
 
 use napt_pool::Machine;
+use napt_sequential::{Telling, Told};
 use napt_table::Row;
-use napt_translate::{Answer, Leg, Translator};
+use napt_translate::{Leg, Translator};
 use std::alloc::{AllocError, Global};
-use std::marker::Model;
+use std::marker::{Model, PhantomData};
 
 /// Answers legs with a translator. Contracts see the state of the translator.
 #[derive(Drop)]
-pub struct Worker {
+pub struct Worker<P> {
     pub translator: Translator,
+    /// What it tells of its legs.
+    pub told: PhantomData<P>,
 }
 
-impl Model for Worker {
+impl<P> Model for Worker<P> {
     ghost use Rattle.napt_translate.specs.Translators.{TranslatorState};
 
     ghost Value = { TranslatorState };
@@ -23,7 +26,7 @@ impl Model for Worker {
     ghost view = { λ worker. worker.translator };
 }
 
-impl Worker {
+impl<P: Telling> Worker<P> {
     /// Returns the bindings that are live at a time, in ns.
     pub(crate) fn bindings(&self, alloc: Global, now: u64) -> Result<Vec<Row>, AllocError>
         ensures { IfOk result (λ made. made.items ≡ rows_after now self.now) }
@@ -32,20 +35,20 @@ impl Worker {
     }
 }
 
-impl Machine for Worker {
-    ghost use Rattle.napt_rules.specs.Prelude.{kept_answer};
-    ghost use Rattle.napt_translate.specs.Translators.{kept_of, left_by};
+impl<P: Telling> Machine for Worker<P> {
+    ghost use Rattle.napt_sequential.specs.CountedTranslators.{told_at};
+    ghost use Rattle.napt_translate.specs.Translators.{left_by};
 
     type Item = Leg;
 
-    type Answer = Answer;
+    type Answer = Told<P>;
 
     ghost stepped = { λ state leg. left_by leg state };
 
-    ghost reply = { λ state leg. kept_answer state.rules state.table.address leg (kept_of state.table) };
+    ghost reply = { λ state leg. told_at P.tells leg state };
 
-    fn step(&mut self, alloc: Global, leg: Leg) -> Result<Answer, AllocError> {
-        self.translator.translate(alloc, leg)
+    fn step(&mut self, alloc: Global, leg: Leg) -> Result<Told<P>, AllocError> {
+        P::tell(alloc, &mut self.translator, leg)
     }
 
     fn size(&self) -> u64 {

@@ -17,15 +17,18 @@ use crate::inputs::last_clock;
 use crate::stopped::Stopped;
 use napt_config::Config;
 use napt_pool::{Ended, Gate, Machine, Pool, PoolFault};
-use napt_sequential::{Arrivals, Input, MOST_INPUTS, Run, RunFault, runs_are_sound};
+use napt_sequential::{
+    Arrivals, Input, MOST_INPUTS, Run, RunFault, Telling, Untold, runs_are_sound,
+};
 use napt_table::Row;
 use napt_translate::Translator;
 use std::alloc::{AllocError, Global};
+use std::marker::PhantomData;
 use std::sync::{Arc, Wait};
 use std::thread::Threads;
 
 /// Makes the workers of all external addresses, in the order of the pool.
-fn workers(alloc: Global, config: &Config) -> Result<Vec<Worker>, AllocError>
+fn workers<P: Telling>(alloc: Global, config: &Config) -> Result<Vec<Worker<P>>, AllocError>
     ensures kept { KeepsRules config.now }
     ensures made { IfOk result (λ made. made.items ≡ started config.now (length config.now.pool)) }
     ensures many { IfOk result (λ made. vec_len made ≡ length config.now.pool) }
@@ -34,13 +37,20 @@ fn workers(alloc: Global, config: &Config) -> Result<Vec<Worker>, AllocError>
     let mut made = Vec::new(alloc);
     for index in 0..many {
         let translator = Translator::new(alloc, index, config.copy(alloc)?)?;
-        made.push(Worker { translator })?;
+        made.push(Worker {
+            translator,
+            told: PhantomData,
+        })?;
     }
     Ok(made)
 }
 
 /// Returns the bindings that are live at a time, in ns, address by address.
-fn bindings(alloc: Global, ended: &[Ended<Worker>], now: u64) -> Result<Vec<Row>, AllocError>
+fn bindings<P: Telling>(
+    alloc: Global,
+    ended: &[Ended<Worker<P>>],
+    now: u64,
+) -> Result<Vec<Row>, AllocError>
     ensures { IfOk result (λ made. made.items ≡ flat_map (λ e. rows_after now e.machine)
         ended.now) }
 {
@@ -53,27 +63,26 @@ fn bindings(alloc: Global, ended: &[Ended<Worker>], now: u64) -> Result<Vec<Row>
 }
 
 /// Starts a worker on a thread of its own for each external address.
-fn start<R: Threads + Wait + Copy + Send + 'static, G: Gate + Send + Sync + Drop + 'static>(
-    rt: &R,
-    alloc: Global,
-    config: &Config,
-    gate: Arc<G>,
-) -> Result<Pool<Worker, G>, RunFault>
+fn start<
+    P: Telling,
+    R: Threads + Wait + Copy + Send + 'static,
+    G: Gate + Send + Sync + Drop + 'static,
+>(rt: &R, alloc: Global, config: &Config, gate: Arc<G>) -> Result<Pool<Worker<P>, G>, RunFault>
     ensures started { IfOk result (λ pool. starts pool ≡ started config.now
         (length config.now.pool)) }
     ensures unoffered { IfOk result (λ pool. accepts pool ≡ replicate (length config.now.pool) []) }
     ensures untaken { IfOk result (λ pool. takes pool ≡ replicate (length config.now.pool) []) }
     ensures fault { IfErr result (IsFaultUnder G.is_open) }
 {
-    let machines = workers(alloc, config)?;
+    let machines = workers::<P>(alloc, config)?;
     Ok(Pool::start(rt, alloc, machines, config.ring(), gate)?)
 }
 
 /// Joins the results of dispatching and of closing. A fault of dispatching is reported before one of the pool.
-fn first_fault<D: Drop>(
+fn first_fault<P: Telling, D: Drop>(
     dispatched: Result<D, RunFault>,
-    closed: Result<Vec<Ended<Worker>>, PoolFault>,
-) -> Result<(D, Vec<Ended<Worker>>), RunFault>
+    closed: Result<Vec<Ended<Worker<P>>>, PoolFault>,
+) -> Result<(D, Vec<Ended<Worker<P>>>), RunFault>
     ensures { result ≡ first_fault dispatched closed }
 {
     let dispatched = dispatched?;
@@ -82,19 +91,19 @@ fn first_fault<D: Drop>(
 
 /// Closes the pool, also if dispatching failed. Returns the result of dispatching and the workers as they ended. A fault of
 /// dispatching is reported before one of the pool.
-fn close<R: Threads, G: Gate, D: Drop>(
+fn close<P: Telling, R: Threads, G: Gate, D: Drop>(
     rt: &R,
     alloc: Global,
-    pool: Pool<Worker, G>,
+    pool: Pool<Worker<P>, G>,
     dispatched: Result<D, RunFault>,
-) -> Result<(D, Vec<Ended<Worker>>), RunFault>
+) -> Result<(D, Vec<Ended<Worker<P>>>), RunFault>
     ensures given { IfOk result (λ both. dispatched ≡ Ok both.0) }
     ensures machines { IfOk result (λ both. map (λ e. e.machine) both.1.items
-        ≡ zip_with (after ⟦<Worker as Machine>⟧) (starts pool) (accepts pool)) }
-    ensures taken { AllBegin (takes pool) (zip_with (replies ⟦<Worker as Machine>⟧)
+        ≡ zip_with (after ⟦<Worker<P> as Machine>⟧) (starts pool) (accepts pool)) }
+    ensures taken { AllBegin (takes pool) (zip_with (replies ⟦<Worker<P> as Machine>⟧)
         (starts pool) (accepts pool)) }
     ensures settled { map length (takes pool) ≡ map length (accepts pool) →
-        OnOk result (takes pool ≡ zip_with (replies ⟦<Worker as Machine>⟧)
+        OnOk result (takes pool ≡ zip_with (replies ⟦<Worker<P> as Machine>⟧)
         (starts pool) (accepts pool)) }
     ensures first { IfErr dispatched (λ fault. result ≡ Err fault) }
     ensures fault { IfErr dispatched (IsDispatchFault G.is_open) →
@@ -126,7 +135,7 @@ pub fn run_workers<
     if inputs.len() > MOST_INPUTS {
         return Err(RunFault::TooMany);
     }
-    let mut pool = start(rt, alloc, config, gate)?;
+    let mut pool = start::<Untold, _, _>(rt, alloc, config, gate)?;
     let dispatched = dispatch(rt, alloc, &mut pool, config, inputs);
     let ((outcomes, legs), ended) = close(rt, alloc, pool, dispatched)?;
     let bindings = bindings(alloc, &ended, last_clock(inputs))?;
@@ -166,11 +175,11 @@ pub fn run_through<
     departures: &mut D,
     gate: Arc<G>,
 ) -> Result<Passed, Stopped<A::Fault, D::Fault>>
-    ensures passes { Passes config.now A.hands A.ends D.takes D.fails D.is_settled
+    ensures passes { Passes D.Told.tells config.now A.hands A.ends D.takes D.fails D.is_settled
         arrivals.old departures.old arrivals.new departures.new result }
     ensures fault { IfErr result (IsStoppedUnder G.is_open) }
 {
-    let mut pool = start(rt, alloc, config, gate)?;
+    let mut pool = start::<D::Told, _, _>(rt, alloc, config, gate)?;
     let dispatched = dispatch_to(rt, alloc, &mut pool, config, arrivals, departures);
     let (dispatched, ended) = close(rt, alloc, pool, dispatched)?;
     let Dispatched {

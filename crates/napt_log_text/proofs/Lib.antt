@@ -1,4 +1,5 @@
 pub mod Days
 pub mod Logs
 pub mod Quoted
+pub mod SavedLogs
 pub mod SavedRows

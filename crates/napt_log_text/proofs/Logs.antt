@@ -1,9 +1,15 @@
 -- The log of a run grows by the rows of the inputs that come.
-use Rattle.std.proofs.Common.{◌≡◌, List, [], ◌∷◌, ◌++◌, sym, ◌∙◌, ap, append-nil, append_assoc}
-use Rattle.napt_config.specs.Rules.{Rules}
-use Rattle.napt_rules.specs.Prelude.{Arrival}
+use Rattle.std.proofs.Common.{◌≡◌, ℕ, ◌+◌, max, length, arith, List, [], ◌∷◌, ◌++◌, refl, sym, ◌∙◌, ap, append-nil, append_assoc}
+use Rattle.napt_config.specs.Rules.{Rules, KeepsRules}
+use Rattle.napt_rules.specs.Prelude.{Arrival, opening, last_clock, run, step}
+use Rattle.napt_sequential.specs.Traces.{trace_of, traces}
+use Rattle.napt_sequential.specs.declared.passage.Trace.{Trace}
+use Rattle.napt_sequential.proofs.Joined.{traces_begin}
+use Rattle.napt_sequential.proofs.Passed.{traces_grow}
+use Rattle.napt_account.specs.TraceLogs.{told_with, TracesTellTheLog}
+use Rattle.napt_account.specs.Telling.{Told}
 use Rattle.napt_account.specs.Telling.{living_of, told_by}
-use Rattle.napt_log_text.specs.Logs.{LogGrows, log_so_far, opening_text, rows_after, told_rows}
+use Rattle.napt_log_text.specs.Logs.{LogGrows, log_so_far, opening_text, rows_after, rows_with, told_rows, TracesHaveTheRows}
 use Rattle.napt_log_text.specs.Times.{Text}
 
 pub rows_after-append : (rules : Rules) (before xs ys : List Arrival) → rows_after rules before (xs ++ ys)
@@ -22,3 +28,53 @@ grows rules inputs more =
     let front : Text = opening_text rules (living_of rules []) in
     ap (λ (l : Text). front ++ l) (rows_after-append rules [] inputs more)
     ∙ sym (append_assoc front (rows_after rules [] inputs) (rows_after rules inputs more))
+
+-- BY TRACES
+
+pub rows_with-append : (rules : Rules) (before xs ys : List Trace) → rows_with rules before (xs ++ ys)
+    ≡ rows_with rules before xs ++ rows_with rules (before ++ xs) ys
+rows_with-append rules before [] ys = ap (λ (l : List Trace). rows_with rules l ys) (sym (append-nil before))
+rows_with-append rules before (x ∷ xs) ys =
+    let told : Text = told_rows rules (told_with rules before x) in
+    ap (λ (l : Text). told ++ l) (rows_with-append rules (before ++ x ∷ []) xs ys
+    ∙ ap (λ (l : List Trace). rows_with rules (before ++ x ∷ []) xs ++ rows_with rules l ys)
+    (append_assoc before (x ∷ []) xs))
+    ∙ sym (append_assoc told (rows_with rules (before ++ x ∷ []) xs) (rows_with rules (before ++ x ∷ xs) ys))
+
+none_left : {X : Type 0} (xs ys : List X) → xs ++ ys ≡ xs → ys ≡ []
+none_left [] ys e = e
+none_left (x ∷ xs) ys e = none_left xs ys (cc (e))
+
+same_left : {X : Type 0} (xs ys zs : List X) → xs ++ ys ≡ xs ++ zs → ys ≡ zs
+same_left [] ys zs e = e
+same_left (x ∷ xs) ys zs e = same_left xs ys zs (cc (e))
+
+module _ (rules : Rules) (keeps : KeepsRules rules) (tell : TracesTellTheLog) where
+  rows_same : (before more : List Arrival) (later : List Trace) →
+      traces rules (before ++ more) ≡ traces rules before ++ later →
+      rows_with rules (traces rules before) later ≡ rows_after rules before more
+  rows_same before [] later e =
+      ap (rows_with rules (traces rules before))
+      (none_left (traces rules before) later (sym e ∙ ap (traces rules) (append-nil before)))
+  rows_same before (input ∷ more) later e =
+      let now : ℕ = max (last_clock 0 before) input.clock in
+      let t : Trace = trace_of rules.timers now
+      (step rules (length before) now input (run rules before (opening rules)).list) in
+      let next : traces rules (before ++ input ∷ []) ≡ traces rules before ++ t ∷ [] =
+      traces_grow rules 0 0 before input (opening rules) (length before) (omega arith) in
+      let front = traces_begin rules 0 0 (before ++ input ∷ []) more (opening rules) in
+      let all : traces rules ((before ++ input ∷ []) ++ more) ≡ traces rules before ++ later =
+      ap (traces rules) (append_assoc before (input ∷ []) more) ∙ e in
+      let later_is : later ≡ t ∷ front.0 =
+      same_left (traces rules before) later (t ∷ front.0)
+      (sym all ∙ (sym front.1 ∙ (ap (λ (l : List Trace). l ++ front.0) next
+      ∙ append_assoc (traces rules before) (t ∷ []) front.0))) in
+      ap (rows_with rules (traces rules before)) later_is
+      ∙ (ap (λ (told : Told). told_rows rules told ++ rows_with rules (traces rules before ++ t ∷ []) front.0)
+      (tell rules keeps before input t next)
+      ∙ ap (λ (l : Text). told_rows rules (told_by rules before input) ++ l)
+      (ap (λ (ts : List Trace). rows_with rules ts front.0) (sym next)
+      ∙ rows_same (before ++ input ∷ []) more front.0 (sym front.1)))
+
+pub traces_rows : TracesTellTheLog → TracesHaveTheRows
+traces_rows tell rules keeps inputs = rows_same rules keeps tell [] inputs (traces rules inputs) refl

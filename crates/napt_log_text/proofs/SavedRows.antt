@@ -1,95 +1,114 @@
--- A row is split into its fields again, since no text in one has a comma.
-use Rattle.std.proofs.Common.{ℕ, zero, suc, ◌≡◌, ◌<◌, ◌⊎◌, inl, inr, get_or, Result, Ok, Err, ◌==◌, ◌/◌, ◌%◌, ◌∙◌, Bool, true, false, List, [], ◌∷◌, ◌++◌, codes, decimal, length, Option, Some, None, refl, sym, ap, append_assoc, replicate, if◌then◌else◌, arith}
+-- A row is split into its fields again, since no text in one has a comma, and a log into its rows, since none has a
+-- line feed.
+use Rattle.std.proofs.Common.{ℕ, zero, suc, ◌≡◌, ◌≢◌, ◌<◌, ◌^◌, get_or, ◌==◌, ◌||◌, ◌/◌, ◌%◌, ◌∙◌, Bool, true, false, List, [], ◌∷◌, ◌++◌, codes, decimal, length, Option, Some, None, IfSome, refl, sym, ap, subst, append_assoc, append-nil, length-append, replicate, if◌then◌else◌, lit<, arith}
+use Rattle.std.proofs.BufReadLemmas.{take_through-append, drop_through-append}
 use Rattle.std.specs.Fmt.{digit_glyph, digits, digits_onto}
+use Rattle.std.proofs.Math.Seq.{get_or-append_seam}
+use Rattle.std.specs.Io.BufRead.{take_through, drop_through}
+use Rattle.std.specs.Io.KnownBytes.{IsAtEnd}
 use Rattle.std.specs.List.{All, list_any, slice_split}
 use Rattle.std.specs.Net.Text.{dotted_text}
-use Rattle.std.proofs.lemmas.Bool.{both_ways, false_from_ne_true, or_parts}
+use Rattle.std.proofs.lemmas.Bool.{both_ways, eqb-false, false_from_ne_true, or_parts}
 use Rattle.std.proofs.lemmas.Bool.Decides.{nat_tests}
 use Rattle.std.proofs.lemmas.List.{append_cancel_right}
+use Rattle.std.proofs.lemmas.List.Elements.{All-append, All-cons}
 use Rattle.std.proofs.lemmas.List.Folds.{list_any-append, list_any_at}
 use Rattle.std.proofs.lemmas.List.Splits.{slice_split_at, slice_split_none}
 use Rattle.napt_wire.specs.declared.Cause.{Cause}
 use Rattle.napt_wire.specs.declared.Cause.TheVariants.{OverQuota}
+use Rattle.napt_wire.specs.declared.Protocol.{Protocol}
+use Rattle.napt_wire.specs.declared.Protocol.TheVariants.{Icmp, Tcp, Udp}
 use Rattle.napt_config.specs.Rules.{Rules}
 use Rattle.napt_config.specs.Text.{address_text}
 use Rattle.napt_account.specs.declared.log.Listed.{Listed}
 use Rattle.napt_log_text.specs.declared.event.Event.{Event}
 use Rattle.napt_log_text.specs.declared.event.Event.TheVariants.{Made, Ended, Living, Refused}
-use Rattle.napt_log_text.specs.Rows.{csv_row, date_of_any, fields, flag_text, listed_fields, number_if_any, quota_text, row_text, shortage_number, time_fields}
-use Rattle.napt_log_text.specs.declared.saved_row.SavedBinding.{SavedBinding}
-use Rattle.napt_log_text.specs.declared.saved_row.SavedRow.{SavedRow}
-use Rattle.napt_log_text.specs.declared.saved_row.SavedRow.TheVariants as rows
-use Rattle.napt_log_text.specs.SavedRows.{IsEvent, IsListed, IsTime, fields_in, is_comma, saved_binding, saved_row}
+use Rattle.napt_log_text.specs.Rows.{csv_row, date_of_any, fields, flag_text, listed_fields, number_if_any, protocol_number, quota_text, row_text, shortage_number}
+use Rattle.napt_log_text.specs.SavedRows.{fields_in, flag_number, is_comma}
 use Rattle.napt_log_text.specs.Times.{Text, clock_text, date_if_any, date_text, day_text, has_date, padded}
 
-abbrev has_comma : Text → Bool
-has_comma text = list_any is_comma text
+-- what ends a field
+abbrev is_mark : ℕ → Bool
+is_mark byte = is_comma byte || (byte == 10)
 
-no_comma_at : (text : Text) → has_comma text ≡ false → All (λ byte. is_comma byte ≡ false) text
-no_comma_at text none k d within =
-    false_from_ne_true _ (λ is. both_ways _ none (list_any_at is_comma text k d within is))
+abbrev has_mark : Text → Bool
+has_mark text = list_any is_mark text
 
--- TEXTS WITHOUT A COMMA
+no_mark_at : (text : Text) → has_mark text ≡ false → All (λ byte. is_mark byte ≡ false) text
+no_mark_at text none k d within =
+    false_from_ne_true _ (λ is. both_ways _ none (list_any_at is_mark text k d within is))
 
-glyph : (digit : ℕ) → is_comma (digit_glyph false digit) ≡ false
+no_comma_at : (text : Text) → has_mark text ≡ false → All (λ byte. is_comma byte ≡ false) text
+no_comma_at text none k d within = (or_parts (is_comma (get_or text k d)) _ (no_mark_at text none k d within)).0
+
+abbrev pub IsLine : Text → Type 0
+IsLine text = All (λ byte. byte ≢ 10) text
+
+no_end_at : (text : Text) → has_mark text ≡ false → IsLine text
+no_end_at text none k d within =
+    eqb-false (get_or text k d) 10 (or_parts (is_comma (get_or text k d)) _ (no_mark_at text none k d within)).1
+
+-- TEXTS WITHOUT A MARK
+
+glyph : (digit : ℕ) → is_mark (digit_glyph false digit) ≡ false
 glyph digit = grind (arith, nat_tests)
 
-in_digits : (many number : ℕ) (text : Text) → has_comma text ≡ false →
-    has_comma (digits_onto many 10 false number text) ≡ false
+in_digits : (many number : ℕ) (text : Text) → has_mark text ≡ false →
+    has_mark (digits_onto many 10 false number text) ≡ false
 in_digits zero number text none = none
 in_digits (suc many) number text none =
-    let here : has_comma (digit_glyph false (number % 10) ∷ text) ≡ false = rw (glyph (number % 10)) none in
-    elim (number / 10 == 0) as (λ b. has_comma (if b then digit_glyph false (number % 10) ∷ text
+    let here : has_mark (digit_glyph false (number % 10) ∷ text) ≡ false = rw (glyph (number % 10)) none in
+    elim (number / 10 == 0) as (λ b. has_mark (if b then digit_glyph false (number % 10) ∷ text
     else digits_onto many 10 false (number / 10) (digit_glyph false (number % 10) ∷ text)) ≡ false)
     [ true ↦ here | false ↦ in_digits many (number / 10) (digit_glyph false (number % 10) ∷ text) here ]
 
-in_decimal : (number : ℕ) → has_comma (decimal number) ≡ false
+in_decimal : (number : ℕ) → has_mark (decimal number) ≡ false
 unfolding digits
 in_decimal number = in_digits 64 number [] refl
 
-in_dotted : (a b c d : ℕ) → has_comma (dotted_text a b c d) ≡ false
+in_dotted : (a b c d : ℕ) → has_mark (dotted_text a b c d) ≡ false
 in_dotted a b c d = simp (list_any-append, in_decimal a, in_decimal b, in_decimal c, in_decimal d)
 
-in_address : (address : ℕ) → has_comma (address_text address) ≡ false
+in_address : (address : ℕ) → has_mark (address_text address) ≡ false
 unfolding address_text
 in_address address = in_dotted _ _ _ _
 
-in_zeros : (many : ℕ) → has_comma (replicate many 48) ≡ false
+in_zeros : (many : ℕ) → has_mark (replicate many 48) ≡ false
 in_zeros zero = refl
 in_zeros (suc many) = in_zeros many
 
-in_padded : (width number : ℕ) → has_comma (padded width number) ≡ false
+in_padded : (width number : ℕ) → has_mark (padded width number) ≡ false
 unfolding padded
 in_padded width number = simp (list_any-append, in_zeros, in_decimal number)
 
-in_date : (time : ℕ) → has_comma (date_text time) ≡ false
+in_date : (time : ℕ) → has_mark (date_text time) ≡ false
 unfolding date_text day_text clock_text
 in_date time = simp (list_any-append, in_padded)
 
-in_date_if_any : (time : ℕ) → has_comma (date_if_any time) ≡ false
-in_date_if_any time = elim (has_date time) as (λ b. has_comma (if b then date_text time else []) ≡ false)
+in_date_if_any : (time : ℕ) → has_mark (date_if_any time) ≡ false
+in_date_if_any time = elim (has_date time) as (λ b. has_mark (if b then date_text time else []) ≡ false)
     [ true ↦ in_date time | false ↦ refl ]
 
-in_number : (number : Option ℕ) → has_comma (number_if_any number) ≡ false
+in_number : (number : Option ℕ) → has_mark (number_if_any number) ≡ false
 in_number None = refl
 in_number (Some number) = in_decimal number
 
-in_date_of : (time : Option ℕ) → has_comma (date_of_any time) ≡ false
+in_date_of : (time : Option ℕ) → has_mark (date_of_any time) ≡ false
 in_date_of None = refl
 in_date_of (Some time) = in_date_if_any time
 
-in_flag : (flag : Bool) → has_comma (flag_text flag) ≡ false
+in_flag : (flag : Bool) → has_mark (flag_text flag) ≡ false
 in_flag true = refl
 in_flag false = refl
 
-in_quota : (cause : Cause) → has_comma (quota_text cause) ≡ false
+in_quota : (cause : Cause) → has_mark (quota_text cause) ≡ false
 in_quota OverQuota = refl
 in_quota _ = refl
 
 -- ROWS
 
-abbrev have_comma : List Text → Bool
-have_comma texts = list_any has_comma texts
+abbrev have_marks : List Text → Bool
+have_marks texts = list_any has_mark texts
 
 -- the text of a row before the line feed at its end
 abbrev joined : Text → List Text → Text
@@ -100,16 +119,16 @@ row_text-joined : (first : Text) (more : List Text) → row_text (first ∷ more
 row_text-joined first [] = refl
 row_text-joined first (field ∷ more) = rw (row_text-joined field more) (simp append_assoc)
 
-split-joined : (first : Text) (more : List Text) → have_comma (first ∷ more) ≡ false →
+split-joined : (first : Text) (more : List Text) → have_marks (first ∷ more) ≡ false →
     slice_split is_comma (joined first more) ≡ first ∷ more
 split-joined first [] none =
-    slice_split_none is_comma first (no_comma_at first (or_parts (has_comma first) false none).0)
+    slice_split_none is_comma first (no_comma_at first (or_parts (has_mark first) false none).0)
 split-joined first (field ∷ more) none =
-    let (here, behind) = or_parts (has_comma first) (have_comma (field ∷ more)) none in
+    let (here, behind) = or_parts (has_mark first) (have_marks (field ∷ more)) none in
     slice_split_at is_comma first 44 (joined field more) (no_comma_at first here) refl
     ∙ ap (λ parts. first ∷ parts) (split-joined field more behind)
 
-fields_in-row : (row : Text) (texts : List Text) → 0 < length texts → have_comma texts ≡ false →
+fields_in-row : (row : Text) (texts : List Text) → 0 < length texts → have_marks texts ≡ false →
     row_text texts ≡ row ++ codes "\n" → fields_in row ≡ texts
 fields_in-row row [] some none is = absurd (omega arith)
 fields_in-row row (first ∷ more) some none is =
@@ -117,11 +136,11 @@ fields_in-row row (first ∷ more) some none is =
     ∙ split-joined first more none
 
 in_listed : (time event : Option ℕ) (listed : Listed) →
-    have_comma (number_if_any time ∷ date_of_any time ∷ listed_fields event listed) ≡ false
+    have_marks (number_if_any time ∷ date_of_any time ∷ listed_fields event listed) ≡ false
 in_listed time event listed =
     simp (in_number, in_date_of, in_decimal, in_address, in_flag)
 
-in_fields : (rules : Rules) (event : Event) → have_comma (fields rules event) ≡ false
+in_fields : (rules : Rules) (event : Event) → have_marks (fields rules event) ≡ false
 in_fields rules (Made listed) = in_listed (Some listed.entry.made) (Some 8) listed
 in_fields rules (Ended listed) = in_listed listed.entry.end (Some 9) listed
 in_fields rules (Living listed) = in_listed listed.entry.end None listed
@@ -143,111 +162,73 @@ pub fields_read-many : (rules : Rules) (event : Event) (row : Text) → csv_row 
     length (fields_in row) ≡ 15
 fields_read-many rules event row is = ap length (fields_read rules event row is) ∙ many rules event
 
--- WHAT IS READ
+pub small_protocol : (protocol : Protocol) → protocol_number protocol < 2 ^ 128
+small_protocol Icmp = lit< tt
+small_protocol Tcp = lit< tt
+small_protocol Udp = lit< tt
 
--- natEvent in the row of an event
-abbrev pub event_text : Event → Text
-event_text (Made listed) = codes "8"
-event_text (Ended listed) = codes "9"
-event_text (Living listed) = []
-event_text (Refused shortage) = decimal (shortage_number shortage.cause)
+pub small_shortage : (cause : Cause) → shortage_number cause < 2 ^ 128
+small_shortage OverQuota = lit< tt
+small_shortage _ = lit< tt
 
-two : (cause : Cause) → (decimal (shortage_number cause) ≡ codes "12") ⊎ (decimal (shortage_number cause) ≡ codes "13")
+pub small_flag : (flag : Bool) → flag_number flag < 2 ^ 128
+small_flag true = lit< tt
+small_flag false = lit< tt
+
+pub flag_text-decimal : (flag : Bool) → flag_text flag ≡ decimal (flag_number flag)
 unfolding digits
-two OverQuota = inr refl
-two _ = inl refl
+flag_text-decimal true = refl
+flag_text-decimal false = refl
 
-long : (text : Text) → (text ≡ codes "12") ⊎ (text ≡ codes "13") → length text ≡ 2
-long text (inl is) = ap length is
-long text (inr is) = ap length is
+-- LINES
 
-in_event : (rules : Rules) (event : Event) → get_or (fields rules event) 2 [] ≡ event_text event
-unfolding digits
-in_event rules (Made listed) = refl
-in_event rules (Ended listed) = refl
-in_event rules (Living listed) = refl
-in_event rules (Refused shortage) = refl
+joined-line : (first : Text) (more : List Text) → have_marks (first ∷ more) ≡ false → IsLine (joined first more)
+joined-line first [] none = no_end_at first (or_parts (has_mark first) false none).0
+joined-line first (field ∷ more) none =
+    let (here, behind) = or_parts (has_mark first) (have_marks (field ∷ more)) none in
+    All-append (λ byte. byte ≢ 10) first (44 ∷ joined field more) (no_end_at first here)
+    (All-cons (λ byte. byte ≢ 10) 44 (joined field more) (λ is. omega arith) (joined-line field more behind))
 
--- what a row of a binding says, by the first byte of its natEvent
-abbrev pub by_event : Text → SavedBinding → SavedRow
-by_event text binding = if get_or text 0 0 == 56 then rows.Made binding
-    else (if get_or text 0 0 == 57 then rows.Ended binding else rows.Living binding)
+-- a row is a line
+abbrev pub Line : Text → Type 0
+Line text = (row : Text) × (text ≡ row ++ codes "\n") × IsLine row
 
-module _ (rules : Rules) (row text : Text) (shown : text ≡ get_or (fields_in row) 2 []) where
-  abbrev pub IsRowOf : Event → Type 0
-  IsRowOf event = IsEvent event × (csv_row rules event ≡ row ++ codes "\n")
+row_text-line : (texts : List Text) → 0 < length texts → have_marks texts ≡ false → Line (row_text texts)
+row_text-line [] some none = absurd (omega arith)
+row_text-line (first ∷ more) some none = (joined first more, row_text-joined first more, joined-line first more none)
 
-  -- natEvent in the row
-  told : (event : Event) → IsRowOf event → text ≡ event_text event
-  told event of =
-      shown ∙ ap (λ (l : List Text). get_or l 2 []) (fields_read rules event row of.1) ∙ in_event rules event
+pub csv_row-line : (rules : Rules) (event : Event) → Line (csv_row rules event)
+unfolding csv_row
+csv_row-line rules event =
+    row_text-line (fields rules event) (omega (arith, many rules event)) (in_fields rules event)
 
-  module _ {E : Type 0} (r : Result SavedBinding E) (reads : (time event : Option ℕ) (listed : Listed) → IsTime time →
-      IsListed listed → fields_in row ≡ time_fields time ++ listed_fields event listed →
-      r ≡ Ok (saved_binding time listed)) (short : length text < 2) where
-    -- the binding is read
-    has_binding : (event : Event) → IsRowOf event →
-        (binding : SavedBinding) × (r ≡ Ok binding) × (by_event text binding ≡ saved_row event)
-    has_binding (Made listed) of = (
-      _,
-      reads (Some listed.entry.made) (Some 8) listed (omega (arith, of.0.0)) of.0.1 (fields_read rules _ row of.1),
-      ap (λ t. by_event t (saved_binding (Some listed.entry.made) listed)) (told (Made listed) of),
-    )
-    has_binding (Ended listed) of = (
-      _,
-      reads listed.entry.end (Some 9) listed of.0.0 of.0.1 (fields_read rules _ row of.1),
-      ap (λ t. by_event t (saved_binding listed.entry.end listed)) (told (Ended listed) of),
-    )
-    has_binding (Living listed) of = (
-      _,
-      reads listed.entry.end None listed of.0.0 of.0.1 (fields_read rules _ row of.1),
-      ap (λ t. by_event t (saved_binding listed.entry.end listed)) (told (Living listed) of),
-    )
-    has_binding (Refused shortage) of =
-        absurd (omega (arith, long _ (two shortage.cause), ap length (told (Refused shortage) of)))
+module _ (left new : Option (List ℕ)) (old line : Text) (text rest : Text) (none : old ≡ [])
+    (got : IfSome left (λ xs. line ≡ old ++ take_through 10 xs)) (left_is : left ≡ Some (text ++ rest)) where
+  -- a line that is read is the first of what is left, which loses it
+  pub line_read : IfSome left (λ xs. new ≡ Some (drop_through 10 xs)) → Line text → (line ≡ text) × (new ≡ Some rest)
+  line_read lost (row, is, whole) =
+      let parts : text ++ rest ≡ row ++ 10 ∷ rest = ap (λ l. l ++ rest) is ∙ append_assoc row (codes "\n") rest in (
+        subst (λ o. IfSome o (λ xs. line ≡ old ++ take_through 10 xs)) left_is got
+            ∙ ap (λ l. l ++ take_through 10 (text ++ rest)) none ∙ ap (take_through 10) parts
+            ∙ take_through-append 10 row (10 ∷ rest) whole ∙ sym is,
+        subst (λ o. IfSome o (λ xs. new ≡ Some (drop_through 10 xs))) left_is lost
+            ∙ ap (λ l. Some (drop_through 10 l)) parts ∙ ap Some (drop_through-append 10 row (10 ∷ rest) whole),
+      )
 
-    pub binding_read : (event : Event) (binding : SavedBinding) → IsRowOf event → r ≡ Ok binding →
-        by_event text binding ≡ saved_row event
-    binding_read event binding of was =
-        let (found, is, says) = has_binding event of in
-        let same : binding ≡ found = cc in
-        ap (by_event text) same ∙ says
+  -- and so something is left
+  pub line_left : IsAtEnd left → Line text → ⊥
+  line_left end (row, is, whole) =
+      let empty : text ++ rest ≡ [] = subst IsAtEnd left_is end in
+      omega (arith, ap length empty, ap length is, length-append text rest, length-append row (codes "\n"))
 
-    pub binding_not_refused : (event : Event) (e : E) → IsRowOf event → r ≡ Err e → ⊥
-    binding_not_refused event e of was = let (found, is, says) = has_binding event of in cc
-
-  module _ {E : Type 0} (r : Result (Option ℕ) E) (reads : (time : Option ℕ) → IsTime time →
-      get_or (fields_in row) 0 [] ≡ number_if_any time → r ≡ Ok time)
-      (one : (text ≡ codes "12") ⊎ (text ≡ codes "13")) where
-    -- the time is read
-    has_time : (event : Event) → IsRowOf event →
-        (time : Option ℕ) × (r ≡ Ok time) × (rows.Refused time ≡ saved_row event)
-    has_time (Made listed) of = absurd (omega (arith, long text one, ap length (told (Made listed) of)))
-    has_time (Ended listed) of = absurd (omega (arith, long text one, ap length (told (Ended listed) of)))
-    has_time (Living listed) of = absurd (omega (arith, long text one, ap length (told (Living listed) of)))
-    has_time (Refused shortage) of = (
-      Some shortage.at,
-      reads (Some shortage.at) (omega (arith, of.0))
-          (ap (λ (l : List Text). get_or l 0 []) (fields_read rules (Refused shortage) row of.1)),
-      refl,
-    )
-
-    pub time_read : (event : Event) (time : Option ℕ) → IsRowOf event → r ≡ Ok time →
-        rows.Refused time ≡ saved_row event
-    time_read event time of was =
-        let (found, is, says) = has_time event of in
-        let same : time ≡ found = cc in
-        ap rows.Refused same ∙ says
-
-    pub time_not_refused : (event : Event) (e : E) → IsRowOf event → r ≡ Err e → ⊥
-    time_not_refused event e of was = let (found, is, says) = has_time event of in cc
-
-  -- natEvent is one of those
-  pub no_other : (event : Event) → IsRowOf event → (text ≡ codes "8" → ⊥) → (text ≡ codes "9" → ⊥) → (text ≡ [] → ⊥) →
-      (text ≡ codes "12" → ⊥) → (text ≡ codes "13" → ⊥) → ⊥
-  no_other (Made listed) of made ended living first second = made (told (Made listed) of)
-  no_other (Ended listed) of made ended living first second = ended (told (Ended listed) of)
-  no_other (Living listed) of made ended living first second = living (told (Living listed) of)
-  no_other (Refused shortage) of made ended living first second =
-      let is = told (Refused shortage) of in
-      elim (two shortage.cause) [ inl twelve ↦ first (is ∙ twelve) | inr thirteen ↦ second (is ∙ thirteen) ]
+-- what breaks off has no end of a line
+pub torn_read : (left : Option (List ℕ)) (old line torn front : Text) → old ≡ [] →
+    IfSome left (λ xs. line ≡ old ++ take_through 10 xs) → left ≡ Some torn → IsLine torn →
+    line ≡ front ++ codes "\n" → ⊥
+torn_read left old line torn front none got left_is whole ended =
+    let is : torn ≡ front ++ codes "\n" =
+    sym (append-nil torn) ∙ sym (take_through-append 10 torn [] whole) ∙ ap (take_through 10) (append-nil torn)
+    ∙ ap (λ l. l ++ take_through 10 torn) (sym none)
+    ∙ sym (subst (λ o. IfSome o (λ xs. line ≡ old ++ take_through 10 xs)) left_is got) ∙ ended in
+    whole (length front) 0 (omega (arith, ap length is, length-append front (codes "\n")))
+    (ap (λ l. get_or l (length front) 0) is ∙ get_or-append_seam front 10 [] 0)

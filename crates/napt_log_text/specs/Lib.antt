@@ -6,3 +6,4 @@ pub mod Holders
 pub mod Logs
 pub mod Objects
 pub mod SavedRows
+pub mod SavedLogs

@@ -2,11 +2,14 @@
 -- ended before it, what it made, and itself if it got no binding; at the end what lives. A row has the counts and the
 -- last use up to its event.
 use Rattle.std.specs.Prelude.{◌≡◌, List, [], ◌∷◌, ◌++◌, flat_map}
-use Rattle.napt_config.specs.Rules.{Rules}
+use Rattle.napt_config.specs.Rules.{Rules, KeepsRules}
 use Rattle.napt_rules.specs.Prelude.{Arrival}
 use Rattle.napt_account.specs.declared.log.Listed.{Listed}
 use Rattle.napt_account.specs.declared.log.Shortage.{Shortage}
 use Rattle.napt_account.specs.Telling.{Told, living_of, told_by}
+use Rattle.napt_account.specs.TraceLogs.{told_with}
+use Rattle.napt_sequential.specs.Traces.{traces}
+use Rattle.napt_sequential.specs.declared.passage.Trace.{Trace}
 use Rattle.napt_log_text.specs.declared.event.Event.TheVariants.{Made, Ended, Living, Refused}
 use Rattle.napt_log_text.specs.Rows.{csv_row, header}
 use Rattle.napt_log_text.specs.Times.{Text}
@@ -49,3 +52,16 @@ log_text rules inputs = log_so_far rules inputs ++ living_rows rules (living_of 
 abbrev pub LogGrows : Type 0
 LogGrows = (rules : Rules) (inputs more : List Arrival) →
     log_so_far rules (inputs ++ more) ≡ log_so_far rules inputs ++ rows_after rules inputs more
+
+-- THE SAME BY TRACES
+
+-- the rows of traces that come after these, in order
+abbrev pub rows_with : Rules → List Trace → List Trace → Text
+rows_with rules before [] = []
+rows_with rules before (trace ∷ traces) =
+    told_rows rules (told_with rules before trace) ++ rows_with rules (before ++ trace ∷ []) traces
+
+-- the rows of the traces of a run are those of its inputs
+abbrev pub TracesHaveTheRows : Type 0
+TracesHaveTheRows = (rules : Rules) → KeepsRules rules → (inputs : List Arrival) →
+    rows_with rules [] (traces rules inputs) ≡ rows_after rules [] inputs

@@ -1,13 +1,15 @@
 -- What a row of the log says when it is read again.
-use Rattle.std.specs.Prelude.{ℕ, ◌<◌, ◌^◌, ◌==◌, Bool, List, Option, Some, IfSome}
+use Rattle.std.specs.Prelude.{ℕ, ◌<◌, ◌^◌, ◌==◌, Bool, true, false, List, Option, Some, None, IfSome}
 use Rattle.std.specs.List.{slice_split}
 use Rattle.napt_wire.specs.declared.Endpoint.{Endpoint}
 use Rattle.napt_account.specs.declared.log.Listed.{Listed}
+use Rattle.napt_account.specs.declared.log.Shortage.{Shortage}
 use Rattle.napt_log_text.specs.declared.event.Event.{Event}
 use Rattle.napt_log_text.specs.declared.event.Event.TheVariants.{Made, Ended, Living, Refused}
-use Rattle.napt_log_text.specs.declared.saved_row.SavedBinding.{SavedBinding}
+use Rattle.napt_log_text.specs.declared.saved_row.SavedField.{SavedField}
+use Rattle.napt_log_text.specs.declared.saved_row.SavedField.TheVariants.{Empty, Number}
 use Rattle.napt_log_text.specs.declared.saved_row.SavedRow.{SavedRow}
-use Rattle.napt_log_text.specs.declared.saved_row.SavedRow.TheVariants as rows
+use Rattle.napt_log_text.specs.Rows.{protocol_number, shortage_number}
 use Rattle.napt_log_text.specs.Times.{Text}
 
 abbrev pub is_comma : ℕ → Bool
@@ -33,14 +35,40 @@ IsEvent (Ended listed) = IsTime listed.entry.end × IsListed listed
 IsEvent (Living listed) = IsTime listed.entry.end × IsListed listed
 IsEvent (Refused shortage) = shortage.at < 2 ^ 64
 
--- what a row of a binding says, at a time
-abbrev pub saved_binding : Option ℕ → Listed → SavedBinding
-saved_binding time listed =
-    record { time = time; number = Some listed.number; binding = listed.entry.binding }
+abbrev pub number_field : Option ℕ → SavedField
+number_field None = Empty
+number_field (Some number) = Number number
 
--- what the row of an event says: not the counts and the last use of a binding, nor whose packet got none
+abbrev pub flag_number : Bool → ℕ
+flag_number true = 1
+flag_number false = 0
+
+-- what a row of a binding says: not its counts and its last use
+abbrev pub binding_row : Option ℕ → Option ℕ → Listed → SavedRow
+binding_row time event listed = record {
+  time = number_field time;
+  event = number_field event;
+  protocol = Number (protocol_number listed.entry.binding.protocol);
+  inside = Some listed.entry.binding.inside;
+  external = Some listed.entry.binding.external;
+  number = Number listed.number;
+  redirect = Number (flag_number listed.entry.binding.fixed);
+}
+
+-- and one of a packet that got none: not whose it is
+abbrev pub refusal_row : Shortage → SavedRow
+refusal_row shortage = record {
+  time = Number shortage.at;
+  event = Number (shortage_number shortage.cause);
+  protocol = Number (protocol_number shortage.protocol);
+  inside = None;
+  external = None;
+  number = Empty;
+  redirect = Empty;
+}
+
 abbrev pub saved_row : Event → SavedRow
-saved_row (Made listed) = rows.Made (saved_binding (Some listed.entry.made) listed)
-saved_row (Ended listed) = rows.Ended (saved_binding listed.entry.end listed)
-saved_row (Living listed) = rows.Living (saved_binding listed.entry.end listed)
-saved_row (Refused shortage) = rows.Refused (Some shortage.at)
+saved_row (Made listed) = binding_row (Some listed.entry.made) (Some 8) listed
+saved_row (Ended listed) = binding_row listed.entry.end (Some 9) listed
+saved_row (Living listed) = binding_row listed.entry.end None listed
+saved_row (Refused shortage) = refusal_row shortage

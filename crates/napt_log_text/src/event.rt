@@ -20,6 +20,9 @@ const PORTS_EXHAUSTED: u64 = 12;
 
 const QUOTA_EXCEEDED: u64 = 13;
 
+/// What stands behind natQuotaExceededEvent if there is no binding: its fields from `binding` on, all empty.
+const NO_BINDING: &str = ",,,,,,\n";
+
 /// The first row of the log: the names of its fields.
 pub fn header() -> &'static str
     ensures { result.now ≡ rows.header }
@@ -170,7 +173,7 @@ fn add_shortage(shortage: &Shortage, external: u32, text: &mut String) -> Result
     add_address(text, external)?;
     text.push_str(",,")?;
     text.push_str(quota(shortage.cause))?;
-    text.push_str(",,,,,,\n")?;
+    text.push_str(NO_BINDING)?;
     Ok(())
 }
 

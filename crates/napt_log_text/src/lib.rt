@@ -10,6 +10,7 @@ mod log_rows;
 mod moment;
 mod object;
 mod request;
+mod saved_log;
 mod saved_row;
 mod suffix;
 #[cfg(test)]
@@ -18,9 +19,12 @@ mod tests;
 pub use digits::{add_address, add_endpoint, add_number};
 pub use event::{Event, header};
 pub use holder::{add_holder, add_mark, add_nobody};
-pub use log_rows::{add_living, add_opening, add_told, log_grows};
+pub use log_rows::{
+    add_entered, add_living, add_opening, add_told, log_grows, traces_have_the_rows,
+};
 pub use moment::Moment;
 pub use napt_account::Listed;
 pub use object::Object;
 pub use request::{Nearest, Request, Span};
-pub use saved_row::{NO_TIME, SavedBinding, SavedRow};
+pub use saved_log::{SavedFault, SavedLog, log_has_rows};
+pub use saved_row::{SavedField, SavedRow};

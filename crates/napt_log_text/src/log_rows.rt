@@ -1,10 +1,11 @@
 //! The text of the log of a run, part by part, while packets come.
 ghost use Rattle.std.specs.Prelude.{◌≡◌, ◌++◌, OnOk, string_bytes};
-ghost use Rattle.napt_account.specs.KnownRuns.{told_of};
+ghost use Rattle.napt_account.specs.LoggedRuns.{told_of};
+ghost use Rattle.napt_account.specs.TraceLogs.{told_in};
 ghost use Rattle.napt_log_text.specs.Logs as logs;
 
 use crate::event::{Event, header};
-use napt_account::{Listed, LoggedStep, Shortage};
+use napt_account::{Listed, LoggedStep, LoggedTrace, Shortage, traces_tell_the_log};
 use napt_config::Config;
 use std::alloc::AllocError;
 
@@ -33,6 +34,16 @@ pub fn add_told(config: &Config, step: &LoggedStep, text: &mut String) -> Result
     add_refused(config, &step.refused, text)
 }
 
+/// Appends the rows of what the log tells with the trace of an input, as `add_told` does. Fails only if memory runs out.
+pub fn add_entered(config: &Config, told: &LoggedTrace, text: &mut String) -> Result<(), AllocError>
+    ensures { OnOk result (string_bytes text.new ≡ string_bytes text.old
+        ++ logs.told_rows config.now (told_in told.now)) }
+{
+    add_ended(config, &told.ended, text)?;
+    add_made(config, &told.made, text)?;
+    add_refused(config, &told.refused, text)
+}
+
 /// Appends the end of a log: a row without an event for each binding that lives at the end. Fails only if memory runs out.
 pub fn add_living(config: &Config, living: &[Listed], text: &mut String) -> Result<(), AllocError>
     ensures { OnOk result (string_bytes text.new ≡ string_bytes text.old
@@ -48,6 +59,13 @@ pub fn add_living(config: &Config, living: &[Listed], text: &mut String) -> Resu
 pub fn log_grows()
     ensures { logs.LogGrows }
 {}
+
+/// The rows of the traces of a run are those of its inputs.
+pub fn traces_have_the_rows()
+    ensures { logs.TracesHaveTheRows }
+{
+    traces_tell_the_log();
+}
 
 fn add_made(config: &Config, made: &[Listed], text: &mut String) -> Result<(), AllocError>
     ensures { OnOk result (string_bytes text.new ≡ string_bytes text.old

@@ -2,8 +2,8 @@
 //! kind.
 
 use crate::{
-    Event, Listed, Moment, NO_TIME, Object, Request, SavedBinding, SavedRow, Span, add_holder,
-    add_mark, add_nobody, header,
+    Event, Listed, Moment, Object, Request, SavedFault, SavedField, SavedLog, SavedRow, Span,
+    add_holder, add_mark, add_nobody, header,
 };
 use napt_account::{Entry, Note, Party, Shortage};
 use napt_config::Config;
@@ -109,38 +109,58 @@ fn each_event_has_a_row(rt: HostRuntime) -> Result<(), Fail> {
     Ok(())
 }
 
+/// A row of the binding of `ENTRY`, read back.
+fn saved(event: SavedField) -> SavedRow {
+    SavedRow {
+        time: SavedField::Number(304_000_000_000),
+        event,
+        protocol: SavedField::Number(17),
+        inside: Some(ENTRY.binding.inside),
+        external: Some(ENTRY.binding.external),
+        number: SavedField::Number(7),
+        redirect: SavedField::Number(0),
+    }
+}
+
 #[test]
-fn rows_are_read_back(rt: HostRuntime) -> Result<(), Fail> {
-    let binding = SavedBinding {
-        time: Some(304_000_000_000),
-        number: Some(7),
-        binding: ENTRY.binding,
+fn logs_are_read_back(rt: HostRuntime) -> Result<(), Fail> {
+    let ended = "304000000000,,9,17,10.0.0.2,5000,203.0.113.1,1024,,7,0,3,2,4000000000,";
+    let text = format!(in rt.alloc(); "{}{ended}\n{ended}", header())?;
+    let Ok(mut log) = SavedLog::open(rt.alloc(), text.as_bytes()) else {
+        return Err(Fail::from(text.len()));
     };
-    let row = "304000000000,,9,17,10.0.0.2,5000,203.0.113.1,1024,,7,0,3,2,4000000000,";
-    assert_eq!(rt; SavedRow::read(row), Ok(SavedRow::Ended(binding)));
-    let row = "304000000000,,,17,10.0.0.2,5000,203.0.113.1,1024,,7,0,3,2,4000000000,";
-    assert_eq!(rt; SavedRow::read(row), Ok(SavedRow::Living(binding)));
-    let redirect = SavedBinding {
-        time: Some(1),
-        number: None,
-        binding: Row {
-            protocol: Protocol::Tcp,
-            fixed: true,
-            ..ENTRY.binding
-        },
+    assert!(rt; matches!(log.next(), Ok(Some(row)) if row == saved(SavedField::Number(9))));
+    assert!(rt; matches!(log.next(), Err(SavedFault::Torn)));
+    assert!(rt; matches!(log.next(), Ok(None)));
+    assert!(rt; SavedLog::open(rt.alloc(), ended.as_bytes()).is_err());
+    assert_eq!(rt; saved(SavedField::Empty).binding(), Ok(ENTRY.binding));
+    assert_eq!(rt; SavedRow::read(",,,,,,,,,,,,,"), None);
+    Ok(())
+}
+
+#[test]
+fn fields_are_read_back(rt: HostRuntime) -> Result<(), Fail> {
+    let redirect = SavedRow {
+        time: SavedField::Other,
+        number: SavedField::Other,
+        redirect: SavedField::Number(1),
+        ..saved(SavedField::Number(8))
     };
-    let row = "1,,8,6,10.0.0.2,5000,203.0.113.1,1024,,x,1,0,0,,";
-    assert_eq!(rt; SavedRow::read(row), Ok(SavedRow::Made(redirect)));
-    let row = "5,,12,1,10.0.0.3,,203.0.113.1,,,,,,,,";
-    assert_eq!(rt; SavedRow::read(row), Ok(SavedRow::Refused(Some(5))));
+    let row = "x,,8,17,10.0.0.2,5000,203.0.113.1,1024,,x,1,0,0,,";
+    assert_eq!(rt; SavedRow::read(row), Some(redirect));
+    let refused = SavedRow {
+        time: SavedField::Number(5),
+        inside: None,
+        external: None,
+        number: SavedField::Empty,
+        redirect: SavedField::Empty,
+        ..saved(SavedField::Number(12))
+    };
     assert_eq!(rt;
-        SavedRow::read("x,,13,1,10.0.0.3,,203.0.113.1,,3,,,,,,"),
-        Err(NO_TIME)
+        SavedRow::read("5,,12,17,10.0.0.3,,203.0.113.1,,,,,,,,"),
+        Some(refused)
     );
-    assert_eq!(rt;
-        SavedRow::read(",,,,,,,,,,,,,"),
-        Err("expected as many fields as there are names")
-    );
+    assert!(rt; refused.binding().is_err());
     Ok(())
 }
 

@@ -12,7 +12,7 @@ ghost use Rattle.napt_program.specs.Standard.{standard_again};
 ghost use Rattle.napt_program.specs.Streams.{closed_stream};
 
 use crate::config_file::configuration;
-use crate::devices::{Devices, buffered, sink_over};
+use crate::devices::{BUFFERED, Devices, HELD, buffered, sink_over};
 use crate::files::{FilesWithLog, open_files, open_files_with_log};
 use crate::options::Options;
 use crate::options_with_log::OptionsWithLog;
@@ -82,7 +82,7 @@ pub fn open<'r, R: Files + Input + Print + AllocGlobal>(
         return Err(Stop::File(role));
     }
     let config = configuration(rt, options.config.as_ref())?;
-    let devices = buffered(rt.alloc(), open_files(rt, options)?)?;
+    let devices = buffered(rt.alloc(), open_files(rt, options)?, BUFFERED)?;
     Ok(Opened { config, devices })
 }
 
@@ -117,8 +117,9 @@ pub fn open_with_log<'r, R: Files + Input + Print + AllocGlobal>(
     }
     let config = configuration(rt, options.files.config.as_ref())?;
     let FilesWithLog { files, log } = open_files_with_log(rt, options)?;
-    let devices = buffered(rt.alloc(), files)?;
-    let log = sink_over(rt.alloc(), log)?;
+    let held = if log.is_some() { HELD } else { BUFFERED };
+    let devices = buffered(rt.alloc(), files, held)?;
+    let log = sink_over(rt.alloc(), log, BUFFERED)?;
     let opened = Opened { config, devices };
     Ok(OpenedWithLog { opened, log })
 }

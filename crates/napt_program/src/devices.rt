@@ -12,8 +12,12 @@ use napt_capture::{NoPackets, Nowhere, Watched};
 use std::alloc::Global;
 use std::io::{BufReader, BufWriter, Read, Write};
 
-/// How many bytes each buffer holds.
-const BUFFERED: usize = 65_536;
+/// How many bytes a buffer holds.
+pub(crate) const BUFFERED: usize = 65_536;
+
+/// How many bytes the buffer of an output holds beside a log. No more come between two flushes, since they are what was read
+/// ahead of both captures (`ROOM`); so nothing of it is written before the log was flushed.
+pub(crate) const HELD: usize = 2_097_152;
 
 /// A device for each file of a run, as `RunFiles` names them; `NoPackets` stands for a capture that was not given, and
 /// `Nowhere` for an output that nobody asked for.
@@ -26,11 +30,12 @@ pub struct Devices<S, T: Write + Drop, F: Write + Drop> {
     pub report: Either<Watched<BufWriter<Either<T, F>>>, Nowhere>,
 }
 
-/// Puts the files behind buffers: each device reads what its file reads, or writes what its file writes. Fails, as a run
-/// does, if memory runs out.
+/// Puts the files behind buffers, those of the captures that are written of so many bytes: each device reads what its file reads, or writes what
+/// its file writes. Fails, as a run does, if memory runs out.
 pub fn buffered<S: Read + Drop, T: Write + Drop, F: Read + Write + Drop>(
     alloc: Global,
     files: RunFiles<S, T, F>,
+    held: usize,
 ) -> Result<Devices<S, T, F>, Stop>
     ensures fresh { IfOk result AreFresh }
     ensures over { IfOk result
@@ -40,9 +45,9 @@ pub fn buffered<S: Read + Drop, T: Write + Drop, F: Read + Write + Drop>(
     Ok(Devices {
         inside: source(alloc, files.inside)?,
         outside: source_over(alloc, files.outside)?,
-        to_outside: sink(alloc, files.to_outside)?,
-        to_inside: sink_over(alloc, files.to_inside)?,
-        report: sink_over(alloc, files.report)?,
+        to_outside: sink(alloc, files.to_outside, held)?,
+        to_inside: sink_over(alloc, files.to_inside, held)?,
+        report: sink_over(alloc, files.report, BUFFERED)?,
     })
 }
 
@@ -75,13 +80,17 @@ fn source_over<D: Read + Drop>(
     }
 }
 
-/// The device over a writer. Fails, as a run does, if memory runs out.
-fn sink<D: Write + Drop>(alloc: Global, device: D) -> Result<Watched<BufWriter<D>>, Stop>
+/// The device over a writer, behind a buffer of so many bytes. Fails, as a run does, if memory runs out.
+fn sink<D: Write + Drop>(
+    alloc: Global,
+    device: D,
+    held: usize,
+) -> Result<Watched<BufWriter<D>>, Stop>
     ensures fresh { IfOk result (λ made. failed_of made ≡ 0) }
     ensures shows { IfOk result (λ made. bytes_written D.contents made ≡ D.contents device) }
     ensures refused { IfErr result (λ stop. stop ≡ MEMORY) }
 {
-    match BufWriter::with_capacity(alloc, BUFFERED, device) {
+    match BufWriter::with_capacity(alloc, held, device) {
         Ok(writer) => Ok(Watched::new(writer)),
         Err(_) => Err(MEMORY),
     }
@@ -91,6 +100,7 @@ fn sink<D: Write + Drop>(alloc: Global, device: D) -> Result<Watched<BufWriter<D
 pub(crate) fn sink_over<D: Write + Drop>(
     alloc: Global,
     device: Option<D>,
+    held: usize,
 ) -> Result<Either<Watched<BufWriter<D>>, Nowhere>, Stop>
     ensures fresh { IfOk result (λ made. failed_in made ≡ 0) }
     ensures given { IfOk result (λ made. is_left made ≡ is_some device) }
@@ -100,6 +110,6 @@ pub(crate) fn sink_over<D: Write + Drop>(
 {
     match device {
         None => Ok(Right(Nowhere::new())),
-        Some(device) => Ok(Left(sink(alloc, device)?)),
+        Some(device) => Ok(Left(sink(alloc, device, held)?)),
     }
 }

@@ -9,7 +9,7 @@ use Rattle.napt_capture.specs.declared.fault.CaptureFault.TheVariants.{NoHeader,
 use Rattle.napt_capture.specs.declared.fault.WriteFault.{WriteFault}
 use Rattle.napt_capture.specs.Reading.{StopsBy}
 use Rattle.napt_config.specs.Rules.{Rules}
-use Rattle.napt_dispatch.specs.Passing.{HasCome, PassesEarly, PassesHalted, PassesTo}
+use Rattle.napt_dispatch.specs.Passing.{HasCome}
 use Rattle.napt_records.specs.Begun.{AreBegun}
 use Rattle.napt_records.specs.Counts.{AreCountsOf}
 use Rattle.napt_laws.specs.Dispatching.{IsFront}
@@ -25,10 +25,10 @@ use Rattle.napt_records.proofs.Came.{came_fault, came_whole, handed_front, hande
 use Rattle.napt_records.proofs.Left.{StopsBy-then}
 use Rattle.napt_rules.specs.Prelude.{Arrival, ran}
 use Rattle.napt_sequential.specs.Inputs.{Came}
-use Rattle.napt_run.specs.Leaving.{AreSound, AreTimes, Fails, FailsBy, IsSettled, Takes, Timed, records_text}
+use Rattle.napt_run.specs.Leaving.{AreSound, AreTimes, FailsBy, IsSettled, Takes, Timed, records_text}
 use Rattle.napt_run.specs.LeavingLaws.{breaks_more, grows_more, records_text-append, times_first, times_second}
 use Rattle.napt_run.specs.Outputs.{Breaks, Grows}
-use Rattle.napt_run.specs.Passed.{PassesAll, PassesOr}
+use Rattle.napt_run.specs.Passed.{PassesAll, PassesEarly, PassesHalted, PassesOr, PassesTo}
 use Rattle.napt_run.specs.Runs.{FailsInside, FailsOutside, Halts, IfHeld, RunsTo, RunsToFault, RunsWell, Writes, left_of, text_behind}
 use Rattle.napt_run.specs.Files.{files_until}
 use Rattle.napt_run.specs.Streams.{AreTaken, IsFaultOf, IsOfRun, IsReading}
@@ -172,8 +172,8 @@ module _ {R Q W V : Type 0} {G : source.Ghosts R} {H : source.Ghosts Q} {S : sin
       IfHeld-by (λ all. AreTaken side fault all inputs) bytes others
       (λ b o is same. (refused side fault inputs came b o is same).taken)
 
-  to_fault : (side : Side) (fault : CaptureFault) → PassesTo rules HandsOut EndsWith Takes Fails IsSettled begin old
-      end new (Some (record { side = side; fault = fault })) →
+  to_fault : (side : Side) (fault : CaptureFault) →
+      PassesTo rules HandsOut EndsWith begin old end new (Some (record { side = side; fault = fault })) →
       RunsToFault open_gate rules bytes others [] old new side fault
   to_fault side fault p =
       let all = times p.inputs p.came.last p.came.handed in
@@ -229,8 +229,8 @@ module _ {R Q W V : Type 0} {G : source.Ghosts R} {H : source.Ghosts Q} {S : sin
         };
       }
 
-  early : (which : Which) (fault : WriteFault) → PassesEarly rules HandsOut EndsWith Takes Fails IsSettled begin old end
-      new (record { which = which; fault = fault }) →
+  early : (which : Which) (fault : WriteFault) →
+      PassesEarly rules HandsOut EndsWith begin old end new (record { which = which; fault = fault }) →
       Early which fault
   early which fault p =
       let (mid, handed) = came_somehow p.inputs p.come in
@@ -327,8 +327,7 @@ module _ {R Q W V : Type 0} {G : source.Ghosts R} {H : source.Ghosts Q} {S : sin
       }
   failed Report fault e = absurd e.failed
 
-  halts : PassesHalted rules HandsOut EndsWith Takes Fails IsSettled begin old end new →
-      Halts open_gate rules bytes others [] old new
+  halts : PassesHalted rules HandsOut EndsWith begin old end new → Halts open_gate rules bytes others [] old new
   halts p = elim p.took [
     | inl took ↦ halted p.inputs p.went p.come p.front took
     | inr fails ↦ failed fails.0.which fails.0.fault (early fails.0.which fails.0.fault (record {

@@ -101,7 +101,7 @@ left_front rules xs ys =
           ∙ timed_append xs ys (ran rules xs).outcomes later (as_many rules xs),
     )
 
-same_front : {X : Type 0} (a b x y : List X) → length a ≡ length b → a ++ x ≡ b ++ y → a ≡ b
+pub same_front : {X : Type 0} (a b x y : List X) → length a ≡ length b → a ++ x ≡ b ++ y → a ≡ b
 same_front a b x y n e = sym (take-append_seam a x) ∙ ap (take (length a)) e ∙ ap (λ k. take k (b ++ y)) n
     ∙ take-append_seam b y
 

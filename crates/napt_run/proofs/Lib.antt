@@ -3,12 +3,12 @@ pub mod Pieces
 pub mod Counted
 pub mod PassesAll
 pub mod Breaks
-pub mod Waits
-pub mod Stepping
+pub mod Entering
 pub mod Fronts
+pub mod TraceFronts
 pub mod Files
 pub mod Behind
-pub mod Shown
+pub mod BothPassed
 pub mod Begun
 pub mod Headers
 pub mod Headed

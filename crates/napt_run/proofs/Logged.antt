@@ -1,5 +1,5 @@
 -- What a run with a log leaves on its devices.
-use Rattle.std.proofs.Common.{◌≡◌, ◌⊎◌, inl, inr, ℕ, ◌+◌, ◌^◌, ◌≤◌, Bool, true, List, [], ◌++◌, length, take, Option, Result, Ok, Err, IfErr, refl, sym, ◌∙◌, ap, subst, arith, append-nil, append_assoc, length-append}
+use Rattle.std.proofs.Common.{◌≡◌, ◌⊎◌, inl, inr, ℕ, ◌+◌, ◌^◌, ◌<◌, ◌≤◌, Bool, true, List, [], ◌∷◌, ◌++◌, length, map, take, Option, Result, Ok, Err, IfErr, refl, sym, ◌∙◌, ap, subst, arith, append-nil, append_assoc, length-append}
 use Rattle.std.proofs.lemmas.Bool.{true≢false}
 use Rattle.std.proofs.Math.Seq.{take-append_seam}
 use Rattle.std.proofs.lemmas.List.{take-append-le}
@@ -12,7 +12,8 @@ use Rattle.napt_capture.specs.declared.fault.WriteFault.{WriteFault}
 use Rattle.napt_config.specs.Rules.{Rules}
 use Rattle.napt_laws.specs.Dispatching.{IsFront}
 use Rattle.napt_account.specs.Telling.{living_of}
-use Rattle.napt_log_text.specs.Logs.{living_rows, log_so_far, log_text, opening_text, rows_after}
+use Rattle.napt_account.specs.TraceLogs.{IsNext}
+use Rattle.napt_log_text.specs.Logs.{living_rows, log_so_far, log_text, opening_text, rows_after, rows_with}
 use Rattle.napt_log_text.specs.Times.{Text}
 use Rattle.napt_records.specs.Taking.{Inputs}
 use Rattle.napt_records.specs.declared.Fault.{Fault}
@@ -20,23 +21,30 @@ use Rattle.napt_records.specs.declared.Fault.TheVariants as faults
 use Rattle.napt_records.specs.declared.Which.{Which}
 use Rattle.napt_records.specs.declared.Which.TheVariants as outputs
 use Rattle.napt_rules.specs.Prelude.{Arrival}
+use Rattle.napt_rules.specs.Prelude as model
+use Rattle.napt_sequential.specs.Traces.{traces}
+use Rattle.napt_sequential.proofs.Joined.{traces_long}
+use Rattle.napt_sequential.specs.declared.fault.RunFault.{RunFault}
 use Rattle.napt_sequential.specs.declared.fault.RunFault.TheVariants as reasons
+use Rattle.napt_sequential.specs.declared.passage.Passage.{Passage}
+use Rattle.napt_sequential.specs.declared.passage.Trace.{Trace}
 use Rattle.napt_run.specs.LeavingLaws.{breaks_more, grows_more}
 use Rattle.napt_run.specs.LoggedStreams.{FailsAtMostOnce, HasBytes, HasLog, HasPart, HasRows, HasWritten, LogIsLeft, LoggedSays, besides_log, fault_of}
-use Rattle.napt_run.specs.Observers.{FailsAt, Observes, SeesAll, SeesOrFails, SeesSome, as_run}
+use Rattle.napt_run.specs.Logging.{EntersAll, EntersFront, FailsOver, Legs, LogsTo, as_run, legs_told}
 use Rattle.napt_run.specs.Outputs.{Breaks, Grows}
 use Rattle.napt_run.specs.Runs.{IfHeld, ResultSays}
-use Rattle.napt_run.specs.RunningLogs.{Adds, Fails, FailsBy, FailsMore, Flushes, GoesOn, IsFlushedAt, Sees}
+use Rattle.napt_run.specs.RunningLogs.{Adds, AreLaws, Enters, Fails, FailsBy, FailsMore, Flushes, GoesOn, Halts, IsAt, IsFlushedAt, traces_of}
 use Rattle.napt_run.specs.Streams.{AreTaken, DeviceGets, HasRead, IsOfRun}
 use Rattle.napt_run.specs.declared.logged_fault.LoggedFault.{LoggedFault}
 use Rattle.napt_run.specs.declared.logged_fault.LoggedFault.TheVariants.{Run, Log}
-use Rattle.napt_run.specs.declared.observer.Halt.{Halt}
-use Rattle.napt_run.specs.declared.observer.Halt.TheVariants as halts
+use Rattle.napt_run.specs.declared.logging.Halt.{Halt}
+use Rattle.napt_run.specs.declared.logging.Halt.TheVariants as halts
 use Rattle.napt_run.specs.declared.output.Output.{Output}
 use Rattle.napt_run.specs.declared.passing.Totals.{Totals}
 use Rattle.napt_run.specs.declared.running_log.RunningLog.{RunningLog}
 use Rattle.napt_run.proofs.Endings.{IsBeforeReport, all_left}
 use Rattle.napt_run.proofs.Streamed.{IfHeld-all, IfHeld-map}
+use Rattle.napt_run.proofs.TraceFronts.{NextInput, next_input}
 
 -- TEXTS
 
@@ -136,14 +144,14 @@ module _ {L : Type 0} {S : Ghosts L} (rules : Rules) (inside outside : Option (L
 none_held : (inside outside : Option (List ℕ)) → IfHeld inside outside (λ all. IsFront [] all.arrivals)
 none_held inside outside = IfHeld-all (λ all. IsFront [] all.arrivals) inside outside (λ all. (all.arrivals, refl))
 
-front_first : (inside outside : Option (List ℕ)) (inputs first others : List Arrival) → inputs ≡ first ++ others →
+front_first : (inside outside : Option (List ℕ)) (inputs first others : List Arrival) → first ++ others ≡ inputs →
     IfHeld inside outside (λ all. IsFront inputs all.arrivals) →
     IfHeld inside outside (λ all. IsFront first all.arrivals)
 front_first inside outside inputs first others both = IfHeld-map (λ all. IsFront inputs all.arrivals)
     (λ all. IsFront first all.arrivals) inside outside
     (λ all front. (
       others ++ front.0,
-      sym (append_assoc first others front.0) ∙ ap (λ (l : List Arrival). l ++ front.0) (sym both) ∙ front.1,
+      sym (append_assoc first others front.0) ∙ ap (λ (l : List Arrival). l ++ front.0) both ∙ front.1,
     ))
 
 -- no call of the log failed, or one, and none since
@@ -178,22 +186,46 @@ record EndsPart {L : Type 0} {S : Ghosts L} (rules : Rules) (inside outside : Op
   counts : FailsAtMostOnce (S.failed old.device.now) (S.failed new.device.now)
   part : IfHeld inside outside (λ all. HasPart rules all (S.contents old.device.now) (S.contents new.device.now))
 
+-- TRACES
+
+traces_back : (all : List Trace) → traces_of (map (λ trace. (trace.now, trace.first, trace.second)) all) ≡ all
+traces_back [] = refl
+traces_back (trace ∷ all) = ap (λ (l : List Trace). trace ∷ l) (traces_back all)
+
+-- the traces of the legs of these inputs
+abbrev pub told_traces : Rules → List Arrival → List Trace
+told_traces rules inputs = traces_of (legs_told (λ (p : Passage). p) rules inputs)
+
+pub traces_told : (rules : Rules) (inputs : List Arrival) → told_traces rules inputs ≡ traces rules inputs
+traces_told rules inputs = traces_back (traces rules inputs)
+
+rows_told : (rules : Rules) → AreLaws rules → (inputs : List Arrival) →
+    rows_with rules [] (traces rules inputs) ≡ rows_after rules [] inputs
+rows_told rules laws inputs = laws.rows rules laws.keeps inputs
+
 -- THE LOG WHILE THE RUN GOES
 
-module _ {L : Type 0} {S : Ghosts L} (rules : Rules) (inside outside : Option (List ℕ))
+module _ {L : Type 0} {S : Ghosts L} (rules : Rules) (laws : AreLaws rules) (inside outside : Option (List ℕ))
     (old mid after : RunningLog L S) (none : old.output.written ≡ 0)
     (begun : GoesOn rules [] (opening rules) old mid) where
-  abbrev pub Settled : RunningLog L S → Type 0
+  abbrev EntersLegs : RunningLog L S → List (Legs Passage) → RunningLog L S → Type 0
+  EntersLegs x all y = Enters x (traces_of all) y
+
+  abbrev FailsLegs : RunningLog L S → List (Legs Passage) → LoggedFault → RunningLog L S → Type 0
+  FailsLegs x all fault y = Fails x (traces_of all) fault y
+
+  abbrev Settled : RunningLog L S → Type 0
   Settled log = S.is_flushed log.output.device.now
 
   abbrev pub Watched : Result Totals (Halt LoggedFault) → Type 0
-  Watched result = Observes Sees Fails Settled inside outside mid after result
+  Watched result =
+      LogsTo (λ (p : Passage). p) rules EntersLegs FailsLegs Settled inside outside mid after result
 
-  abbrev Saw : Type 0
-  Saw = SeesSome Sees Fails Settled inside outside mid after
+  abbrev Front : Type 0
+  Front = EntersFront (λ (p : Passage). p) rules EntersLegs FailsLegs Settled inside outside mid after
 
   abbrev Failed : LoggedFault → Type 0
-  Failed fault = FailsAt Sees Fails Settled inside outside mid after fault
+  Failed fault = FailsOver (λ (p : Passage). p) rules EntersLegs FailsLegs Settled inside outside mid after fault
 
   grew : (inputs : List Arrival) → Grows mid.output (rows_after rules [] inputs) after.output →
       Grows old.output (log_so_far rules inputs) after.output
@@ -206,8 +238,22 @@ module _ {L : Type 0} {S : Ghosts L} (rules : Rules) (inside outside : Option (L
   broke inputs fault p = subst (λ (l : Text). Breaks old.output l fault after.output) (so_far_is rules inputs)
       (breaks_more old.output mid.output after.output _ _ fault begun.wrote p)
 
-  saw : (s : Saw) → Grows old.output (log_so_far rules s.inputs) after.output
-  saw s = grew s.inputs (s.saw rules [] begun.at).wrote
+  -- it was entered what these inputs tell
+  entered : (inputs : List Arrival) → Enters mid (told_traces rules inputs) after →
+      GoesOn rules (traces rules inputs) (rows_after rules [] inputs) mid after
+  entered inputs enters = subst (λ (l : Text). GoesOn rules (traces rules inputs) l mid after)
+      (rows_told rules laws inputs)
+      (subst (λ (ts : List Trace). GoesOn rules ts (rows_with rules [] ts) mid after) (traces_told rules inputs)
+      (enters rules [] begun.at))
+
+  wrote : (inputs : List Arrival) → Enters mid (told_traces rules inputs) after →
+      Grows old.output (log_so_far rules inputs) after.output
+  wrote inputs enters = grew inputs (entered inputs enters).wrote
+
+  failed_over : (inputs : List Arrival) (fault : LoggedFault) → Fails mid (told_traces rules inputs) fault after →
+      FailsBy rules [] (traces rules inputs) fault mid after
+  failed_over inputs fault fails = subst (λ (ts : List Trace). FailsBy rules [] ts fault mid after)
+      (traces_told rules inputs) (fails rules [] begun.at)
 
   grown_part : (inputs : List Arrival) → Grows old.output (log_so_far rules inputs) after.output →
       IfHeld inside outside (λ all. IsFront inputs all.arrivals) →
@@ -218,35 +264,59 @@ module _ {L : Type 0} {S : Ghosts L} (rules : Rules) (inside outside : Option (L
     part = whole_part rules inside outside old.output after.output none inputs grown.appended front;
   }
 
+  broken_over : (inputs : List Arrival) (fault : WriteFault) →
+      Breaks mid.output (rows_with rules [] (traces rules inputs)) fault after.output →
+      Breaks old.output (log_so_far rules inputs) fault after.output
+  broken_over inputs fault p =
+      broke inputs fault (subst (λ (l : Text). Breaks mid.output l fault after.output) (rows_told rules laws inputs) p)
+
+  -- the input whose trace was not taken
+  next_of : (inputs : List Arrival) (fault : RunFault) (p : Halts rules [] (traces rules inputs) fault mid after) →
+      NextInput rules inputs p.first p.next
+  next_of inputs fault p = next_input rules inputs p.first p.next p.others p.all
+
+  halted_part : (inputs : List Arrival) (fault : RunFault) →
+      IfHeld inside outside (λ all. IsFront inputs all.arrivals) →
+      Halts rules [] (traces rules inputs) fault mid after → LeavesPart rules inside outside old.output after.output
+  halted_part inputs fault front p =
+      let n : NextInput rules inputs p.first p.next = next_of inputs fault p in
+      grown_part n.before
+      (grew n.before (subst (λ (l : Text). Grows mid.output l after.output)
+      (ap (λ (ts : List Trace). rows_with rules [] ts) n.first_is ∙ rows_told rules laws n.before) p.wrote))
+      (front_first inside outside inputs n.before (n.input ∷ n.later)
+      (sym (append_assoc n.before (n.input ∷ []) n.later) ∙ n.whole) front)
+
   failed_part : (fault : LoggedFault) (inputs : List Arrival) →
-      IfHeld inside outside (λ all. IsFront inputs all.arrivals) → FailsBy rules [] inputs fault mid after →
+      IfHeld inside outside (λ all. IsFront inputs all.arrivals) →
+      FailsBy rules [] (traces rules inputs) fault mid after →
       LeavesPart rules inside outside old.output after.output
   failed_part (Log fault) inputs front p =
-      let all = broke inputs fault p in
+      let all = broken_over inputs fault p in
       record {
         same = all.same;
         counts = inr (all.broken, all.failed_once);
         part = part_of rules inside outside old.output after.output none inputs all.count all.within all.appended
             front;
       }
-  failed_part (Run (faults.Run fault)) inputs front p =
-      grown_part p.first (grew p.first p.wrote) (front_first inside outside inputs p.first p.others p.both front)
+  failed_part (Run (faults.Run fault)) inputs front p = halted_part inputs fault front p
   failed_part (Run (faults.Capture side fault)) inputs front p = absurd p
   failed_part (Run (faults.Write which fault)) inputs front p = absurd p
 
-  part : SeesOrFails Sees Fails Settled inside outside mid after →
-      LeavesPart rules inside outside old.output after.output
-  part (inl s) = grown_part s.inputs (saw s) s.front
-  part (inr (fault, f)) = failed_part fault f.inputs f.front (f.failed rules [] begun.at)
+  front_part : Front → LeavesPart rules inside outside old.output after.output
+  front_part s = grown_part s.inputs (wrote s.inputs s.entered) s.front
+
+  part : Front ⊎ ((fault : LoggedFault) × Failed fault) → LeavesPart rules inside outside old.output after.output
+  part (inl s) = front_part s
+  part (inr (fault, f)) = failed_part fault f.inputs f.front (failed_over f.inputs fault f.failed)
 
   abbrev Gets : Halt LoggedFault → Output L S → Type 0
   Gets halt new = LogIsLeft rules inside outside (Err (fault_of halt)) old.output new
 
   failed_at : (fault : LoggedFault) (inputs : List Arrival) →
-      IfHeld inside outside (λ all. IsFront inputs all.arrivals) → FailsBy rules [] inputs fault mid after →
-      Gets (halts.Observer fault) after.output
+      IfHeld inside outside (λ all. IsFront inputs all.arrivals) →
+      FailsBy rules [] (traces rules inputs) fault mid after → Gets (halts.Log fault) after.output
   failed_at (Log fault) inputs front p =
-      let all = broke inputs fault p in
+      let all = broken_over inputs fault p in
       record {
         same = all.same;
         gets = record {
@@ -296,7 +366,7 @@ module _ {L : Type 0} {S : Ghosts L} (rules : Rules) (inside outside : Option (L
         IfErr (as_run {T = Totals} (Err halt)) IsBeforeReport → (IsFlushedAt halt → last ≡ after.output) →
         Gets halt last
     halted (halts.Run (faults.Capture side fault)) s stop flushed =
-        let grown = grew s.inputs (s.saw rules [] begun.at).wrote in
+        let grown = wrote s.inputs s.entered in
         subst (Gets (halts.Run (faults.Capture side fault))) (sym (flushed tt)) (record {
           same = grown.same;
           gets = record {
@@ -305,12 +375,12 @@ module _ {L : Type 0} {S : Ghosts L} (rules : Rules) (inside outside : Option (L
             settled = λ done. s.settled;
           };
         })
-    halted (halts.Run (faults.Write outputs.Outside fault)) o stop flushed = let p = on (part o) in
+    halted (halts.Run (faults.Write outputs.Outside fault)) o stop flushed = let p = on (front_part o) in
         record {
           same = p.same;
           gets = record { gets = p.part; counts = p.counts; settled = λ settled. absurd settled };
         }
-    halted (halts.Run (faults.Write outputs.Inside fault)) o stop flushed = let p = on (part o) in
+    halted (halts.Run (faults.Write outputs.Inside fault)) o stop flushed = let p = on (front_part o) in
         record {
           same = p.same;
           gets = record { gets = p.part; counts = p.counts; settled = λ settled. absurd settled };
@@ -321,36 +391,41 @@ module _ {L : Type 0} {S : Ghosts L} (rules : Rules) (inside outside : Option (L
           same = p.same;
           gets = record { gets = p.part; counts = p.counts; settled = λ settled. absurd settled };
         }
-    halted (halts.Observer fault) f stop flushed =
-        subst (Gets (halts.Observer fault)) (sym (flushed tt))
-        (failed_at fault f.inputs f.front (f.failed rules [] begun.at))
+    halted (halts.Log fault) f stop flushed =
+        subst (Gets (halts.Log fault)) (sym (flushed tt))
+        (failed_at fault f.inputs f.front (failed_over f.inputs fault f.failed))
 
   -- or it did not fail, and what lives was written
-  module _ (last : RunningLog L S) (totals : Totals) (s : SeesAll Sees Fails Settled inside outside mid after
-      totals.cuts) where
+  module _ (last : RunningLog L S) (totals : Totals)
+      (s : EntersAll (λ (p : Passage). p) rules EntersLegs FailsLegs Settled inside outside mid after totals.cuts) where
     front_all : IfHeld inside outside (λ all. IsFront s.inputs all.arrivals)
     front_all = IfHeld-map (λ all. all ≡ record { arrivals = s.inputs; end = Ok totals.cuts })
         (λ all. IsFront s.inputs all.arrivals) inside outside
         (λ all is. ([], append-nil s.inputs ∙ sym (ap (λ (i : Inputs). i.arrivals) is))) s.all
 
-    saw_all : Grows old.output (log_so_far rules s.inputs) after.output
-    saw_all = grew s.inputs (s.saw rules [] begun.at).wrote
+    wrote_all : Grows old.output (log_so_far rules s.inputs) after.output
+    wrote_all = wrote s.inputs s.entered
+
+    pub at_end : IsAt rules (traces rules s.inputs) after
+    at_end = (entered s.inputs s.entered).at
 
     abbrev pub Closed : Result (Unit {0}) LoggedFault → Type 0
-    Closed closed = Adds rules s.inputs (living_rows rules (living_of rules s.inputs)) after closed last
+    Closed closed = Adds rules (traces rules s.inputs) (living_rows rules (living_of rules s.inputs)) after closed last
 
-    pub ended_well : Flushes rules s.inputs (living_rows rules (living_of rules s.inputs)) after last →
+    pub ended_well : Flushes rules (traces rules s.inputs) (living_rows rules (living_of rules s.inputs)) after last →
         LogIsLeft rules inside outside (Ok totals) old.output last.output
     ended_well p =
         let grown : Grows old.output (log_text rules s.inputs) last.output =
         subst (λ (l : Text). Grows old.output l last.output) (text_is rules s.inputs)
-        (grows_more old.output after.output last.output _ _ saw_all p.on.wrote) in
+        (grows_more old.output after.output last.output _ _ wrote_all p.on.wrote) in
+        let few : length s.inputs < 2 ^ 62 =
+        subst (λ (n : ℕ). n < 2 ^ 62) (traces_long rules 0 0 s.inputs (model.opening rules)) p.on.at.few in
         record {
           same = grown.same;
           gets = record {
             gets = IfHeld-map (λ all. all ≡ record { arrivals = s.inputs; end = Ok totals.cuts })
                 (λ all. HasLog rules all (S.contents old.output.device.now) (S.contents last.output.device.now))
-                inside outside (λ all is. rw is (refl, p.on.at.few, grown.appended)) s.all;
+                inside outside (λ all is. rw is (refl, few, grown.appended)) s.all;
             counts = grown.kept;
             settled = λ done. p.flushed;
           };
@@ -361,7 +436,7 @@ module _ {L : Type 0} {S : Ghosts L} (rules : Rules) (inside outside : Option (L
     ended_badly (Log fault) p =
         let all : Breaks old.output (log_text rules s.inputs) fault last.output =
         subst (λ (l : Text). Breaks old.output l fault last.output) (text_is rules s.inputs)
-        (breaks_more old.output after.output last.output _ _ fault saw_all p) in
+        (breaks_more old.output after.output last.output _ _ fault wrote_all p) in
         record {
           same = all.same;
           gets = record {
@@ -373,7 +448,7 @@ module _ {L : Type 0} {S : Ghosts L} (rules : Rules) (inside outside : Option (L
     ended_badly (Run (faults.Run reasons.Memory)) p =
         let grown : Grows old.output (log_so_far rules s.inputs) last.output =
         subst (λ (l : Text). Grows old.output l last.output) (append-nil (log_so_far rules s.inputs))
-        (grows_more old.output after.output last.output _ _ saw_all p) in
+        (grows_more old.output after.output last.output _ _ wrote_all p) in
         record {
           same = grown.same;
           gets = record {
@@ -426,14 +501,14 @@ IsOfText (Log fault) = Unit {0}
 IsOfText (Run (faults.Run reasons.Memory)) = Unit {0}
 IsOfText other = ⊥
 
-pub adds_fault : {L : Type 0} {S : Ghosts L} (rules : Rules) (inputs : List Arrival) (text : Text)
-    (old new : RunningLog L S) (fault : LoggedFault) → Adds rules inputs text old (Err fault) new → IsOfText fault
-adds_fault rules inputs text old new (Log fault) p = tt
-adds_fault rules inputs text old new (Run (faults.Run reasons.Memory)) p = tt
-adds_fault rules inputs text old new (Run (faults.Run reasons.TooMany)) p = absurd p
-adds_fault rules inputs text old new (Run (faults.Run (reasons.Pool fault))) p = absurd p
-adds_fault rules inputs text old new (Run (faults.Capture side fault)) p = absurd p
-adds_fault rules inputs text old new (Run (faults.Write which fault)) p = absurd p
+pub adds_fault : {L : Type 0} {S : Ghosts L} (rules : Rules) (all : List Trace) (text : Text)
+    (old new : RunningLog L S) (fault : LoggedFault) → Adds rules all text old (Err fault) new → IsOfText fault
+adds_fault rules all text old new (Log fault) p = tt
+adds_fault rules all text old new (Run (faults.Run reasons.Memory)) p = tt
+adds_fault rules all text old new (Run (faults.Run reasons.TooMany)) p = absurd p
+adds_fault rules all text old new (Run (faults.Run (reasons.Pool fault))) p = absurd p
+adds_fault rules all text old new (Run (faults.Capture side fault)) p = absurd p
+adds_fault rules all text old new (Run (faults.Write which fault)) p = absurd p
 
 pub text_stops : (fault : LoggedFault) → IsOfText fault → IsOfRun (besides_log {T = Totals} (Err fault))
 text_stops (Log fault) p = tt
@@ -485,32 +560,55 @@ module _ {D : Type 0} (S : Ghosts D) (rules : Rules) (inside outside : Option (L
       Device which (as_run (Err halt)) → Device which (besides_log (Err (fault_of halt)))
   device_halted which halt (inr same) p = subst (Device which) same p
   device_halted which (halts.Run fault) (inl run) p = p
-  device_halted which (halts.Observer fault) (inl run) p = of_run which (besides_log (Err fault)) run p
+  device_halted which (halts.Log fault) (inl run) p = of_run which (besides_log (Err fault)) run p
 
 -- WHAT A HALT SAYS
 
-module _ {L : Type 0} {S : Ghosts L} (open_gate : Bool) (rules : Rules) (inside outside : Option (List ℕ))
-    (old mid after : RunningLog L S) (none : old.output.written ≡ 0)
+module _ {L : Type 0} {S : Ghosts L} (open_gate : Bool) (rules : Rules) (laws : AreLaws rules)
+    (inside outside : Option (List ℕ)) (old mid after : RunningLog L S) (none : old.output.written ≡ 0)
     (begun : GoesOn rules [] (opening rules) old mid) where
   abbrev Halted : Halt LoggedFault → Type 0
-  Halted halt = Watched rules inside outside old mid after none begun (Err halt)
+  Halted halt = Watched rules laws inside outside old mid after none begun (Err halt)
 
   -- it is one of the run or of the log, or as it was told
   pub halt_is : (halt : Halt LoggedFault) → Halted halt →
       IsOfRun (besides_log {T = Totals} (Err (fault_of halt))) ⊎ (as_run {T = Totals} (Err halt)
       ≡ besides_log (Err (fault_of halt)))
   halt_is (halts.Run fault) p = inr refl
-  halt_is (halts.Observer (Log fault)) p = inr refl
-  halt_is (halts.Observer (Run (faults.Run fault))) p = inl tt
-  halt_is (halts.Observer (Run (faults.Capture side fault))) p = absurd (p.failed rules [] begun.at)
-  halt_is (halts.Observer (Run (faults.Write which fault))) p = absurd (p.failed rules [] begun.at)
+  halt_is (halts.Log (Log fault)) p = inr refl
+  halt_is (halts.Log (Run (faults.Run fault))) p = inl tt
+  halt_is (halts.Log (Run (faults.Capture side fault))) p = absurd (p.failed rules [] begun.at)
+  halt_is (halts.Log (Run (faults.Write which fault))) p = absurd (p.failed rules [] begun.at)
 
-  too_many : (inputs : List Arrival) → 2 ^ 32 ≤ length inputs →
+  too_many : (inputs : List Arrival) → 2 ^ 62 ≤ length inputs →
       IfHeld inside outside (λ all. IsFront inputs all.arrivals) →
-      IfHeld inside outside (λ all. 2 ^ 32 ≤ length all.arrivals)
-  too_many inputs many = IfHeld-map (λ all. IsFront inputs all.arrivals) (λ all. 2 ^ 32 ≤ length all.arrivals)
-      inside outside (λ all front. subst (λ (l : List Arrival). 2 ^ 32 ≤ length l) front.1
+      IfHeld inside outside (λ all. 2 ^ 62 ≤ length all.arrivals)
+  too_many inputs many = IfHeld-map (λ all. IsFront inputs all.arrivals) (λ all. 2 ^ 62 ≤ length all.arrivals)
+      inside outside (λ all front. subst (λ (l : List Arrival). 2 ^ 62 ≤ length l) front.1
       (omega (arith, many, length-append inputs front.0)))
+
+  -- the fault of the log that a halt tells of
+  halt_at : (inputs : List Arrival) (fault : RunFault) →
+      Fails mid (told_traces rules inputs) (Run (faults.Run fault)) after →
+      Halts rules [] (traces rules inputs) fault mid after
+  halt_at inputs fault fails = failed_over rules laws inside outside old mid after none begun inputs
+      (Run (faults.Run fault)) fails
+
+  -- there were too many
+  too_many_at : (inputs : List Arrival) → Halts rules [] (traces rules inputs) reasons.TooMany mid after →
+      2 ^ 62 ≤ length inputs
+  too_many_at inputs p =
+      let many : 2 ^ 62 ≤ length p.first + 1 = p.of_traces in
+      let all = ap (λ (ts : List Trace). length ts) p.all in
+      let long = traces_long rules 0 0 inputs (model.opening rules) in
+      let joined = length-append p.first (p.next ∷ p.others) in
+      omega (arith, many, all, long, joined)
+
+  -- a trace of a run always comes next
+  never_refused : (inputs : List Arrival) (first : List Trace) (next : Trace) → NextInput rules inputs first next →
+      (¬ IsNext first next) → ⊥
+  never_refused inputs first next n never = never (subst (λ (ts : List Trace). IsNext ts next) (sym n.first_is)
+      (laws.come rules laws.keeps n.before n.input next n.grown))
 
   pub halt_says : (halt : Halt LoggedFault) → Halted halt →
       ResultSays open_gate rules inside outside (as_run (Err halt)) →
@@ -524,21 +622,24 @@ module _ {L : Type 0} {S : Ghosts L} (open_gate : Bool) (rules : Rules) (inside 
       record { told = tt; fault = says.fault; stop = says.stop }
   halt_says (halts.Run (faults.Run (reasons.Pool fault))) p says =
       record { told = tt; fault = says.fault; stop = says.stop }
-  halt_says (halts.Observer (Log fault)) p says = record { told = tt; fault = tt; stop = tt }
-  halt_says (halts.Observer (Run (faults.Run reasons.TooMany))) p says = record {
+  halt_says (halts.Log (Log fault)) p says = record { told = tt; fault = tt; stop = tt }
+  halt_says (halts.Log (Run (faults.Run reasons.TooMany))) p says = record {
     told = tt;
-    fault = too_many p.inputs (p.failed rules [] begun.at).of_inputs p.front;
+    fault = too_many p.inputs (too_many_at p.inputs (halt_at p.inputs reasons.TooMany p.failed)) p.front;
     stop = tt;
   }
-  halt_says (halts.Observer (Run (faults.Run reasons.Memory))) p says = record {
+  halt_says (halts.Log (Run (faults.Run reasons.Memory))) p says = record {
     told = tt;
     fault = IfHeld-all (λ all. Unit {0}) inside outside (λ all. tt);
     stop = tt;
   }
-  halt_says (halts.Observer (Run (faults.Run (reasons.Pool fault)))) p says =
-      absurd (p.failed rules [] begun.at).of_inputs
-  halt_says (halts.Observer (Run (faults.Capture side fault))) p says = absurd (p.failed rules [] begun.at)
-  halt_says (halts.Observer (Run (faults.Write which fault))) p says = absurd (p.failed rules [] begun.at)
+  halt_says (halts.Log (Run (faults.Run (reasons.Pool fault)))) p says =
+      let h : Halts rules [] (traces rules p.inputs) (reasons.Pool fault) mid after =
+      halt_at p.inputs (reasons.Pool fault) p.failed in
+      absurd (never_refused p.inputs h.first h.next (next_input rules p.inputs h.first h.next h.others h.all)
+      h.of_traces.1)
+  halt_says (halts.Log (Run (faults.Capture side fault))) p says = absurd (p.failed rules [] begun.at)
+  halt_says (halts.Log (Run (faults.Write which fault))) p says = absurd (p.failed rules [] begun.at)
 
   pub halt_reads : (halt : Halt LoggedFault) → Halted halt → {X Y : Type 0} (of : X → ℕ) (if : Y → ℕ) (start last : X)
       (other end : Y) → ((¬ IsOfRun (as_run {T = Totals} (Err halt))) →

@@ -6,7 +6,6 @@ use Rattle.napt_wire.specs.declared.Side.TheVariants as sides
 use Rattle.napt_capture.specs.Text.{file_header}
 use Rattle.napt_capture.specs.declared.device.Sink.{Ghosts}
 use Rattle.napt_config.specs.Rules.{Rules}
-use Rattle.napt_dispatch.specs.Passing.{PassesWell}
 use Rattle.napt_dispatch.specs.declared.workers.Passed.{Passed}
 use Rattle.napt_records.specs.Counts.{AreCountsOf}
 use Rattle.napt_records.specs.Output.{IsTimely}
@@ -17,9 +16,10 @@ use Rattle.napt_rules.specs.declared.Outcome.{Outcome}
 use Rattle.napt_rules.specs.declared.Row.{Row}
 use Rattle.napt_sequential.proofs.Inputs.{came_whole}
 use Rattle.napt_sequential.specs.declared.fault.RunFault.{RunFault}
-use Rattle.napt_run.specs.Leaving.{AreTimes, Begins, Takes, Timed}
+use Rattle.napt_run.specs.Leaving.{AreTimes, Begins}
 use Rattle.napt_run.specs.LeavingLaws.{grows_more}
 use Rattle.napt_run.specs.Outputs.{Grows}
+use Rattle.napt_run.specs.Passed.{PassesWell}
 use Rattle.napt_run.specs.Runs.{left_of, text_behind}
 use Rattle.napt_run.specs.Streams.{capture_text}
 use Rattle.napt_run.specs.Whole.{IsTallyOf, WritesAll}
@@ -30,14 +30,11 @@ use Rattle.napt_run.proofs.Counted.{all_counted}
 use Rattle.napt_run.proofs.Fronts.{capture_is, times_of}
 
 -- the run over all inputs
-pub passes_all : {F B W V : Type 0} {S : Ghosts W} {T : Ghosts V} (rules : Rules)
-    (fails : Leaving W V S T → List Timed → B → Leaving W V S T → Type 0) (is_settled : Leaving W V S T → Type 0)
-    (from left : List Arrival) (old new : Leaving W V S T) (passed : Passed) → AreCountsOf [] old.counts →
-    All IsTimely from →
-    PassesWell {F = F} rules (λ x xs y. x ≡ xs ++ y) (λ x end y. x ≡ []) Takes fails is_settled from old left new
-    passed →
+pub passes_all : {F W V : Type 0} {S : Ghosts W} {T : Ghosts V} (rules : Rules) (from left : List Arrival)
+    (old new : Leaving W V S T) (passed : Passed) → AreCountsOf [] old.counts → All IsTimely from →
+    PassesWell {F = F} rules (λ x xs y. x ≡ xs ++ y) (λ x end y. x ≡ []) from old left new passed →
     WritesAll [] rules from old new (record { counts = new.counts; bindings = passed.bindings })
-passes_all rules fails is_settled from left old new passed none timely p =
+passes_all rules from left old new passed none timely p =
     let whole = p.whole in
     let inputs : List Arrival = whole.inputs in
     let is : inputs ≡ from = sym (came_whole (λ (l : List Arrival). l) from left inputs None whole.came) in

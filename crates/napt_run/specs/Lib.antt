@@ -14,12 +14,11 @@ pub mod Files
 pub mod Outputs
 pub mod Leaving
 pub mod LeavingLaws
-pub mod Observing
-pub mod ObservingLaws
-pub mod Passed
 pub mod Streams
 pub mod Runs
-pub mod Observers
+pub mod Logging
+pub mod LeavingWithLogs
+pub mod Passed
 pub mod Whole
 pub mod StreamLaws
 pub mod RunningLogs

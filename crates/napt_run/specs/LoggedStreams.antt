@@ -19,8 +19,8 @@ use Rattle.napt_run.specs.Captures.{IfKnown}
 use Rattle.napt_run.specs.Files.{files_until}
 use Rattle.napt_run.specs.Runs.{IsToldOf}
 use Rattle.napt_run.specs.Streams.{AreTaken, DeviceGets, Explains, IsOfRun, IsSettledBy, IsStopFault, ended}
-use Rattle.napt_run.specs.declared.observer.Halt.{Halt}
-use Rattle.napt_run.specs.declared.observer.Halt.TheVariants as halts
+use Rattle.napt_run.specs.declared.logging.Halt.{Halt}
+use Rattle.napt_run.specs.declared.logging.Halt.TheVariants as halts
 use Rattle.napt_run.specs.declared.output.Output.{Output}
 use Rattle.napt_run.specs.declared.logged_fault.LoggedFault.{LoggedFault}
 use Rattle.napt_run.specs.declared.logged_fault.LoggedFault.TheVariants.{Run, Log}
@@ -41,10 +41,10 @@ DeviceGetsOr S rules which inside outside result old new =
 
 -- THE LOG
 
--- all of it, and there are no more inputs than a run can count
+-- all of it, and there are no more inputs than a log can count
 abbrev pub HasLog : Rules → Inputs → Option (List ℕ) → Option (List ℕ) → Type 0
 HasLog rules all old new =
-    IsOk all.end × (length all.arrivals < 2 ^ 32) × Appends old new (log_text rules all.arrivals)
+    IsOk all.end × (length all.arrivals < 2 ^ 62) × Appends old new (log_text rules all.arrivals)
 
 -- the rows of the inputs before a fault of a capture, without those of what lives at the end
 abbrev pub HasRows : Rules → Side → CaptureFault → Inputs → Option (List ℕ) → Option (List ℕ) → Type 0
@@ -103,7 +103,7 @@ pub record LogGets {L T : Type 0} (S : Ghosts L) (rules : Rules) (inside outside
 abbrev pub LoggedExplains : Option (List ℕ) → Option (List ℕ) → LoggedFault → Type 0
 LoggedExplains inside outside (Log fault) = Unit {0}
 LoggedExplains inside outside (Run (faults.Run reasons.TooMany)) =
-    IfKnown inside outside (λ bytes others. 2 ^ 32 ≤ length (files_until bytes others).arrivals)
+    IfKnown inside outside (λ bytes others. 2 ^ 62 ≤ length (files_until bytes others).arrivals)
 LoggedExplains inside outside (Run fault) = Explains inside outside fault
 
 -- a gate that is open is not told to be shut
@@ -113,10 +113,10 @@ IsUnderOpenGate (Log fault) = Unit {0}
 
 -- STEPS
 
--- why a run that is observed by its log failed
+-- why a run whose log is kept failed
 abbrev pub fault_of : Halt LoggedFault → LoggedFault
 fault_of (halts.Run fault) = Run fault
-fault_of (halts.Observer fault) = fault
+fault_of (halts.Log fault) = fault
 
 -- a fault before the report, under a gate that promises yes or one that does not
 abbrev pub IsLoggedStop : Bool → LoggedFault → Type 0

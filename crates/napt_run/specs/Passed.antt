@@ -1,73 +1,149 @@
--- What a run from arriving captures to leaving ones does, by its result.
-use Rattle.std.specs.Prelude.{◌≡◌, Bool, List, Option, Some, Result, Ok, Err}
+-- What a run from arrivals to departures does to its outputs and its log, by its result.
+use Rattle.std.specs.Prelude.{◌≡◌, ◌⊎◌, ℕ, ◌^◌, ◌<◌, Bool, List, ◌++◌, length, Option, None, Some, Result, Ok, Err}
 use Rattle.napt_capture.specs.declared.device.Sink as sink
 use Rattle.napt_capture.specs.declared.device.Source as source
 use Rattle.napt_config.specs.Rules.{Rules}
 use Rattle.napt_dispatch.specs.Dispatch.{IsFaultUnder}
-use Rattle.napt_dispatch.specs.Passing.{PassesEarly, PassesHalted, PassesTo, PassesWell}
+use Rattle.napt_dispatch.specs.Passing.{HasCome}
+use Rattle.napt_dispatch.specs.declared.stopped.Stopped.{Stopped}
+use Rattle.napt_dispatch.specs.declared.stopped.Stopped.TheVariants as stops
+use Rattle.napt_dispatch.specs.declared.workers.Passed.{Passed}
+use Rattle.napt_laws.specs.Dispatching.{IsFront}
 use Rattle.napt_records.specs.Merged.{EndsWith, HandsOut, cut_of}
 use Rattle.napt_records.specs.declared.Fault.{Fault}
 use Rattle.napt_records.specs.declared.Fault.TheVariants.{Capture, Run, Write}
 use Rattle.napt_records.specs.declared.merged_streams.MergedStreams.{MergedStreams}
 use Rattle.napt_records.specs.declared.merged_streams.SideFault.{SideFault}
-use Rattle.napt_rules.specs.Prelude.{Arrival}
-use Rattle.napt_run.specs.Leaving.{Fails, IsSettled, Takes}
-use Rattle.napt_run.specs.Observing.{Ends, Shows}
-use Rattle.napt_run.specs.declared.observed.Interruption.{Interruption}
-use Rattle.napt_run.specs.declared.observed.Interruption.TheVariants as interruptions
-use Rattle.napt_run.specs.declared.observed.Observed.{Observed}
-use Rattle.napt_run.specs.declared.observer.Halt.{Halt}
-use Rattle.napt_run.specs.declared.observer.Halt.TheVariants as halts
+use Rattle.napt_rules.specs.Prelude.{Arrival, ran}
+use Rattle.napt_sequential.specs.Inputs.{Came}
+use Rattle.napt_sequential.specs.declared.passage.Passage.{Passage}
+use Rattle.napt_run.specs.Leaving.{Fails, IsSettled, Takes, Timed}
+use Rattle.napt_run.specs.Logging.{Legs, legs_told}
+use Rattle.napt_run.specs.Runs.{left_of}
 use Rattle.napt_run.specs.declared.leaving.Leaving.{Leaving}
+use Rattle.napt_run.specs.declared.leaving.OutputFault.{OutputFault}
+use Rattle.napt_run.specs.declared.leaving_with_log.LeavingFault.{LeavingFault}
+use Rattle.napt_run.specs.declared.leaving_with_log.LeavingFault.TheVariants.{Output, Log}
+use Rattle.napt_run.specs.declared.logging.Halt.{Halt}
+use Rattle.napt_run.specs.declared.logging.Halt.TheVariants as halts
 use Rattle.napt_run.specs.declared.passing.Totals.{Totals}
+
+-- THE OUTPUTS
+
+-- the first of these were taken, and the fault came while the others were
+pub record FailsAfter {W V : Type 0} {S : sink.Ghosts W} {T : sink.Ghosts V} (before : Leaving W V S T)
+    (went : List Timed) (fault : OutputFault) (after : Leaving W V S T) : Type 0 where
+  pub first : List Timed
+  pub others : List Timed
+  pub middle : Leaving W V S T
+  pub went_is : went ≡ first ++ others
+  pub took : Takes before first middle
+  pub failed : Fails middle others fault after
+
+module _ {A F W V : Type 0} {S : sink.Ghosts W} {T : sink.Ghosts V} (rules : Rules)
+    (hands : A → List Arrival → A → Type 0) (ends : A → Option F → A → Type 0) (from : A) (before : Leaving W V S T)
+    (left : A) (after : Leaving W V S T) where
+  -- the arrivals ended or failed, and what leaves of the inputs before was taken
+  pub record PassesTo (end : Option F) : Type 0 where
+    pub inputs : List Arrival
+    pub came : Came hands ends from inputs end left
+    pub took : Takes before (left_of rules inputs) after
+    pub settled : IsSettled after
+    pub few : length inputs < 2 ^ 64
+
+  pub record PassesWell (passed : Passed) : Type 0 where
+    pub whole : PassesTo None
+    pub bindings : passed.bindings.items ≡ (ran rules whole.inputs).bindings
+
+  -- an output failed, and what left before is the first of what leaves
+  pub record PassesEarly (fault : OutputFault) : Type 0 where
+    pub inputs : List Arrival
+    pub went : List Timed
+    pub come : HasCome hands ends from inputs left
+    pub front : IsFront went (left_of rules inputs)
+    pub failed : FailsAfter before went fault after
+
+  -- the run itself failed, or its log. An output may have failed too
+  pub record PassesHalted : Type 0 where
+    pub inputs : List Arrival
+    pub went : List Timed
+    pub come : HasCome hands ends from inputs left
+    pub front : IsFront went (left_of rules inputs)
+    pub took : Takes before went after ⊎ ((fault : OutputFault) × FailsAfter before went fault after)
+
+  abbrev pub PassesBy : {E : Type 0} → Result Passed (Stopped F (LeavingFault E)) → Type 0
+  PassesBy (Ok passed) = PassesWell passed
+  PassesBy (Err (stops.Arrival fault)) = PassesTo (Some fault)
+  PassesBy (Err (stops.Departure (Output fault))) = PassesEarly fault
+  PassesBy (Err (stops.Departure (Log fault))) = PassesHalted
+  PassesBy (Err (stops.Run fault)) = PassesHalted
 
 module _ {R Q W V : Type 0} {G : source.Ghosts R} {H : source.Ghosts Q} {S : sink.Ghosts W} {T : sink.Ghosts V}
     (open_gate : Bool) (rules : Rules) (from : MergedStreams R Q G H) (before : Leaving W V S T)
     (left : MergedStreams R Q G H) (after : Leaving W V S T) where
   -- all went well, with these totals for the report
   pub record PassesAll (totals : Totals) : Type 0 where
-    pub well : PassesWell rules HandsOut EndsWith Takes Fails IsSettled from before left after totals.passed
+    pub well : PassesWell rules HandsOut EndsWith from before left after totals.passed
     pub counts : totals.counts ≡ after.counts
     pub cut_inside : totals.cuts.inside ≡ cut_of left.inside
     pub cut_outside : totals.cuts.outside ≡ cut_of left.outside
 
   abbrev pub PassesOr : Result Totals Fault → Type 0
   PassesOr (Ok totals) = PassesAll totals
-  PassesOr (Err (Capture side fault)) = PassesTo rules HandsOut EndsWith Takes Fails IsSettled from before left after
-      (Some (record { side = side; fault = fault }))
-  PassesOr (Err (Write which fault)) = PassesEarly rules HandsOut EndsWith Takes Fails IsSettled from before left after
-      (record { which = which; fault = fault })
+  PassesOr (Err (Capture side fault)) =
+      PassesTo rules HandsOut EndsWith from before left after (Some (record { side = side; fault = fault }))
+  PassesOr (Err (Write which fault)) =
+      PassesEarly rules HandsOut EndsWith from before left after (record { which = which; fault = fault })
   PassesOr (Err (Run fault)) =
-      IsFaultUnder open_gate fault × PassesHalted rules HandsOut EndsWith Takes Fails IsSettled from before left after
+      IsFaultUnder open_gate fault × PassesHalted rules HandsOut EndsWith from before left after
 
--- with an observer of the inputs
-module _ {R Q W V O E : Type 0} {G : source.Ghosts R} {H : source.Ghosts Q} {S : sink.Ghosts W} {T : sink.Ghosts V}
-    (sees : O → List Arrival → O → Type 0) (fails : O → List Arrival → E → O → Type 0) (is_settled : O → Type 0)
-    (open_gate : Bool) (rules : Rules) (from : Observed (MergedStreams R Q G H) O) (before : Leaving W V S T)
-    (left : Observed (MergedStreams R Q G H) O) (after : Leaving W V S T) where
-  abbrev pub Handed : Observed (MergedStreams R Q G H) O → List Arrival → Observed (MergedStreams R Q G H) O → Type 0
-  Handed old inputs new = Shows HandsOut sees old inputs new
+-- THE LOG
 
-  abbrev pub Ended : Observed (MergedStreams R Q G H) O → Option (Interruption SideFault E) →
-      Observed (MergedStreams R Q G H) O → Type 0
-  Ended old fault new = Ends HandsOut EndsWith sees fails is_settled old fault new
+module _ {P A F K E : Type 0} (tells : Passage → P) (rules : Rules) (hands : A → List Arrival → A → Type 0)
+    (ends : A → Option F → A → Type 0) (enters : K → List (Legs P) → K → Type 0)
+    (fails : K → List (Legs P) → E → K → Type 0) (is_settled : K → Type 0) (from : A) (old : K) (left : A)
+    (new : K) where
+  -- the arrivals ended or failed, the log was entered the inputs before, and is settled
+  pub record EntersTo (end : Option F) : Type 0 where
+    pub inputs : List Arrival
+    pub came : Came hands ends from inputs end left
+    pub entered : enters old (legs_told tells rules inputs) new
+    pub settled : is_settled new
 
-  pub record PassesShown (totals : Totals) : Type 0 where
-    pub well : PassesWell rules Handed Ended Takes Fails IsSettled from before left after totals.passed
-    pub counts : totals.counts ≡ after.counts
-    pub cut_inside : totals.cuts.inside ≡ cut_of left.arrivals.inside
-    pub cut_outside : totals.cuts.outside ≡ cut_of left.arrivals.outside
+  -- it was entered the first of the inputs that came
+  pub record EntersFirst : Type 0 where
+    pub first : List Arrival
+    pub later : List Arrival
+    pub come : HasCome hands ends from (first ++ later) left
+    pub entered : enters old (legs_told tells rules first) new
 
-  abbrev pub PassesObserved : Result Totals (Halt E) → Type 0
-  PassesObserved (Ok totals) = PassesShown totals
-  PassesObserved (Err (halts.Run (Capture side fault))) =
-      PassesTo rules Handed Ended Takes Fails IsSettled from before left after
-      (Some (interruptions.Arrival (record { side = side; fault = fault })))
-  PassesObserved (Err (halts.Run (Write which fault))) =
-      PassesEarly rules Handed Ended Takes Fails IsSettled from before left after
-      (record { which = which; fault = fault })
-  PassesObserved (Err (halts.Run (Run fault))) =
-      IsFaultUnder open_gate fault × PassesHalted rules Handed Ended Takes Fails IsSettled from before left after
-  PassesObserved (Err (halts.Observer fault)) =
-      PassesTo rules Handed Ended Takes Fails IsSettled from before left after
-      (Some (interruptions.Observer fault))
+  -- or failed over them
+  pub record FailsFirst (fault : E) : Type 0 where
+    pub first : List Arrival
+    pub later : List Arrival
+    pub come : HasCome hands ends from (first ++ later) left
+    pub failed : fails old (legs_told tells rules first) fault new
+
+  abbrev pub EntersBy : Result Passed (Stopped F (LeavingFault E)) → Type 0
+  EntersBy (Ok passed) = EntersTo None
+  EntersBy (Err (stops.Arrival fault)) = EntersTo (Some fault)
+  EntersBy (Err (stops.Departure (Output fault))) = EntersFirst
+  EntersBy (Err (stops.Departure (Log fault))) = FailsFirst fault
+  EntersBy (Err (stops.Run fault)) = EntersFirst ⊎ ((fault : E) × FailsFirst fault)
+
+-- over captures
+module _ {P A K E : Type 0} (tells : Passage → P) (rules : Rules) (hands : A → List Arrival → A → Type 0)
+    (ends : A → Option SideFault → A → Type 0) (enters : K → List (Legs P) → K → Type 0)
+    (fails : K → List (Legs P) → E → K → Type 0) (is_settled : K → Type 0) (from : A) (old : K) (left : A)
+    (new : K) where
+  abbrev pub EntersOr : Result Totals (Halt E) → Type 0
+  EntersOr (Ok totals) = EntersTo tells rules hands ends enters fails is_settled from old left new None
+  EntersOr (Err (halts.Run (Capture side fault))) = EntersTo tells rules hands ends enters fails is_settled from old
+      left new (Some (record { side = side; fault = fault }))
+  EntersOr (Err (halts.Run (Write which fault))) =
+      EntersFirst tells rules hands ends enters fails is_settled from old left new
+  EntersOr (Err (halts.Run (Run fault))) =
+      EntersFirst tells rules hands ends enters fails is_settled from old left new
+      ⊎ ((fault : E) × FailsFirst tells rules hands ends enters fails is_settled from old left new fault)
+  EntersOr (Err (halts.Log fault)) =
+      FailsFirst tells rules hands ends enters fails is_settled from old left new fault

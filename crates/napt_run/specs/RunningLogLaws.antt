@@ -1,61 +1,74 @@
--- What is shown to a log in two parts is shown as one.
-use Rattle.std.specs.Prelude.{◌≡◌, ◌↔◌, ◌^◌, ◌≤◌, List, [], ◌++◌, length}
+-- What is entered in a log in two parts is entered as one.
+use Rattle.std.specs.Prelude.{◌≡◌, List, [], ◌∷◌, ◌++◌}
 use Rattle.std.proofs.Common.{sym, ◌∙◌, ap, subst, append-nil, append_assoc}
+use Rattle.std.proofs.lemmas.List.{map-append}
 use Rattle.napt_capture.specs.declared.device.Sink.{Ghosts}
 use Rattle.napt_config.specs.Rules.{Rules}
-use Rattle.napt_rules.specs.Prelude.{Arrival}
-use Rattle.napt_log_text.specs.Logs.{rows_after}
+use Rattle.napt_account.specs.TraceLogs.{IsOfTraces}
+use Rattle.napt_log_text.specs.Logs.{rows_with}
 use Rattle.napt_log_text.specs.Times.{Text}
-use Rattle.napt_log_text.proofs.Logs.{rows_after-append}
+use Rattle.napt_log_text.proofs.Logs.{rows_with-append}
 use Rattle.napt_records.specs.declared.fault.Fault.TheVariants as faults
-use Rattle.napt_sequential.specs.declared.fault.RunFault.TheVariants as reasons
-use Rattle.napt_run.specs.Outputs.{Breaks, Grows}
+use Rattle.napt_sequential.specs.declared.passage.Passage.{Passage}
+use Rattle.napt_sequential.specs.declared.passage.Trace.{Trace}
 use Rattle.napt_run.specs.LeavingLaws.{breaks_more, grows_more, grows_none}
-use Rattle.napt_account.specs.KnownRuns.{IsOfInputs}
-use Rattle.napt_run.specs.RunningLogs.{Fails, FailsBy, GoesOn, IsAt, Sees}
+use Rattle.napt_run.specs.Logging.{Legs}
+use Rattle.napt_run.specs.Outputs.{Breaks, Grows}
+use Rattle.napt_run.specs.RunningLogs.{Enters, Fails, FailsBy, GoesOn, IsAt, traces_of}
 use Rattle.napt_run.specs.declared.logged_fault.LoggedFault.{LoggedFault}
 use Rattle.napt_run.specs.declared.logged_fault.LoggedFault.TheVariants.{Run, Log}
 use Rattle.napt_run.specs.declared.running_log.RunningLog.{RunningLog}
 
+traces_join : (xs ys : List (Legs Passage)) → traces_of (xs ++ ys) ≡ traces_of xs ++ traces_of ys
+traces_join xs ys =
+    map-append (λ legs. let t : Trace = record { now = legs.0; first = legs.1; second = legs.2 } in t) xs ys
+
 module _ {L : Type 0} {S : Ghosts L} where
-  pub sees_none : (x : RunningLog L S) → Sees x [] x
-  sees_none x = λ rules before at. record {
-    at = subst (λ (l : List Arrival). IsAt rules l x) (sym (append-nil before)) at;
+  pub enters_none : (x : RunningLog L S) → Enters x [] x
+  enters_none x = λ rules before at. record {
+    at = subst (λ (l : List Trace). IsAt rules l x) (sym (append-nil before)) at;
     wrote = grows_none x.output;
   }
 
-  pub sees_more : (x y z : RunningLog L S) (xs ys : List Arrival) → Sees x xs y → Sees y ys z → Sees x (xs ++ ys) z
-  sees_more x y z xs ys one two = λ rules before at.
-      let first : GoesOn rules (before ++ xs) (rows_after rules before xs) x y = one rules before at in
-      let second : GoesOn rules ((before ++ xs) ++ ys) (rows_after rules (before ++ xs) ys) y z =
-      two rules (before ++ xs) first.at in
+  pub enters_more : (x y z : RunningLog L S) (xs ys : List (Legs Passage)) → Enters x (traces_of xs) y →
+      Enters y (traces_of ys) z → Enters x (traces_of (xs ++ ys)) z
+  enters_more x y z xs ys one two = subst (λ (ts : List Trace). Enters x ts z) (sym (traces_join xs ys))
+      (λ rules before at.
+      let first : GoesOn rules (before ++ traces_of xs) (rows_with rules before (traces_of xs)) x y =
+      one rules before at in
+      let second : GoesOn rules ((before ++ traces_of xs) ++ traces_of ys)
+      (rows_with rules (before ++ traces_of xs) (traces_of ys)) y z = two rules (before ++ traces_of xs) first.at in
       record {
-        at = subst (λ (l : List Arrival). IsAt rules l z) (append_assoc before xs ys) second.at;
-        wrote = subst (λ (l : Text). Grows x.output l z.output) (sym (rows_after-append rules before xs ys))
+        at = subst (λ (l : List Trace). IsAt rules l z) (append_assoc before (traces_of xs) (traces_of ys)) second.at;
+        wrote = subst (λ (l : Text). Grows x.output l z.output)
+            (sym (rows_with-append rules before (traces_of xs) (traces_of ys)))
             (grows_more x.output y.output z.output _ _ first.wrote second.wrote);
-      }
+      })
 
-  fails_by : (rules : Rules) (before xs ys : List Arrival) (x y z : RunningLog L S) (fault : LoggedFault) →
-      Grows x.output (rows_after rules before xs) y.output → FailsBy rules (before ++ xs) ys fault y z →
+  fails_by : (rules : Rules) (before xs ys : List Trace) (x y z : RunningLog L S) (fault : LoggedFault) →
+      Grows x.output (rows_with rules before xs) y.output → FailsBy rules (before ++ xs) ys fault y z →
       FailsBy rules before (xs ++ ys) fault x z
   fails_by rules before xs ys x y z (Log fault) one two =
-      subst (λ (l : Text). Breaks x.output l fault z.output) (sym (rows_after-append rules before xs ys))
+      subst (λ (l : Text). Breaks x.output l fault z.output) (sym (rows_with-append rules before xs ys))
       (breaks_more x.output y.output z.output _ _ fault one two)
   fails_by rules before xs ys x y z (Run (faults.Run fault)) one two = record {
     first = xs ++ two.first;
+    next = two.next;
     others = two.others;
-    both = ap (λ (l : List Arrival). xs ++ l) two.both ∙ sym (append_assoc xs two.first two.others);
-    wrote = subst (λ (l : Text). Grows x.output l z.output) (sym (rows_after-append rules before xs two.first))
+    all = ap (λ (l : List Trace). xs ++ l) two.all ∙ sym (append_assoc xs two.first (two.next ∷ two.others));
+    wrote = subst (λ (l : Text). Grows x.output l z.output) (sym (rows_with-append rules before xs two.first))
         (grows_more x.output y.output z.output _ _ one two.wrote);
-    of_inputs = subst (λ (l : List Arrival). IsOfInputs l fault) (append_assoc before xs ys) two.of_inputs;
-    too_many = subst (λ (l : List Arrival). (fault ≡ reasons.TooMany) ↔ (2 ^ 32 ≤ length l)) (append_assoc before xs ys)
-        two.too_many;
+    of_traces = subst (λ (l : List Trace). IsOfTraces l two.next fault) (append_assoc before xs two.first)
+        two.of_traces;
   }
   fails_by rules before xs ys x y z (Run (faults.Capture side fault)) one two = absurd two
   fails_by rules before xs ys x y z (Run (faults.Write which fault)) one two = absurd two
 
-  pub fails_more : (x y z : RunningLog L S) (xs ys : List Arrival) (fault : LoggedFault) → Sees x xs y →
-      Fails y ys fault z → Fails x (xs ++ ys) fault z
-  fails_more x y z xs ys fault one two = λ rules before at.
-      let first : GoesOn rules (before ++ xs) (rows_after rules before xs) x y = one rules before at in
-      fails_by rules before xs ys x y z fault first.wrote (two rules (before ++ xs) first.at)
+  pub fails_more : (x y z : RunningLog L S) (xs ys : List (Legs Passage)) (fault : LoggedFault) →
+      Enters x (traces_of xs) y → Fails y (traces_of ys) fault z → Fails x (traces_of (xs ++ ys)) fault z
+  fails_more x y z xs ys fault one two = subst (λ (ts : List Trace). Fails x ts fault z) (sym (traces_join xs ys))
+      (λ rules before at.
+      let first : GoesOn rules (before ++ traces_of xs) (rows_with rules before (traces_of xs)) x y =
+      one rules before at in
+      fails_by rules before (traces_of xs) (traces_of ys) x y z fault first.wrote
+      (two rules (before ++ traces_of xs) first.at))

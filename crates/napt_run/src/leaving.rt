@@ -4,7 +4,6 @@ ghost use Rattle.napt_run.specs.Leaving.{named};
 
 use crate::output::Output;
 use napt_capture::{Sink, WriteFault};
-use napt_dispatch::Departures;
 use napt_records::{Counts, Fault, Which};
 use napt_rules::Outcome;
 use napt_wire::Packet;
@@ -44,7 +43,7 @@ fn bytes_of(packet: &Packet) -> &[u8]
 }
 
 /// The vector of an outcome's packet, to be reused once the packet is written.
-fn vector_of(outcome: Outcome) -> Option<Vec<u8>> {
+pub(crate) fn vector_of(outcome: Outcome) -> Option<Vec<u8>> {
     match outcome {
         Outcome::ToOutside(packet) | Outcome::ToInside(packet) => Some(packet.into_bytes()),
         Outcome::Dropped(_) => None,
@@ -87,7 +86,7 @@ impl<'a, 'b, W: Sink, V: Sink> Leaving<'a, 'b, W, V> {
 
     /// Counts the outcome of an input, and writes the record of its packet, if any, with the arrival time in ns.
     #[inline(always)]
-    fn write(&mut self, time: u64, outcome: &Outcome) -> Result<(), OutputFault>
+    pub(crate) fn write(&mut self, time: u64, outcome: &Outcome) -> Result<(), OutputFault>
         ensures { MatchResult result
             (λ _. Takes self.old ((time, outcome.now) ∷ []) self.new)
             (λ fault. Fails self.old ((time, outcome.now) ∷ []) fault self.new) }
@@ -103,29 +102,12 @@ impl<'a, 'b, W: Sink, V: Sink> Leaving<'a, 'b, W, V> {
             Outcome::Dropped(_) => Ok(()),
         }
     }
-}
 
-impl<W: Sink, V: Sink> Departures for Leaving<'_, '_, W, V> {
-    ghost use Rattle.napt_run.specs.Leaving.{Takes, Fails, IsSettled};
-    ghost use Rattle.napt_run.specs.LeavingLaws.{takes_none, takes_more};
-
-    type Fault = OutputFault;
-
-    ghost takes = { λ x all y. Takes x all y };
-
-    ghost fails = { λ x all fault y. Fails x all fault y };
-
-    ghost is_settled = { λ x. IsSettled x };
-
-    #[inline(always)]
-    fn leave(&mut self, time: u64, outcome: Outcome) -> Result<Option<Vec<u8>>, OutputFault> {
-        match self.write(time, &outcome) {
-            Ok(()) => Ok(vector_of(outcome)),
-            Err(fault) => Err(fault),
-        }
-    }
-
-    fn settle(&mut self) -> Result<(), OutputFault> {
+    /// Flushes both captures.
+    pub(crate) fn settle(&mut self) -> Result<(), OutputFault>
+        ensures { MatchResult result (λ _. Takes self.old [] self.new × IsSettled self.new)
+            (λ fault. Fails self.old [] fault self.new) }
+    {
         match self.to_outside.flush() {
             Ok(()) => named(Which::Inside, self.to_inside.flush()),
             Err(fault) => Err(OutputFault {
@@ -134,8 +116,4 @@ impl<W: Sink, V: Sink> Departures for Leaving<'_, '_, W, V> {
             }),
         }
     }
-
-    ghost takes_none = { λ x. takes_none x };
-
-    ghost takes_more = { λ x y z first second taken then. takes_more x y z first second taken then };
 }

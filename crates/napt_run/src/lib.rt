@@ -11,10 +11,10 @@ mod captures;
 mod kept;
 mod laws;
 mod leaving;
+mod leaving_with_log;
 mod logged_fault;
 mod logged_streams;
-mod observed;
-mod observer;
+mod logging;
 mod output;
 mod passing;
 mod reporting;
@@ -33,7 +33,7 @@ pub use napt_records::{
     EndpointText, Fault, Which, cause_name, merge, merge_is_in_order, protocol_name, report_text,
 };
 pub use napt_sequential::{
-    Input, Outcome, Run, RunFault, legs_are_local, places_stand_for_legs, right_answers, run_plain,
-    runs_are_sound, runs_keep_the_quota, translators_are_local,
+    Input, Outcome, Run, RunFault, Untold, legs_are_local, places_stand_for_legs, right_answers,
+    run_plain, runs_are_sound, runs_keep_the_quota, translators_are_local,
 };
 pub use streams::run_streams;

@@ -1,32 +1,43 @@
 //! A run over captures as they arrive, with its log.
 ghost use Rattle.std.specs.Prelude.{◌≡◌, ◌-◌, ◌^◌, ◌<◌, [], IfErr, true};
 ghost use Rattle.napt_run.specs.LoggedStreams.{DeviceGetsOr, IsUnderOpenGate, LogGets, LogIsLeft, LoggedExplains, LoggedSays, besides_log, fault_of, reported_of};
-ghost use Rattle.napt_run.specs.RunningLogs.{IsAt};
+ghost use Rattle.napt_run.specs.RunningLogs.{AreLaws, IsAt};
 ghost use Rattle.napt_run.specs.Streams.{HasRead, IsOfRun, ReportGets};
 
 use crate::logged_fault::LoggedFault;
-use crate::observer::Halt;
+use crate::logging::Halt;
 use crate::output::Output;
 use crate::passing::{Setting, Totals};
 use crate::reporting::reported;
 use crate::running_log::RunningLog;
-use napt_account::KnownRun;
+use napt_account::{KnownLog, traces_tell_the_log};
 use napt_capture::{Sink, Source};
 use napt_config::Config;
+use napt_log_text::traces_have_the_rows;
 use napt_pool::Gate;
 use napt_records::{Fault, Which};
 use std::alloc::Global;
 use std::sync::{Arc, Wait};
 use std::thread::Threads;
 
-/// Why a run that is observed by its log failed.
+/// Why a run whose log is kept failed.
 fn fault_of(halt: Halt<LoggedFault>) -> LoggedFault
     ensures { result ≡ fault_of halt }
 {
     match halt {
         Halt::Run(fault) => LoggedFault::Run(fault),
-        Halt::Observer(fault) => fault,
+        Halt::Log(fault) => fault,
     }
+}
+
+/// By the traces of its inputs a log has their rows.
+fn log_laws(config: &Config)
+    ensures { AreLaws config.now }
+{
+    traces_tell_the_log();
+    traces_have_the_rows();
+    // called for its clause alone: a configuration keeps its rules
+    let _pool = config.pool();
 }
 
 impl<T: Threads + Wait + Copy + Send + 'static, G: Gate + Send + Sync + Drop + 'static> Setting<
@@ -61,6 +72,7 @@ impl<T: Threads + Wait + Copy + Send + 'static, G: Gate + Send + Sync + Drop + '
         ensures readings { (¬ IsOfRun (besides_log result)) → HasRead R.failed Q.failed
             inside.old inside.new outside.old outside.new (besides_log result) }
     {
+        log_laws(self.config);
         log.open()?;
         match self.stream(inside, outside, to_outside, to_inside, log) {
             Ok(totals) => {
@@ -92,15 +104,16 @@ fn with_report(
 }
 
 /// Translates both captures as the packets arrive, as `run_streams` does, and writes the log of the run beside, row by row
-/// (RFC 8158). The log is kept by a run of its own on the calling thread, which takes each input before the workers do: what
-/// ended before it, what it made, or that it got no binding is written before its packet is translated, let alone leaves.
-/// Before a device is asked for more bytes, the log is flushed. Its memory is that of the bindings that have not ended.
+/// (RFC 8158), from what the workers tell: what ended before an input, what it made, or that it got no binding is written
+/// before its packet is. Before a device is asked for more bytes, the log is flushed, and then the captures are. So if those
+/// devices keep what they are given until they are flushed, no packet leaves before its rows are at their destination. The
+/// memory of the log is that of the bindings that have not ended.
 ///
 /// The header of the log and the rows of the redirects are written and flushed first, before the headers of the captures;
 /// the rows of the bindings that live at the end come last, before the report.
 ///
-/// Fails with `LoggedFault::Run` as `run_streams` does. In addition it stops at input 4,294,967,296, with `TooMany`, and
-/// `Memory` may come before anything is written. Fails with `LoggedFault::Log` if the log could not be written: it has the
+/// Fails with `LoggedFault::Run` as `run_streams` does. In addition it stops at input 4,611,686,018,427,387,904, with
+/// `TooMany`, and `Memory` may come before anything is written. Fails with `LoggedFault::Log` if the log could not be written: it has the
 /// first `written` bytes of its text, a number that saturates. The captures are then as after a fault of the run, or
 /// untouched if the log could not be begun, and there is no report. After a fault of a capture the log has all rows of the
 /// packets before it, and after one of the report all of its text; no call of it failed, and it is flushed.
@@ -147,14 +160,14 @@ pub fn run_streams_with_log<
     ensures readings { (¬ IsOfRun (besides_log result)) → HasRead R.failed Q.failed
         inside.old inside.new outside.old outside.new (besides_log result) }
 {
-    let run = KnownRun::begin(alloc, config)?;
+    let known = KnownLog::begin(alloc, config)?;
     let setting = Setting {
         rt,
         alloc,
         config,
         gate,
     };
-    let mut running = RunningLog::over(alloc, run, Output::over(log));
+    let mut running = RunningLog::over(alloc, known, Output::over(log));
     let told = setting.stream_logged(inside, outside, to_outside, to_inside, &mut running);
     let _log = running.into_device();
     let written = reported(alloc, &told, report);

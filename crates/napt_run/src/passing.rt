@@ -1,14 +1,19 @@
 //! The run from arrivals to departures.
-ghost use Rattle.napt_run.specs.Passed.{PassesObserved};
+ghost use Rattle.std.specs.Prelude.{IfErr};
+ghost use Rattle.napt_dispatch.specs.Passing.{IsStoppedUnder};
+ghost use Rattle.napt_records.specs.Merged.{EndsWith, HandsOut};
+ghost use Rattle.napt_run.specs.LeavingWithLogs.{IsSamePlace};
+ghost use Rattle.napt_run.specs.Logging.{as_run};
+ghost use Rattle.napt_run.specs.Passed.{EntersBy, EntersOr, PassesBy, PassesOr};
 
-use crate::leaving::Leaving;
-use crate::observed::{Interruption, Observed};
-use crate::observer::{Halt, Observer};
+use crate::leaving_with_log::{LeavingFault, LeavingWithLog};
+use crate::logging::{Halt, Logging};
 use napt_capture::{Sink, Source};
 use napt_config::Config;
 use napt_dispatch::{Passed, Stopped, run_through};
 use napt_pool::Gate;
 use napt_records::{Counts, Cuts, Fault, MergedStreams};
+use napt_sequential::Arrivals;
 use std::alloc::Global;
 use std::sync::{Arc, Wait};
 use std::thread::Threads;
@@ -35,14 +40,18 @@ impl<T: Threads + Wait + Copy + Send + 'static, G: Gate + Send + Sync + Drop + '
     T,
     G,
 > {
-    /// Runs until the captures end or something fails.
-    pub(crate) fn pass<R: Source, Q: Source, W: Sink, V: Sink, O: Observer>(
+    /// Runs until the inputs end or something fails.
+    pub(crate) fn run_all<A: Arrivals, W: Sink, V: Sink, K: Logging>(
         self,
-        inputs: &mut Observed<'_, MergedStreams<'_, '_, R, Q>, O>,
-        leaving: &mut Leaving<'_, '_, W, V>,
-    ) -> Result<Totals, Halt<O::Fault>>
-        ensures { PassesObserved O.sees O.fails O.is_settled G.is_open self.entry.config.now
-            inputs.old leaving.old inputs.new leaving.new result }
+        inputs: &mut A,
+        both: &mut LeavingWithLog<'_, '_, '_, W, V, K>,
+    ) -> Result<Passed, Stopped<A::Fault, LeavingFault<K::Fault>>>
+        ensures outputs { PassesBy self.entry.config.now A.hands A.ends inputs.old both.old.leaving
+            inputs.new both.new.leaving result }
+        ensures log { EntersBy K.Told.tells self.entry.config.now A.hands A.ends K.enters K.fails
+            K.is_settled inputs.old both.old.log.now inputs.new both.new.log.now result }
+        ensures same { IsSamePlace both.old both.new }
+        ensures stop { IfErr result (IsStoppedUnder G.is_open) }
     {
         let Setting {
             rt,
@@ -50,20 +59,33 @@ impl<T: Threads + Wait + Copy + Send + 'static, G: Gate + Send + Sync + Drop + '
             config,
             gate,
         } = self;
-        match run_through(rt, alloc, config, inputs, leaving, gate) {
+        run_through(rt, alloc, config, inputs, both, gate)
+    }
+
+    /// Runs until the captures end or something fails.
+    pub(crate) fn pass<R: Source, Q: Source, W: Sink, V: Sink, K: Logging>(
+        self,
+        inputs: &mut MergedStreams<'_, '_, R, Q>,
+        both: &mut LeavingWithLog<'_, '_, '_, W, V, K>,
+    ) -> Result<Totals, Halt<K::Fault>>
+        ensures outputs { PassesOr G.is_open self.entry.config.now inputs.old both.old.leaving
+            inputs.new both.new.leaving (as_run result) }
+        ensures log { EntersOr K.Told.tells self.entry.config.now HandsOut EndsWith K.enters K.fails
+            K.is_settled inputs.old both.old.log.now inputs.new both.new.log.now result }
+        ensures same { IsSamePlace both.old both.new }
+    {
+        match self.run_all(inputs, both) {
             Ok(passed) => Ok(Totals {
-                counts: leaving.counts,
+                counts: both.leaving.counts,
                 passed,
-                cuts: inputs.arrivals.cuts(),
+                cuts: inputs.cuts(),
             }),
             Err(Stopped::Run(fault)) => Err(Halt::Run(Fault::Run(fault))),
-            Err(Stopped::Arrival(Interruption::Arrival(stop))) => {
-                Err(Halt::Run(Fault::Capture(stop.side, stop.fault)))
-            }
-            Err(Stopped::Arrival(Interruption::Observer(fault))) => Err(Halt::Observer(fault)),
-            Err(Stopped::Departure(fault)) => {
+            Err(Stopped::Arrival(stop)) => { Err(Halt::Run(Fault::Capture(stop.side, stop.fault))) }
+            Err(Stopped::Departure(LeavingFault::Output(fault))) => {
                 Err(Halt::Run(Fault::Write(fault.which, fault.fault)))
             }
+            Err(Stopped::Departure(LeavingFault::Log(fault))) => Err(Halt::Log(fault)),
         }
     }
 }

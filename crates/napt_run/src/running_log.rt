@@ -1,43 +1,45 @@
-//! The log of a run, written while its inputs come.
+//! The log of a run, written while its outcomes leave.
 
-ghost use Rattle.std.specs.Prelude.{◌≡◌, ◌↔◌, ◌+◌, ◌^◌, ◌≤◌, ◌++◌, [], ◌∷◌, length, List, Err, IfOk, MatchResult, string_bytes};
+ghost use Rattle.std.specs.Prelude.{◌≡◌, ◌++◌, [], ◌∷◌, List, IfOk, MatchResult, string_bytes};
 ghost use Rattle.std.specs.Io.KnownBytes.{Appends};
-ghost use Rattle.napt_config.specs.Rules.{Rules};
+ghost use Rattle.napt_config.specs.Rules.{Rules, KeepsRules};
 ghost use Rattle.napt_rules.specs.Prelude.{Arrival};
 ghost use Rattle.napt_account.specs.Telling.{living_of};
+ghost use Rattle.napt_sequential.specs.Traces.{traces};
+ghost use Rattle.napt_sequential.specs.declared.passage.Trace.{Trace as Did};
 ghost use Rattle.napt_log_text.specs.Logs.{living_rows, opening_text};
 
 use crate::logged_fault::LoggedFault;
-use crate::observer::{Halt, Observer};
+use crate::logging::{Halt, Logging};
 use crate::output::Output;
-use napt_account::KnownRun;
+use napt_account::{KnownLog, traces_tell_the_log};
 use napt_capture::Sink;
-use napt_log_text::{add_living, add_opening, add_told};
+use napt_log_text::{add_entered, add_living, add_opening};
 use napt_records::Fault;
-use napt_sequential::{Input, RunFault};
+use napt_sequential::{Passage, Trace};
 use std::alloc::{AllocError, Global};
 
-/// The log of a run, written while its inputs come.
+/// The log of a run, written while its outcomes leave.
 #[derive(Drop)]
 pub(crate) struct RunningLog<'a, 'b, L: Sink> {
     alloc: Global,
-    run: KnownRun<'a>,
+    log: KnownLog<'a>,
     pub(crate) output: Output<'b, L>,
 }
 
 impl<'a, 'b, L: Sink> RunningLog<'a, 'b, L> {
-    ghost use Rattle.napt_run.specs.RunningLogs.{Adds, FailsMore, IsAt, IsFlushedAt, StepFails, StepsTo};
+    ghost use Rattle.napt_run.specs.RunningLogs.{Adds, EntersNot, EntersWith, FailsMore, IsAt, IsFlushedAt};
 
-    /// The log of a run that has begun, with nothing written yet.
+    /// A log before its first input, with nothing written yet.
     pub(crate) fn over(
         alloc: Global,
-        run: KnownRun<'a>,
+        log: KnownLog<'a>,
         output: Output<'b, L>,
     ) -> RunningLog<'a, 'b, L>
-        ensures run { result.run ≡ run.entry }
+        ensures log { result.log ≡ log.entry }
         ensures output { result.output ≡ output.entry }
     {
-        RunningLog { alloc, run, output }
+        RunningLog { alloc, log, output }
     }
 
     /// Gives its device back.
@@ -47,7 +49,7 @@ impl<'a, 'b, L: Sink> RunningLog<'a, 'b, L> {
     {
         let RunningLog {
             alloc: _,
-            run: _,
+            log: _,
             output,
         } = self;
         let Output {
@@ -60,7 +62,7 @@ impl<'a, 'b, L: Sink> RunningLog<'a, 'b, L> {
 
     /// Writes the header and the rows of the redirects, and flushes them.
     pub(crate) fn open(&mut self) -> Result<(), LoggedFault>
-        ensures { (rules : Rules) → IsAt rules [] self.old →
+        ensures { (rules : Rules) → KeepsRules rules → IsAt rules [] self.old →
             Adds rules [] (opening_text rules (living_of rules [])) self.old result self.new }
     {
         let text = self.opening()?;
@@ -69,8 +71,9 @@ impl<'a, 'b, L: Sink> RunningLog<'a, 'b, L> {
 
     /// Writes the rows of what lives at the end, and flushes them.
     pub(crate) fn close(&mut self) -> Result<(), LoggedFault>
-        ensures { (rules : Rules) (inputs : List Arrival) → IsAt rules inputs self.old →
-            Adds rules inputs (living_rows rules (living_of rules inputs)) self.old result self.new }
+        ensures { (rules : Rules) (inputs : List Arrival) → KeepsRules rules →
+            IsAt rules (traces rules inputs) self.old → Adds rules (traces rules inputs)
+            (living_rows rules (living_of rules inputs)) self.old result self.new }
     {
         let text = self.ending()?;
         self.put(&text)
@@ -93,77 +96,79 @@ impl<'a, 'b, L: Sink> RunningLog<'a, 'b, L> {
     }
 
     fn opening(&self) -> Result<String, AllocError>
-        ensures { (rules : Rules) → IsAt rules [] self.now → IfOk result (λ text.
-            string_bytes text ≡ opening_text rules (living_of rules [])) }
+        ensures { (rules : Rules) → KeepsRules rules → IsAt rules [] self.now → IfOk result
+            (λ text. string_bytes text ≡ opening_text rules (living_of rules [])) }
     {
-        let redirects = self.run.living(self.alloc)?;
+        traces_tell_the_log();
+        let redirects = self.log.living(self.alloc)?;
         let mut text = String::new(self.alloc);
-        add_opening(self.run.config(), &redirects, &mut text)?;
+        add_opening(self.log.config(), &redirects, &mut text)?;
         Ok(text)
     }
 
     fn ending(&self) -> Result<String, AllocError>
-        ensures { (rules : Rules) (inputs : List Arrival) → IsAt rules inputs self.now → IfOk result
+        ensures { (rules : Rules) (inputs : List Arrival) → KeepsRules rules →
+            IsAt rules (traces rules inputs) self.now → IfOk result
             (λ text. string_bytes text ≡ living_rows rules (living_of rules inputs)) }
     {
-        let living = self.run.living(self.alloc)?;
+        traces_tell_the_log();
+        let living = self.log.living(self.alloc)?;
         let mut text = String::new(self.alloc);
-        add_living(self.run.config(), &living, &mut text)?;
+        add_living(self.log.config(), &living, &mut text)?;
         Ok(text)
     }
 
     /// Writes a text, and flushes it.
     fn put(&mut self, text: &str) -> Result<(), LoggedFault>
-        ensures { (rules : Rules) (inputs : List Arrival) → IsAt rules inputs self.old →
-            Adds rules inputs text.now self.old result self.new }
+        ensures { (rules : Rules) (before : List Did) → IsAt rules before self.old →
+            Adds rules before text.now self.old result self.new }
     {
         self.output.put_text(text.as_bytes())?;
         Ok(self.output.flush()?)
     }
 
-    /// Passes an input through the run, and returns its rows.
-    fn step(&mut self, input: &Input) -> Result<String, LoggedFault>
-        ensures steps { (rules : Rules) (before : List Arrival) → IsAt rules before self.old →
+    /// Takes the trace of the next input, and returns its rows.
+    fn rows(&mut self, trace: Trace) -> Result<String, LoggedFault>
+        ensures { (rules : Rules) (before : List Did) → IsAt rules before self.old →
             MatchResult result
-            (λ text. StepsTo rules before input.now self.old self.new (string_bytes text))
-            (λ fault. StepFails (before ++ input.now ∷ []) self.old fault self.new) }
-        ensures too_many { (rules : Rules) (before : List Arrival) → IsAt rules before self.old →
-            (result ≡ Err (LoggedFault.Run (Fault.Run RunFault.TooMany)))
-            ↔ (2 ^ 32 ≤ length before + 1) }
+            (λ text. EntersWith rules before trace self.old self.new (string_bytes text))
+            (λ fault. EntersNot before trace self.old fault self.new) }
     {
-        let told = self.run.step(self.alloc, input)?;
+        let told = self.log.enter(self.alloc, trace)?;
         let mut text = String::new(self.alloc);
-        add_told(self.run.config(), &told, &mut text)?;
+        add_entered(self.log.config(), &told, &mut text)?;
         Ok(text)
     }
 }
 
-impl<L: Sink> Observer for RunningLog<'_, '_, L> {
-    ghost use Rattle.napt_run.specs.RunningLogs.{Fails, Sees};
-    ghost use Rattle.napt_run.specs.RunningLogLaws.{fails_more, sees_more, sees_none};
+impl<L: Sink> Logging for RunningLog<'_, '_, L> {
+    ghost use Rattle.napt_run.specs.RunningLogs.{Enters, Fails, traces_of};
+    ghost use Rattle.napt_run.specs.RunningLogLaws.{enters_more, enters_none, fails_more};
+
+    type Told = Passage;
 
     type Fault = LoggedFault;
 
-    ghost sees = { λ old inputs new. Sees old inputs new };
+    ghost enters = { λ old all new. Enters old (traces_of all) new };
 
-    ghost fails = { λ old inputs fault new. Fails old inputs fault new };
+    ghost fails = { λ old all fault new. Fails old (traces_of all) fault new };
 
     ghost is_settled = { λ log. L.is_flushed log.output.device.now };
 
-    ghost sees_none = { λ x. sees_none x };
+    ghost enters_none = { λ x. enters_none x };
 
-    ghost sees_more = { λ x y z xs ys one two. sees_more x y z xs ys one two };
+    ghost enters_more = { λ x y z xs ys one two. enters_more x y z xs ys one two };
 
     ghost fails_more = { λ x y z xs ys fault one two. fails_more x y z xs ys fault one two };
 
-    fn observe(&mut self, input: &Input) -> Result<(), LoggedFault> {
-        let text = self.step(input)?;
+    fn enter(&mut self, now: u64, first: Passage, second: Passage) -> Result<(), LoggedFault>
+        ensures { MatchResult result
+            (λ _. Enters self.old (traces_of ((now, first, second) ∷ [])) self.new)
+            (λ fault. Fails self.old (traces_of ((now, first, second) ∷ [])) fault self.new) }
+    {
+        let text = self.rows(Trace { now, first, second })?;
         self.output.put_text(text.as_bytes())?;
         Ok(())
-    }
-
-    fn needs_settling(&self) -> bool {
-        true
     }
 
     fn settle(&mut self) -> Result<(), LoggedFault> {

@@ -4,12 +4,12 @@ ghost use Rattle.napt_records.specs.Counts.{AreCountsOf};
 ghost use Rattle.napt_run.specs.Captures.{failed_readings};
 ghost use Rattle.napt_run.specs.Leaving.{AreSound, IsSettled};
 ghost use Rattle.napt_run.specs.Runs.{RunsTo};
-ghost use Rattle.napt_run.specs.Observers.{Observes, as_run};
+ghost use Rattle.napt_run.specs.LeavingWithLogs.{IsSamePlace};
+ghost use Rattle.napt_run.specs.Logging.{LogsTo, as_run};
 ghost use Rattle.napt_run.specs.Streams.{HasRead, IsBehindHeader, IsHeaderFault, IsOfRun};
 
-use crate::leaving::Leaving;
-use crate::observed::Observed;
-use crate::observer::{Halt, Observer};
+use crate::leaving_with_log::LeavingWithLog;
+use crate::logging::{Halt, Logging};
 use crate::passing::{Setting, Totals};
 use napt_capture::{Records, Sink, Source};
 use napt_pool::Gate;
@@ -32,25 +32,26 @@ impl<T: Threads + Wait + Copy + Send + 'static, G: Gate + Send + Sync + Drop + '
     G,
 > {
     /// Reads the headers of the captures, and runs over them.
-    pub(crate) fn run_over<R: Source, Q: Source, W: Sink, V: Sink, O: Observer>(
+    pub(crate) fn run_over<R: Source, Q: Source, W: Sink, V: Sink, K: Logging>(
         self,
         inside: &mut R,
         outside: &mut Q,
-        leaving: &mut Leaving<'_, '_, W, V>,
-        observer: &mut O,
-    ) -> Result<Totals, Halt<O::Fault>>
+        both: &mut LeavingWithLog<'_, '_, '_, W, V, K>,
+    ) -> Result<Totals, Halt<K::Fault>>
         requires inside { R.failed inside.old < 2 ^ 64 - 1 }
         requires outside { Q.failed outside.old < 2 ^ 64 - 1 }
-        requires sound { AreSound leaving.old }
-        requires counts { AreCountsOf [] leaving.old.counts }
-        requires settled { IsSettled leaving.old }
-        requires observer { O.is_settled observer.old }
+        requires sound { AreSound both.old.leaving }
+        requires counts { AreCountsOf [] both.old.leaving.counts }
+        requires settled { IsSettled both.old.leaving }
+        requires log { K.is_settled both.old.log.now }
         ensures runs { RunsTo G.is_open self.entry.config.now (R.remaining inside.old)
-            (Q.remaining outside.old) [] leaving.old leaving.new (as_run result) }
+            (Q.remaining outside.old) [] both.old.leaving both.new.leaving (as_run result) }
         ensures readings { (¬ IsOfRun (as_run result)) → HasRead R.failed Q.failed
             inside.old inside.new outside.old outside.new (as_run result) }
-        ensures observes { Observes O.sees O.fails O.is_settled (R.remaining inside.old)
-            (Q.remaining outside.old) observer.old observer.new result }
+        ensures logs { LogsTo K.Told.tells self.entry.config.now K.enters K.fails K.is_settled
+            (R.remaining inside.old) (Q.remaining outside.old) both.old.log.now both.new.log.now
+            result }
+        ensures same { IsSamePlace both.old both.new }
     {
         let ours = read_header(self.alloc, Side::Inside, inside)?;
         let theirs = read_header(self.alloc, Side::Outside, outside)?;
@@ -58,42 +59,40 @@ impl<T: Threads + Wait + Copy + Send + 'static, G: Gate + Send + Sync + Drop + '
             inside: ours,
             outside: theirs,
         };
-        self.run_behind_headers(inside, outside, records, leaving, observer)
+        self.run_behind_headers(inside, outside, records, both)
     }
 
     /// Runs over the captures, past their headers.
-    fn run_behind_headers<R: Source, Q: Source, W: Sink, V: Sink, O: Observer>(
+    fn run_behind_headers<R: Source, Q: Source, W: Sink, V: Sink, K: Logging>(
         self,
         inside: &mut R,
         outside: &mut Q,
         records: BothRecords,
-        leaving: &mut Leaving<'_, '_, W, V>,
-        observer: &mut O,
-    ) -> Result<Totals, Halt<O::Fault>>
+        both: &mut LeavingWithLog<'_, '_, '_, W, V, K>,
+    ) -> Result<Totals, Halt<K::Fault>>
         requires inside { R.failed inside.old < 2 ^ 64 - 1 }
         requires outside { Q.failed outside.old < 2 ^ 64 - 1 }
-        requires sound { AreSound leaving.old }
-        requires counts { AreCountsOf [] leaving.old.counts }
+        requires sound { AreSound both.old.leaving }
+        requires counts { AreCountsOf [] both.old.leaving.counts }
         ensures runs { (bytes others : Option (List ℕ)) →
             IsBehindHeader R.Source records.inside bytes inside.old →
             IsBehindHeader Q.Source records.outside others outside.old →
-            RunsTo G.is_open self.entry.config.now bytes others [] leaving.old leaving.new
+            RunsTo G.is_open self.entry.config.now bytes others [] both.old.leaving both.new.leaving
             (as_run result) }
         ensures readings { (¬ IsOfRun (as_run result)) → HasRead R.failed Q.failed
             inside.old inside.new outside.old outside.new (as_run result) }
-        ensures observes { (bytes others : Option (List ℕ)) →
+        ensures logs { (bytes others : Option (List ℕ)) →
             IsBehindHeader R.Source records.inside bytes inside.old →
             IsBehindHeader Q.Source records.outside others outside.old →
-            Observes O.sees O.fails O.is_settled bytes others observer.old observer.new result }
+            LogsTo K.Told.tells self.entry.config.now K.enters K.fails K.is_settled bytes others
+            both.old.log.now both.new.log.now result }
+        ensures same { IsSamePlace both.old both.new }
     {
         let ours = Stream::new(inside, records.inside);
         let theirs = Stream::new(outside, records.outside);
-        let merged = MergedStreams::new(self.alloc, ours, theirs);
-        let mut inputs = Observed::over(merged, observer);
-        let passed = self.pass(&mut inputs, leaving);
-        let Observed { arrivals, observer } = inputs;
-        let _observer = observer;
-        let (ours, theirs) = arrivals.into_streams();
+        let mut inputs = MergedStreams::new(self.alloc, ours, theirs);
+        let passed = self.pass(&mut inputs, both);
+        let (ours, theirs) = inputs.into_streams();
         let _outside = theirs.into_source();
         let _inside = ours.into_source();
         passed

@@ -4,11 +4,13 @@ ghost use Rattle.napt_capture.specs.Text.{file_header};
 ghost use Rattle.napt_records.specs.Counts.{AreCountsOf};
 ghost use Rattle.napt_run.specs.Leaving.{AreSound};
 ghost use Rattle.napt_run.specs.Runs.{ResultSays, RunsTo};
-ghost use Rattle.napt_run.specs.Observers.{Observes, as_run};
+ghost use Rattle.napt_run.specs.LeavingWithLogs.{IsSamePlace};
+ghost use Rattle.napt_run.specs.Logging.{LogsTo, as_run};
 ghost use Rattle.napt_run.specs.Streams.{DeviceGets, HasRead, IsOfRun};
 
 use crate::leaving::Leaving;
-use crate::observer::{Halt, Observer};
+use crate::leaving_with_log::LeavingWithLog;
+use crate::logging::{Halt, Logging};
 use crate::output::Output;
 use crate::passing::{Setting, Totals};
 use napt_capture::{Sink, Source};
@@ -23,19 +25,19 @@ impl<T: Threads + Wait + Copy + Send + 'static, G: Gate + Send + Sync + Drop + '
     G,
 > {
     /// Runs over the captures into both outputs.
-    pub(crate) fn stream<R: Source, Q: Source, W: Sink, V: Sink, O: Observer>(
+    pub(crate) fn stream<R: Source, Q: Source, W: Sink, V: Sink, K: Logging>(
         self,
         inside: &mut R,
         outside: &mut Q,
         to_outside: &mut W,
         to_inside: &mut V,
-        observer: &mut O,
-    ) -> Result<Totals, Halt<O::Fault>>
+        log: &mut K,
+    ) -> Result<Totals, Halt<K::Fault>>
         requires inside { R.failed inside.old < 2 ^ 64 - 1 }
         requires outside { Q.failed outside.old < 2 ^ 64 - 1 }
         requires to_outside { W.failed to_outside.old < 2 ^ 64 - 1 }
         requires to_inside { V.failed to_inside.old < 2 ^ 64 - 1 }
-        requires observer { O.is_settled observer.old }
+        requires log { K.is_settled log.old }
         ensures to_outside { DeviceGets W.Sink self.entry.config.now Which.Outside
             (R.remaining inside.old) (Q.remaining outside.old) (as_run result)
             to_outside.old to_outside.new }
@@ -46,13 +48,16 @@ impl<T: Threads + Wait + Copy + Send + 'static, G: Gate + Send + Sync + Drop + '
             (Q.remaining outside.old) (as_run result) }
         ensures readings { (¬ IsOfRun (as_run result)) → HasRead R.failed Q.failed
             inside.old inside.new outside.old outside.new (as_run result) }
-        ensures observes { Observes O.sees O.fails O.is_settled (R.remaining inside.old)
-            (Q.remaining outside.old) observer.old observer.new result }
+        ensures logs { LogsTo K.Told.tells self.entry.config.now K.enters K.fails K.is_settled
+            (R.remaining inside.old) (Q.remaining outside.old) log.old log.new result }
     {
         let ours = Output::over(to_outside);
         let theirs = Output::over(to_inside);
-        let mut leaving = Leaving::into(ours, theirs);
-        let told = self.begin_and_run(inside, outside, &mut leaving, observer);
+        let leaving = Leaving::into(ours, theirs);
+        let mut both = LeavingWithLog::over(leaving, log);
+        let told = self.begin_and_run(inside, outside, &mut both);
+        let LeavingWithLog { leaving, log } = both;
+        let _log = log;
         let Leaving {
             to_outside: ours,
             to_inside: theirs,
@@ -64,27 +69,28 @@ impl<T: Threads + Wait + Copy + Send + 'static, G: Gate + Send + Sync + Drop + '
     }
 
     /// Writes the headers of the outputs, and runs over the captures.
-    fn begin_and_run<R: Source, Q: Source, W: Sink, V: Sink, O: Observer>(
+    fn begin_and_run<R: Source, Q: Source, W: Sink, V: Sink, K: Logging>(
         self,
         inside: &mut R,
         outside: &mut Q,
-        leaving: &mut Leaving<'_, '_, W, V>,
-        observer: &mut O,
-    ) -> Result<Totals, Halt<O::Fault>>
+        both: &mut LeavingWithLog<'_, '_, '_, W, V, K>,
+    ) -> Result<Totals, Halt<K::Fault>>
         requires inside { R.failed inside.old < 2 ^ 64 - 1 }
         requires outside { Q.failed outside.old < 2 ^ 64 - 1 }
-        requires sound { AreSound leaving.old }
-        requires written { leaving.old.to_outside.written ≡ 0 }
-        requires counts { AreCountsOf [] leaving.old.counts }
-        requires observer { O.is_settled observer.old }
+        requires sound { AreSound both.old.leaving }
+        requires written { both.old.leaving.to_outside.written ≡ 0 }
+        requires counts { AreCountsOf [] both.old.leaving.counts }
+        requires log { K.is_settled both.old.log.now }
         ensures runs { RunsTo G.is_open self.entry.config.now (R.remaining inside.old)
-            (Q.remaining outside.old) file_header leaving.old leaving.new (as_run result) }
+            (Q.remaining outside.old) file_header both.old.leaving both.new.leaving (as_run result) }
         ensures readings { (¬ IsOfRun (as_run result)) → HasRead R.failed Q.failed
             inside.old inside.new outside.old outside.new (as_run result) }
-        ensures observes { Observes O.sees O.fails O.is_settled (R.remaining inside.old)
-            (Q.remaining outside.old) observer.old observer.new result }
+        ensures logs { LogsTo K.Told.tells self.entry.config.now K.enters K.fails K.is_settled
+            (R.remaining inside.old) (Q.remaining outside.old) both.old.log.now both.new.log.now
+            result }
+        ensures same { IsSamePlace both.old both.new }
     {
-        leaving.begin()?;
-        self.run_over(inside, outside, leaving, observer)
+        both.leaving.begin()?;
+        self.run_over(inside, outside, both)
     }
 }

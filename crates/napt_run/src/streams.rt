@@ -1,10 +1,10 @@
 //! A run over captures as they arrive.
 ghost use Rattle.std.specs.Prelude.{◌≡◌, ◌≢◌, ◌-◌, ◌^◌, ◌<◌, IfErr, Err, true, false};
 ghost use Rattle.napt_records.specs.Faults.{tells_shut_gate};
-ghost use Rattle.napt_run.specs.Observers.{as_run};
+ghost use Rattle.napt_run.specs.Logging.{as_run};
 ghost use Rattle.napt_run.specs.Streams.{DeviceGets, Explains, HasRead, IsOfRun, ReportGets};
 
-use crate::observer::{Halt, Unobserved};
+use crate::logging::{Halt, Unlogged};
 use crate::passing::{Setting, Totals};
 use crate::reporting::reported;
 use napt_capture::{Sink, Source};
@@ -16,14 +16,14 @@ use std::alloc::Global;
 use std::sync::{Arc, Wait};
 use std::thread::Threads;
 
-/// The result of a run that nobody observes.
-fn unobserved(streamed: Result<Totals, Halt<NoFault>>) -> Result<Totals, Fault>
+/// The result of a run without a log.
+fn unlogged(streamed: Result<Totals, Halt<NoFault>>) -> Result<Totals, Fault>
     ensures { result ≡ as_run streamed }
 {
     match streamed {
         Ok(totals) => Ok(totals),
         Err(Halt::Run(fault)) => Err(fault),
-        Err(Halt::Observer(none)) => match none {},
+        Err(Halt::Log(none)) => match none {},
     }
 }
 
@@ -88,9 +88,9 @@ pub fn run_streams<
         config,
         gate,
     };
-    let mut nobody = Unobserved;
+    let mut nobody = Unlogged;
     let streamed = setting.stream(inside, outside, to_outside, to_inside, &mut nobody);
-    let told = unobserved(streamed);
+    let told = unlogged(streamed);
     let written = reported(alloc, &told, report);
     told.and(written)
 }

@@ -9,10 +9,12 @@ ghost use Rattle.napt_run.specs.Streams.{capture_text};
 ghost use Rattle.napt_run.specs.Whole.{IsTallyOf, WritesAll};
 
 use crate::leaving::Leaving;
+use crate::leaving_with_log::LeavingWithLog;
+use crate::logging::Unlogged;
 use crate::output::Output;
 use crate::passing::Setting;
 use napt_capture::Sink;
-use napt_dispatch::{Passed, Stopped, run_through};
+use napt_dispatch::{Passed, Stopped};
 use napt_pool::Gate;
 use napt_records::{Counts, Merged};
 use napt_rules::Row;
@@ -52,8 +54,12 @@ impl<T: Threads + Wait + Copy + Send + 'static, G: Gate + Send + Sync + Drop + '
     {
         let ours = Output::over(to_outside);
         let theirs = Output::over(to_inside);
-        let mut leaving = Leaving::into(ours, theirs);
-        let told = self.write_all(inputs, &mut leaving);
+        let leaving = Leaving::into(ours, theirs);
+        let mut nobody = Unlogged;
+        let mut both = LeavingWithLog::over(leaving, &mut nobody);
+        let told = self.write_all(inputs, &mut both);
+        let LeavingWithLog { leaving, log } = both;
+        let _log = log;
         let Leaving {
             to_outside: ours,
             to_inside: theirs,
@@ -68,16 +74,16 @@ impl<T: Threads + Wait + Copy + Send + 'static, G: Gate + Send + Sync + Drop + '
     fn write_all<W: Sink, V: Sink>(
         self,
         inputs: Merged,
-        leaving: &mut Leaving<'_, '_, W, V>,
+        both: &mut LeavingWithLog<'_, '_, '_, W, V, Unlogged>,
     ) -> Result<Tally, RunFault>
         requires timely { All IsTimely inputs }
-        requires counts { AreCountsOf [] leaving.old.counts }
+        requires counts { AreCountsOf [] both.old.leaving.counts }
         ensures ok { IfOk result
-            (WritesAll file_header self.entry.config.now inputs leaving.old leaving.new) }
+            (WritesAll file_header self.entry.config.now inputs both.old.leaving both.new.leaving) }
         ensures fault { IfErr result (IsFaultUnder G.is_open) }
     {
-        match leaving.begin() {
-            Ok(()) => self.pass_all(inputs, leaving),
+        match both.leaving.begin() {
+            Ok(()) => self.pass_all(inputs, both),
             Err(_) => Err(RunFault::Memory),
         }
     }
@@ -86,23 +92,17 @@ impl<T: Threads + Wait + Copy + Send + 'static, G: Gate + Send + Sync + Drop + '
     fn pass_all<W: Sink, V: Sink>(
         self,
         mut inputs: Merged,
-        leaving: &mut Leaving<'_, '_, W, V>,
+        both: &mut LeavingWithLog<'_, '_, '_, W, V, Unlogged>,
     ) -> Result<Tally, RunFault>
         requires timely { All IsTimely inputs }
-        requires counts { AreCountsOf [] leaving.old.counts }
+        requires counts { AreCountsOf [] both.old.leaving.counts }
         ensures ok { IfOk result
-            (WritesAll [] self.entry.config.now inputs leaving.old leaving.new) }
+            (WritesAll [] self.entry.config.now inputs both.old.leaving both.new.leaving) }
         ensures fault { IfErr result (IsFaultUnder G.is_open) }
     {
-        let Setting {
-            rt,
-            alloc,
-            config,
-            gate,
-        } = self;
-        match run_through(rt, alloc, config, &mut inputs, leaving, gate) {
+        match self.run_all(&mut inputs, both) {
             Ok(Passed { bindings, legs: _ }) => Ok(Tally {
-                counts: leaving.counts,
+                counts: both.leaving.counts,
                 bindings,
             }),
             Err(Stopped::Run(fault)) => Err(fault),

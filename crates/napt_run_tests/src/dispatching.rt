@@ -10,11 +10,12 @@ use crate::large::assert_same;
 use crate::sample_inputs::{THREE_ADDRESSES, thousand_inputs};
 use napt_config::Config;
 use napt_pool::{Ended, Pool};
-use napt_run::{Input, Outcome, Worker, dispatch};
+use napt_run::{Input, Outcome, Untold, Worker, dispatch};
 use napt_samples::hosts::{SECOND, external};
 use napt_table::Row;
 use napt_translate::Translator;
 use std::alloc::{AllocError, Global};
+use std::marker::PhantomData;
 use std::process::Abort;
 use std::sync::Wait;
 use std::test::Fail;
@@ -25,11 +26,11 @@ use std::thread::Threads;
 struct AfterDispatch {
     outcomes: Vec<Outcome>,
     legs: Vec<u64>,
-    ended: Vec<Ended<Worker>>,
+    ended: Vec<Ended<Worker<Untold>>>,
 }
 
 /// The workers of all external addresses before any leg, in the order of the pool.
-fn workers(alloc: Global, config: &Config) -> Result<Vec<Worker>, AllocError>
+fn workers(alloc: Global, config: &Config) -> Result<Vec<Worker<Untold>>, AllocError>
     ensures kept { KeepsRules config.now }
     ensures made { IfOk result (λ made. made.items ≡ started config.now (length config.now.pool)) }
     ensures many { IfOk result (λ made. vec_len made ≡ length config.now.pool) }
@@ -38,7 +39,10 @@ fn workers(alloc: Global, config: &Config) -> Result<Vec<Worker>, AllocError>
     let mut made = Vec::new(alloc);
     for index in 0..many {
         let translator = Translator::new(alloc, index, config.copy(alloc)?)?;
-        made.push(Worker { translator })?;
+        made.push(Worker {
+            translator,
+            told: PhantomData,
+        })?;
     }
     Ok(made)
 }
@@ -81,7 +85,7 @@ fn rows_at(alloc: Global, rows: &[Row], address: u32) -> Result<Vec<Row>, AllocE
 fn assert_left(
     rt: &impl Abort,
     alloc: Global,
-    ended: &[Ended<Worker>],
+    ended: &[Ended<Worker<Untold>>],
     now: u64,
     rows: &[Row],
 ) -> Result<(), Fail> {

@@ -16,19 +16,13 @@ mod dispatching;
 #[cfg(test)]
 mod flushes;
 #[cfg(test)]
-mod following;
-#[cfg(test)]
 mod gates;
 #[cfg(test)]
 mod held;
 #[cfg(test)]
 mod large;
 #[cfg(test)]
-mod logged;
-#[cfg(test)]
-mod logged_steps;
-#[cfg(test)]
-mod merged_streams;
+mod logs;
 #[cfg(test)]
 mod merging;
 mod packets;

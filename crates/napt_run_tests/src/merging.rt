@@ -1,111 +1,76 @@
-use napt_capture::Record;
-use napt_run::merge;
-use napt_wire::Side;
-use napt_wire::Side::{Inside, Outside};
-use std::alloc::{AllocError, Global};
-use std::process::Abort;
+//! Captures that are merged, each call where it has memory; a stream gives its source back. What inputs come of two is told in
+//! `tests/calls`.
+ghost use Rattle.std.specs.Prelude.{◌≡◌, ◌<◌, ◌^◌, ◌-◌, IfOk};
+
+use napt_capture::{CaptureFault, NoPackets, Record, Records, Source, Watched};
+use napt_records::{MergedStreams, Stream, merge};
+use napt_samples::captures::ONE_PACKET;
+use napt_sequential::Arrivals;
+use std::alloc::Global;
 use std::test::Fail;
 
-/// Records of one byte each, at these times.
-fn records(alloc: Global, rows: &[(u64, u8)]) -> Result<Vec<Record>, AllocError> {
-    let mut records = Vec::new(alloc);
-    for (time, byte) in rows {
-        records.push(Record {
-            time: *time,
-            bytes: Vec::from_slice(alloc, &[*byte])?,
-            original: 1,
-        })?;
-    }
-    Ok(records)
+#[test]
+fn one_record_is_merged(rt: HostRuntime) -> Result<(), Fail> {
+    let alloc = rt.alloc();
+    let mut inside = Vec::new(alloc);
+    inside.push(Record {
+        time: 7,
+        bytes: Vec::new(alloc),
+        original: 1,
+    })?;
+    assert_eq!(rt; merge(alloc, inside, Vec::new(alloc))?.len(), 1);
+    Ok(())
 }
 
-/// Records of both sides, each with its time and its byte, and the inputs that come of them, each with its side, its time, its clock
-/// and its byte.
-#[derive(Clone, Copy)]
-struct Merged<'a> {
-    name: &'a str,
-    insides: &'a [(u64, u8)],
-    outsides: &'a [(u64, u8)],
-    inputs: &'a [(Side, u64, u64, u8)],
+/// Reads the header of a capture.
+fn opened<'a, R: Source>(alloc: Global, source: &'a mut R) -> Result<Stream<'a, R>, CaptureFault>
+    requires { R.failed source.old < 2 ^ 64 - 1 }
+    ensures { IfOk result (λ stream. R.failed stream.live.source.now ≡ R.failed source.old) }
+{
+    let records = Records::open(alloc, source)?;
+    Ok(Stream::new(source, records))
 }
 
-impl Merged<'_> {
-    fn check(&self, rt: &(impl Abort + AllocGlobal)) -> Result<(), Fail> {
-        let (alloc, name) = (rt.alloc(), self.name);
-        let insides = records(alloc, self.insides)?;
-        let inputs = merge(alloc, insides, records(alloc, self.outsides)?)?;
-        assert!(rt; inputs.len() == self.inputs.len(), "{name}");
-        for (i, (input, (side, time, clock, byte))) in inputs.iter().zip(self.inputs).enumerate() {
-            let stands = input.side == *side && input.time == *time && input.clock == *clock;
-            assert!(rt;
-                stands && input.bytes.as_slice() == [*byte].as_slice(),
-                "{name}: input {i}"
-            );
-        }
-        Ok(())
-    }
+/// Whether there is an input.
+fn has_input<R: Source, Q: Source>(
+    alloc: Global,
+    mut streams: MergedStreams<'_, '_, R, Q>,
+) -> Result<bool, Fail> {
+    let input = streams.next(Vec::new(alloc));
+    let (_, _) = streams.into_streams();
+    Ok(input?.is_some())
 }
 
 #[test]
-fn inputs_are_merged(rt: HostRuntime) -> Result<(), Fail> {
-    let rows = [
-        Merged {
-            name: "earlier first",
-            insides: &[(1, 10), (4, 11)],
-            outsides: &[(2, 20), (3, 21), (5, 22)],
-            inputs: &[
-                (Inside, 1, 1, 10),
-                (Outside, 2, 2, 20),
-                (Outside, 3, 3, 21),
-                (Inside, 4, 4, 11),
-                (Outside, 5, 5, 22),
-            ],
-        },
-        Merged {
-            name: "the inside first on a tie",
-            insides: &[(1, 10), (2, 11)],
-            outsides: &[(1, 20), (2, 21)],
-            inputs: &[
-                (Inside, 1, 1, 10),
-                (Outside, 1, 1, 20),
-                (Inside, 2, 2, 11),
-                (Outside, 2, 2, 21),
-            ],
-        },
-        // The record at 40 stands where the one at 100 lets it, and leaves the clock.
-        Merged {
-            name: "lists stay unsorted",
-            insides: &[(100, 10), (40, 11)],
-            outsides: &[(50, 20), (30, 21), (120, 22)],
-            inputs: &[
-                (Outside, 50, 50, 20),
-                (Outside, 30, 50, 21),
-                (Inside, 100, 100, 10),
-                (Inside, 40, 100, 11),
-                (Outside, 120, 120, 22),
-            ],
-        },
-        Merged {
-            name: "none",
-            insides: &[],
-            outsides: &[],
-            inputs: &[],
-        },
-        Merged {
-            name: "one of the inside",
-            insides: &[(7, 10)],
-            outsides: &[],
-            inputs: &[(Inside, 7, 7, 10)],
-        },
-        Merged {
-            name: "two of the outside",
-            insides: &[],
-            outsides: &[(7, 20), (6, 21)],
-            inputs: &[(Outside, 7, 7, 20), (Outside, 6, 7, 21)],
-        },
-    ];
-    for row in &rows {
-        row.check(&rt)?;
-    }
+fn one_record_is_streamed(rt: HostRuntime) -> Result<(), Fail> {
+    let alloc = rt.alloc();
+    let mut source = Watched::new(ONE_PACKET.as_slice());
+    let mut none = NoPackets::new();
+    let first = opened(alloc, &mut source)?;
+    let second = opened(alloc, &mut none)?;
+    assert!(rt; has_input(alloc, MergedStreams::new(alloc, first, second))?);
+    Ok(())
+}
+
+/// The source of the inside again.
+fn source_of<'a, R: Source, Q: Source>(streams: MergedStreams<'a, '_, R, Q>) -> &'a mut R
+    ensures { result.now ≡ streams.entry.inside.live.source.now }
+{
+    let (inside, _) = streams.into_streams();
+    inside.into_source()
+}
+
+/// Only the header is read of it.
+#[test]
+fn streams_give_their_sources_back(rt: HostRuntime) -> Result<(), Fail> {
+    let alloc = rt.alloc();
+    let mut source = Watched::new(ONE_PACKET.as_slice());
+    let mut none = NoPackets::new();
+    let first = opened(alloc, &mut source)?;
+    let second = opened(alloc, &mut none)?;
+    let source = source_of(MergedStreams::new(alloc, first, second));
+    let mut buffer = [0; 4];
+    let count = source.read(&mut buffer)?;
+    assert_eq!(rt; (count, buffer), (4, [1, 0, 0, 0]));
     Ok(())
 }

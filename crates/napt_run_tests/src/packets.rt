@@ -48,26 +48,3 @@ pub(crate) fn udp(
         ],
     )
 }
-
-/// A TCP segment without payload and options, with the sequence number 1, a window of 8192, the lifetime 64 and the
-/// identification 1 (RFC 791, RFC 9293). `control` is the word of its data offset, which is 5, and its control bits.
-#[cfg(test)]
-pub(crate) fn tcp(
-    alloc: Global,
-    source: Endpoint,
-    destination: Endpoint,
-    control: u16,
-) -> Result<Vec<u8>, AllocError> {
-    let [a, b] = halves(source.address);
-    let [c, d] = halves(destination.address);
-    let header = checksum(&[0x4500, 40, 1, 0, 0x4006, a, b, c, d]);
-    let (from, to) = (source.number, destination.number);
-    let transport = checksum(&[a, b, c, d, 6, 20, from, to, 0, 1, 0, 0, control, 0x2000, 0]);
-    bytes_of(
-        alloc,
-        &[
-            0x4500, 40, 1, 0, 0x4006, header, a, b, c, d, from, to, 0, 1, 0, 0, control, 0x2000,
-            transport, 0,
-        ],
-    )
-}

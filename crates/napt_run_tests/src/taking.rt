@@ -1,16 +1,16 @@
 //! What no contract says: that the answers of workers are taken while inputs are read, all that are there.
 
-ghost use Rattle.std.specs.Prelude.{⊤, true};
+ghost use Rattle.std.specs.Prelude.{⊤, true, MatchResult};
 
 use crate::gates::MOST_ASKS;
 use crate::sample_inputs::input;
 use napt_config::Config;
-use napt_dispatch::{Departures, Passed, Stopped, run_through};
+use napt_dispatch::{Departed, Departures, Passed, Stopped, run_through};
 use napt_pool::Gate;
-use napt_run::{Input, Outcome};
+use napt_run::Input;
 use napt_samples::hosts::{CLIENT, RESOLVER, SECOND};
 use napt_samples::settings::TWO_ADDRESSES;
-use napt_sequential::Arrivals;
+use napt_sequential::{Arrivals, Untold};
 use napt_wire::Side;
 use std::alloc::{AllocError, Global};
 use std::process::Abort;
@@ -107,6 +107,8 @@ struct Count {
 impl Departures for Count {
     type Fault = AllocError;
 
+    type Told = Untold;
+
     ghost takes = { λ before pairs after. ⊤ };
 
     ghost fails = { λ before pairs fault after. ⊤ };
@@ -117,12 +119,20 @@ impl Departures for Count {
 
     ghost takes_more = { λ x y z xs ys first second. tt };
 
-    fn leave(&mut self, _time: u64, _outcome: Outcome) -> Result<Option<Vec<u8>>, AllocError> {
+    fn leave(
+        &mut self,
+        _time: u64,
+        _departed: Departed<Untold>,
+    ) -> Result<Option<Vec<u8>>, AllocError>
+        ensures { MatchResult result (λ _. ⊤) (λ fault. ⊤) }
+    {
         self.left.fetch_add(1, Ordering::SeqCst);
         Ok(None)
     }
 
-    fn settle(&mut self) -> Result<(), AllocError> {
+    fn settle(&mut self) -> Result<(), AllocError>
+        ensures { MatchResult result (λ _. ⊤ × ⊤) (λ fault. ⊤) }
+    {
         Ok(())
     }
 }

@@ -9,12 +9,3 @@ pub const NO_FLAGS: Flags = Flags {
     rst: false,
     ack: false,
 };
-
-/// Opens a session.
-pub const SYN: Flags = Flags {
-    syn: true,
-    ..NO_FLAGS
-};
-
-/// Answers a SYN.
-pub const SYN_ACK: Flags = Flags { ack: true, ..SYN };

@@ -28,12 +28,6 @@ pub const RESOLVER: Endpoint = Endpoint {
     number: 53,
 };
 
-/// 198.51.100.7:80, outside.
-pub const SERVER: Endpoint = Endpoint {
-    address: 0xC633_6407,
-    number: 80,
-};
-
 /// 10.0.0.0 and so many more, with a port or an identifier: an inside host.
 pub fn host(many: u16, number: u16) -> Endpoint
     ensures address { result.address ≡ 0x0A00_0000 + many }
@@ -52,17 +46,6 @@ pub fn external(many: u16, number: u16) -> Endpoint
 {
     Endpoint {
         address: 0xCB00_7100 + u32::from(many),
-        number,
-    }
-}
-
-/// 198.51.100.7 with a port or an identifier: the host outside to which most packets go.
-pub fn remote(number: u16) -> Endpoint
-    ensures address { result.address ≡ 0xC633_6407 }
-    ensures number { result.number ≡ number }
-{
-    Endpoint {
-        address: RESOLVER.address,
         number,
     }
 }

@@ -2,11 +2,8 @@
 //! are from outside: nothing here is computed by the libraries, which the tests compare with it. Only tests list this crate.
 #![tactic(auto)]
 
-mod builders;
 pub mod captures;
 pub mod flags;
 pub mod hosts;
 pub mod packets;
 pub mod settings;
-
-pub use builders::{Change, changed, mended, udp};

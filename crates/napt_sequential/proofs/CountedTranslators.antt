@@ -1,20 +1,18 @@
 -- The translators after a leg, at its address and at the others.
-use Rattle.std.proofs.Common.{◌≡◌, ◌≢◌, ℕ, suc, ◌+◌, ◌≤◌, true, false, List, [], ◌∷◌, ◌++◌, map, length, cond, Option, Some, refl, sym, ◌∙◌, ap, subst, arith, eqb, eq-eqb, append-nil, get_or, set}
+use Rattle.std.proofs.Common.{◌≡◌, ◌≢◌, ℕ, suc, ◌+◌, ◌≤◌, true, false, List, [], ◌∷◌, ◌++◌, map, length, cond, Some, refl, sym, ◌∙◌, ap, subst, arith, eqb, eq-eqb, append-nil, get_or, set}
 use Rattle.std.specs.List.{slice_get}
 use Rattle.std.proofs.lemmas.Bool.{ne_eqb, eqb-true, eqb-false}
 use Rattle.std.proofs.lemmas.List.Elements.{filter-append}
 use Rattle.std.proofs.lemmas.Option.{slice_get_within, slice_get-get_or, get_or_from_slice_get, same_Some}
-use Rattle.napt_config.specs.Rules.{Rules, KeepsRules, AreTimers}
+use Rattle.napt_config.specs.Rules.{Rules, KeepsRules}
 use Rattle.napt_rules.specs.declared.Leg.{Leg}
-use Rattle.napt_rules.specs.declared.End.{End}
-use Rattle.napt_rules.specs.Prelude.{Through, Acted, act, Act, acts_at, legs_at, kept_act, kept_after}
-use Rattle.napt_translate.specs.Translators.{TranslatorState, begun, with_kept, left_by}
+use Rattle.napt_rules.specs.Prelude.{act, Act, acts_at, legs_at, kept_after}
+use Rattle.napt_translate.specs.Translators.{begun, with_kept, left_by}
 use Rattle.napt_sequential.specs.declared.counted_translator.CountedTranslator.{CountedTranslator}
-use Rattle.napt_sequential.specs.CountedTranslators.{RunState, IsCountedTranslator, AreCountedTranslators, act_of, passed_of, state_after, passed_at, counted_after}
+use Rattle.napt_sequential.specs.CountedTranslators.{RunState, IsCountedTranslator, AreCountedTranslators, act_of, act_there, told_of, told_at, state_after, counted_after}
 use Rattle.napt_sequential.proofs.Lists.{get_set, get_set_other, long_set}
-use Rattle.napt_sequential.specs.declared.passage.Passed.{Passed}
-use Rattle.napt_laws.proofs.LegsLocal.{ActsAlike, alike}
-use Rattle.napt_laws.proofs.RunsLocal.{ActsOnTime, on_time, leg_at_once, other_at_once}
+use Rattle.napt_sequential.proofs.ToldAlone.{acts_same}
+use Rattle.napt_laws.proofs.RunsLocal.{leg_at_once, other_at_once}
 
 -- one leg more, at its address and at another
 legs_more : (address : ℕ) (acts : List Act) (a : Act) → a.address ≡ address → length (legs_at address (acts ++ a ∷ []))
@@ -53,21 +51,13 @@ module _ (rules : Rules) (place address : ℕ) (at : get_or rules.pool place 0 �
     (counted : CountedTranslator) (is : IsCountedTranslator rules place address state counted) (leg : Leg)
     (later : state.clock ≤ leg.now) where
   -- the translator of the address
-  pub own_passed : passed_at leg counted
-      ≡ passed_of rules.timers (act_of address leg (act rules address leg state.list))
-  own_passed =
-      let past : is.own.at ≤ leg.now = omega (arith, is.at_once.past) in
-      let timely : ActsOnTime rules address leg is.own = on_time rules address leg is.own past in
-      let same : ActsAlike rules address leg.now (act rules address leg is.own.list)
-      (act rules address leg state.list) =
-      alike rules address state.clock is.own.list state.list is.at_once.agrees leg later in
-      let by : End → Option Through → Passed = λ end through. passed_of rules.timers
-      (record { address = address; leg = leg; end = end; through = through }) in
-      ap (λ (t : TranslatorState). passed_at leg (record { translator = t; legs = 0 })) is.translator
-      ∙ (ap (λ (a : ℕ). passed_of rules.timers (act_of a leg (kept_act rules a leg is.own))) at
-      ∙ (ap (λ (acted : Acted). passed_of rules.timers (act_of address leg acted)) timely.is
-      ∙ (ap (λ (end : End). by end (act rules address leg is.own.list).through) same.end
-      ∙ ap (by (act rules address leg state.list).end) same.through)))
+  pub own_told : told_at (λ passage. passage) leg counted.translator
+      ≡ told_of (λ passage. passage) rules.timers (act_of address leg (act rules address leg state.list))
+  own_told =
+      ap (told_at (λ passage. passage) leg) is.translator
+      ∙ (ap (λ (a : ℕ). told_of (λ passage. passage) rules.timers (act_there rules a leg is.own)) at
+      ∙ acts_same (told_of (λ passage. passage) rules.timers) rules address state.clock is.own state.list is.at_once leg
+      later)
 
   pub own_counted : IsCountedTranslator rules place address (state_after rules address leg state)
       (counted_after leg counted)
@@ -122,13 +112,10 @@ module _ (rules : Rules) (keeps : KeepsRules rules) (state : RunState) (translat
   own : IsCountedTranslator rules place address state counted
   own = are.each place address counted at is_there
 
-  pub passed_same : passed_at leg counted
-      ≡ passed_of rules.timers (act_of address leg (act rules address leg state.list))
-  passed_same =
-      own_passed rules place address (get_or_from_slice_get rules.pool place address 0 at) state counted own leg later
-
-  pub its_timers : AreTimers counted.translator.rules.timers
-  its_timers = subst AreTimers (sym (ap (λ (t : TranslatorState). t.rules.timers) own.translator)) keeps.timers
+  pub told_same : told_at (λ passage. passage) leg counted.translator
+      ≡ told_of (λ passage. passage) rules.timers (act_of address leg (act rules address leg state.list))
+  told_same =
+      own_told rules place address (get_or_from_slice_get rules.pool place address 0 at) state counted own leg later
 
   pub few_legs : counted.legs ≤ length state.acts
   few_legs = let few = legs_few address state.acts in let is : counted.legs ≡ length (legs_at address state.acts) =

@@ -1,5 +1,5 @@
 -- Look-ups after a leg find the binding that it went through.
-use Rattle.std.proofs.Common.{◌≡◌, ℕ, ◌+◌, max, List, Option, Some, None, Result, Ok, Err, refl, sym, ◌∙◌, ap, arith}
+use Rattle.std.proofs.Common.{◌≡◌, ℕ, max, List, Option, Some, None, Result, Ok, Err, refl, sym, ◌∙◌, ap, arith}
 use Rattle.std.specs.Option.{option_map}
 use Rattle.napt_wire.specs.declared.Protocol.{Protocol}
 use Rattle.napt_wire.specs.declared.Protocol.TheVariants as protocols
@@ -15,19 +15,19 @@ use Rattle.napt_config.specs.Rules.{Rules, AreTimers}
 use Rattle.napt_rules.specs.declared.Sent.{Sent}
 use Rattle.napt_rules.specs.declared.Received.{Received}
 use Rattle.napt_rules.specs.declared.Leg.{Leg}
+use Rattle.napt_rules.specs.declared.Answer.{Answer}
 use Rattle.napt_rules.specs.declared.End.{End}
 use Rattle.napt_rules.specs.declared.End.TheVariants.{ToOutside, Onward, Dropped}
-use Rattle.napt_rules.specs.Prelude.{Through, Binding, Out, step_out, In, step_in, by_inside, by_number, inbound_of, no_flags, onward_by, end_out, end_in, sent_of, received_of, Acted, act_out, act_in, act_by, Kept, time_after, kept_act}
+use Rattle.napt_rules.specs.Prelude.{Through, Binding, Out, step_out, In, step_in, by_inside, by_number, inbound_of, no_flags, onward_by, end_out, end_in, sent_of, received_of, Acted, act_out, act_in, act_by, Kept, time_after, kept_act, kept_answer}
 use Rattle.napt_table.specs.TimedRows.{timed}
 use Rattle.napt_translate.specs.Carried.{carried_by}
 use Rattle.napt_translate.specs.Translators.{TranslatorState, kept_of, left_by}
 use Rattle.napt_laws.specs.Through.{IsSaid}
 use Rattle.napt_laws.proofs.Through.{out_says_its_binding, in_says_its_binding}
-use Rattle.napt_sequential.specs.declared.counted_translator.CountedTranslator.{CountedTranslator}
 use Rattle.napt_sequential.specs.declared.passage.Passage.{Passage}
-use Rattle.napt_sequential.specs.declared.passage.Passed.{Passed}
 use Rattle.napt_sequential.specs.declared.passage.Seen.{Seen}
-use Rattle.napt_sequential.specs.CountedTranslators.{seen_of, out_through, in_through, found_by, passage_seen, passed_at}
+use Rattle.napt_sequential.specs.declared.telling.Told.{Told}
+use Rattle.napt_sequential.specs.CountedTranslators.{seen_of, out_through, in_through, found_by, passage_seen, told_at}
 use Rattle.napt_sequential.specs.Traces.{passage_by}
 
 module _ (rules : Rules) (t : AreTimers rules.timers) (address : ℕ) (leg : Leg) (list : List Binding) where
@@ -110,17 +110,17 @@ module _ (rules : Rules) (address : ℕ) (leg : Leg) (at : ℕ) (left : List Bin
   in_time Echo = ap (found_at Echo) (omega arith)
   in_time (ErrorOf inner) = refl
 
-pub passed_there : (leg : Leg) (counted : CountedTranslator) → AreTimers counted.translator.rules.timers →
-    (end : End) → end ≡ (passed_at leg counted).end → (seen : Seen) → seen ≡ seen_of leg.packet →
-    (left : TranslatorState) → left ≡ left_by leg counted.translator → (passage : Passage) →
-    passage ≡ passage_seen leg.now seen end (record { translator = left; legs = counted.legs + 1 }) →
-    (let p : Passed = record { end = end; passage = passage } in p ≡ passed_at leg counted)
-passed_there leg counted t end end_is seen seen_is left left_is passage passage_is =
-    let state : TranslatorState = counted.translator in
+pub told_there : (leg : Leg) (state : TranslatorState) → AreTimers state.rules.timers → (answer : Answer) →
+    answer ≡ kept_answer state.rules state.table.address leg (kept_of state.table) → (seen : Seen) →
+    seen ≡ seen_of leg.packet → (left : TranslatorState) → left ≡ left_by leg state → (passage : Passage) →
+    passage ≡ passage_seen leg.now seen answer.end left →
+    (let told : Told Passage = record { answer = answer; passage = passage } in
+    told ≡ told_at (λ passage. passage) leg state)
+told_there leg state t answer answer_is seen seen_is left left_is passage passage_is =
     let own : Kept = kept_of state.table in
     let acted : Acted = kept_act state.rules state.table.address leg own in
-    rw (passage_is, end_is, seen_is, left_is) (ap (λ (x : Passage). let p : Passed =
-    record { end = acted.end; passage = x } in p)
+    rw (passage_is, answer_is, seen_is, left_is) (ap (λ (x : Passage). let told : Told Passage =
+    record { answer = kept_answer state.rules state.table.address leg own; passage = x } in told)
     (in_time state.rules state.table.address leg own.at acted.list acted.end (kind leg.packet)
     ∙ found_act state.rules t state.table.address (record leg { now = max leg.now own.at }) own.list leg.way
     (kind leg.packet)))

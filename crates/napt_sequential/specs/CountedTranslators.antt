@@ -7,7 +7,7 @@ use Rattle.napt_wire.specs.declared.Protocol.{Protocol}
 use Rattle.napt_wire.specs.Fields.{source, destination, kind}
 use Rattle.napt_config.specs.declared.settings.Timers.{Timers}
 use Rattle.napt_config.specs.Rules.{Rules}
-use Rattle.napt_rules.specs.Prelude.{Binding, by_inside, by_number, opening, Acted, act, Arrival, rows, Act, Course, run, last_clock, legs_at, Kept, kept_act}
+use Rattle.napt_rules.specs.Prelude.{Binding, by_inside, by_number, opening, Acted, act, Arrival, rows, Act, Course, run, last_clock, legs_at, Kept, kept_act, answer_of}
 use Rattle.napt_rules.specs.declared.Row.{Row}
 use Rattle.napt_rules.specs.declared.Leg.{Leg}
 use Rattle.napt_rules.specs.declared.End.{End}
@@ -15,13 +15,14 @@ use Rattle.napt_rules.specs.declared.End.TheVariants as ends
 use Rattle.napt_table.specs.declared.TimedRow.{TimedRow}
 use Rattle.napt_table.specs.TimedRows.{timed}
 use Rattle.napt_translate.specs.Carried.{carried_by}
-use Rattle.napt_translate.specs.Translators.{begun, kept_of, with_kept, left_by}
+use Rattle.napt_translate.specs.Translators.{TranslatorState, begun, kept_of, with_kept, left_by}
 use Rattle.napt_rules.specs.declared.Outcome.{Outcome}
 use Rattle.napt_sequential.specs.declared.counted_translator.CountedTranslator.{CountedTranslator}
 use Rattle.napt_sequential.specs.declared.passage.Passage.{Passage}
 use Rattle.napt_sequential.specs.declared.passage.Passage.TheVariants.{Nothing, Out, In, Dropped}
-use Rattle.napt_sequential.specs.declared.passage.Passed.{Passed}
 use Rattle.napt_sequential.specs.declared.passage.Seen.{Seen}
+use Rattle.napt_sequential.specs.declared.telling.Told.{Told}
+use Rattle.napt_sequential.specs.declared.telling.Untold.{Untold}
 use Rattle.napt_sequential.specs.declared.outcome.Stepped.{Stepped}
 use Rattle.napt_sequential.specs.Traces.{passage_of, trace_of}
 use Rattle.napt_laws.specs.Agreeing.{IsAtOnce}
@@ -56,28 +57,36 @@ state_after rules address leg state =
     let acted : Acted = act rules address leg state.list in
     record { clock = leg.now; acts = state.acts ++ act_of address leg acted ∷ []; list = acted.list }
 
--- how it ended, and what it did
-abbrev pub passed_of : Timers → Act → Passed
-passed_of timers a = record { end = a.end; passage = passage_of timers a }
+-- what is told of a leg that acted: this of what it did
+abbrev pub told_of : {P : Type 0} → (Passage → P) → Timers → Act → Told P
+told_of tells timers a = record { answer = answer_of a; passage = tells (passage_of timers a) }
 
 -- after an input at a time
 abbrev pub state_then : ℕ → Course → RunState → RunState
 state_then now course state = record { clock = now; acts = state.acts ++ course.acts; list = course.list }
 
--- at a place of the pool it passed so, and took the translators of any state to those after it
-abbrev pub Takes : Rules → ℕ → Leg → List CountedTranslator → List CountedTranslator → Passed → Type 0
-Takes rules place leg before after passed = (state : RunState) (address : ℕ) →
+-- at a place of the pool it told so, and took the translators of any state to those after it
+abbrev pub Takes : Rules → ℕ → Leg → List CountedTranslator → List CountedTranslator → Told Passage → Type 0
+Takes rules place leg before after told = (state : RunState) (address : ℕ) →
     AreCountedTranslators rules state before → state.clock ≤ leg.now → slice_get rules.pool place ≡ Some address →
-    (passed ≡ passed_of rules.timers (act_of address leg (act rules address leg state.list)))
+    (told ≡ told_of (λ passage. passage) rules.timers (act_of address leg (act rules address leg state.list)))
     × AreCountedTranslators rules (state_after rules address leg state) after
 
--- how it passes at a counted translator, and the translator after it
-abbrev pub passed_at : Leg → CountedTranslator → Passed
-passed_at leg counted =
-    let address : ℕ = counted.translator.table.address in
-    passed_of counted.translator.rules.timers (act_of address leg
-    (kept_act counted.translator.rules address leg (kept_of counted.translator.table)))
+-- where nothing is told
+abbrev pub nothing_told : Untold
+nothing_told = record {}
 
+-- how a leg acts at a translator by its list and its time, and what it tells
+abbrev pub act_there : Rules → ℕ → Leg → Kept → Act
+act_there rules address leg kept = act_of address leg (kept_act rules address leg kept)
+
+abbrev pub told_by : {P : Type 0} → (Passage → P) → Rules → ℕ → Leg → Kept → Told P
+told_by tells rules address leg kept = told_of tells rules.timers (act_there rules address leg kept)
+
+abbrev pub told_at : {P : Type 0} → (Passage → P) → Leg → TranslatorState → Told P
+told_at tells leg state = told_by tells state.rules state.table.address leg (kept_of state.table)
+
+-- a counted translator after it
 abbrev pub counted_after : Leg → CountedTranslator → CountedTranslator
 counted_after leg counted = record { translator = left_by leg counted.translator; legs = counted.legs + 1 }
 
@@ -111,10 +120,9 @@ found_by timers now list address seen (Some protocol) (ends.ToInside packet) =
 found_by timers now list address seen (Some protocol) (ends.Dropped cause) =
     Dropped (record { protocol = protocol; host = seen.source.address; cause = cause })
 
-abbrev pub passage_seen : ℕ → Seen → End → CountedTranslator → Passage
-passage_seen now seen end counted =
-    found_by counted.translator.rules.timers (max now counted.translator.table.at) counted.translator.table.list
-    counted.translator.table.address seen seen.protocol end
+abbrev pub passage_seen : ℕ → Seen → End → TranslatorState → Passage
+passage_seen now seen end state =
+    found_by state.rules.timers (max now state.table.at) state.table.list state.table.address seen seen.protocol end
 
 -- TIMES AND STEPS
 

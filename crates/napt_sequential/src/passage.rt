@@ -4,7 +4,6 @@ ghost use Rattle.std.specs.Prelude.{◌≡◌};
 ghost use Rattle.napt_sequential.specs.CountedTranslators as lookups;
 
 use napt_table::TimedRow;
-use napt_translate::End;
 use napt_wire::{Cause, Endpoint, Kind, Packet, Protocol};
 
 /// What a leg did to the bindings of its external address.
@@ -46,13 +45,6 @@ pub(crate) struct Seen {
     pub(crate) protocol: Option<Protocol>,
     pub(crate) source: Endpoint,
     pub(crate) destination: Endpoint,
-}
-
-/// How a leg ended, and what it did.
-#[derive(Drop)]
-pub(crate) struct Passed {
-    pub(crate) end: End,
-    pub(crate) passage: Passage,
 }
 
 impl Seen {

@@ -1,8 +1,10 @@
 -- What is held stays found by both its ends, and counted, when a binding comes, goes or changes.
-use Rattle.std.proofs.Common.{◌≡◌, ◌≢◌, ℕ, ◌+◌, ◌*◌, ◌<◌, ◌≤◌, ◌^◌, Bool, true, false, not, ◌&&◌, cond, List, [], ◌∷◌, Option, Some, None, refl, sym, ◌∙◌, ap, subst, arith, eqb}
-use Rattle.std.specs.Prelude.{find, IfSome}
+use Rattle.std.proofs.Common.{◌≡◌, ◌≢◌, ℕ, zero, suc, ◌+◌, ◌*◌, ◌<◌, ◌≤◌, ◌^◌, Bool, true, false, not, ◌&&◌, cond, List, [], ◌∷◌, Option, Some, None, refl, sym, ◌∙◌, ap, subst, arith, eqb}
+use Rattle.std.specs.Prelude.{find, slice_get, IfSome}
 use Rattle.std.specs.Option.{is_some, option_map}
-use Rattle.std.specs.Map.{lookup}
+use Rattle.std.specs.Map.{lookup, values_of}
+use Rattle.indexmap.specs.IndexMap.{with_value_at, IsUnique}
+use Rattle.indexmap.proofs.CallerLemmas.{updates-with_value_at}
 use Rattle.std.proofs.lemmas.Bool.{true≢false}
 use Rattle.std.proofs.lemmas.Option.{same_Some}
 use Rattle.napt_config.specs.Rules.{IsBlock}
@@ -11,7 +13,7 @@ use Rattle.napt_wire.specs.declared.Protocol.{Protocol}
 use Rattle.napt_wire.specs.declared.Protocol.TheVariants.{Icmp, Tcp, Udp}
 use Rattle.napt_wire.specs.declared.Endpoint.{Endpoint}
 use Rattle.napt_rules.specs.declared.Row.{Row}
-use Rattle.napt_rules.specs.Prelude.{Each, Binding, row, candidates}
+use Rattle.napt_rules.specs.Prelude.{Each, Binding, is_live, with_live_flows, row, candidates}
 use Rattle.napt_binding.specs.declared.addresses.Addresses.{Addresses}
 use Rattle.napt_table.specs.declared.bindings.keys.ExternalKey.{ExternalKey}
 use Rattle.napt_table.specs.declared.bindings.held.Held.TheInside.{Inside}
@@ -25,8 +27,8 @@ use Rattle.napt_table.specs.InUse.{is_in_use, AreByProtocol}
 use Rattle.napt_table.specs.Keys.{key_eq, inside_eq, external_key, inside_key}
 use Rattle.napt_table.proofs.InBlock.{each_small}
 use Rattle.napt_table.proofs.Hosts.{count_same, count_changed, count_none, count_few}
-use Rattle.napt_table.proofs.Seen.{seen_is}
-use Rattle.napt_table.proofs.Keys.{by_key, at_key, past_key, by_inside, inside_same}
+use Rattle.napt_table.proofs.Seen.{seen_is, seen_live}
+use Rattle.napt_table.proofs.Keys.{by_key, at_key, past_key, by_inside, inside_same, key_equiv}
 
 -- COUNTS
 
@@ -258,7 +260,7 @@ count_kept then now one other alike moved = omega arith
 module _ (old new : Inside) (key : ExternalKey) (is : IsHeld old) (b w : Binding) (there : held_in old key ≡ Some b)
     (holds : (k : ExternalKey) → held_in new k ≡ cond (key_eq key k) (Some w) (held_in old k))
     (address : new.address ≡ old.address) (quota : new.quota ≡ old.quota) where
-  pub written_there : held_in new key ≡ Some w
+  written_there : held_in new key ≡ Some w
   written_there = holds key ∙ at_key key (Some w) (held_in old key)
 
   written_others : (k : ExternalKey) → k ≢ key → held_in new k ≡ held_in old k
@@ -273,7 +275,7 @@ module _ (old new : Inside) (key : ExternalKey) (is : IsHeld old) (b w : Binding
       (inside_same key.protocol key.protocol b.row.inside b.row.inside refl refl)))
       (λ t. sym (ap (λ v. cond v (Some key.number) (number_at old q e)) t))
 
-  pub written_held : row w ≡ row b → ((q : Protocol) (e : Endpoint) → number_at new q e ≡ number_at old q e) →
+  written_held : row w ≡ row b → ((q : Protocol) (e : Endpoint) → number_at new q e ≡ number_at old q e) →
       new.numbers ≡ old.numbers → new.hosts ≡ old.hosts → IsHeld new
   written_held rows insides numbers hosts = step_held old new is key (is.named.small key b there) b.row.inside
       (Some b) (Some w) there holds (λ q e. insides q e ∙ found_again q e)
@@ -291,15 +293,67 @@ module _ (old new : Inside) (key : ExternalKey) (is : IsHeld old) (b w : Binding
       (cond {A = ℕ} (held_for host (Some b)) 1 0) (cond {A = ℕ} (held_for host (Some w)) 1 0)
       (ap (λ (r : Row). cond {A = ℕ} (eqb r.inside.address host && not r.fixed) 1 0) (sym rows)) moved)
 
-  pub written_one : ChangesOne key (holdings_of old) (holdings_of new)
+  written_one : ChangesOne key (holdings_of old) (holdings_of new)
   written_one = record { place = record { address_is = address; quota_is = quota }; others = written_others }
 
-  pub written_same : w ≡ b → HoldsSame (holdings_of old) (holdings_of new)
+  written_same : w ≡ b → HoldsSame (holdings_of old) (holdings_of new)
   written_same e = record {
     place = record { address_is = address; quota_is = quota };
     held_same = λ k. by_key key k (λ n. held_in new n ≡ held_in old n)
         (written_there ∙ (ap (λ (x : Binding). Some x) e ∙ sym there)) (written_others k);
   }
+
+-- A BINDING CHANGES AT ITS PLACE
+
+value_at : (es : List (ExternalKey × Binding)) (i : ℕ) (key : ExternalKey) (b : Binding) →
+    slice_get es i ≡ Some (key, b) → slice_get (values_of es) i ≡ Some b
+value_at [] i key b h = cc
+value_at (e ∷ es) zero key b h = ap (option_map (λ (x : ExternalKey × Binding). x.1)) h
+value_at (e ∷ es) (suc i) key b h = value_at es i key b h
+
+module _ (it : Inside) (all : Holdings) (view : holdings_of it ≡ all) (key : ExternalKey) (place : ℕ) (found : Binding)
+    (there : Some found ≡ held all key) (at : slice_get all.entries place ≡ Some (key, found)) where
+  entry_at : slice_get it.by_number.entries place ≡ Some (key, found)
+  entry_at = ap (λ (h : Holdings). slice_get h.entries place) view ∙ at
+
+  pub lent_at : slice_get (values_of it.by_number.entries) place ≡ Some found
+  lent_at = value_at it.by_number.entries place key found entry_at
+
+  pub found_there : held_in it key ≡ Some found
+  found_there = ap (λ (h : Holdings). held h key) view ∙ sym there
+
+  -- what is lent there is the binding that was found
+  module _ (b : Binding) (lent : Some b ≡ slice_get (values_of it.by_number.entries) place) where
+    lent_is : found ≡ b
+    lent_is = same_Some found b (sym lent_at ∙ sym lent)
+
+    pub lent_there : held_in it key ≡ Some b
+    lent_there = found_there ∙ ap (λ (x : Binding). Some x) lent_is
+
+    -- and it is seen, if that one is live
+    pub lent_seen : (timers : Timers) (now : ℕ) → is_live timers now found ≡ true → seen timers now (held_in it key)
+        ≡ Some (with_live_flows timers now b)
+    lent_seen timers now live = ap (seen timers now) lent_there
+        ∙ seen_live timers now b _ (ap (is_live timers now) (sym lent_is) ∙ live) refl
+
+    module _ (is : IsHeld it) (unique : IsUnique key_eq it.by_number) (w : Binding) where
+      abbrev after : Inside
+      after = record it { by_number = with_value_at it.by_number place w }
+
+      changed_at : (k : ExternalKey) → held_in after k ≡ cond (key_eq key k) (Some w) (held_in it k)
+      changed_at k = (updates-with_value_at it.by_number place w key_equiv unique key found entry_at).0 k
+
+      pub held_at_place : row w ≡ row b → IsHeld after
+      held_at_place rows = written_held it after key is b w lent_there changed_at refl refl rows (λ q e. refl) refl refl
+
+      pub one_at_place : ChangesOne key (holdings_of it) (holdings_of after)
+      one_at_place = written_one it after key is b w lent_there changed_at refl refl
+
+      pub same_at_place : w ≡ b → HoldsSame (holdings_of it) (holdings_of after)
+      same_at_place = written_same it after key is b w lent_there changed_at refl refl
+
+      pub left_at_place : held_in after key ≡ Some w
+      left_at_place = written_there it after key is b w lent_there changed_at refl refl
 
 -- NO LIVE BINDING OF AN INSIDE ENDPOINT
 

@@ -25,6 +25,7 @@ use std::marker::Model;
 mod held;
 mod keys;
 mod numbers_in_use;
+mod places;
 mod sending;
 
 /// The bindings of one external address; contracts see what is held, the timers, the time of the last packet, and the

@@ -26,16 +26,14 @@ Where it ends well, each output holds the bytes that napt writes. What differs:
   At a fault of a capture all packets before it have been translated and
   written. Outputs begin with their header whatever comes; the report is written
   at the end alone.
-  The log is that of explain --log. The rows of a packet go to a buffer of their
-  own before the packet goes to its; both are flushed before more is asked for.
-  Captures may have any number of bytes, and of packets without a log; with one
-  at most 4294967295 packets.
+  The log is that of explain log. Of each packet that is out its rows are in
+  the log. Captures may have any number of bytes and of packets.
   Where standard error is a terminal, a run of more than two seconds tells there
   the packets read, how many a second, and the bindings held.
 
 Exit status, and the line on standard error that says why: as of napt, with
 ", $name, ": in place of napt: at its beginning. too-large never comes, and too-many
-with a log alone.
+with a log alone, at packet 4611686018427387904.
   0  done, without a line
   2  ", $name, ": usage
   3  ", $name, ": config WORD

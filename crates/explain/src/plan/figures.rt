@@ -34,13 +34,14 @@ pub struct Figures {
     pub fullest: Option<Fullest>,
 }
 
-/// Packets dropped for the causes that a configuration decides.
+/// Packets dropped for the causes that a configuration decides, and those that a snapshot length cut.
 #[derive(Clone, Copy)]
 pub struct Drops {
     pub no_port: u64,
     pub over_quota: u64,
     pub no_binding: u64,
     pub filtered: u64,
+    pub truncated: u64,
 }
 
 impl Figures {
@@ -62,6 +63,7 @@ impl Figures {
                 over_quota: counts.dropped(Cause::OverQuota),
                 no_binding: counts.dropped(Cause::NoBinding),
                 filtered: counts.dropped(Cause::Filtered),
+                truncated: counts.dropped(Cause::Truncated),
             },
             bindings: usage.bindings.most,
             median: percentile(&ranked, 50),

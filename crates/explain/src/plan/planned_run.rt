@@ -62,6 +62,13 @@ impl<'a> PlannedRun<'a> {
         Ok(())
     }
 
+    /// Reports what the captures lack of the lives of its bindings; `path` names its configuration.
+    pub fn tell_living<R: Eprint + AllocGlobal>(&self, rt: &R, path: &str) -> Result<(), Stop> {
+        let living = self.run.living(rt.alloc())?;
+        self.coverage.tell_living(rt, Some(path), &living);
+        Ok(())
+    }
+
     /// Its figures.
     pub fn figures(&self, alloc: Global) -> Result<Figures, AllocError> {
         Figures::of(alloc, self.run.config(), &self.usage, &self.counts)

@@ -11,10 +11,10 @@ use std::alloc::{AllocError, Global};
 use std::fmt::Write;
 
 /// How many columns have numbers.
-const NUMBERS: usize = 12;
+const NUMBERS: usize = 13;
 
 /// Their names.
-const NAMES: [&str; 12] = [
+const NAMES: [&str; 13] = [
     "quota",
     "block",
     "to-outside",
@@ -23,6 +23,7 @@ const NAMES: [&str; 12] = [
     "over-quota",
     "no-binding",
     "filtered",
+    "truncated",
     "bindings",
     "median",
     "99 %",
@@ -127,6 +128,7 @@ fn numbers_of(figures: Figures) -> [Option<u64>; NUMBERS] {
         Some(drops.over_quota),
         Some(drops.no_binding),
         Some(drops.filtered),
+        Some(drops.truncated),
         Some(figures.bindings),
         Some(figures.median),
         Some(figures.percentile_99),

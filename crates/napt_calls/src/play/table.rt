@@ -1,12 +1,13 @@
 //! The table of one external address.
 
-ghost use Rattle.std.specs.Prelude.{◌≤◌, IfOk};
+ghost use Rattle.std.specs.Prelude.{◌≡◌, ◌≤◌, true, IfOk, IfSome};
+ghost use Rattle.napt_config.specs.Rules.{IsBlock};
 
 use crate::Stop;
 use crate::play::words::Words;
-use napt_config::Config;
-use napt_table::Table;
-use napt_wire::{Cause, Endpoint, Flags, Protocol};
+use napt_config::{Block, Config};
+use napt_table::{Sent, Table};
+use napt_wire::{Cause, Protocol};
 use std::alloc::Global;
 
 /// `table ADDRESS CONFIGURATION`: a table of that address, behind a box: a function that owns one as it stands takes minutes to
@@ -55,36 +56,51 @@ pub(crate) fn answer<R: Print>(
     }
 }
 
-/// A packet that goes out.
-#[derive(Clone, Copy)]
-struct Sent {
-    now: u64,
-    protocol: Protocol,
-    inside: Endpoint,
-    remote: Endpoint,
-    flags: Flags,
+/// Whether there is no block, or an even number of numbers from an even one on, behind those below 1024.
+fn keeps_block(block: Option<Block>) -> bool
+    ensures { result ≡ true → IfSome block IsBlock }
+{
+    let Some(Block { first, size }) = block else {
+        return true;
+    };
+    let end = u32::from(first) + u32::from(size);
+    first % 2 == 0 && first >= 1024 && size % 2 == 0 && size >= 64 && end <= 65_536
 }
 
 fn send(alloc: Global, table: &mut Table, sent: Sent) -> Result<Result<u16, Cause>, Stop>
     requires { table.old.at ≤ sent.now }
 {
-    let Sent {
-        now,
-        protocol,
-        inside,
-        remote,
-        flags,
-    } = sent;
-    let answer = match protocol {
-        Protocol::Icmp => table.outbound(alloc, now, Protocol::Icmp, inside, remote, flags),
-        _ if inside.number == 0 => return Err(Stop::Unsent),
-        Protocol::Tcp => table.outbound(alloc, now, Protocol::Tcp, inside, remote, flags),
-        Protocol::Udp => table.outbound(alloc, now, Protocol::Udp, inside, remote, flags),
+    if !keeps_block(sent.block) {
+        return Err(Stop::Unsent);
+    }
+    let answer = match sent.protocol {
+        Protocol::Icmp => table.outbound_of(
+            alloc,
+            Sent {
+                protocol: Protocol::Icmp,
+                ..sent
+            },
+        ),
+        _ if sent.inside.number == 0 => return Err(Stop::Unsent),
+        Protocol::Tcp => table.outbound_of(
+            alloc,
+            Sent {
+                protocol: Protocol::Tcp,
+                ..sent
+            },
+        ),
+        Protocol::Udp => table.outbound_of(
+            alloc,
+            Sent {
+                protocol: Protocol::Udp,
+                ..sent
+            },
+        ),
     };
     answer.map_err(|_| Stop::Call)
 }
 
-/// `outbound NOW PROTOCOL INSIDE REMOTE FLAGS`
+/// `outbound NOW PROTOCOL INSIDE REMOTE FLAGS`, and the first number and the size of the block of the inside host, if it has one.
 fn outbound<R: Print>(
     rt: &R,
     alloc: Global,
@@ -100,6 +116,7 @@ fn outbound<R: Print>(
         inside: words.endpoint()?,
         remote: words.endpoint()?,
         flags: words.flags()?,
+        block: words.block()?,
     };
     let answer = send(alloc, table, sent)?;
     println!(rt; "{answer:?}").map_err(|_| Stop::File)

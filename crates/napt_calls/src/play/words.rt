@@ -1,6 +1,7 @@
 //! The words of a line.
 
 use crate::Stop;
+use napt_config::Block;
 use napt_wire::{Endpoint, Flags, Protocol, Side, Way};
 use std::alloc::Global;
 use std::str::SplitWhitespace;
@@ -51,6 +52,15 @@ impl<'a> Words<'a> {
             rst: word.contains('R'),
             ack: word.contains('A'),
         })
+    }
+
+    /// The first number and the size of a block, if there are more words.
+    pub(crate) fn block(&mut self) -> Result<Option<Block>, Stop> {
+        let Ok(first) = self.short() else {
+            return Ok(None);
+        };
+        let size = self.short()?;
+        Ok(Some(Block { first, size }))
     }
 
     pub(crate) fn protocol(&mut self) -> Result<Protocol, Stop> {

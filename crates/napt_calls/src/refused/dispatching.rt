@@ -9,15 +9,16 @@ use crate::refused::left::{Asked, Counts, gate, looked_at};
 use crate::refused::run::{configuration, end_of_run, inputs};
 use napt_config::Config;
 use napt_pool::{Pool, PoolFault};
-use napt_run::{Input, Worker, dispatch};
+use napt_run::{Input, Untold, Worker, dispatch};
 use napt_translate::Translator;
 use std::alloc::{AllocError, Global};
+use std::marker::PhantomData;
 use std::rt::Files;
 use std::sync::{Arc, Wait};
 use std::thread::Threads;
 
 /// The workers of all external addresses before any leg, in the order of the pool.
-fn workers(alloc: Global, config: &Config) -> Result<Vec<Worker>, AllocError>
+fn workers(alloc: Global, config: &Config) -> Result<Vec<Worker<Untold>>, AllocError>
     ensures kept { KeepsRules config.now }
     ensures made { IfOk result (λ made. made.items ≡ started config.now (length config.now.pool)) }
     ensures many { IfOk result (λ made. vec_len made ≡ length config.now.pool) }
@@ -26,7 +27,10 @@ fn workers(alloc: Global, config: &Config) -> Result<Vec<Worker>, AllocError>
     let mut made = Vec::new(alloc);
     for index in 0..many {
         let translator = Translator::new(alloc, index, config.copy(alloc)?)?;
-        made.push(Worker { translator })?;
+        made.push(Worker {
+            translator,
+            told: PhantomData,
+        })?;
     }
     Ok(made)
 }

@@ -7,6 +7,7 @@ ghost use Rattle.napt_dispatch.specs.Standing.{Noted, Resolves, waits, IsDone};
 use crate::dispatcher::Dispatcher;
 use crate::dispatcher::progress::Progress;
 use crate::stopped::ImpossibleAnswer;
+use napt_sequential::{Telling, Told};
 use napt_translate::{Answer, End, Leg};
 use napt_wire::Way;
 
@@ -36,7 +37,7 @@ pub(crate) struct Owed {
     pub(crate) now: u64,
 }
 
-impl Dispatcher {
+impl<P: Telling> Dispatcher<P> {
     /// Returns whether there is nothing to put into a message: nothing is held, or the placeholder held first waits.
     pub(super) fn waits(&self, front: Front) -> bool
         ensures { result ≡ waits (progress_in self.now.progress) front }
@@ -60,21 +61,28 @@ impl Dispatcher {
         }
     }
 
-    /// Notes an answer taken from worker `w`. Fails if an incoming leg goes onward.
+    /// Notes an answer taken from worker `w`. Fails if an incoming leg goes onward, or if no such answer is awaited.
     #[inline(always)]
-    pub(super) fn note(&mut self, w: u32, answer: Answer) -> Result<(), ImpossibleAnswer>
+    pub(super) fn note(&mut self, w: u32, told: Told<P>) -> Result<(), ImpossibleAnswer>
         requires { w < length self.old.queues }
-        ensures many { length self.new.queues ≡ length self.old.queues }
-        ensures noted { OnOk result (Noted w answer self.old self.new) }
+        ensures many { OnOk result (length self.new.queues ≡ length self.old.queues) }
+        ensures noted { OnOk result (Noted P.tells w told self.old self.new) }
     {
         let Some(owed) = self.queues.note_answer(w) else {
             return Err(ImpossibleAnswer);
         };
-        let Answer { number, end } = answer;
+        let Told {
+            answer: Answer { number, end },
+            passage,
+        } = told;
         if matches!(end, End::Onward(..)) && matches!(owed.way, Way::Incoming) {
             return Err(ImpossibleAnswer);
         }
-        self.progress.write(number, Progress::Told(owed, end))?;
+        let Some((first, second)) = self.progress.passages(number, owed.way, passage) else {
+            return Err(ImpossibleAnswer);
+        };
+        self.progress
+            .write(number, Progress::Answered(owed, end, first, second))?;
         Ok(())
     }
 

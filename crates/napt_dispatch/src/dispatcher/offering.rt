@@ -4,23 +4,23 @@ ghost use Rattle.std.specs.Prelude.{◌≡◌, ◌⊎◌, ◌+◌, ◌<◌, ◌�
 ghost use Rattle.napt_pool.specs.Pools.{starts, accepts, takes, capacity_of};
 ghost use Rattle.napt_dispatch.specs.Dispatch.{of_worker, IsDispatchFault};
 ghost use Rattle.napt_dispatch.specs.QueueStates.{queue_of};
-ghost use Rattle.napt_dispatch.specs.Standing.{waits_behind, IsSizedFor, ContinuesUnlessFault, Readies, HasOffered, HasOfferedAll, OffersOnlyTo};
+ghost use Rattle.napt_dispatch.specs.Standing.{waits_behind, IsSizedFor, ContinuesOr, Readies, HasOffered, HasOfferedAll, OffersOnlyTo};
 
 use crate::Worker;
 use crate::dispatcher::Dispatcher;
 use crate::stopped::ImpossibleAnswer;
 use napt_pool::{Answered, Batch, Gate, OfferRefused, Pool};
-use napt_sequential::RunFault;
-use napt_translate::{Answer, Leg};
+use napt_sequential::{RunFault, Telling, Told};
+use napt_translate::Leg;
 use std::alloc::{AllocError, Global};
 
-impl Dispatcher {
+impl<P: Telling> Dispatcher<P> {
     /// Puts what is held first for worker `w` behind the legs of its next message, or removes a placeholder without a leg. Returns
     /// `false` if neither is possible.
     fn ready_next(&mut self, w: u32) -> Result<bool, AllocError>
         requires { w < length self.old.queues }
         ensures many { OnOk result (length self.new.queues ≡ length self.old.queues) }
-        ensures readies { OnOk result (Readies w self.old self.new) }
+        ensures readies { OnOk result (Readies P.tells w self.old self.new) }
         ensures went { IfOk result (λ went. MatchBool went
             (length (queue_of self.new.queues w).held < length (queue_of self.old.queues w).held)
             (waits_behind self.new w ≡ true)) }
@@ -39,7 +39,7 @@ impl Dispatcher {
     fn ready_all(&mut self, w: u32, most: usize) -> Result<(), AllocError>
         requires { w < length self.old.queues }
         ensures many { OnOk result (length self.new.queues ≡ length self.old.queues) }
-        ensures readies { OnOk result (Readies w self.old self.new) }
+        ensures readies { OnOk result (Readies P.tells w self.old self.new) }
         ensures all { OnOk result ((waits_behind self.new w ≡ true)
             ⊎ (most ≤ length (queue_of self.new.queues w).ready)) }
     {
@@ -55,12 +55,12 @@ impl Dispatcher {
     /// room for.
     pub(super) fn offer_held<G: Gate>(
         &mut self,
-        pool: &mut Pool<Worker, G>,
+        pool: &mut Pool<Worker<P>, G>,
         w: u32,
     ) -> Result<(), RunFault>
         requires place { w < length (starts pool.old) }
         requires sized { IsSizedFor pool.old self.old }
-        ensures state { ContinuesUnlessFault G.is_open pool.old self.old pool.new self.new result }
+        ensures state { ContinuesOr P.tells G.is_open pool.old self.old pool.new self.new result }
         ensures alone { OnOk result (OffersOnlyTo w pool.old self.old pool.new self.new) }
         ensures offered { OnOk result (HasOffered pool.new self.new w) }
     {
@@ -77,9 +77,12 @@ impl Dispatcher {
     }
 
     /// Offers the legs held for all workers, as far as each can be offered now.
-    pub(super) fn offer_all<G: Gate>(&mut self, pool: &mut Pool<Worker, G>) -> Result<(), RunFault>
+    pub(super) fn offer_all<G: Gate>(
+        &mut self,
+        pool: &mut Pool<Worker<P>, G>,
+    ) -> Result<(), RunFault>
         requires sized { IsSizedFor pool.old self.old }
-        ensures state { ContinuesUnlessFault G.is_open pool.old self.old pool.new self.new result }
+        ensures state { ContinuesOr P.tells G.is_open pool.old self.old pool.new self.new result }
         ensures offered { OnOk result (HasOfferedAll pool.new self.new) }
     {
         let workers = self.queues.count();
@@ -91,12 +94,12 @@ impl Dispatcher {
 }
 
 /// Offers legs to worker `w` in one message, with room for an answer to each.
-fn send<G: Gate>(
+fn send<P: Telling, G: Gate>(
     alloc: Global,
-    pool: &mut Pool<Worker, G>,
+    pool: &mut Pool<Worker<P>, G>,
     w: u32,
     legs: Vec<Leg>,
-    room: Vec<Answer>,
+    room: Vec<Told<P>>,
 ) -> Result<(), RunFault>
     requires place { w < length (starts pool.old) }
     requires fits { length (of_worker (accepts pool.old) w) + vec_len legs

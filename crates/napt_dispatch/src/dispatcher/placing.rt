@@ -8,6 +8,7 @@ ghost use Rattle.napt_wire.specs.Reading.{reading};
 ghost use Rattle.napt_config.specs.Rules.{KeepsRules, place_of};
 ghost use Rattle.napt_rules.specs.Prelude.{way_from, served_at, admission_as};
 ghost use Rattle.napt_dispatch.specs.declared.dispatcher.holding.Held.TheVariants.{Ready};
+ghost use Rattle.napt_sequential.specs.declared.passage.Passage.TheVariants.{Nothing as NoPassage};
 ghost use Rattle.napt_dispatch.specs.Dispatch.{IsDispatchFault};
 ghost use Rattle.napt_dispatch.specs.QueueStates.{AllHold, many_held, only_at, place_at};
 ghost use Rattle.napt_dispatch.specs.Windows.{progress_in, refused, IsUnmarked, IsWritten};
@@ -18,12 +19,12 @@ use crate::dispatcher::holding::Held;
 use crate::dispatcher::progress::Progress;
 use crate::stopped::ImpossibleAnswer;
 use napt_config::Config;
-use napt_sequential::{Input, RunFault, places_stand_for_legs, right_answers, way_from};
+use napt_sequential::{Input, RunFault, Telling, places_stand_for_legs, right_answers, way_from};
 use napt_translate::{Leg, onward, route};
 use napt_wire::{Cause, Packet, Side};
 use std::alloc::AllocError;
 
-impl Dispatcher {
+impl<P: Telling> Dispatcher<P> {
     /// Holds a placeholder at worker `to`, if there is one, for the second leg of the input with this number.
     fn hold_place(&mut self, to: Option<u32>, number: u64) -> Result<(), AllocError>
         requires to { IfSome to (λ v. v < length self.old.queues) }
@@ -64,13 +65,13 @@ impl Dispatcher {
         self.hold_place(to, number)
     }
 
-    /// Notes that the input with this number is dropped and has no leg.
-    fn note_dropped(&mut self, number: u64, cause: Cause) -> Result<(), ImpossibleAnswer>
+    /// Notes that the input with this number is dropped at a time in ns and has no leg.
+    fn note_dropped(&mut self, number: u64, now: u64, cause: Cause) -> Result<(), ImpossibleAnswer>
         ensures same { self.new.queues ≡ self.old.queues }
-        ensures noted { OnOk result (IsWritten number (refused cause)
+        ensures noted { OnOk result (IsWritten number (refused (P.tells NoPassage) now cause)
             self.old.progress self.new.progress) }
     {
-        self.progress.write(number, Progress::refused(cause))?;
+        self.progress.write(number, Progress::refused(now, cause))?;
         Ok(())
     }
 
@@ -92,7 +93,8 @@ impl Dispatcher {
         ensures place { IfOk result (λ place. IfSome place (λ w. w < length config.now.pool)) }
         ensures journal { OnOk result (journal_of self.new.progress
             ≡ journal_of self.old.progress) }
-        ensures admits { OnOk result (Admits config.now number now input self.old self.new) }
+        ensures admits { OnOk result
+            (Admits P.tells config.now number now input self.old self.new) }
         ensures fault { (open_gate : Bool) → IfErr result (IsDispatchFault open_gate) }
     {
         right_answers();
@@ -111,7 +113,7 @@ impl Dispatcher {
                 Ok(Some(place))
             }
             Err(cause) => {
-                self.note_dropped(number, cause)?;
+                self.note_dropped(number, now, cause)?;
                 Ok(None)
             }
         }

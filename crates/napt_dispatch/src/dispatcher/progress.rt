@@ -1,34 +1,53 @@
 //! The progress of an input.
 
 ghost use Rattle.std.specs.Prelude.{◌≡◌, false, Some};
+ghost use Rattle.napt_sequential.specs.declared.passage.Passage.TheVariants.{Nothing as NoPassage};
 ghost use Rattle.napt_dispatch.specs.Standing.{IsSecondOf};
-ghost use Rattle.napt_dispatch.specs.Windows.{has_ended, outcome_in, refused, is_unknown};
+ghost use Rattle.napt_dispatch.specs.Windows.{has_ended, departed_in, passages_after, refused, is_unknown};
 
+use crate::departures::Departed;
 use crate::dispatcher::holding::Owed;
-use napt_sequential::Outcome;
+use napt_sequential::{Outcome, Telling};
 use napt_translate::{End, Leg};
 use napt_wire::{Cause, Way};
 use std::mem;
 
 /// The progress of an input.
 #[derive(Drop)]
-pub(crate) enum Progress {
-    /// The answer to a leg is awaited.
-    Awaited,
-    /// The answer to the last leg, as it came. If it is onward, the packet enters again by a second leg.
-    Told(Owed, End),
+pub(crate) enum Progress<P> {
+    /// The answer to the first leg, which goes this way, is awaited.
+    Awaited(Way),
+    /// The answer to the second leg is awaited. This is told of the first.
+    Returning(P),
+    /// The answer to the last leg, as it came, and what is told of the first leg and of the second. If the answer is onward, the
+    /// packet enters again by a second leg.
+    Answered(Owed, End, P, P),
 }
 
-impl Progress {
-    /// The progress of an input that is dropped and has no leg.
-    pub(crate) fn refused(cause: Cause) -> Progress
-        ensures { result ≡ refused cause }
+impl<P: Telling> Progress<P> {
+    /// The progress of an input that is dropped at a time in ns and has no leg.
+    pub(crate) fn refused(now: u64, cause: Cause) -> Progress<P>
+        ensures { result ≡ refused (P.tells NoPassage) now cause }
     {
         let none = Owed {
             way: Way::Incoming,
-            now: 0,
+            now,
         };
-        Progress::Told(none, End::Dropped(cause))
+        Progress::Answered(none, End::Dropped(cause), P::none(), P::none())
+    }
+
+    /// Returns what is told of the first leg and of the second, once this is told of a leg that goes this way. `None` if no
+    /// answer to such a leg is awaited.
+    #[inline(always)]
+    pub(crate) fn passages(&self, way: Way, passage: P) -> Option<(P, P)>
+        ensures { result ≡ passages_after (P.tells NoPassage) self.now way passage }
+    {
+        match (self, way) {
+            (Progress::Awaited(Way::Outgoing), Way::Outgoing)
+            | (Progress::Awaited(Way::Incoming), Way::Incoming) => Some((passage, P::none())),
+            (Progress::Returning(first), Way::Incoming) => Some((*first, passage)),
+            _ => None,
+        }
     }
 
     /// Returns whether the outcome is known.
@@ -36,8 +55,10 @@ impl Progress {
         ensures { result ≡ has_ended self.now }
     {
         match self {
-            Progress::Awaited | Progress::Told(_, End::Onward(..)) => false,
-            Progress::Told(..) => true,
+            Progress::Awaited(_)
+            | Progress::Returning(_)
+            | Progress::Answered(_, End::Onward(..), _, _) => false,
+            Progress::Answered(..) => true,
         }
     }
 
@@ -46,35 +67,44 @@ impl Progress {
         ensures { result ≡ is_unknown (Some self.now) }
     {
         match self {
-            Progress::Awaited => true,
-            Progress::Told(owed, _) => matches!(owed.way, Way::Incoming),
+            Progress::Awaited(_) | Progress::Returning(_) => true,
+            Progress::Answered(owed, ..) => matches!(owed.way, Way::Incoming),
         }
     }
 
-    /// Returns the outcome, if it is known.
-    pub(crate) fn into_outcome(self) -> Option<Outcome>
-        ensures { result ≡ outcome_in self }
+    /// Returns what the input came to, if it is known.
+    pub(crate) fn into_departed(self) -> Option<Departed<P>>
+        ensures { result ≡ departed_in self }
     {
-        match self {
-            Progress::Told(_, End::ToOutside(packet)) => Some(Outcome::ToOutside(packet)),
-            Progress::Told(_, End::ToInside(packet)) => Some(Outcome::ToInside(packet)),
-            Progress::Told(_, End::Dropped(cause)) => Some(Outcome::Dropped(cause)),
-            Progress::Awaited | Progress::Told(_, End::Onward(..)) => None,
-        }
+        let Progress::Answered(Owed { now, .. }, end, first, second) = self else {
+            return None;
+        };
+        let outcome = match end {
+            End::ToOutside(packet) => Outcome::ToOutside(packet),
+            End::ToInside(packet) => Outcome::ToInside(packet),
+            End::Dropped(cause) => Outcome::Dropped(cause),
+            End::Onward(..) => return None,
+        };
+        Some(Departed {
+            outcome,
+            now,
+            first,
+            second,
+        })
     }
 }
 
 /// An input that was read and whose outcome has not left.
 #[derive(Drop)]
-pub(crate) struct OpenInput {
+pub(crate) struct OpenInput<P> {
     /// The arrival time, in ns.
     pub(crate) time: u64,
-    pub(crate) progress: Progress,
+    pub(crate) progress: Progress<P>,
     /// Whether a placeholder is held for the second leg. The outcome does not leave while there is one.
     pub(crate) has_place: bool,
 }
 
-impl OpenInput {
+impl<P: Telling> OpenInput<P> {
     /// Takes out the second leg (RFC 4787, REQ-9) of the input with this number, if it has one. Notes that the placeholder is
     /// gone.
     pub(crate) fn second_leg(&mut self, number: u64) -> Option<Leg>
@@ -82,15 +112,22 @@ impl OpenInput {
         ensures { IsSecondOf number self.old self.new result }
     {
         self.has_place = false;
-        match mem::replace(&mut self.progress, Progress::Awaited) {
-            Progress::Told(owed, End::Onward(_, packet)) => Some(Leg {
-                number,
-                now: owed.now,
-                way: Way::Incoming,
-                packet,
-            }),
-            other => {
-                self.progress = other;
+        let was = mem::replace(&mut self.progress, Progress::Awaited(Way::Incoming));
+        let Progress::Answered(owed, end, first, second) = was else {
+            unreachable!();
+        };
+        match end {
+            End::Onward(_, packet) => {
+                self.progress = Progress::Returning(first);
+                Some(Leg {
+                    number,
+                    now: owed.now,
+                    way: Way::Incoming,
+                    packet,
+                })
+            }
+            end => {
+                self.progress = Progress::Answered(owed, end, first, second);
                 None
             }
         }

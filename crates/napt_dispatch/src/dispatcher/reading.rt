@@ -5,7 +5,7 @@ ghost use Rattle.napt_config.specs.Rules.{KeepsRules};
 ghost use Rattle.napt_pool.specs.Pools.{starts};
 ghost use Rattle.napt_sequential.specs.Inputs.{Hands};
 ghost use Rattle.napt_dispatch.specs.Passing.{LetsGoUnlessFault, Serves, Begins, ReadsToEnd, ReadsAll, ReadsHalted};
-ghost use Rattle.napt_dispatch.specs.Standing.{IsSizedFor, ContinuesUnlessFault, HasRoom, HaltsBy};
+ghost use Rattle.napt_dispatch.specs.Standing.{IsSizedFor, ContinuesOr, HasRoom, HaltsBy};
 
 use crate::Worker;
 use crate::departures::Departures;
@@ -14,14 +14,14 @@ use crate::dispatcher::taking::Until;
 use crate::stopped::Halted;
 use napt_config::Config;
 use napt_pool::{Gate, Pool};
-use napt_sequential::{Arrivals, Input, RunFault};
+use napt_sequential::{Arrivals, Input, RunFault, Telling, way_from};
 use std::sync::Wait;
 
 /// The number of inputs between two looks at a worker's answers. The workers take turns. A look may fetch a cache line that
 /// another processor wrote, so fewer looks cost less.
 const LOOK_EACH: u64 = 64;
 
-impl Dispatcher {
+impl<P: Telling> Dispatcher<P> {
     /// Returns worker `place` again, if there is one and the legs held for it are due as a message.
     #[inline(always)]
     fn due(&self, place: Option<u32>) -> Option<u32>
@@ -40,12 +40,12 @@ impl Dispatcher {
     fn look_if<R: Wait, G: Gate>(
         &mut self,
         rt: &R,
-        pool: &mut Pool<Worker, G>,
+        pool: &mut Pool<Worker<P>, G>,
         worker: Option<u32>,
     ) -> Result<(), RunFault>
         requires place { IfSome worker (λ w. w < length (starts pool.old)) }
         requires sized { IsSizedFor pool.old self.old }
-        ensures { ContinuesUnlessFault G.is_open pool.old self.old pool.new self.new result }
+        ensures { ContinuesOr P.tells G.is_open pool.old self.old pool.new self.new result }
     {
         match worker {
             None => Ok(()),
@@ -58,7 +58,7 @@ impl Dispatcher {
     fn serve<R: Wait, G: Gate>(
         &mut self,
         rt: &R,
-        pool: &mut Pool<Worker, G>,
+        pool: &mut Pool<Worker<P>, G>,
         config: &Config,
         now: u64,
         input: Input,
@@ -67,11 +67,11 @@ impl Dispatcher {
         requires count { length (starts pool.old) ≡ length config.now.pool }
         requires sized { IsSizedFor pool.old self.old }
         requires room { HasRoom self.old }
-        ensures serves { OnOk result (Serves config.now now input pool.old self.old
+        ensures serves { OnOk result (Serves P.tells config.now now input pool.old self.old
             pool.new self.new) }
         ensures fault { IfErr result (HaltsBy G.is_open pool.old pool.new) }
     {
-        let number = self.progress.expect(input.time)?;
+        let number = self.progress.expect(input.time, way_from(input.side))?;
         let place = self.admit(config, number, now, input)?;
         let due = self.due(place);
         self.look_if(rt, pool, due)?;
@@ -82,15 +82,15 @@ impl Dispatcher {
 
     /// Makes room for one more input. If a device is asked for it, lets every outcome leave and settles them first.
     #[inline(always)]
-    fn make_ready<R: Wait, G: Gate, D: Departures>(
+    fn make_ready<R: Wait, G: Gate, D: Departures<Told = P>>(
         &mut self,
         rt: &R,
-        pool: &mut Pool<Worker, G>,
+        pool: &mut Pool<Worker<P>, G>,
         departures: &mut D,
         asks_device: bool,
     ) -> Result<(), Halted<D::Fault>>
         requires sized { IsSizedFor pool.old self.old }
-        ensures state { LetsGoUnlessFault G.is_open D.takes D.fails
+        ensures state { LetsGoUnlessFault P.tells G.is_open D.takes D.fails
             pool.old self.old departures.old pool.new self.new departures.new result }
         ensures room { OnOk result (HasRoom self.new) }
         ensures left { asks_device ≡ true → OnOk result ((self.new.progress.under_way ≡ [])
@@ -108,7 +108,7 @@ impl Dispatcher {
     /// Returns the next input, which may use the buffer of a packet that has left. A device is asked for it only if every
     /// outcome has left and is settled; the departures are passed for that clause alone.
     #[inline(always)]
-    fn next_input<A: Arrivals, D: Departures>(
+    fn next_input<A: Arrivals, D: Departures<Told = P>>(
         &mut self,
         arrivals: &mut A,
         _departures: &D,
@@ -123,20 +123,21 @@ impl Dispatcher {
     }
 
     /// Reads the inputs in their order until their end or a fault, and takes answers in between. Their bytes are moved.
-    fn read_all<R: Wait, G: Gate, A: Arrivals, D: Departures>(
+    fn read_all<R: Wait, G: Gate, A: Arrivals, D: Departures<Told = P>>(
         &mut self,
         rt: &R,
-        pool: &mut Pool<Worker, G>,
+        pool: &mut Pool<Worker<P>, G>,
         config: &Config,
         arrivals: &mut A,
         departures: &mut D,
     ) -> Result<EndOfInputs<A::Fault>, Halted<D::Fault>>
         requires { Begins config.now pool.old self.old }
         ensures { MatchResult result
-            (ReadsToEnd config.now A.hands A.ends D.takes D.fails D.is_settled pool.old self.old
-            arrivals.old departures.old pool.new self.new arrivals.new departures.new)
-            (ReadsHalted config.now A.hands A.ends D.takes D.fails D.is_settled pool.old self.old
-            arrivals.old departures.old pool.new self.new arrivals.new departures.new G.is_open) }
+            (ReadsToEnd P.tells config.now A.hands A.ends D.takes D.fails D.is_settled pool.old
+            self.old arrivals.old departures.old pool.new self.new arrivals.new departures.new)
+            (ReadsHalted P.tells config.now A.hands A.ends D.takes D.fails D.is_settled pool.old
+            self.old arrivals.old departures.old pool.new self.new arrivals.new departures.new
+            G.is_open) }
     {
         let mut clock = 0u64;
         for _ in rt.forever() {
@@ -155,20 +156,21 @@ impl Dispatcher {
     }
 
     /// Reads the inputs until their end or a fault, and lets every outcome leave.
-    pub(super) fn pass_all<R: Wait, G: Gate, A: Arrivals, D: Departures>(
+    pub(super) fn pass_all<R: Wait, G: Gate, A: Arrivals, D: Departures<Told = P>>(
         &mut self,
         rt: &R,
-        pool: &mut Pool<Worker, G>,
+        pool: &mut Pool<Worker<P>, G>,
         config: &Config,
         arrivals: &mut A,
         departures: &mut D,
     ) -> Result<EndOfInputs<A::Fault>, Halted<D::Fault>>
         requires { Begins config.now pool.old self.old }
         ensures { MatchResult result
-            (ReadsAll config.now A.hands A.ends D.takes D.fails D.is_settled pool.old self.old
-            arrivals.old departures.old pool.new self.new arrivals.new departures.new)
-            (ReadsHalted config.now A.hands A.ends D.takes D.fails D.is_settled pool.old self.old
-            arrivals.old departures.old pool.new self.new arrivals.new departures.new G.is_open) }
+            (ReadsAll P.tells config.now A.hands A.ends D.takes D.fails D.is_settled pool.old
+            self.old arrivals.old departures.old pool.new self.new arrivals.new departures.new)
+            (ReadsHalted P.tells config.now A.hands A.ends D.takes D.fails D.is_settled pool.old
+            self.old arrivals.old departures.old pool.new self.new arrivals.new departures.new
+            G.is_open) }
     {
         let end = self.read_all(rt, pool, config, arrivals, departures)?;
         self.settle(rt, pool, departures)?;

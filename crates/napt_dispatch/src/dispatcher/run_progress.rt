@@ -1,19 +1,21 @@
 //! The progress of the inputs that were read.
 
-ghost use Rattle.std.specs.Prelude.{◌≡◌, ◌↔◌, ◌⊎◌, ◌+◌, ◌^◌, ◌<◌, ◌≤◌, Bool, [], length, slice_get, true, false, IfOk, IfErr, OnOk, OnErr, MatchOption, MatchResult};
+ghost use Rattle.std.specs.Prelude.{◌≡◌, ◌↔◌, ◌⊎◌, ◌+◌, ◌^◌, ◌<◌, ◌≤◌, Bool, [], length, slice_get, true, false, IfOk, IfErr, IfSome, OnOk, OnErr, MatchOption, MatchResult};
 ghost use Rattle.napt_sequential.specs.declared.fault.RunFault.TheVariants.{Memory};
+ghost use Rattle.napt_sequential.specs.declared.passage.Passage.TheVariants.{Nothing as NoPassage};
 ghost use Rattle.napt_dispatch.specs.Dispatch.{IsDispatchFault};
 ghost use Rattle.napt_dispatch.specs.Windows.{progress_in, marks_in, expecting, is_unknown, FirstMayLeave, IsWritten, IsMarked, Leaves};
 ghost use Rattle.napt_dispatch.specs.Passing.{HandsOver, FailsOver};
-ghost use Rattle.napt_dispatch.specs.Standing.{IsSecond};
+ghost use Rattle.napt_dispatch.specs.Standing.{IsSecond, AnswersTo};
 
-use crate::departures::Departures;
+use crate::departures::{Departed, Departures};
 use crate::dispatcher::progress::{OpenInput, Progress};
 use crate::dispatcher::spares::Spares;
 use crate::stopped::ImpossibleAnswer;
 use http_server::Log;
-use napt_sequential::{Outcome, RunFault};
+use napt_sequential::{RunFault, Telling};
 use napt_translate::Leg;
+use napt_wire::Way;
 use std::alloc::Global;
 use std::collections::VecDeque;
 use std::marker::Model;
@@ -25,12 +27,12 @@ const WINDOW: usize = 131_072;
 /// The progress of the open inputs: those that were read and whose outcomes have not left, at most 131,072. Only the number
 /// of the others is kept; contracts see their outcomes.
 #[derive(Drop)]
-pub(crate) struct RunProgress {
+pub(crate) struct RunProgress<P> {
     /// The number of outcomes that have left. It is the number of the first open input.
     first: u64,
-    under_way: VecDeque<OpenInput>,
-    /// The outcomes that have left. It takes no memory: only proofs read it.
-    past: Log<u64, Outcome>,
+    under_way: VecDeque<OpenInput<P>>,
+    /// What has left. It takes no memory: only proofs read it.
+    past: Log<u64, Departed<P>>,
     /// The buffers of packets that have left.
     spares: Spares,
     /// Whether the progress of an input was set for whose second leg a placeholder is held.
@@ -39,11 +41,11 @@ pub(crate) struct RunProgress {
     is_told: bool,
 }
 
-impl Model for RunProgress {
+impl<P> Model for RunProgress<P> {
     ghost use Rattle.std.specs.Prelude.{◌≡◌, ◌+◌, ◌<◌, ◌≤◌, ◌^◌, length};
     ghost use Rattle.napt_dispatch.specs.Windows.{Window};
 
-    ghost Value = { Window };
+    ghost Value = { Window P };
 
     ghost view = { λ all. record {
       left = all.past.items;
@@ -55,9 +57,9 @@ impl Model for RunProgress {
         × (all.first + length all.under_way.items < 2 ^ 64)) };
 }
 
-impl RunProgress {
+impl<P: Telling> RunProgress<P> {
     /// The progress before the first input.
-    pub(crate) fn new(alloc: Global) -> RunProgress
+    pub(crate) fn new(alloc: Global) -> RunProgress<P>
         ensures left { result.left ≡ [] }
         ensures under_way { result.under_way ≡ [] }
     {
@@ -100,13 +102,13 @@ impl RunProgress {
         self.under_way.is_empty()
     }
 
-    /// Opens the next input, which arrived at a time in ns. Returns its number, which is below `u64::MAX`. Fails where memory is
-    /// refused, or after 2^64 - 1 inputs.
+    /// Opens the next input, which arrived at a time in ns, and whose first leg goes this way. Returns its number, which is below
+    /// `u64::MAX`. Fails where memory is refused, or after 2^64 - 1 inputs.
     #[inline(always)]
-    pub(crate) fn expect(&mut self, time: u64) -> Result<u64, RunFault>
+    pub(crate) fn expect(&mut self, time: u64, way: Way) -> Result<u64, RunFault>
         requires { length self.old.under_way < 131072 }
         ensures number { IfOk result (λ number. number ≡ length (progress_in self.old)) }
-        ensures expecting { OnOk result (self.new ≡ expecting time self.old) }
+        ensures expecting { OnOk result (self.new ≡ expecting time way self.old) }
         ensures unchanged { OnErr result (self.new ≡ self.old) }
         ensures fault { (open_gate : Bool) → IfErr result (IsDispatchFault open_gate) }
         ensures last { IfErr result (λ fault. (fault ≡ Memory)
@@ -118,7 +120,7 @@ impl RunProgress {
         }
         let next = OpenInput {
             time,
-            progress: Progress::Awaited,
+            progress: Progress::Awaited(way),
             has_place: false,
         };
         match self.under_way.push_back(next) {
@@ -149,7 +151,11 @@ impl RunProgress {
 
     /// Sets the progress of the open input with this number. Fails if there is none, since no worker answers for it.
     #[inline(always)]
-    pub(crate) fn write(&mut self, number: u64, progress: Progress) -> Result<(), ImpossibleAnswer>
+    pub(crate) fn write(
+        &mut self,
+        number: u64,
+        progress: Progress<P>,
+    ) -> Result<(), ImpossibleAnswer>
         ensures ok { OnOk result (IsWritten number progress self.old self.new) }
         ensures marks { marks_in self.new ≡ marks_in self.old }
         ensures err { IfErr result (λ _.
@@ -163,6 +169,18 @@ impl RunProgress {
         input.progress = progress;
         self.is_told = true;
         Ok(())
+    }
+
+    /// Returns what is told of the legs of the open input with this number, once this is told of one that goes this way. `None`
+    /// if no answer to such a leg is awaited, since no worker gives one.
+    #[inline(always)]
+    pub(crate) fn passages(&self, number: u64, way: Way, passage: P) -> Option<(P, P)>
+        ensures { IfSome result (AnswersTo (P.tells NoPassage) self.now number way passage) }
+    {
+        let Some(place) = self.place_of(number) else {
+            return None;
+        };
+        self.under_way[place].progress.passages(way, passage)
     }
 
     /// Returns whether the progress of an input was set since the last call for whose second leg a placeholder is held, which may
@@ -222,8 +240,8 @@ impl RunProgress {
         }
     }
 
-    /// Takes out the outcome of the first open input with its arrival time, if it may leave.
-    fn take_first(&mut self) -> Option<(u64, Outcome)>
+    /// Takes out what the first open input came to with its arrival time, if it may leave.
+    fn take_first(&mut self) -> Option<(u64, Departed<P>)>
         ensures { MatchOption result ((self.new ≡ self.old) × ¬ FirstMayLeave self.old.under_way)
             (λ pair. Leaves pair self.old self.new) }
     {
@@ -231,21 +249,24 @@ impl RunProgress {
             return None;
         }
         let OpenInput { time, progress, .. } = self.under_way.pop_front()?;
-        let outcome = progress.into_outcome()?;
+        let departed = progress.into_departed()?;
         self.first += 1;
-        self.past = self.past.and(&time, &outcome);
-        Some((time, outcome))
+        self.past = self.past.and(&time, &departed);
+        Some((time, departed))
     }
 
     /// Lets the outcomes of the first open inputs leave, up to the first that may not leave yet.
-    pub(crate) fn hand_over<D: Departures>(&mut self, departures: &mut D) -> Result<(), D::Fault>
+    pub(crate) fn hand_over<D: Departures<Told = P>>(
+        &mut self,
+        departures: &mut D,
+    ) -> Result<(), D::Fault>
         ensures all { OnOk result (¬ FirstMayLeave self.new.under_way) }
         ensures handed { MatchResult result
             (λ _. HandsOver D.takes departures.old self.old departures.new self.new)
             (FailsOver D.takes D.fails departures.old self.old departures.new self.new) }
     {
-        while let Some((time, outcome)) = self.take_first() {
-            match departures.leave(time, outcome) {
+        while let Some((time, departed)) = self.take_first() {
+            match departures.leave(time, departed) {
                 Ok(vector) => self.keep_spare(vector),
                 Err(fault) => return Err(fault),
             }

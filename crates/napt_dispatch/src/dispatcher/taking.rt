@@ -4,15 +4,15 @@ ghost use Rattle.std.specs.Prelude.{◌≡◌, ◌↔◌, ◌+◌, ◌⊎◌, �
 ghost use Rattle.napt_pool.specs.Pools.{starts};
 ghost use Rattle.napt_dispatch.specs.Passing.{LetsGoUnlessFault};
 ghost use Rattle.napt_dispatch.specs.QueueStates.{many_owed};
-ghost use Rattle.napt_dispatch.specs.Standing.{IsSizedFor, ContinuesUnlessFault, NotesAll, HasTaken, HasOffered, HasOfferedAll, HasRoom, HasReached, IsDone};
+ghost use Rattle.napt_dispatch.specs.Standing.{IsSizedFor, ContinuesOr, NotesAll, HasTaken, HasOffered, HasOfferedAll, HasRoom, HasReached, IsDone};
 
 use crate::Worker;
 use crate::departures::Departures;
 use crate::dispatcher::Dispatcher;
 use crate::stopped::{Halted, ImpossibleAnswer};
 use napt_pool::{Answered, Backoff, Gate, Pool, Taken};
-use napt_sequential::RunFault;
-use napt_translate::{Answer, Leg};
+use napt_sequential::{RunFault, Telling, Told};
+use napt_translate::Leg;
 use std::sync::Wait;
 
 /// The state up to which a dispatcher goes on without reading an input.
@@ -24,12 +24,12 @@ pub(super) enum Until {
     Done,
 }
 
-impl Dispatcher {
+impl<P: Telling> Dispatcher<P> {
     /// Notes answers of worker `w` in their order, and takes them out.
-    fn note_each(&mut self, w: u32, answers: &mut Vec<Answer>) -> Result<(), ImpossibleAnswer>
+    fn note_each(&mut self, w: u32, answers: &mut Vec<Told<P>>) -> Result<(), ImpossibleAnswer>
         requires { w < length self.old.queues }
         ensures many { OnOk result (length self.new.queues ≡ length self.old.queues) }
-        ensures noted { OnOk result (NotesAll w answers.old.items self.old self.new) }
+        ensures noted { OnOk result (NotesAll P.tells w answers.old.items self.old self.new) }
         ensures fewer { OnOk result (many_owed self.new.queues + length answers.old.items
             ≡ many_owed self.old.queues) }
     {
@@ -43,11 +43,11 @@ impl Dispatcher {
     fn note_all(
         &mut self,
         w: u32,
-        answered: Answered<Leg, Answer>,
+        answered: Answered<Leg, Told<P>>,
     ) -> Result<bool, ImpossibleAnswer>
         requires { w < length self.old.queues }
         ensures many { OnOk result (length self.new.queues ≡ length self.old.queues) }
-        ensures noted { OnOk result (NotesAll w answered.answers.items self.old self.new) }
+        ensures noted { OnOk result (NotesAll P.tells w answered.answers.items self.old self.new) }
         ensures told { IfOk result (HasTaken self.old self.new) }
     {
         let mut answered = answered;
@@ -63,12 +63,12 @@ impl Dispatcher {
     fn take_reply<R: Wait, G: Gate>(
         &mut self,
         rt: &R,
-        pool: &mut Pool<Worker, G>,
+        pool: &mut Pool<Worker<P>, G>,
         w: u32,
     ) -> Result<bool, RunFault>
         requires place { w < length (starts pool.old) }
         requires sized { IsSizedFor pool.old self.old }
-        ensures state { ContinuesUnlessFault G.is_open pool.old self.old pool.new self.new result }
+        ensures state { ContinuesOr P.tells G.is_open pool.old self.old pool.new self.new result }
         ensures told { IfOk result (HasTaken self.old self.new) }
     {
         match pool.take_all(rt, self.alloc, w)? {
@@ -85,12 +85,12 @@ impl Dispatcher {
     fn take_there<R: Wait, G: Gate>(
         &mut self,
         rt: &R,
-        pool: &mut Pool<Worker, G>,
+        pool: &mut Pool<Worker<P>, G>,
         w: u32,
     ) -> Result<bool, RunFault>
         requires place { w < length (starts pool.old) }
         requires sized { IsSizedFor pool.old self.old }
-        ensures state { ContinuesUnlessFault G.is_open pool.old self.old pool.new self.new result }
+        ensures state { ContinuesOr P.tells G.is_open pool.old self.old pool.new self.new result }
         ensures told { IfOk result (HasTaken self.old self.new) }
     {
         let many = self.queues.many_owed(w);
@@ -108,10 +108,10 @@ impl Dispatcher {
     fn take_all_there<R: Wait, G: Gate>(
         &mut self,
         rt: &R,
-        pool: &mut Pool<Worker, G>,
+        pool: &mut Pool<Worker<P>, G>,
     ) -> Result<bool, RunFault>
         requires sized { IsSizedFor pool.old self.old }
-        ensures state { ContinuesUnlessFault G.is_open pool.old self.old pool.new self.new result }
+        ensures state { ContinuesOr P.tells G.is_open pool.old self.old pool.new self.new result }
         ensures told { IfOk result (HasTaken self.old self.new) }
     {
         let mut any = false;
@@ -129,11 +129,11 @@ impl Dispatcher {
     fn take_some<R: Wait, G: Gate>(
         &mut self,
         rt: &R,
-        pool: &mut Pool<Worker, G>,
+        pool: &mut Pool<Worker<P>, G>,
     ) -> Result<(), RunFault>
         requires sized { IsSizedFor pool.old self.old }
         requires offered { HasOfferedAll pool.old self.old }
-        ensures state { ContinuesUnlessFault G.is_open pool.old self.old pool.new self.new result }
+        ensures state { ContinuesOr P.tells G.is_open pool.old self.old pool.new self.new result }
         ensures some { OnOk result (HasTaken self.old self.new true) }
     {
         if self.queues.none_owed() {
@@ -154,10 +154,10 @@ impl Dispatcher {
     fn go_on<R: Wait, G: Gate>(
         &mut self,
         rt: &R,
-        pool: &mut Pool<Worker, G>,
+        pool: &mut Pool<Worker<P>, G>,
     ) -> Result<(), RunFault>
         requires sized { IsSizedFor pool.old self.old }
-        ensures state { ContinuesUnlessFault G.is_open pool.old self.old pool.new self.new result }
+        ensures state { ContinuesOr P.tells G.is_open pool.old self.old pool.new self.new result }
         ensures offered { OnOk result (HasOfferedAll pool.new self.new) }
     {
         self.offer_all(pool)?;
@@ -166,13 +166,13 @@ impl Dispatcher {
     }
 
     /// Lets the outcomes of the first inputs leave, up to the first input that has not ended. Only the contract uses the pool.
-    fn hand_over<G: Gate, D: Departures>(
+    fn hand_over<G: Gate, D: Departures<Told = P>>(
         &mut self,
-        pool: &Pool<Worker, G>,
+        pool: &Pool<Worker<P>, G>,
         departures: &mut D,
     ) -> Result<(), Halted<D::Fault>>
         requires sized { IsSizedFor pool.now self.old }
-        ensures { LetsGoUnlessFault G.is_open D.takes D.fails
+        ensures { LetsGoUnlessFault P.tells G.is_open D.takes D.fails
             pool.now self.old departures.old pool.now self.new departures.new result }
     {
         match self.progress.hand_over(departures) {
@@ -199,15 +199,15 @@ impl Dispatcher {
     }
 
     /// Takes answers, offers legs and lets outcomes leave until a state is reached.
-    pub(super) fn go_on_until<R: Wait, G: Gate, D: Departures>(
+    pub(super) fn go_on_until<R: Wait, G: Gate, D: Departures<Told = P>>(
         &mut self,
         rt: &R,
-        pool: &mut Pool<Worker, G>,
+        pool: &mut Pool<Worker<P>, G>,
         departures: &mut D,
         until: Until,
     ) -> Result<(), Halted<D::Fault>>
         requires sized { IsSizedFor pool.old self.old }
-        ensures state { LetsGoUnlessFault G.is_open D.takes D.fails
+        ensures state { LetsGoUnlessFault P.tells G.is_open D.takes D.fails
             pool.old self.old departures.old pool.new self.new departures.new result }
         ensures reached { OnOk result (HasReached until self.new) }
     {
@@ -222,14 +222,14 @@ impl Dispatcher {
     }
 
     /// Goes on until every outcome has left, and settles them.
-    pub(super) fn settle<R: Wait, G: Gate, D: Departures>(
+    pub(super) fn settle<R: Wait, G: Gate, D: Departures<Told = P>>(
         &mut self,
         rt: &R,
-        pool: &mut Pool<Worker, G>,
+        pool: &mut Pool<Worker<P>, G>,
         departures: &mut D,
     ) -> Result<(), Halted<D::Fault>>
         requires sized { IsSizedFor pool.old self.old }
-        ensures state { LetsGoUnlessFault G.is_open D.takes D.fails
+        ensures state { LetsGoUnlessFault P.tells G.is_open D.takes D.fails
             pool.old self.old departures.old pool.new self.new departures.new result }
         ensures done { OnOk result (IsDone self.new) }
         ensures left { OnOk result (self.new.progress.under_way ≡ []) }
@@ -251,12 +251,12 @@ impl Dispatcher {
     pub(super) fn look_at<R: Wait, G: Gate>(
         &mut self,
         rt: &R,
-        pool: &mut Pool<Worker, G>,
+        pool: &mut Pool<Worker<P>, G>,
         w: u32,
     ) -> Result<(), RunFault>
         requires place { w < length (starts pool.old) }
         requires sized { IsSizedFor pool.old self.old }
-        ensures state { ContinuesUnlessFault G.is_open pool.old self.old pool.new self.new result }
+        ensures state { ContinuesOr P.tells G.is_open pool.old self.old pool.new self.new result }
         ensures offered { OnOk result (HasOffered pool.new self.new w) }
     {
         self.take_there(rt, pool, w)?;

@@ -41,63 +41,39 @@ pub(crate) fn options(alloc: Global, named: Named<'_>) -> Result<Options, AllocE
     })
 }
 
+/// Command lines, each with the files that it names by their places in the help text.
+macro_rules! lines {
+    ($([$($word:literal)*] [$($place:literal $file:literal)*];)*) => {
+        [$((&[$($word),*], {
+            let named: Named<'_> = NOTHING;
+            $(let named = with(named, $place, $file);)*
+            named
+        })),*]
+    };
+}
+
+/// The files, with another one at a place.
+fn with<'a>(mut named: Named<'a>, place: usize, file: &'a str) -> Named<'a> {
+    if let Some(old) = named.get_mut(place) {
+        *old = Some(file);
+    }
+    named
+}
+
 #[test]
 fn gives_each_option_its_file(rt: HostRuntime) -> Result<(), Fail> {
     let alloc = rt.alloc();
-    let lines: [(&[&str], Named<'_>); 9] = [
-        (&[], NOTHING),
-        (
-            &["--config", "c"],
-            [Some("c"), None, None, None, None, None],
-        ),
-        (
-            &["--inside", "i"],
-            [None, Some("i"), None, None, None, None],
-        ),
-        (
-            &["--outside", "o"],
-            [None, None, Some("o"), None, None, None],
-        ),
-        (
-            &["--to-outside", "a"],
-            [None, None, None, Some("a"), None, None],
-        ),
-        (
-            &["--to-inside", "b"],
-            [None, None, None, None, Some("b"), None],
-        ),
-        (
-            &["--report", "r"],
-            [None, None, None, None, None, Some("r")],
-        ),
-        (
-            &[
-                "--report",
-                "r",
-                "--to-inside",
-                "b",
-                "--to-outside",
-                "a",
-                "--outside",
-                "o",
-                "--inside",
-                "i",
-                "--config",
-                "c",
-            ],
-            [
-                Some("c"),
-                Some("i"),
-                Some("o"),
-                Some("a"),
-                Some("b"),
-                Some("r"),
-            ],
-        ),
-        (
-            &["--outside=o", "--inside=-x", "--report", "-", "--"],
-            [None, Some("-x"), Some("o"), None, None, Some("-")],
-        ),
+    let lines: [(&[&str], Named<'_>); 9] = lines![
+        [] [];
+        ["--config" "c"] [0 "c"];
+        ["--inside" "i"] [1 "i"];
+        ["--outside" "o"] [2 "o"];
+        ["--to-outside" "a"] [3 "a"];
+        ["--to-inside" "b"] [4 "b"];
+        ["--report" "r"] [5 "r"];
+        ["--report" "r" "--to-inside" "b" "--to-outside" "a" "--outside" "o" "--inside" "i" "--config" "c"]
+            [0 "c" 1 "i" 2 "o" 3 "a" 4 "b" 5 "r"];
+        ["--outside=o" "--inside=-x" "--report" "-" "--"] [1 "-x" 2 "o" 5 "-"];
     ];
     for (i, (arguments, named)) in lines.iter().enumerate() {
         let wanted = options(alloc, *named)?;

@@ -22,69 +22,48 @@ fn assert_stop(
     Ok(())
 }
 
+/// Each stop ends the program with the status, and with the words behind its name.
+macro_rules! assert_stops {
+    ($rt:ident $status:literal $($stop:expr => $words:literal)*) => {
+        for (stop, line) in &[$(($stop, concat!("napt: ", $words))),*] {
+            assert_stop(&$rt, stop, $status, line)?;
+        }
+    };
+}
+
+fn of_run(fault: RunFault) -> Stop {
+    Stop::Run(Fault::Run(fault))
+}
+
+fn of_output(which: Which) -> Stop {
+    Stop::Run(Fault::Write(which, WriteFault { written: 24 }))
+}
+
 #[test]
 fn names_lines_files_and_runs(rt: HostRuntime) -> Result<(), Fail> {
-    let written = WriteFault { written: 24 };
-    let stops = [
-        (Stop::Usage, 2, "napt: usage"),
-        (Stop::LineMemory, 5, "napt: run memory"),
-        (Stop::Help, 6, "napt: write to-outside"),
-        (Stop::File(Role::Config), 6, "napt: file config"),
-        (Stop::File(Role::Inside), 6, "napt: file inside"),
-        (Stop::File(Role::Outside), 6, "napt: file outside"),
-        (Stop::File(Role::ToOutside), 6, "napt: file to-outside"),
-        (Stop::File(Role::ToInside), 6, "napt: file to-inside"),
-        (Stop::File(Role::Report), 6, "napt: file report"),
-        (Stop::File(Role::Log), 6, "napt: file log"),
-        (Stop::Log, 6, "napt: write log"),
-        (
-            Stop::Run(Fault::Run(RunFault::Memory)),
-            5,
-            "napt: run memory",
-        ),
-        (
-            Stop::Run(Fault::Run(RunFault::TooMany)),
-            5,
-            "napt: run too-many",
-        ),
-        (
-            Stop::Run(Fault::Run(RunFault::Pool(PoolFault::Memory))),
-            5,
-            "napt: run memory",
-        ),
-        (
-            Stop::Run(Fault::Run(RunFault::Pool(PoolFault::NoThread))),
-            5,
-            "napt: run no-thread",
-        ),
-        (
-            Stop::Run(Fault::Run(RunFault::Pool(PoolFault::GateShut(3)))),
-            5,
-            "napt: run gate-shut 3",
-        ),
-        (
-            Stop::Run(Fault::Run(RunFault::Pool(PoolFault::Ring))),
-            5,
-            "napt: run ring",
-        ),
-        (
-            Stop::Run(Fault::Write(Which::Outside, written)),
-            6,
-            "napt: write to-outside",
-        ),
-        (
-            Stop::Run(Fault::Write(Which::Inside, written)),
-            6,
-            "napt: write to-inside",
-        ),
-        (
-            Stop::Run(Fault::Write(Which::Report, written)),
-            6,
-            "napt: write report",
-        ),
-    ];
-    for (stop, status, line) in &stops {
-        assert_stop(&rt, stop, *status, line)?;
+    assert_stops! {rt 2 Stop::Usage => "usage"}
+    assert_stops! {rt 5
+        Stop::LineMemory => "run memory"
+        of_run(RunFault::Memory) => "run memory"
+        of_run(RunFault::TooMany) => "run too-many"
+        of_run(RunFault::Pool(PoolFault::Memory)) => "run memory"
+        of_run(RunFault::Pool(PoolFault::NoThread)) => "run no-thread"
+        of_run(RunFault::Pool(PoolFault::GateShut(3))) => "run gate-shut 3"
+        of_run(RunFault::Pool(PoolFault::Ring)) => "run ring"
+    }
+    assert_stops! {rt 6
+        Stop::Help => "write to-outside"
+        Stop::File(Role::Config) => "file config"
+        Stop::File(Role::Inside) => "file inside"
+        Stop::File(Role::Outside) => "file outside"
+        Stop::File(Role::ToOutside) => "file to-outside"
+        Stop::File(Role::ToInside) => "file to-inside"
+        Stop::File(Role::Report) => "file report"
+        Stop::File(Role::Log) => "file log"
+        Stop::Log => "write log"
+        of_output(Which::Outside) => "write to-outside"
+        of_output(Which::Inside) => "write to-inside"
+        of_output(Which::Report) => "write report"
     }
     Ok(())
 }
@@ -103,97 +82,59 @@ fn ends_with_status_and_line(rt: HostRuntime) -> Result<(), Fail> {
 
 #[test]
 fn names_faults_of_configurations(rt: HostRuntime) -> Result<(), Fail> {
-    let stops = [
-        (ConfigFault::NotToml, "napt: config not-toml"),
-        (ConfigFault::UnknownKey, "napt: config unknown-key"),
-        (ConfigFault::Missing, "napt: config missing"),
-        (ConfigFault::BadShape, "napt: config bad-shape"),
-        (ConfigFault::TooMany, "napt: config too-many"),
-        (ConfigFault::BadAddress, "napt: config bad-address"),
-        (ConfigFault::BadPrefix, "napt: config bad-prefix"),
-        (ConfigFault::BadNumber, "napt: config bad-number"),
-        (ConfigFault::BadWord, "napt: config bad-word"),
-        (ConfigFault::DoubleAddress, "napt: config double-address"),
-        (ConfigFault::PoolInside, "napt: config pool-inside"),
-        (
-            ConfigFault::PrefixesOverlap,
-            "napt: config prefixes-overlap",
-        ),
-        (ConfigFault::BlockTooLarge, "napt: config block-too-large"),
-        (ConfigFault::PairWithBlock, "napt: config pair-with-block"),
-        (ConfigFault::DoublePair, "napt: config double-pair"),
-        (ConfigFault::NotInPool, "napt: config not-in-pool"),
-        (ConfigFault::NotInside, "napt: config not-inside"),
-        (
-            ConfigFault::RedirectInBlock,
-            "napt: config redirect-in-block",
-        ),
-        (ConfigFault::DoubleRedirect, "napt: config double-redirect"),
-        (ConfigFault::TimerTooShort, "napt: config timer-too-short"),
-        (ConfigFault::Memory, "napt: config memory"),
-    ];
-    for (fault, line) in stops {
-        assert_stop(&rt, &Stop::Config(fault), 3, line)?;
+    assert_stops! {rt 3
+        Stop::Config(ConfigFault::NotToml) => "config not-toml"
+        Stop::Config(ConfigFault::UnknownKey) => "config unknown-key"
+        Stop::Config(ConfigFault::Missing) => "config missing"
+        Stop::Config(ConfigFault::BadShape) => "config bad-shape"
+        Stop::Config(ConfigFault::TooMany) => "config too-many"
+        Stop::Config(ConfigFault::BadAddress) => "config bad-address"
+        Stop::Config(ConfigFault::BadPrefix) => "config bad-prefix"
+        Stop::Config(ConfigFault::BadNumber) => "config bad-number"
+        Stop::Config(ConfigFault::BadWord) => "config bad-word"
+        Stop::Config(ConfigFault::DoubleAddress) => "config double-address"
+        Stop::Config(ConfigFault::PoolInside) => "config pool-inside"
+        Stop::Config(ConfigFault::PrefixesOverlap) => "config prefixes-overlap"
+        Stop::Config(ConfigFault::BlockTooLarge) => "config block-too-large"
+        Stop::Config(ConfigFault::PairWithBlock) => "config pair-with-block"
+        Stop::Config(ConfigFault::DoublePair) => "config double-pair"
+        Stop::Config(ConfigFault::NotInPool) => "config not-in-pool"
+        Stop::Config(ConfigFault::NotInside) => "config not-inside"
+        Stop::Config(ConfigFault::RedirectInBlock) => "config redirect-in-block"
+        Stop::Config(ConfigFault::DoubleRedirect) => "config double-redirect"
+        Stop::Config(ConfigFault::TimerTooShort) => "config timer-too-short"
+        Stop::Config(ConfigFault::Memory) => "config memory"
     }
     Ok(())
 }
 
+/// A fault of the capture of a side.
+fn of_capture(side: Side, fault: CaptureFault) -> Stop {
+    Stop::Run(Fault::Capture(side, fault))
+}
+
+/// Each fault of a capture ends the program with the line of its side.
+macro_rules! assert_captures {
+    ($rt:ident $($fault:expr => $words:literal)*) => {
+        for (fault, inside, outside) in &[$(($fault, concat!("napt: capture inside ", $words), concat!("napt: capture outside ", $words))),*] {
+            assert_stop(&$rt, &of_capture(Side::Inside, *fault), 4, inside)?;
+            assert_stop(&$rt, &of_capture(Side::Outside, *fault), 4, outside)?;
+        }
+    };
+}
+
 #[test]
 fn names_faults_of_captures(rt: HostRuntime) -> Result<(), Fail> {
-    let stops = [
-        (
-            CaptureFault::NoHeader,
-            "napt: capture inside no-header",
-            "napt: capture outside no-header",
-        ),
-        (
-            CaptureFault::BadMagic,
-            "napt: capture inside bad-magic",
-            "napt: capture outside bad-magic",
-        ),
-        (
-            CaptureFault::BadVersion,
-            "napt: capture inside bad-version",
-            "napt: capture outside bad-version",
-        ),
-        (
-            CaptureFault::BadLink,
-            "napt: capture inside bad-link",
-            "napt: capture outside bad-link",
-        ),
-        (
-            CaptureFault::BadFraction(3),
-            "napt: capture inside bad-fraction 3",
-            "napt: capture outside bad-fraction 3",
-        ),
-        (
-            CaptureFault::TooLong(u64::MAX),
-            "napt: capture inside too-long 18446744073709551615",
-            "napt: capture outside too-long 18446744073709551615",
-        ),
-        (
-            CaptureFault::TooLarge,
-            "napt: capture inside too-large",
-            "napt: capture outside too-large",
-        ),
-        (
-            CaptureFault::Read,
-            "napt: capture inside read",
-            "napt: capture outside read",
-        ),
-        (
-            CaptureFault::Memory,
-            "napt: capture inside memory",
-            "napt: capture outside memory",
-        ),
-    ];
-    for (fault, inside, outside) in stops {
-        let (of_inside, of_outside) = (
-            Stop::Run(Fault::Capture(Side::Inside, fault)),
-            Stop::Run(Fault::Capture(Side::Outside, fault)),
-        );
-        assert_stop(&rt, &of_inside, 4, inside)?;
-        assert_stop(&rt, &of_outside, 4, outside)?;
+    assert_captures! {rt
+        CaptureFault::NoHeader => "no-header"
+        CaptureFault::BadMagic => "bad-magic"
+        CaptureFault::BadVersion => "bad-version"
+        CaptureFault::BadLink => "bad-link"
+        CaptureFault::BadFraction(3) => "bad-fraction 3"
+        CaptureFault::TooLong(u64::MAX) => "too-long 18446744073709551615"
+        CaptureFault::TooLarge => "too-large"
+        CaptureFault::Read => "read"
+        CaptureFault::Memory => "memory"
     }
     Ok(())
 }

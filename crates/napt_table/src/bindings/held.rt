@@ -1,15 +1,17 @@
 //! What is held of the bindings of one external address: those that live, and those that have ended and are not removed
 //! yet.
 
-ghost use Rattle.std.specs.Prelude.{◌≡◌, ◌<◌, ◌^◌, not, Some, None, Ok, Err, OnOk, OnErr, IfOk, IfSome, cond, find};
-ghost use Rattle.std.specs.Option.{option_copied, is_some};
+ghost use Rattle.std.specs.Prelude.{◌≡◌, ◌<◌, ◌^◌, not, Some, None, Ok, Err, OnOk, OnErr, IfOk, IfSome, cond, find, slice_get};
+ghost use Rattle.std.specs.Option.{option_copied, option_map, is_some};
 ghost use Rattle.napt_config.specs.Rules.{IsBlock};
 ghost use Rattle.napt_wire.specs.declared.Cause.TheVariants.{NoBinding};
 ghost use Rattle.napt_binding.specs.Entering.{entered, left_by};
 
 use crate::bindings::keys::{ExternalKey, InsideKey, inside_key, key_of};
 use crate::bindings::numbers_in_use::NumbersInUse;
+use crate::bindings::places::Places;
 use crate::host_counts::HostCounts;
+use indexmap::IndexMap;
 use napt_binding::{Binding, IdleTimers, is_live, send, take_in};
 use napt_config::Block;
 use napt_rules::{Inbound, Received, Row, Sent};
@@ -26,7 +28,9 @@ pub(crate) struct Held {
     address: u32,
     /// How many bindings an inside host may have.
     quota: Option<u16>,
-    by_number: HashMap<ExternalKey, Binding>,
+    by_number: IndexMap<ExternalKey, Binding>,
+    /// Where in `by_number` a number's binding may be.
+    places: Places,
     /// The external number for an inside endpoint.
     by_inside: HashMap<InsideKey, u16>,
     /// Those in use by a binding.
@@ -63,7 +67,8 @@ impl Held {
         Ok(Held {
             address,
             quota,
-            by_number: HashMap::new(alloc),
+            by_number: IndexMap::new(alloc),
+            places: Places::new(alloc),
             by_inside: HashMap::new(alloc),
             numbers: NumbersInUse::new(alloc)?,
             hosts: HostCounts::new(alloc, quota.is_some()),
@@ -94,6 +99,23 @@ impl Held {
         ensures { option_copied result ≡ held self.now key }
     {
         self.by_number.get(&key)
+    }
+
+    /// The binding with the number, and its place: the one that was noted, if the binding there has the number.
+    #[inline(always)]
+    fn find(&self, key: ExternalKey) -> Option<(usize, &Binding)>
+        ensures value { option_map (λ found. found.1.now) result ≡ held self.now key }
+        ensures entry { IfSome result (λ found.
+            slice_get self.now.entries found.0 ≡ Some (key, found.1.now)) }
+    {
+        let place = self.places.noted(key);
+        match self.by_number.get_index(place) {
+            Some((_, binding)) if key_of(binding) == key => Some((place, binding)),
+            _ => match self.by_number.get_full(&key) {
+                Some((place, _, binding)) => Some((place, binding)),
+                None => None,
+            },
+        }
     }
 
     /// The number of the inside endpoint's binding.
@@ -139,11 +161,13 @@ impl Held {
         usize::from(quota) <= count
     }
 
-    /// Makes room for one more binding.
-    pub(crate) fn reserve(&mut self) -> Result<(), AllocError>
+    /// Makes room for one more binding of the protocol.
+    pub(crate) fn reserve(&mut self, protocol: Protocol) -> Result<(), AllocError>
         ensures same { HoldsSame self.old self.new }
         ensures room { OnOk result (0 < self.new.room) }
     {
+        let places = &mut self.places;
+        places.reserve(protocol)?;
         self.by_number.reserve(1)?;
         let hosts = &mut self.hosts;
         hosts.reserve()?;
@@ -169,10 +193,13 @@ impl Held {
             Ok(_) => {}
             Err(_) => unreachable!(),
         }
+        let place = self.by_number.len();
         match self.by_number.insert(key, binding) {
             Ok(_) => {}
             Err(_) => unreachable!(),
         }
+        let places = &mut self.places;
+        places.note(&self.by_number, place);
         let numbers = &mut self.numbers;
         numbers.put(key);
     }
@@ -184,9 +211,11 @@ impl Held {
             (held self.old other) }
         ensures room { 0 < self.old.room → 0 < self.new.room }
     {
-        let Some(binding) = self.by_number.remove(&key) else {
+        let Some((place, _, binding)) = self.by_number.swap_remove_full(&key) else {
             return;
         };
+        let places = &mut self.places;
+        places.note(&self.by_number, place);
         self.by_inside
             .remove(&inside_key(binding.row.protocol(), binding.row.inside()));
         let hosts = &mut self.hosts;
@@ -219,12 +248,15 @@ impl Held {
             Some(number) => *number,
             None => return Ok(None),
         };
-        let Some(binding) = self.by_number.get_mut(&ExternalKey { number, protocol }) else {
+        let Some((place, binding)) = self.find(ExternalKey { number, protocol }) else {
             return Ok(None);
         };
         if !is_live(binding, timers, packet.now) {
             return Ok(None);
         }
+        let Some(binding) = self.by_number.get_index_mut(place) else {
+            return Ok(None);
+        };
         send(binding, alloc, timers, packet)?;
         Ok(Some(number))
     }
@@ -252,12 +284,15 @@ impl Held {
             number: packet.number,
             protocol: packet.protocol,
         };
-        let Some(binding) = self.by_number.get_mut(&key) else {
+        let Some((place, binding)) = self.find(key) else {
             return Err(Cause::NoBinding);
         };
         if !is_live(binding, timers, packet.now) {
             return Err(Cause::NoBinding);
         }
+        let Some(binding) = self.by_number.get_index_mut(place) else {
+            return Err(Cause::NoBinding);
+        };
         take_in(binding, timers, inbound, packet)
     }
 }
@@ -276,7 +311,8 @@ impl Held {
         ensures read { OnOk result (AreRead timers now self.now) }
     {
         let mut made = Vec::new(alloc);
-        for binding in self.by_number.values() {
+        let held = self.by_number.as_slice();
+        for binding in held.values() {
             if is_live(binding, timers, now) {
                 made.push(binding.row.row())?;
             }

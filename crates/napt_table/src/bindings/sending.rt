@@ -19,13 +19,13 @@ impl Bindings {
     ghost use Rattle.napt_table.specs.Holdings.{held, IsSamePlace, IsAbsent};
     ghost use Rattle.napt_table.specs.Bindings.{HasRoom, Stands};
 
-    /// Makes room for one more binding.
-    fn make_room(&mut self) -> Result<(), AllocError>
+    /// Makes room for one more binding of the protocol.
+    fn make_room(&mut self, protocol: Protocol) -> Result<(), AllocError>
         ensures same { Stands self.old self.new }
         ensures room { OnOk result (HasRoom self.new) }
     {
         let held = &mut self.held;
-        held.reserve()?;
+        held.reserve(protocol)?;
         let due = &mut self.due;
         due.reserve()
     }
@@ -83,7 +83,7 @@ impl Bindings {
             (Some (redirect_of protocol self.old.held.address inside number))
             (held self.old.held key)) }
     {
-        self.make_room()?;
+        self.make_room(protocol)?;
         let binding = Binding {
             row: KeptRow::new(Row {
                 protocol,
@@ -150,7 +150,7 @@ impl Bindings {
             change_first (is_flow_of packet.remote) (used packet.protocol WayOut packet.flags packet.now)
             (with_flow packet.remote packet.now [])) }
     {
-        self.make_room()?;
+        self.make_room(packet.protocol)?;
         Flows::begun(alloc, self.timers, packet)
     }
 

@@ -3,7 +3,7 @@ use Rattle.std.specs.Prelude.{⊤}
 use Rattle.napt_config.specs.Rules.{Rules}
 use Rattle.napt_pool.specs.Pools.{starts, accepts, takes}
 use Rattle.napt_dispatch.specs.Dispatch.{started, IsDispatched}
-use Rattle.napt_dispatch.specs.contracts.worker.WorkerMachine.TheImpl.{ghosts}
+use Rattle.napt_sequential.specs.CountedTranslators.{nothing_told}
 use Rattle.napt_dispatch.proofs.Ended.{right_since}
 use Rattle.napt_dispatch.proofs.RunsThrough.{dispatched_whole}
 use Rattle.napt_dispatch.proofs.dispatcher.dispatch.Goals as goal
@@ -18,5 +18,5 @@ returns-in-Whole-clause-run g c = λ replied.
     (dispatched_whole rules (λ queue. queue.items) (λ before pairs fault after. ⊤) (λ collected. ⊤)
     c.in_ok-inputs.inputs c.in_ok-collected.collected pool c.dispatch_to.new.arrivals c.dispatch_to.new.departures _
     (rw c.in-Whole.is at c.in_ok-done.ensures.ends) c.in_ok-collected.ensures.outcomes
-    (λ many. right_since ghosts (λ s leg. refl) (λ s leg. refl) rules (starts pool) (accepts pool) (takes pool) began
-    many replied))
+    (right_since (λ passage. nothing_told) rules (starts pool) (accepts pool) (takes pool) began replied (λ s leg. refl)
+    (λ s leg. refl)))

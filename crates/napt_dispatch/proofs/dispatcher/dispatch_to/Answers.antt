@@ -1,4 +1,4 @@
-use Rattle.std.proofs.Common.{◌≡◌, List, [], length, refl, ap, ◌∙◌, inl}
+use Rattle.std.proofs.Common.{◌≡◌, List, [], length, refl, ap, ◌∙◌, inl, rules}
 use Rattle.std.proofs.lemmas.List.{length-replicate}
 use Rattle.std.proofs.lemmas.Result.{err_from_is_err_and}
 use Rattle.napt_config.specs.Rules.{Rules}
@@ -14,21 +14,26 @@ use Rattle.napt_dispatch.proofs.dispatcher.dispatch_to.Goals as goal
 pub pass_all-requires : goal.pass_all-requires
 pass_all-requires g c =
     let workers : length (starts c.args.pool.now) ≡ length c.args.config.now.pool =
-    rw c.requires.started (length_started c.args.config.now (length c.args.config.now.pool)) in
-    record {
-      keeps = c.pool.ensures.kept;
-      count = workers;
-      sized = rw (c.in_ok-dispatcher.ensures.queues, workers)
-          (length-replicate _ unused ∙ ap length c.pool.ensures.addresses);
-      left = c.in_ok-dispatcher.ensures.left;
-      under_way = c.in_ok-dispatcher.ensures.under_way;
-    }
+    rw c.requires.started (length_started c.args.config.now (length c.args.config.now.pool)) in (
+      c.type_bounds.static-D-Told,
+      (
+        search rules,
+        record {
+          keeps = c.pool.ensures.kept;
+          count = workers;
+          sized = rw (c.in_ok-dispatcher.ensures.queues, workers)
+              (length-replicate _ unused ∙ ap length c.pool.ensures.addresses);
+          left = c.in_ok-dispatcher.ensures.left;
+          under_way = c.in_ok-dispatcher.ensures.under_way;
+        },
+      ),
+    )
 
 pub returns-in-Ok-clause-ends : goal.returns-in-Ok-clause-ends
 returns-in-Ok-clause-ends g c =
     let rules : Rules = c.args.config.now in
     let first = c.in_ok-dispatcher.ensures in
-    let begins : (inputs : List Arrival) → Stands rules [] inputs (state_of c.args.pool.now
+    let begins : (inputs : List Arrival) → Stands g.D.Told.Telling.tells rules [] inputs (state_of c.args.pool.now
     c.in_ok-dispatcher.dispatcher)
     = begun rules c.args.pool.now c.in_ok-dispatcher.dispatcher _ (ap length c.pool.ensures.addresses) first.queues
     first.left first.under_way c.requires.unoffered c.requires.untaken in
@@ -44,7 +49,7 @@ pub returns-in-Err-Departure-clause-ends : goal.returns-in-Err-Departure-clause-
 returns-in-Err-Departure-clause-ends g c =
     let rules : Rules = c.args.config.now in
     let first = c.in_ok-dispatcher.ensures in
-    let begins : (inputs : List Arrival) → Stands rules [] inputs (state_of c.args.pool.now
+    let begins : (inputs : List Arrival) → Stands g.D.Told.Telling.tells rules [] inputs (state_of c.args.pool.now
     c.in_ok-dispatcher.dispatcher)
     = begun rules c.args.pool.now c.in_ok-dispatcher.dispatcher _ (ap length c.pool.ensures.addresses) first.queues
     first.left first.under_way c.requires.unoffered c.requires.untaken in
@@ -72,7 +77,7 @@ returns-in_err-counts-in-Ok-clause-halts g c =
     c.from_residual-in_err-counts-in-Ok.ensures.1 in
     let rules : Rules = c.args.config.now in
     let first = c.in_ok-dispatcher.ensures in
-    let begins : (inputs : List Arrival) → Stands rules [] inputs (state_of c.args.pool.now
+    let begins : (inputs : List Arrival) → Stands g.D.Told.Telling.tells rules [] inputs (state_of c.args.pool.now
     c.in_ok-dispatcher.dispatcher)
     = begun rules c.args.pool.now c.in_ok-dispatcher.dispatcher _ (ap length c.pool.ensures.addresses) first.queues
     first.left first.under_way c.requires.unoffered c.requires.untaken in
@@ -86,7 +91,7 @@ pub returns-clause-halts : goal.returns-clause-halts
 returns-clause-halts g c =
     let rules : Rules = c.args.config.now in
     let first = c.in_ok-dispatcher.ensures in
-    let begins : (inputs : List Arrival) → Stands rules [] inputs (state_of c.args.pool.now
+    let begins : (inputs : List Arrival) → Stands g.D.Told.Telling.tells rules [] inputs (state_of c.args.pool.now
     c.in_ok-dispatcher.dispatcher)
     = begun rules c.args.pool.now c.in_ok-dispatcher.dispatcher _ (ap length c.pool.ensures.addresses) first.queues
     first.left first.under_way c.requires.unoffered c.requires.untaken in

@@ -7,7 +7,6 @@ use Rattle.napt_pool.specs.Pools.{starts, accepts}
 use Rattle.napt_laws.proofs.Rows.{rows_apart}
 use Rattle.napt_laws.proofs.Grown.{ran_long}
 use Rattle.napt_dispatch.specs.Dispatch.{started}
-use Rattle.napt_dispatch.specs.contracts.worker.WorkerMachine.TheImpl.{ghosts}
 use Rattle.napt_dispatch.proofs.Closed.{on_ok_at, rows_shown, workers_shown}
 use Rattle.napt_dispatch.proofs.workers.run_workers.Goals as goal
 
@@ -20,11 +19,12 @@ returns-clause-run g c =
     c.dispatch-dispatched.ensures.starts ∙ c.in_ok-pool.ensures.started in
     let settled = on_ok_at _ _ given c.dispatch-dispatched.ensures.settled in
     let answered = c.in_ok-outcomes.ensures.settled settled in
-    workers_shown ghosts (λ s leg. refl) config inputs (starts c.dispatch-dispatched.new.pool)
+    workers_shown _ config inputs (starts c.dispatch-dispatched.new.pool)
     (accepts c.dispatch-dispatched.new.pool) (map (λ e. e.machine) c.in_ok-outcomes.ended.items)
     c.in_ok-outcomes.outcomes.items c.in_ok-outcomes.legs.items c.last_clock.result c.in_ok-bindings.bindings.items
     began c.in_ok-outcomes.ensures.machines (IfOk-at_ok _ given c.dispatch-dispatched.ensures.run answered)
-    c.last_clock.ensures (rows_shown _ _ _ _ c.in_ok-bindings.ensures c.deref.ensures.value)
+    c.last_clock.ensures (rows_shown _ _ _ _ c.in_ok-bindings.ensures c.deref.ensures.value) (λ s. refl)
+    (λ s leg legs. refl)
 
 pub returns-clause-one_each : goal.returns-clause-one_each
 returns-clause-one_each g c =

@@ -5,7 +5,7 @@ use Rattle.napt_dispatch.proofs.Closed.{started_more}
 use Rattle.napt_dispatch.proofs.workers.workers.Goals as goal
 
 pub loop-index-preserved : goal.loop-index-preserved
-loop-index-preserved c = record {
+loop-index-preserved g c = record {
   within = omega (arith, ap length c.pool.ensures.addresses);
   made = rw (
     c.in_ok-push.ensures.items,
@@ -17,13 +17,13 @@ loop-index-preserved c = record {
 }
 
 pub returns-clause-made : goal.returns-clause-made
-returns-clause-made c =
+returns-clause-made g c =
     let whole : c.loop-index.index ≡ length c.args.config.now.pool =
     omega (arith, ap length c.pool.ensures.addresses) in
     c.loop-index.invariant.made ∙ ap (started c.args.config.now) whole
 
 pub returns-clause-many : goal.returns-clause-many
-returns-clause-many c =
+returns-clause-many g c =
     omega (
       arith,
       ap length c.pool.ensures.addresses,

@@ -3,7 +3,7 @@ use Rattle.napt_dispatch.specs.Dispatch.{started}
 use Rattle.napt_dispatch.proofs.workers.workers.Given as goal
 
 abbrev pub invariant-loop-index : goal.invariant-loop-index
-invariant-loop-index l = record {
+invariant-loop-index g l = record {
   within : l.index ≤ length l.config.pool;
   made : l.made.items ≡ started l.config l.index;
 }

@@ -1,5 +1,6 @@
-use Rattle.std.proofs.Common.{ℕ, ◌≡◌, ◌∙◌, Some, sym, ap, arith}
+use Rattle.std.proofs.Common.{ℕ, ◌≡◌, ◌∙◌, List, [], Some, Result, Ok, Err, sym, ap, subst, arith}
 use Rattle.std.specs.Result.{result_ok}
+use Rattle.std.specs.Str.Parse.{ParsesUnsigned}
 use Rattle.std.proofs.lemmas.Fmt.{parse-decimal}
 use Rattle.std.proofs.lemmas.Option.{none-some}
 use Rattle.napt_wire.specs.declared.Endpoint.{Endpoint}
@@ -14,23 +15,34 @@ both address number endpoint one other =
     let second : number ≡ endpoint.number = cc in
     rw (first, second)
 
-pub returns-in_err-address : goal.returns-in_err-address
-returns-in_err-address c endpoint fits is_address is_number =
+unread : {E : Type 0} (text : List ℕ) (r : Result ℕ E) {number : ℕ} → result_ok r ≡ Some number → text ≡ [] →
+    ParsesUnsigned 16 10 text r → ⊥
+unread {E = E} text (Ok number) read none parsed =
+    let some = subst (λ (l : List ℕ). ParsesUnsigned {E = E} 16 10 l (Ok number)) none parsed in
+    omega (arith, some.0.0.0)
+unread text (Err e) read none parsed = cc
+
+pub returns-in_err-address-clause-some : goal.returns-in_err-address-clause-some
+returns-in_err-address-clause-some c endpoint fits is_address is_number =
     let read = c.ok.ensures.value
     ∙ ap result_ok (c.parse.ensures.value.only (record { 0 = endpoint.address }) fits.0 is_address) in
     absurd (none-some _ (sym c.in_err-address.was ∙ read))
 
-pub returns-in_err-number : goal.returns-in_err-number
-returns-in_err-number c endpoint fits is_address is_number =
+pub returns-in_err-number-clause-some : goal.returns-in_err-number-clause-some
+returns-in_err-number-clause-some c endpoint fits is_address is_number =
     let read = c.ok-2.ensures.value
     ∙ ap result_ok (parse-decimal 16 endpoint.number _ _ fits.1 (omega arith) is_number c.parse-2.ensures.value.0) in
     absurd (none-some _ (sym c.in_err-number.was ∙ read))
 
-pub returns : goal.returns
-returns c endpoint fits is_address is_number =
+pub returns-clause-some : goal.returns-clause-some
+returns-clause-some c endpoint fits is_address is_number =
     let first = c.ok.ensures.value
     ∙ ap result_ok (c.parse.ensures.value.only (record { 0 = endpoint.address }) fits.0 is_address) in
     let second = c.ok-2.ensures.value
     ∙ ap result_ok (parse-decimal 16 endpoint.number _ _ fits.1 (omega arith) is_number c.parse-2.ensures.value.0) in
     both c.in_ok-address.address c.in_ok-number.number endpoint (sym c.in_ok-address.was ∙ first)
     (sym c.in_ok-number.was ∙ second)
+
+pub returns-clause-none : goal.returns-clause-none
+returns-clause-none c is =
+    absurd (unread _ _ (sym c.ok-2.ensures.value ∙ c.in_ok-number.was) is c.parse-2.ensures.value.0)

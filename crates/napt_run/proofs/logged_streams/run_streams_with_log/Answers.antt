@@ -75,22 +75,22 @@ returns-clause-readings g c =
 
 -- THE LOG WAS NOT BEGUN
 
-pub returns-in_err-run-clause-to_outside : goal.returns-in_err-run-clause-to_outside
-returns-in_err-run-clause-to_outside g c =
+pub returns-in_err-known-clause-to_outside : goal.returns-in_err-known-clause-to_outside
+returns-in_err-known-clause-to_outside g c =
     let p = err_from_is_err_and c.from_residual.result c.from_residual.ensures.1 in rw (p.1, p.2) (inr (tt, refl))
 
-pub returns-in_err-run-clause-to_inside : goal.returns-in_err-run-clause-to_inside
-returns-in_err-run-clause-to_inside g c =
+pub returns-in_err-known-clause-to_inside : goal.returns-in_err-known-clause-to_inside
+returns-in_err-known-clause-to_inside g c =
     let p = err_from_is_err_and c.from_residual.result c.from_residual.ensures.1 in rw (p.1, p.2) (inr (tt, refl))
 
-pub returns-in_err-run-clause-report : goal.returns-in_err-run-clause-report
-returns-in_err-run-clause-report g c =
+pub returns-in_err-known-clause-report : goal.returns-in_err-known-clause-report
+returns-in_err-known-clause-report g c =
     let p = err_from_is_err_and c.from_residual.result c.from_residual.ensures.1 in
     rw (p.1, p.2) (unbegun_report g.U.Sink c.args.config.now (g.R.Source.remaining c.args.inside.now)
     (g.Q.Source.remaining c.args.outside.now) c.args.report.now)
 
-pub returns-in_err-run-clause-log : goal.returns-in_err-run-clause-log
-returns-in_err-run-clause-log g c =
+pub returns-in_err-known-clause-log : goal.returns-in_err-known-clause-log
+returns-in_err-known-clause-log g c =
     let p = err_from_is_err_and c.from_residual.result c.from_residual.ensures.1 in
     rw (p.1, p.2) (unbegun_log g.L.Sink c.args.config.now (g.R.Source.remaining c.args.inside.now)
     (g.Q.Source.remaining c.args.outside.now) c.args.log.now)

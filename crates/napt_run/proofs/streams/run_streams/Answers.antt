@@ -7,69 +7,69 @@ use Rattle.napt_run.proofs.streams.run_streams.Given.{Over}
 use Rattle.napt_run.proofs.streams.run_streams.Goals as goal
 use Rattle.napt_run.proofs.streams.run_streams.Goals.{After-and}
 
-ends : (g : Over) (c : After-and g) → Ends c.unobserved-told.result c.and.result
-ends g c = ends_and c.unobserved-told.result c.reported-written.result c.and.result c.and.ensures
+ends : (g : Over) (c : After-and g) → Ends c.unlogged-told.result c.and.result
+ends g c = ends_and c.unlogged-told.result c.reported-written.result c.and.result c.and.ensures
     c.reported-written.ensures.fault
 
 -- what it told, once it is known that nobody observed it
 to_outside : (g : Over) (c : After-and g) → DeviceGets g.W.Sink c.args.config.now Outside
-    (g.R.Source.remaining c.args.inside.now) (g.Q.Source.remaining c.args.outside.now) c.unobserved-told.result
+    (g.R.Source.remaining c.args.inside.now) (g.Q.Source.remaining c.args.outside.now) c.unlogged-told.result
     c.args.to_outside.now c.stream-streamed.new.to_outside
 to_outside g c = subst (λ r. DeviceGets g.W.Sink c.args.config.now Outside
     (g.R.Source.remaining c.args.inside.now) (g.Q.Source.remaining c.args.outside.now) r c.args.to_outside.now
-    c.stream-streamed.new.to_outside) (sym c.unobserved-told.ensures) c.stream-streamed.ensures.to_outside
+    c.stream-streamed.new.to_outside) (sym c.unlogged-told.ensures) c.stream-streamed.ensures.to_outside
 
 to_inside : (g : Over) (c : After-and g) → DeviceGets g.V.Sink c.args.config.now Inside
-    (g.R.Source.remaining c.args.inside.now) (g.Q.Source.remaining c.args.outside.now) c.unobserved-told.result
+    (g.R.Source.remaining c.args.inside.now) (g.Q.Source.remaining c.args.outside.now) c.unlogged-told.result
     c.args.to_inside.now c.stream-streamed.new.to_inside
 to_inside g c = subst (λ r. DeviceGets g.V.Sink c.args.config.now Inside
     (g.R.Source.remaining c.args.inside.now) (g.Q.Source.remaining c.args.outside.now) r c.args.to_inside.now
-    c.stream-streamed.new.to_inside) (sym c.unobserved-told.ensures) c.stream-streamed.ensures.to_inside
+    c.stream-streamed.new.to_inside) (sym c.unlogged-told.ensures) c.stream-streamed.ensures.to_inside
 
 says : (g : Over) (c : After-and g) → ResultSays g.G.Gate.is_open c.args.config.now
-    (g.R.Source.remaining c.args.inside.now) (g.Q.Source.remaining c.args.outside.now) c.unobserved-told.result
+    (g.R.Source.remaining c.args.inside.now) (g.Q.Source.remaining c.args.outside.now) c.unlogged-told.result
 says g c = subst (λ r. ResultSays g.G.Gate.is_open c.args.config.now (g.R.Source.remaining c.args.inside.now)
-    (g.Q.Source.remaining c.args.outside.now) r) (sym c.unobserved-told.ensures) c.stream-streamed.ensures.says
+    (g.Q.Source.remaining c.args.outside.now) r) (sym c.unlogged-told.ensures) c.stream-streamed.ensures.says
 
-reads : (g : Over) (c : After-and g) → (¬ IsOfRun c.unobserved-told.result) → HasRead g.R.Source.failed
+reads : (g : Over) (c : After-and g) → (¬ IsOfRun c.unlogged-told.result) → HasRead g.R.Source.failed
     g.Q.Source.failed c.args.inside.now c.stream-streamed.new.inside c.args.outside.now
-    c.stream-streamed.new.outside c.unobserved-told.result
+    c.stream-streamed.new.outside c.unlogged-told.result
 reads g c = subst (λ r. (¬ IsOfRun r) → HasRead g.R.Source.failed g.Q.Source.failed c.args.inside.now
-    c.stream-streamed.new.inside c.args.outside.now c.stream-streamed.new.outside r) (sym c.unobserved-told.ensures)
+    c.stream-streamed.new.inside c.args.outside.now c.stream-streamed.new.outside r) (sym c.unlogged-told.ensures)
     c.stream-streamed.ensures.readings
 
 -- THE CLAUSES
 
 pub returns-clause-to_outside : goal.returns-clause-to_outside
 returns-clause-to_outside g c =
-    outside_by c.unobserved-told.result c.and.result (ends g c) g.W.Sink _ _ _ _ _ (to_outside g c)
+    outside_by c.unlogged-told.result c.and.result (ends g c) g.W.Sink _ _ _ _ _ (to_outside g c)
 
 pub returns-clause-to_inside : goal.returns-clause-to_inside
 returns-clause-to_inside g c =
-    inside_by c.unobserved-told.result c.and.result (ends g c) g.V.Sink _ _ _ _ _ (to_inside g c)
+    inside_by c.unlogged-told.result c.and.result (ends g c) g.V.Sink _ _ _ _ _ (to_inside g c)
 
 pub returns-clause-report : goal.returns-clause-report
 returns-clause-report g c =
     report_by g.U.Sink c.args.config.now (g.R.Source.remaining c.args.inside.now)
     (g.Q.Source.remaining c.args.outside.now) c.args.report.now c.reported-written.new.output
-    c.unobserved-told.result c.reported-written.result c.and.result c.and.ensures c.reported-written.ensures.fault
-    (says g c).told (closed _ c.unobserved-told.result (says g c).stop) c.reported-written.ensures.untouched
+    c.unlogged-told.result c.reported-written.result c.and.result c.and.ensures c.reported-written.ensures.fault
+    (says g c).told (closed _ c.unlogged-told.result (says g c).stop) c.reported-written.ensures.untouched
     c.reported-written.ensures.nothing c.reported-written.ensures.written c.reported-written.ensures.flushed
     c.reported-written.ensures.count
 
 pub returns-clause-fault : goal.returns-clause-fault
 returns-clause-fault g c =
-    explains_ends _ _ c.unobserved-told.result c.and.result (ends g c) (says g c).fault
+    explains_ends _ _ c.unlogged-told.result c.and.result (ends g c) (says g c).fault
 
 pub returns-clause-too_many : goal.returns-clause-too_many
 returns-clause-too_many g c =
-    few_ends g.G.Gate.is_open c.unobserved-told.result c.and.result (ends g c) (says g c).stop
+    few_ends g.G.Gate.is_open c.unlogged-told.result c.and.result (ends g c) (says g c).stop
 
 pub returns-clause-gate : goal.returns-clause-gate
 returns-clause-gate g c =
-    gate_ends g.G.Gate.is_open c.unobserved-told.result c.and.result (ends g c) (says g c).stop
+    gate_ends g.G.Gate.is_open c.unlogged-told.result c.and.result (ends g c) (says g c).stop
 
 pub returns-clause-readings : goal.returns-clause-readings
 returns-clause-readings g c =
-    reads_by c.unobserved-told.result c.and.result (ends g c) g.R.Source.failed g.Q.Source.failed c.args.inside.now
+    reads_by c.unlogged-told.result c.and.result (ends g c) g.R.Source.failed g.Q.Source.failed c.args.inside.now
     c.stream-streamed.new.inside c.args.outside.now c.stream-streamed.new.outside (reads g c)

@@ -6,7 +6,8 @@ use Rattle.napt_config.specs.Rules.{Rules}
 use Rattle.napt_rules.specs.declared.End.TheVariants.{ToOutside, ToInside, Onward, Dropped}
 use Rattle.napt_rules.specs.declared.Leg.{Leg}
 use Rattle.napt_rules.specs.Prelude.{act}
-use Rattle.napt_sequential.specs.declared.passage.Passed.{Passed}
+use Rattle.napt_sequential.specs.declared.passage.Passage.{Passage}
+use Rattle.napt_sequential.specs.declared.telling.Told.{Told}
 use Rattle.napt_sequential.specs.CountedTranslators.{CanTake, Takes, state_after}
 use Rattle.napt_laws.proofs.Pools.{stands_at}
 use Rattle.napt_laws.proofs.Onward.{onward_place}
@@ -34,7 +35,7 @@ returns-in_ok-second-in-Onward c = λ state address are later at.
     let packet : List ℕ = c.in-Onward.packet in
     let first = c.in_ok-end.ensures state address are later at in
     let ends : (act rules address leg state.list).end ≡ Onward c.in-Onward.to packet =
-    sym (ap (λ (p : Passed). p.end) first.0) ∙ c.in-Onward.is in
+    sym (ap (λ (t : Told Passage). t.answer.end) first.0) ∙ c.in-Onward.is in
     let to : ℕ = (destination packet).address in
     let there : slice_get rules.pool c.in-Onward.to ≡ Some to =
     stands_at rules.pool to c.in-Onward.to

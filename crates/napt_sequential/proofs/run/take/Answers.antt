@@ -1,18 +1,19 @@
 use Rattle.std.proofs.Common.{◌≡◌, sym, ◌∙◌, subst, arith, get_or, set}
 use Rattle.std.proofs.lemmas.Option.{slice_get-get_or}
 use Rattle.napt_config.specs.Rules.{Rules}
-use Rattle.napt_sequential.specs.declared.passage.Passed.{Passed}
+use Rattle.napt_sequential.specs.declared.passage.Passage.{Passage}
+use Rattle.napt_sequential.specs.declared.telling.Told.{Told}
 use Rattle.napt_sequential.specs.declared.counted_translator.CountedTranslator.{CountedTranslator}
-use Rattle.napt_sequential.specs.CountedTranslators.{AreCountedTranslators, Takes, state_after, passed_at, counted_after}
+use Rattle.napt_sequential.specs.CountedTranslators.{AreCountedTranslators, Takes, state_after, told_at, counted_after}
 use Rattle.napt_sequential.proofs.Results.{if_both}
-use Rattle.napt_sequential.proofs.CountedTranslators.{few_legs, its_timers, passed_same, translators_after}
+use Rattle.napt_sequential.proofs.CountedTranslators.{few_legs, told_same, translators_after}
 use Rattle.napt_sequential.proofs.run.take.Goals as goal
 
 pub bounds-translators-place : goal.bounds-translators-place
 bounds-translators-place c = let many = c.requires.can_take.1.many in omega (arith, c.requires.within)
 
-pub take-requires-clause-few : goal.take-requires-clause-few
-take-requires-clause-few c =
+pub take-requires : goal.take-requires
+take-requires c =
     let can_take = c.requires.can_take in
     let few = few_legs c.args.config.now c.requires.keeps can_take.0 c.args.translators.now can_take.1 c.args.place
     (get_or c.args.config.now.pool c.args.place 0) (slice_get-get_or c.args.config.now.pool c.args.place 0
@@ -20,25 +21,18 @@ take-requires-clause-few c =
     let room = can_take.3 in
     omega arith
 
-pub take-requires-clause-timers : goal.take-requires-clause-timers
-take-requires-clause-timers c =
-    let can_take = c.requires.can_take in
-    its_timers c.args.config.now c.requires.keeps can_take.0 c.args.translators.now can_take.1 c.args.place
-    (get_or c.args.config.now.pool c.args.place 0) (slice_get-get_or c.args.config.now.pool c.args.place 0
-    c.requires.within) c.args.leg can_take.2 c.index-translators-place.result
-
 pub returns : goal.returns
 returns c =
     let rules : Rules = c.args.config.now in
     let counted : CountedTranslator = get_or c.args.translators.now c.args.place c.index-translators-place.result in
-    if_both (λ (passed : Passed). passed ≡ passed_at c.args.leg counted)
+    if_both (λ (told : Told Passage). told ≡ told_at (λ passage. passage) c.args.leg counted.translator)
     (Takes rules c.args.place c.args.leg c.args.translators.now (set c.args.translators.now c.args.place
     c.take.new.self)) (c.take.new.self ≡ counted_after c.args.leg counted) c.take.result
-    (λ passed is after state address are later at. (
-      is ∙ passed_same rules c.requires.keeps state c.args.translators.now are c.args.place address at c.args.leg later
+    (λ told is after state address are later at. (
+      is ∙ told_same rules c.requires.keeps state c.args.translators.now are c.args.place address at c.args.leg later
           c.index-translators-place.result,
       subst (λ (s : CountedTranslator). AreCountedTranslators rules (state_after rules address c.args.leg state)
           (set c.args.translators.now c.args.place s)) (sym after)
           (translators_after rules c.requires.keeps state c.args.translators.now are c.args.place address at c.args.leg
           later c.index-translators-place.result),
-    )) c.take.ensures.passed c.take.ensures.left
+    )) c.take.ensures.told c.take.ensures.left

@@ -6,7 +6,7 @@ use Rattle.napt_dispatch.proofs.Standing.{admitted_admits, refused_admits}
 use Rattle.napt_dispatch.proofs.dispatcher.Dispatcher.admit.Goals as goal
 
 pub returns-in_ok-hold_first-in-Ok-clause-admits : goal.returns-in_ok-hold_first-in-Ok-clause-admits
-returns-in_ok-hold_first-in-Ok-clause-admits c =
+returns-in_ok-hold_first-in-Ok-clause-admits g c =
     let config : Rules = c.args.config.now in
     let copy : Arrival = record {
       side = c.input.inside.side;
@@ -25,7 +25,7 @@ returns-in_ok-hold_first-in-Ok-clause-admits c =
     c.hold_first.ensures.many (rw c.way_from.ensures at c.in_ok-hold_first-in-Ok.ensures.placed))
 
 pub returns-in_ok-note_dropped-in-Err-clause-admits : goal.returns-in_ok-note_dropped-in-Err-clause-admits
-returns-in_ok-note_dropped-in-Err-clause-admits c =
+returns-in_ok-note_dropped-in-Err-clause-admits g c =
     rw (← c.input.view_is)
     (refused_admits c.args.config.now c.args.number c.args.now _ c.args.self.now c.note_dropped.new.self c.in-Err.cause
     c.requires.keeps.pool.distinct c.in-Err.ensures.refused c.note_dropped.ensures.same

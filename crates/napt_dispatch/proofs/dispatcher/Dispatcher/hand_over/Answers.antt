@@ -5,7 +5,7 @@ use Rattle.napt_dispatch.proofs.dispatcher.Dispatcher.hand_over.Goals as goal
 
 pub returns-in-Ok : goal.returns-in-Ok
 returns-in-Ok g c =
-    let later : Dispatcher = record c.args.self.now { progress = c.hand_over.new.self } in
+    let later : Dispatcher g.row.P.Denot = record c.args.self.now { progress = c.hand_over.new.self } in
     record {
       went = c.in-Ok.ensures.handed.went;
       goes = goes_over c.args.pool.now c.args.self.now later c.in-Ok.ensures.handed.went c.requires.sized refl
@@ -15,7 +15,7 @@ returns-in-Ok g c =
 
 pub returns-in-Err : goal.returns-in-Err
 returns-in-Err g c =
-    let later : Dispatcher = record c.args.self.now { progress = c.hand_over.new.self } in
+    let later : Dispatcher g.row.P.Denot = record c.args.self.now { progress = c.hand_over.new.self } in
     record {
       went = c.in-Err.ensures.handed.went;
       goes = goes_over c.args.pool.now c.args.self.now later c.in-Err.ensures.handed.went c.requires.sized refl

@@ -5,7 +5,7 @@ use Rattle.napt_dispatch.proofs.Offering.{notes_none, notes_more, noted_less}
 use Rattle.napt_dispatch.proofs.dispatcher.Dispatcher.note_each.Goals as goal
 
 pub loop-answer-init : goal.loop-answer-init
-loop-answer-init c = record {
+loop-answer-init g c = record {
   split = refl;
   many = refl;
   noted = notes_none c.args.w c.args.self.now;
@@ -13,7 +13,7 @@ loop-answer-init c = record {
 }
 
 pub loop-answer-preserved : goal.loop-answer-preserved
-loop-answer-preserved c =
+loop-answer-preserved g c =
     let was = c.loop-answer.invariant in
     let noted = c.in_ok-note.ensures.noted in
     let inside : c.args.w < length c.loop-answer.self.queues = rw was.many c.requires in

@@ -5,9 +5,9 @@ use Rattle.napt_dispatch.specs.Standing.{NotesAll}
 use Rattle.napt_dispatch.proofs.dispatcher.Dispatcher.note_each.Given as goal
 
 abbrev pub invariant-loop-answer : goal.invariant-loop-answer
-invariant-loop-answer l = record {
+invariant-loop-answer g l = record {
   split : l.yielded ++ drain_items l.answer-iterator ≡ drain_items l.initial.answer-iterator;
   many : length l.self.queues ≡ length l.initial.self.queues;
-  noted : NotesAll l.w l.yielded l.initial.self l.self;
+  noted : NotesAll g.P.Telling.tells l.w l.yielded l.initial.self l.self;
   fewer : many_owed l.self.queues + length l.yielded ≡ many_owed l.initial.self.queues;
 }

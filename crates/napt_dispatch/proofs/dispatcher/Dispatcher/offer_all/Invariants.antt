@@ -4,6 +4,6 @@ use Rattle.napt_dispatch.proofs.dispatcher.Dispatcher.offer_all.Given as goal
 
 abbrev pub invariant-loop-w : goal.invariant-loop-w
 invariant-loop-w g l = record {
-  state : Continues l.initial.pool l.initial.self l.pool l.self;
+  state : Continues g.P.Telling.tells l.initial.pool l.initial.self l.pool l.self;
   offered : (v : ℕ) → v < l.w → HasOffered l.pool l.self v;
 }

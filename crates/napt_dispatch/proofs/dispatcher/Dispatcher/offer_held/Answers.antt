@@ -1,7 +1,7 @@
 use Rattle.std.proofs.Common.{◌<◌, length, refl, sym, ap, ◌∙◌}
 use Rattle.std.proofs.lemmas.Result.{err_from_is_err_and}
 use Rattle.napt_dispatch.specs.declared.dispatcher.Dispatcher.{Dispatcher}
-use Rattle.napt_dispatch.proofs.Lanes.{grows_none, grows_offered}
+use Rattle.napt_dispatch.proofs.Lanes.{grows_not, grows_none, grows_offered}
 use Rattle.napt_dispatch.proofs.Offering.{over_pool, none_sent, none_continue, none_alone, sent_keeps, only_sent, sent_all}
 use Rattle.napt_dispatch.proofs.dispatcher.Dispatcher.offer_held.Goals as goal
 
@@ -28,9 +28,15 @@ returns-in_err-legs-clause-state g c =
     rw (p.1, p.2)
     (record { grows = grows_none c.args.pool.now; fault_is = c.in_err-legs.ensures.fault g.G.Gate.is_open })
 
+pub returns-in_err-send-clause-state : goal.returns-in_err-send-clause-state
+returns-in_err-send-clause-state g c =
+    let p = err_from_is_err_and c.from_residual-in_err-send.result c.from_residual-in_err-send.ensures.1 in
+    let sent = c.in_err-send.ensures in
+    rw (p.1, p.2) (record { grows = grows_not sent.starts sent.refused sent.takes; fault_is = sent.fault })
+
 pub returns-clause-state : goal.returns-clause-state
 returns-clause-state g c =
-    let later : Dispatcher =
+    let later : Dispatcher g.row.P.Denot =
     record c.ready_all.new.self { vectors = c.take-answers.new.self; queues = c.offer_ready.new.self } in
     let inside : c.args.w < length c.ready_all.new.self.queues =
     rw (c.in_ok-ready_all.ensures.many, c.requires.sized) c.requires.place in
@@ -50,7 +56,7 @@ returns-clause-state g c =
 
 pub returns-clause-alone : goal.returns-clause-alone
 returns-clause-alone g c =
-    let later : Dispatcher =
+    let later : Dispatcher g.row.P.Denot =
     record c.ready_all.new.self { vectors = c.take-answers.new.self; queues = c.offer_ready.new.self } in
     let inside : c.args.w < length c.ready_all.new.self.queues =
     rw (c.in_ok-ready_all.ensures.many, c.requires.sized) c.requires.place in
@@ -61,7 +67,7 @@ returns-clause-alone g c =
 
 pub returns-clause-offered : goal.returns-clause-offered
 returns-clause-offered g c =
-    let later : Dispatcher =
+    let later : Dispatcher g.row.P.Denot =
     record c.ready_all.new.self { vectors = c.take-answers.new.self; queues = c.offer_ready.new.self } in
     let inside : c.args.w < length c.ready_all.new.self.queues =
     rw (c.in_ok-ready_all.ensures.many, c.requires.sized) c.requires.place in

@@ -1,5 +1,5 @@
 use Rattle.std.proofs.Common.{◌≡◌, ℕ, List}
-use Rattle.napt_rules.specs.declared.Outcome.{Outcome}
+use Rattle.napt_dispatch.specs.declared.departures.Departed.{Departed}
 use Rattle.napt_rules.specs.Prelude.{Arrival, last_clock}
 use Rattle.napt_dispatch.specs.Passing.{Reads}
 use Rattle.napt_dispatch.proofs.dispatcher.Dispatcher.read_all.Given as goal
@@ -7,9 +7,9 @@ use Rattle.napt_dispatch.proofs.dispatcher.Dispatcher.read_all.Given as goal
 abbrev pub invariant-loop : goal.invariant-loop
 invariant-loop g l = record {
   inputs : List Arrival;
-  went : List (ℕ × Outcome);
+  went : List (ℕ × Departed g.row.P.Denot);
   handed : g.A.Arrivals.hands l.initial.arrivals inputs l.arrivals;
   clock : l.clock ≡ last_clock 0 inputs;
-  reads : Reads l.config l.initial.pool l.initial.self inputs went l.pool l.self;
+  reads : Reads g.P.Telling.tells l.config l.initial.pool l.initial.self inputs went l.pool l.self;
   took : g.D.Departures.takes l.initial.departures went l.departures;
 }

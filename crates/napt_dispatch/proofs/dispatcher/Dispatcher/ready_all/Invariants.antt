@@ -4,10 +4,10 @@ use Rattle.napt_dispatch.specs.Standing.{Readies}
 use Rattle.napt_dispatch.proofs.dispatcher.Dispatcher.ready_all.Given as goal
 
 abbrev pub invariant-loop-self : goal.invariant-loop-self
-invariant-loop-self l = record {
+invariant-loop-self g l = record {
   many : length l.self.queues ≡ length l.initial.self.queues;
-  readies : Readies l.w l.initial.self l.self;
+  readies : Readies g.P.Telling.tells l.w l.initial.self l.self;
 }
 
 abbrev pub decreases-loop-self : goal.decreases-loop-self
-decreases-loop-self l = length (queue_of l.self.queues l.w).held
+decreases-loop-self g l = length (queue_of l.self.queues l.w).held

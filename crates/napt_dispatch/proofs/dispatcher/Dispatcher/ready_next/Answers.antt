@@ -4,8 +4,8 @@ use Rattle.napt_dispatch.proofs.Offering.{readies_first}
 use Rattle.napt_dispatch.proofs.dispatcher.Dispatcher.ready_next.Goals as goal
 
 pub returns-clause-readies : goal.returns-clause-readies
-returns-clause-readies c =
-    let later : Dispatcher = record c.second_leg-second.new.self { queues = c.ready_first.new.self } in
+returns-clause-readies g c =
+    let later : Dispatcher g.row.P.Denot = record c.second_leg-second.new.self { queues = c.ready_first.new.self } in
     readies_first c.args.w c.args.self.now later c.second_leg-second.result c.requires
     (rw c.front-front.ensures at (sym c.waits.ensures ∙ c.if-waits.false))
     (rw c.front-front.ensures at c.second_leg-second.ensures.resolves)

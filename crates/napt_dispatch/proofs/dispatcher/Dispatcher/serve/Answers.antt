@@ -1,6 +1,6 @@
 use Rattle.std.proofs.Common.{◌≡◌, ◌∙◌, ap}
 use Rattle.std.proofs.lemmas.Result.{err_from_is_err_and}
-use Rattle.napt_rules.specs.Prelude.{Arrival}
+use Rattle.napt_rules.specs.Prelude.{Arrival, way_from}
 use Rattle.napt_dispatch.specs.Windows.{expecting}
 use Rattle.napt_dispatch.proofs.Lanes.{grows_none, halts_after}
 use Rattle.napt_dispatch.proofs.Passing.{serves_as, continues_both}
@@ -9,8 +9,8 @@ use Rattle.napt_dispatch.proofs.dispatcher.Dispatcher.serve.Goals as goal
 
 pub admit-requires-clause-open : goal.admit-requires-clause-open
 admit-requires-clause-open g c =
-    expecting_unmarked c.input.inside.time c.in_ok-number.number c.args.self.now.progress c.expect.new.self
-    c.in_ok-number.ensures.number c.in_ok-number.ensures.expecting
+    λ κs lives. expecting_unmarked c.input.inside.time c.way_from.result c.in_ok-number.number
+    c.args.self.now.progress c.expect.new.self c.in_ok-number.ensures.number c.in_ok-number.ensures.expecting
 
 pub returns-in_err-number-clause-fault : goal.returns-in_err-number-clause-fault
 returns-in_err-number-clause-fault g c =
@@ -27,9 +27,12 @@ returns-in_err-place-clause-fault g c =
 pub returns-clause-serves : goal.returns-clause-serves
 returns-clause-serves g c =
     let time : c.input.inside.time ≡ c.args.input.time = ap (λ (a : Arrival). a.time) c.input.view_is in
+    let way : c.way_from.result ≡ way_from c.args.input.side = c.way_from.ensures
+    ∙ ap (λ (a : Arrival). way_from a.side) c.input.view_is in
     serves_as c.args.config.now c.args.now c.in_ok-number.number c.args.input c.args.pool.now
     c.args.self.now c.admit.new.self c.expect.new.self c.look_if-2.new.pool c.look_if-2.new.self
-    (c.in_ok-number.ensures.expecting ∙ ap (λ t. expecting t c.args.self.now.progress) time)
+    (c.in_ok-number.ensures.expecting ∙ (ap (λ t. expecting t c.way_from.result c.args.self.now.progress) time
+    ∙ ap (λ w. expecting c.args.input.time w c.args.self.now.progress) way))
     c.in_ok-number.ensures.number c.in_ok-place.ensures.admits c.in_ok-place.ensures.journal
     (continues_both c.in_ok-look_if.ensures c.in_ok-look_if-2.ensures)
 

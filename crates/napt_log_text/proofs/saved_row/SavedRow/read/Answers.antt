@@ -1,54 +1,23 @@
-use Rattle.std.proofs.Common.{◌∙◌, Ok, [], codes, sym, ap, arith}
-use Rattle.napt_log_text.proofs.SavedRows.{binding_not_refused, binding_read, fields_read-many, no_other, time_not_refused, time_read}
+use Rattle.std.proofs.Common.{◌∙◌, Some, None, ap, lit<, arith}
+use Rattle.napt_config.specs.Rules.{pair_of}
+use Rattle.napt_log_text.specs.declared.event.Event.TheVariants.{Made, Ended, Living, Refused}
+use Rattle.napt_log_text.proofs.SavedRows.{fields_read, fields_read-many}
 use Rattle.napt_log_text.proofs.saved_row.SavedRow.read.Goals as goal
 
-pub returns-then-field_count-ne-FIELDS : goal.returns-then-field_count-ne-FIELDS
-returns-then-field_count-ne-FIELDS c rules event fits is =
-    absurd (c.if-field_count-ne-FIELDS.true (c.field_count.ensures ∙ fields_read-many rules event c.args.row.now is))
+pub returns-then-field_count-eq-FIELDS : goal.returns-then-field_count-eq-FIELDS
+returns-then-field_count-eq-FIELDS c rules (Made listed) fits is =
+    ap Some (c.of_fields.ensures.binding (Some listed.entry.made) (Some 8) listed (omega (arith, fits.0)) (lit< tt)
+    fits.1 (fields_read rules (Made listed) c.args.row.now is))
+returns-then-field_count-eq-FIELDS c rules (Ended listed) fits is =
+    ap Some (c.of_fields.ensures.binding listed.entry.end (Some 9) listed fits.0 (lit< tt) fits.1
+    (fields_read rules (Ended listed) c.args.row.now is))
+returns-then-field_count-eq-FIELDS c rules (Living listed) fits is =
+    ap Some (c.of_fields.ensures.binding listed.entry.end None listed fits.0 tt fits.1
+    (fields_read rules (Living listed) c.args.row.now is))
+returns-then-field_count-eq-FIELDS c rules (Refused shortage) fits is =
+    ap Some (c.of_fields.ensures.refusal (pair_of rules shortage.host) shortage (omega (arith, fits))
+    (fields_read rules (Refused shortage) c.args.row.now is))
 
-pub returns-in_err-read-in-text : goal.returns-in_err-read-in-text
-returns-in_err-read-in-text c rules event fits is =
-    absurd (binding_not_refused rules c.args.row.now (codes "8") (sym c.in-text.is ∙ c.field.ensures) c.read.result
-    c.read.ensures (omega arith) event _ (fits, is) c.in_err-read-in-text.was)
-
-pub returns-in_ok-read-in-text : goal.returns-in_ok-read-in-text
-returns-in_ok-read-in-text c rules event fits is =
-    ap Ok (binding_read rules c.args.row.now (codes "8") (sym c.in-text.is ∙ c.field.ensures) c.read.result
-    c.read.ensures (omega arith) event _ (fits, is) c.in_ok-read-in-text.was)
-
-pub returns-in_err-read-in-text-2 : goal.returns-in_err-read-in-text-2
-returns-in_err-read-in-text-2 c rules event fits is =
-    absurd (binding_not_refused rules c.args.row.now (codes "9") (sym c.in-text-2.is ∙ c.field.ensures)
-    c.read-in-text-2.result c.read-in-text-2.ensures (omega arith) event _ (fits, is) c.in_err-read-in-text-2.was)
-
-pub returns-in_ok-read-in-text-2 : goal.returns-in_ok-read-in-text-2
-returns-in_ok-read-in-text-2 c rules event fits is =
-    ap Ok (binding_read rules c.args.row.now (codes "9") (sym c.in-text-2.is ∙ c.field.ensures) c.read-in-text-2.result
-    c.read-in-text-2.ensures (omega arith) event _ (fits, is) c.in_ok-read-in-text-2.was)
-
-pub returns-in_err-read-in-empty : goal.returns-in_err-read-in-empty
-returns-in_err-read-in-empty c rules event fits is =
-    absurd (binding_not_refused rules c.args.row.now [] (sym c.in-empty.is ∙ c.field.ensures) c.read-in-empty.result
-    c.read-in-empty.ensures (omega arith) event _ (fits, is) c.in_err-read-in-empty.was)
-
-pub returns-in_ok-read-in-empty : goal.returns-in_ok-read-in-empty
-returns-in_ok-read-in-empty c rules event fits is =
-    ap Ok (binding_read rules c.args.row.now [] (sym c.in-empty.is ∙ c.field.ensures) c.read-in-empty.result
-    c.read-in-empty.ensures (omega arith) event _ (fits, is) c.in_ok-read-in-empty.was)
-
-pub returns-in_err-time_of-in-text-3 : goal.returns-in_err-time_of-in-text-3
-returns-in_err-time_of-in-text-3 c rules event fits is =
-    absurd (time_not_refused rules c.args.row.now _ c.field.ensures c.time_of.result
-    (λ time small shown. c.time_of.ensures time small (c.field-in-text-3.ensures ∙ shown)) c.in-text-3.is
-    event _ (fits, is) c.in_err-time_of-in-text-3.was)
-
-pub returns-in_ok-time_of-in-text-3 : goal.returns-in_ok-time_of-in-text-3
-returns-in_ok-time_of-in-text-3 c rules event fits is =
-    ap Ok (time_read rules c.args.row.now _ c.field.ensures c.time_of.result
-    (λ time small shown. c.time_of.ensures time small (c.field-in-text-3.ensures ∙ shown)) c.in-text-3.is
-    event _ (fits, is) c.in_ok-time_of-in-text-3.was)
-
-pub returns-in_default : goal.returns-in_default
-returns-in_default c rules event fits is =
-    absurd (no_other rules c.args.row.now _ c.field.ensures event (fits, is) c.in_default.not-text
-    c.in_default.not-text-2 c.in_default.not-empty c.in_default.not-text-3 c.in_default.not-text-4)
+pub returns-else-field_count-eq-FIELDS : goal.returns-else-field_count-eq-FIELDS
+returns-else-field_count-eq-FIELDS c rules event fits is =
+    absurd (c.if-field_count-eq-FIELDS.false (c.field_count.ensures ∙ fields_read-many rules event c.args.row.now is))

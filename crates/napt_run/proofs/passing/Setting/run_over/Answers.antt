@@ -3,7 +3,7 @@ use Rattle.std.proofs.lemmas.Result.{err_from_is_err_and}
 use Rattle.napt_wire.specs.declared.Side.TheVariants as sides
 use Rattle.napt_records.specs.declared.Fault.TheVariants.{Capture}
 use Rattle.napt_run.specs.Captures.{failed_readings}
-use Rattle.napt_run.proofs.Shown.{unread_observes}
+use Rattle.napt_run.proofs.BothPassed.{unread_logs}
 use Rattle.napt_run.proofs.Headers.{header_failed, header_of, inside_refused, more_after, none_taken, outside_refused}
 use Rattle.napt_run.proofs.passing.Setting.run_over.Goals as goal
 
@@ -11,14 +11,14 @@ pub returns-in_err-ours-clause-runs : goal.returns-in_err-ours-clause-runs
 returns-in_err-ours-clause-runs g c =
     let p = err_from_is_err_and c.from_residual.result c.from_residual.ensures.1 in
     rw (p.1, p.2) (header_failed g.G.Gate.is_open c.args.self.config.now (g.R.Source.remaining c.args.inside.now)
-    (g.Q.Source.remaining c.args.outside.now) c.args.leaving.now c.requires.settled
+    (g.Q.Source.remaining c.args.outside.now) c.args.both.now.leaving c.requires.settled
     sides.Inside c.in_err-ours.field-0.0 _ _ (λ inner. inside_refused _ _ _ inner) c.in_err-ours.ensures.fault)
 
 pub returns-in_err-theirs-clause-runs : goal.returns-in_err-theirs-clause-runs
 returns-in_err-theirs-clause-runs g c =
     let p = err_from_is_err_and c.from_residual-in_err-theirs.result c.from_residual-in_err-theirs.ensures.1 in
     rw (p.1, p.2) (header_failed g.G.Gate.is_open c.args.self.config.now (g.R.Source.remaining c.args.inside.now)
-    (g.Q.Source.remaining c.args.outside.now) c.args.leaving.now c.requires.settled
+    (g.Q.Source.remaining c.args.outside.now) c.args.both.now.leaving c.requires.settled
     sides.Outside c.in_err-theirs.field-0.0 _ _ (λ inner. outside_refused _ _ _ _ _ inner
     c.in_ok-ours.ensures.header.header) c.in_err-theirs.ensures.fault)
 
@@ -58,25 +58,29 @@ returns-clause-readings g c not_run =
       more_after _ _ _ (failed_readings sides.Outside read) c.in_ok-theirs.ensures.count theirs,
     )
 
-pub returns-in_err-ours-clause-observes : goal.returns-in_err-ours-clause-observes
-returns-in_err-ours-clause-observes g c =
+pub returns-in_err-ours-clause-logs : goal.returns-in_err-ours-clause-logs
+returns-in_err-ours-clause-logs g c =
     let p = err_from_is_err_and c.from_residual.result c.from_residual.ensures.1 in
     let (fault, is, heads) = header_of sides.Inside c.in_err-ours.field-0.0 _ _ c.in_err-ours.ensures.fault in
-    rw (p.1, p.2, is) (unread_observes g.O.Observer.sees g.O.Observer.fails g.O.Observer.is_settled
-    (g.R.Source.remaining c.args.inside.now) (g.Q.Source.remaining c.args.outside.now) c.args.observer.now
-    (g.met.O.Observer.sees_none c.args.observer.now) c.requires.observer sides.Inside fault
+    rw (p.1, p.2, is) (unread_logs g.K.Told.Telling.tells c.args.self.config.now g.K.Logging.enters
+    g.K.Logging.fails g.K.Logging.is_settled (g.R.Source.remaining c.args.inside.now)
+    (g.Q.Source.remaining c.args.outside.now) c.args.both.now.log.now
+    (g.met.K.Logging.enters_none c.args.both.now.log.now)
+    c.requires.log sides.Inside fault
     (none_taken _ _ sides.Inside fault (inside_refused _ _ _ fault heads)))
 
-pub returns-in_err-theirs-clause-observes : goal.returns-in_err-theirs-clause-observes
-returns-in_err-theirs-clause-observes g c =
+pub returns-in_err-theirs-clause-logs : goal.returns-in_err-theirs-clause-logs
+returns-in_err-theirs-clause-logs g c =
     let p = err_from_is_err_and c.from_residual-in_err-theirs.result c.from_residual-in_err-theirs.ensures.1 in
     let (fault, is, heads) = header_of sides.Outside c.in_err-theirs.field-0.0 _ _ c.in_err-theirs.ensures.fault in
-    rw (p.1, p.2, is) (unread_observes g.O.Observer.sees g.O.Observer.fails g.O.Observer.is_settled
-    (g.R.Source.remaining c.args.inside.now) (g.Q.Source.remaining c.args.outside.now) c.args.observer.now
-    (g.met.O.Observer.sees_none c.args.observer.now) c.requires.observer sides.Outside fault
+    rw (p.1, p.2, is) (unread_logs g.K.Told.Telling.tells c.args.self.config.now g.K.Logging.enters
+    g.K.Logging.fails g.K.Logging.is_settled (g.R.Source.remaining c.args.inside.now)
+    (g.Q.Source.remaining c.args.outside.now) c.args.both.now.log.now
+    (g.met.K.Logging.enters_none c.args.both.now.log.now)
+    c.requires.log sides.Outside fault
     (none_taken _ _ sides.Outside fault (outside_refused _ _ _ _ _ fault c.in_ok-ours.ensures.header.header heads)))
 
-pub returns-clause-observes : goal.returns-clause-observes
-returns-clause-observes g c =
-    c.run_behind_headers.ensures.observes (g.R.Source.remaining c.args.inside.now)
+pub returns-clause-logs : goal.returns-clause-logs
+returns-clause-logs g c =
+    c.run_behind_headers.ensures.logs (g.R.Source.remaining c.args.inside.now)
     (g.Q.Source.remaining c.args.outside.now) c.in_ok-ours.ensures.header c.in_ok-theirs.ensures.header

@@ -4,21 +4,21 @@ use Rattle.napt_run.proofs.passing.Setting.stream.Goals as goal
 
 pub returns-clause-to_outside : goal.returns-clause-to_outside
 returns-clause-to_outside g c =
-    outside_gets g.G.Gate.is_open _ _ _ c.into-leaving.result
-    c.begin_and_run-told.new.leaving _ c.begin_and_run-told.ensures.runs
-    (ap (λ o. o.written) c.into-leaving.ensures.to_outside ∙ c.over-ours.ensures.written) _ _
-    (ap (λ o. o.device.now) c.into-leaving.ensures.to_outside ∙ c.over-ours.ensures.device)
+    let is = ap (λ l. l.to_outside) c.over-both.ensures.leaving ∙ c.into-leaving.ensures.to_outside in
+    outside_gets g.G.Gate.is_open _ _ _ c.over-both.result.leaving c.begin_and_run-told.new.both.leaving _
+    c.begin_and_run-told.ensures.runs (ap (λ o. o.written) is ∙ c.over-ours.ensures.written) _ _
+    (ap (λ o. o.device.now) is ∙ c.over-ours.ensures.device)
     (λ same. c.to_outside-1.given.1 (sym c.over-ours.ensures.same_reference
-    ∙ ap (λ o. o.device.ghost_name) (sym c.into-leaving.ensures.to_outside) ∙ sym same))
+    ∙ ap (λ o. o.device.ghost_name) (sym is) ∙ sym same))
 
 pub returns-clause-to_inside : goal.returns-clause-to_inside
 returns-clause-to_inside g c =
-    inside_gets g.G.Gate.is_open _ _ _ c.into-leaving.result
-    c.begin_and_run-told.new.leaving _ c.begin_and_run-told.ensures.runs
-    (ap (λ o. o.written) c.into-leaving.ensures.to_inside ∙ c.over-theirs.ensures.written) _ _
-    (ap (λ o. o.device.now) c.into-leaving.ensures.to_inside ∙ c.over-theirs.ensures.device)
+    let is = ap (λ l. l.to_inside) c.over-both.ensures.leaving ∙ c.into-leaving.ensures.to_inside in
+    inside_gets g.G.Gate.is_open _ _ _ c.over-both.result.leaving c.begin_and_run-told.new.both.leaving _
+    c.begin_and_run-told.ensures.runs (ap (λ o. o.written) is ∙ c.over-theirs.ensures.written) _ _
+    (ap (λ o. o.device.now) is ∙ c.over-theirs.ensures.device)
     (λ same. c.to_inside-1.given.1 (sym c.over-theirs.ensures.same_reference
-    ∙ ap (λ o. o.device.ghost_name) (sym c.into-leaving.ensures.to_inside) ∙ sym same))
+    ∙ ap (λ o. o.device.ghost_name) (sym is) ∙ sym same))
 
 pub returns-clause-says : goal.returns-clause-says
 returns-clause-says g c = says _ _ _ _ _ _ _ c.begin_and_run-told.ensures.runs
@@ -26,5 +26,9 @@ returns-clause-says g c = says _ _ _ _ _ _ _ c.begin_and_run-told.ensures.runs
 pub returns-clause-readings : goal.returns-clause-readings
 returns-clause-readings g c not_run = c.begin_and_run-told.ensures.readings not_run
 
-pub returns-clause-observes : goal.returns-clause-observes
-returns-clause-observes g c = c.begin_and_run-told.ensures.observes
+pub returns-clause-logs : goal.returns-clause-logs
+returns-clause-logs g c = rw (
+  c.log-1.given.1 (sym c.over-both.ensures.log_name ∙ sym c.begin_and_run-told.ensures.same),
+  sym c.over-both.ensures.log,
+)
+    c.begin_and_run-told.ensures.logs

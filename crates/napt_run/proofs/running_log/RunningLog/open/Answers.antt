@@ -4,6 +4,6 @@ use Rattle.napt_run.specs.RunningLogs.{Adds}
 use Rattle.napt_run.proofs.running_log.RunningLog.open.Goals as goal
 
 pub returns : goal.returns
-returns g c rules at =
+returns g c rules keeps at =
     subst (λ (l : Text). Adds rules [] l c.args.self.now c.put.result c.put.new.self)
-    (c.deref.ensures ∙ c.in_ok-text.ensures rules at) (c.put.ensures rules [] at)
+    (c.deref.ensures ∙ c.in_ok-text.ensures rules keeps at) (c.put.ensures rules [] at)

@@ -1,11 +1,11 @@
 use Rattle.std.proofs.Common.{ℕ, [], ◌∷◌, ◌++◌, refl}
-use Rattle.napt_rules.specs.declared.Outcome.{Outcome}
+use Rattle.napt_dispatch.specs.declared.departures.Departed.{Departed}
 use Rattle.napt_dispatch.proofs.Windows.{over_more, leaves_over}
 use Rattle.napt_dispatch.proofs.dispatcher.run_progress.RunProgress.hand_over.Goals as goal
 
 pub loop-time-preserved : goal.loop-time-preserved
 loop-time-preserved g c =
-    let pair : ℕ × Outcome = (c.in-Some.time, c.in-Some.outcome) in
+    let pair : ℕ × Departed g.row.P.Denot = (c.in-Some.time, c.in-Some.departed) in
     let went = c.loop-time.invariant.went in
     record {
       went = went ++ pair ∷ [];
@@ -18,7 +18,7 @@ loop-time-preserved g c =
 
 pub returns-in-Err-clause-handed : goal.returns-in-Err-clause-handed
 returns-in-Err-clause-handed g c =
-    let pair : ℕ × Outcome = (c.in-Some.time, c.in-Some.outcome) in
+    let pair : ℕ × Departed g.row.P.Denot = (c.in-Some.time, c.in-Some.departed) in
     let went = c.loop-time.invariant.went in
     record {
       went = went ++ pair ∷ [];

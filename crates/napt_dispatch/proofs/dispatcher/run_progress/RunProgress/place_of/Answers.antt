@@ -3,7 +3,7 @@ use Rattle.napt_dispatch.proofs.Windows.{left_unknown, unread_unknown}
 use Rattle.napt_dispatch.proofs.dispatcher.run_progress.RunProgress.place_of.Goals as goal
 
 pub returns-then-number-self : goal.returns-then-number-self
-returns-then-number-self c =
+returns-then-number-self g c =
     rw (← c.self.view_is) (
       left_unknown c.self.inside.past.items _ c.args.number
           (omega (arith, c.self.invariant.0, c.if-number-self.true)),
@@ -11,7 +11,7 @@ returns-then-number-self c =
     )
 
 pub returns-else-place-len : goal.returns-else-place-len
-returns-else-place-len c =
+returns-else-place-len g c =
     rw (← c.self.view_is) (
       unread_unknown c.self.inside.past.items c.self.inside.under_way.items c.args.number
           (omega (

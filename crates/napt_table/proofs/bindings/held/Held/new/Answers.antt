@@ -3,5 +3,5 @@ use Rattle.napt_table.proofs.Ends.{none_held}
 use Rattle.napt_table.proofs.bindings.held.Held.new.Goals as goal
 
 pub invariant_of-result : goal.invariant_of-result
-invariant_of-result c = none_held _ c.new.ensures.empty c.new-2.ensures.empty c.in_ok-new.ensures.by_protocol
-    c.in_ok-new.ensures.none (c.new-4.ensures.counted ∙ c.is_some.ensures) c.new-4.ensures.none
+invariant_of-result c = none_held _ c.new.ensures.empty c.new-3.ensures.empty c.in_ok-new.ensures.by_protocol
+    c.in_ok-new.ensures.none (c.new-5.ensures.counted ∙ c.is_some.ensures) c.new-5.ensures.none

@@ -1,0 +1,328 @@
+//! The commands, and the arguments that each takes.
+
+use clap::{Arg, ArgAction, ArgGroup, Command};
+use napt_program::{Manual, VERSION};
+use std::alloc::{AllocError, Global};
+
+/// The command that is done where none is named.
+const FIRST: &str = "show";
+
+/// What commands do that once were options: the option, and how the command is called now.
+const EARLIER: &[(&str, &str)] = &[
+    ("saved-log", "who ADDRESS[:PORT] --from-log FILE"),
+    ("requests", "who --requests FILE"),
+    ("who", "who ADDRESS[:PORT]"),
+    ("log", "log --to FILE"),
+    ("svg", "draw FILE"),
+    ("against", "compare FILE"),
+    ("plan", "plan FILE"),
+    ("sizes", "sizes"),
+    ("blocks", "blocks"),
+    ("followed", "follow FILE --replies FILE"),
+];
+
+const SHOW: &str =
+    "Prints a line for each packet, the bindings and a summary (the command where none is named)";
+
+const WHO: &str =
+    "Prints which inside endpoints had an external endpoint, or one of an address: a line for each, with its protocol and \
+the times from and until when; the status is 1 if nobody had it";
+
+const LOG: &str =
+    "Writes the log of the run in CSV to standard output: each binding when it is made and when it expires, each packet \
+refused one by the quota or for lack of a free port, and then each binding that lives at the end (docs/FORMATS.md)";
+
+const PLAN: &str =
+    "Prints a table with a line for the run under each of these configurations: what is dropped, and how much there is at \
+once (docs/FORMATS.md)";
+
+const SIZES: &str =
+    "Prints how many bindings, ports and hosts there were at once, what quotas and blocks would have refused, and how long \
+bindings lived (docs/FORMATS.md)";
+
+const BLOCKS: &str =
+    "Prints the block of each inside host, in CSV, as the configuration alone gives it: host, external address, first and \
+last number";
+
+const DRAW: &str =
+    "Draws the run in SVG into a file: its bindings, hairpins and drops over time, or counts of live bindings if more than \
+30 are shown";
+
+const COMPARE: &str =
+    "Prints the packets that end differently under another configuration, and the counts of both; the status is 1 if one \
+does";
+
+const FOLLOW: &str =
+    "Writes the outside capture in which each reply names its external endpoint: napt makes the same run of it";
+
+const CONFIG: &str = "Configuration in TOML [default: the built-in configuration]";
+
+const REPLIES: &str =
+    "Capture of replies as inside hosts got them, in place of --outside: each follows its inside endpoint to \
+the external endpoint that this has here when it comes (docs/FORMATS.md)";
+
+const AT: &str =
+    "The time asked about: seconds since 1970, as in the lines, or an RFC 3339 date such as 2026-11-26T10:02:07Z. It \
+stands for its whole last digit: here for that second, with nine decimals for a nanosecond [default: any time]";
+
+const REQUESTS: &str =
+    "Answers the requests in this file, one a line: ADDRESS[:PORT] TIME [PROTOCOL], with TIME as for --at. The number of \
+its line stands before each answer; the status is 1 if nobody had one of them";
+
+const FROM_LOG: &str =
+    "Answers from this log, or the pieces of one in their order, in place of captures; --config tells the pool";
+
+const AS_NAPT: &str =
+    "Tells of the run that napt makes of the captures, whatever numbers the captured gateway had";
+
+const HOST: &str =
+    "Only the packets and bindings with this address or endpoint, inside or external";
+
+const WRITTEN: &str = "File to write, which nothing else may name";
+
+const NOT_WRITTEN: &str =
+    "Never written: accepted as an option of napt, and refused if napt would refuse it";
+
+/// The words of a call, the program's name first, and then always a command.
+#[derive(Drop)]
+pub struct Words {
+    pub list: Vec<String>,
+    /// Whether they named it: else it is `show`, and the outputs of `napt` are options too.
+    is_named: bool,
+}
+
+impl Words {
+    /// The words given, with `show` where they begin with an option, or are none.
+    pub fn of(alloc: Global, given: Vec<String>) -> Result<Words, AllocError> {
+        let is_named = given.get(1).is_some_and(|word| is_name(word));
+        let mut list = Vec::new(alloc);
+        for word in given {
+            list.push(word)?;
+            if list.len() == 1 && !is_named {
+                list.push(String::from_str(alloc, FIRST)?)?;
+            }
+        }
+        Ok(Words { list, is_named })
+    }
+
+    /// The first option among them that is a command now, and how that is called.
+    pub fn earlier(&self) -> Option<(&'static str, &'static str)> {
+        if self.is_named {
+            return None;
+        }
+        EARLIER
+            .iter()
+            .find(|(option, _)| self.has_option(option))
+            .copied()
+    }
+
+    fn has_option(&self, option: &str) -> bool {
+        self.list.iter().any(|word| option_in(word) == Some(option))
+    }
+
+    /// The command line that they are to be of.
+    pub fn command_line<'a>(
+        &self,
+        alloc: Global,
+        manual: Manual,
+    ) -> Result<Command<'a>, AllocError> {
+        Command::new(alloc, "explain")
+            .bin_name(manual.name)?
+            .display_name(manual.name)?
+            .version(VERSION)
+            .about(manual.about)
+            .after_help(manual.notes)
+            .disable_help_subcommand(true)
+            .subcommand(show(alloc, self.is_named)?)?
+            .subcommand(who(alloc)?)?
+            .subcommand(log(alloc)?)?
+            .subcommand(plan(alloc)?)?
+            .subcommand(configured(alloc, "sizes", SIZES)?)?
+            .subcommand(
+                Command::new(alloc, "blocks")
+                    .about(BLOCKS)
+                    .arg(config(alloc))?,
+            )?
+            .subcommand(draw(alloc)?)?
+            .subcommand(compare(alloc)?)?
+            .subcommand(follow(alloc)?)
+    }
+}
+
+/// Whether the first word of a call names a command, or asks for the help of them all or the version.
+fn is_name(word: &str) -> bool {
+    !word.starts_with('-') || matches!(word, "-h" | "--help" | "-V" | "--version")
+}
+
+/// The long option that a word gives.
+fn option_in(word: &str) -> Option<&str> {
+    let rest = word.strip_prefix("--")?;
+    match rest.split_once('=') {
+        Some((option, _)) => Some(option),
+        None => Some(rest),
+    }
+}
+
+fn show<'a>(alloc: Global, is_named: bool) -> Result<Command<'a>, AllocError> {
+    let show = chosen(alloc, configured(alloc, "show", SHOW)?)?.arg(flag(
+        alloc,
+        "json",
+        "Prints only a JSON object for each packet, on a line of its own (docs/FORMATS.md)",
+    ))?;
+    if is_named {
+        return Ok(show);
+    }
+    show.arg(value(alloc, "to-outside", "FILE", NOT_WRITTEN).hide(true))?
+        .arg(value(alloc, "to-inside", "FILE", NOT_WRITTEN).hide(true))?
+        .arg(value(alloc, "report", "FILE", NOT_WRITTEN).hide(true))
+}
+
+fn who<'a>(alloc: Global) -> Result<Command<'a>, AllocError> {
+    let endpoint = word(
+        alloc,
+        "endpoint",
+        "ADDRESS[:PORT]",
+        "The external endpoint, or address",
+    )
+    .required(false)
+    .required_unless_present("requests")?;
+    configured(alloc, "who", WHO)?
+        .group(
+            ArgGroup::new(alloc, "captures")
+                .arg("inside")?
+                .arg("outside")?
+                .arg("replies")?
+                .multiple(true),
+        )?
+        .arg(endpoint)?
+        .arg(value(alloc, "at", "TIME", AT))?
+        .arg(
+            value(alloc, "requests", "FILE", REQUESTS)
+                .conflicts_with("endpoint")?
+                .conflicts_with("at")?,
+        )?
+        .arg(
+            value(alloc, "from-log", "FILE", FROM_LOG)
+                .num_args(1..)
+                .conflicts_with("captures")?
+                .conflicts_with("as-napt")?,
+        )?
+        .arg(flag(alloc, "as-napt", AS_NAPT))
+}
+
+fn log<'a>(alloc: Global) -> Result<Command<'a>, AllocError> {
+    configured(alloc, "log", LOG)?
+        .arg(value(alloc, "to", "FILE", WRITTEN))?
+        .arg(flag(alloc, "as-napt", AS_NAPT))
+}
+
+fn plan<'a>(alloc: Global) -> Result<Command<'a>, AllocError> {
+    captured(alloc, Command::new(alloc, "plan").about(PLAN))?
+        .arg(word(alloc, "other", "FILE", "Configurations in TOML").num_args(1..))?
+        .arg(flag(alloc, "csv", "Prints the table in CSV"))
+}
+
+fn draw<'a>(alloc: Global) -> Result<Command<'a>, AllocError> {
+    configured(alloc, "draw", DRAW)?
+        .arg(word(alloc, "file", "FILE", WRITTEN))?
+        .arg(value(
+            alloc,
+            "from",
+            "SECONDS",
+            "Starts the picture this long after the first packet [default: 0]",
+        ))?
+        .arg(value(
+            alloc,
+            "until",
+            "SECONDS",
+            "Ends the picture this long after the first packet [default: after the last packet]",
+        ))?
+        .arg(value(alloc, "host", "ADDRESS[:PORT]", HOST))
+}
+
+fn compare<'a>(alloc: Global) -> Result<Command<'a>, AllocError> {
+    chosen(alloc, configured(alloc, "compare", COMPARE)?)?.arg(word(
+        alloc,
+        "other",
+        "FILE",
+        "The other configuration in TOML",
+    ))
+}
+
+fn follow<'a>(alloc: Global) -> Result<Command<'a>, AllocError> {
+    Command::new(alloc, "follow")
+        .about(FOLLOW)
+        .arg(config(alloc))?
+        .arg(inside(alloc))?
+        .arg(value(alloc, "replies", "FILE", REPLIES).required(true))?
+        .arg(word(alloc, "file", "FILE", WRITTEN))
+}
+
+/// A command over captures under a configuration.
+fn configured<'a>(alloc: Global, name: &'a str, about: &'a str) -> Result<Command<'a>, AllocError> {
+    captured(
+        alloc,
+        Command::new(alloc, name).about(about).arg(config(alloc))?,
+    )
+}
+
+/// The same with the options that name captures.
+fn captured<'a>(alloc: Global, command: Command<'a>) -> Result<Command<'a>, AllocError> {
+    command
+        .arg(inside(alloc))?
+        .arg(value(
+            alloc,
+            "outside",
+            "FILE",
+            "Capture of what comes from the outside [default: no packets]",
+        ))?
+        .arg(value(alloc, "replies", "FILE", REPLIES).conflicts_with("outside")?)
+}
+
+/// The same with the options that choose packets.
+fn chosen<'a>(alloc: Global, command: Command<'a>) -> Result<Command<'a>, AllocError> {
+    command
+        .arg(flag(alloc, "dropped", "Only dropped packets"))?
+        .arg(value(
+            alloc,
+            "only",
+            "N",
+            "Only the packet with this number, and the bindings that it used",
+        ))?
+        .arg(value(alloc, "host", "ADDRESS[:PORT]", HOST))
+}
+
+fn config<'a>(alloc: Global) -> Arg<'a> {
+    value(alloc, "config", "FILE", CONFIG)
+}
+
+fn inside<'a>(alloc: Global) -> Arg<'a> {
+    value(
+        alloc,
+        "inside",
+        "FILE",
+        "Capture of what inside hosts send [default: standard input]",
+    )
+}
+
+/// A plain option without a value.
+fn flag<'a>(alloc: Global, name: &'a str, meaning: &'a str) -> Arg<'a> {
+    Arg::new(alloc, name)
+        .long(name)
+        .action(ArgAction::SetTrue)
+        .help(meaning)
+}
+
+/// A plain option that takes a value.
+fn value<'a>(alloc: Global, name: &'a str, value: &'a str, meaning: &'a str) -> Arg<'a> {
+    word(alloc, name, value, meaning).long(name).required(false)
+}
+
+/// A word without an option, which has to be there.
+fn word<'a>(alloc: Global, name: &'a str, value: &'a str, meaning: &'a str) -> Arg<'a> {
+    Arg::new(alloc, name)
+        .action(ArgAction::Set)
+        .value_name(value)
+        .help(meaning)
+        .required(true)
+}

@@ -1,0 +1,106 @@
+-- The log by the traces of a run's inputs is the log of the run.
+use Rattle.std.proofs.Common.{◌≡◌, ℕ, ◌+◌, ◌*◌, ◌^◌, ◌<◌, ◌≤◌, max, List, [], ◌∷◌, ◌++◌, length, map, drop, refl, sym, ◌∙◌, ap, subst, arith, length-append}
+use Rattle.std.specs.Prelude.{filter}
+use Rattle.std.specs.List.{fold}
+use Rattle.napt_config.specs.Rules.{Rules, KeepsRules, pair_of}
+use Rattle.napt_rules.specs.Prelude.{Arrival, Binding, OpeningIsSound, last_clock, opening, redirected, run, step}
+use Rattle.napt_sequential.specs.Traces.{trace_of, traces, traces_from}
+use Rattle.napt_sequential.specs.declared.passage.Trace.{Trace}
+use Rattle.napt_sequential.proofs.Passed.{traces_grow}
+use Rattle.napt_account.specs.declared.log.Entry.{Entry}
+use Rattle.napt_account.specs.declared.log.Listed.{Listed}
+use Rattle.napt_account.specs.declared.log.Shortage.{Shortage}
+use Rattle.napt_account.specs.declared.open_entries.OpenEntries.{OpenEntries}
+use Rattle.napt_account.specs.Book.{after_trace, lost_by}
+use Rattle.napt_account.specs.Log.{begun, log_of}
+use Rattle.napt_account.specs.OpenEntries.{Shows}
+use Rattle.napt_account.specs.Telling.{Told, ends_within, in_order_of_end, is_open, living_of, numbered, told_by}
+use Rattle.napt_account.specs.TraceLogs.{entries_after, time_after, told_with, living_with, IsNext, TracesTellTheLog, TracesHaveTheLiving, TracesCome}
+use Rattle.napt_account.proofs.Begun.{long_mapped}
+use Rattle.napt_account.proofs.Books.{fold_joined}
+use Rattle.napt_account.proofs.Leaves.{Leaves, last_leaves}
+use Rattle.napt_account.proofs.LoggedRuns.{ended_told, made_told, refused_told, living_is, entries_told, entries_next, shortages_next}
+use Rattle.napt_account.proofs.MadeLegs.{drop_joined}
+
+-- LISTS
+
+same_last : {X : Type 0} (xs : List X) (x y : X) → xs ++ x ∷ [] ≡ xs ++ y ∷ [] → x ≡ y
+same_last [] x y e = cc (e)
+same_last (z ∷ xs) x y e = same_last xs x y (cc (e))
+
+pub time_more : (now : ℕ) (before : List Trace) (trace : Trace) → time_after now (before ++ trace ∷ []) ≡ trace.now
+time_more now [] trace = refl
+time_more now (t ∷ before) trace = time_more t.now before trace
+
+pub entries_more : (rules : Rules) (before : List Trace) (trace : Trace) →
+    entries_after rules (before ++ trace ∷ []) ≡ after_trace (entries_after rules before) trace
+entries_more rules before trace =
+    fold_joined after_trace before (trace ∷ []) (map (begun rules.timers 0) (opening rules))
+
+pub first_long : (rules : Rules) → length (entries_after rules []) ≡ length rules.redirects
+first_long rules = long_mapped (begun rules.timers 0) (opening rules)
+    ∙ long_mapped (redirected (pair_of rules)) rules.redirects
+
+-- TIMES
+
+times_from : (rules : Rules) (number clock : ℕ) (inputs : List Arrival) (list : List Binding) →
+    time_after clock (traces_from rules number clock inputs list) ≡ last_clock clock inputs
+times_from rules number clock [] list = refl
+times_from rules number clock (input ∷ inputs) list =
+    let now : ℕ = max clock input.clock in
+    times_from rules (number + 1) now inputs (step rules number now input list).list
+
+times_are : (rules : Rules) (inputs : List Arrival) → time_after 0 (traces rules inputs) ≡ last_clock 0 inputs
+times_are rules inputs = times_from rules 0 0 inputs (opening rules)
+
+module _ (rules : Rules) (before : List Arrival) (input : Arrival) (trace : Trace)
+    (more : traces rules (before ++ input ∷ []) ≡ traces rules before ++ trace ∷ []) where
+  time_is : trace.now ≡ max (last_clock 0 before) input.clock
+  time_is = ap (λ (t : Trace). t.now) (sym (same_last (traces rules before) _ trace
+      (sym (traces_grow rules 0 0 before input (opening rules) (length before) (omega arith)) ∙ more)))
+
+  module _ (keeps : KeepsRules rules) (opens : OpeningIsSound) where
+    same_entries : entries_after rules (traces rules before) ≡ (log_of rules before).entries
+    same_entries = sym (entries_told rules keeps opens before)
+
+    pub tells : told_with rules (traces rules before) trace ≡ told_by rules before input
+    tells = λ i. record {
+      ended = (ap (λ (es : List Entry). in_order_of_end (filter (ends_within (time_after 0 (traces rules before))
+          trace.now) (numbered es))) same_entries
+          ∙ (ap (λ (was : ℕ). in_order_of_end (filter (ends_within was trace.now)
+          (numbered (log_of rules before).entries))) (times_are rules before)
+          ∙ (ap (λ (now : ℕ). in_order_of_end (filter (ends_within (last_clock 0 before) now)
+          (numbered (log_of rules before).entries))) time_is ∙ sym (ended_told rules before input)))) i;
+      made = (ap (λ (es : List Entry). drop (length es) (numbered (after_trace es trace))) same_entries
+          ∙ (ap (λ (es : List Entry). drop (length (log_of rules before).entries) (numbered es))
+          (entries_next rules keeps opens before input trace more) ∙ sym (made_told rules before input))) i;
+      refused = (sym (drop_joined (log_of rules before).shortages _)
+          ∙ (ap (drop (length (log_of rules before).shortages))
+          (shortages_next rules keeps opens before input trace more) ∙ sym (refused_told rules before input))) i;
+    }
+
+  pub comes : KeepsRules rules → IsNext (traces rules before) trace
+  comes keeps =
+      let leaves : Leaves trace = last_leaves rules keeps before input trace more in
+      let was : time_after 0 (traces rules before) ≡ last_clock 0 before = times_are rules before in
+      let now : trace.now ≡ max (last_clock 0 before) input.clock = time_is in
+      record { later = omega arith; first = leaves.0; second = leaves.1 }
+
+pub traces_tell : OpeningIsSound → TracesTellTheLog
+traces_tell opens rules keeps before input trace more = tells rules before input trace more keeps opens
+
+pub traces_come : TracesCome
+traces_come rules keeps before input trace more = comes rules before input trace more keeps
+
+pub have_living : OpeningIsSound → TracesHaveTheLiving
+have_living opens rules keeps inputs =
+    ap (λ (es : List Entry). in_order_of_end (filter (is_open (time_after 0 (traces rules inputs))) (numbered es)))
+    (sym (entries_told rules keeps opens inputs))
+    ∙ (ap (λ (now : ℕ). in_order_of_end (filter (is_open now) (numbered (log_of rules inputs).entries)))
+    (times_are rules inputs) ∙ sym (living_is rules inputs))
+
+pub told_as : (rules : Rules) (before : List Trace) (trace : Trace) (ended made : List Listed)
+    (refused : List Shortage) → (let told : Told = told_with rules before trace in
+    ended ≡ told.ended → made ≡ told.made → refused ≡ told.refused →
+    (let all : Told = record { ended = ended; made = made; refused = refused } in all ≡ told))
+told_as rules before trace ended made refused a b c = λ i. record { ended = a i; made = b i; refused = c i }

@@ -1,0 +1,136 @@
+//! The log of a run, by what the legs of its inputs did.
+
+ghost use Rattle.std.specs.Prelude.{◌≡◌, ◌+◌, ◌^◌, ◌<◌, ◌≤◌, ◌++◌, [], ◌∷◌, List, length, IfOk, IfErr, OnOk, true, false};
+ghost use Rattle.napt_config.specs.Rules.{Rules};
+ghost use Rattle.napt_sequential.specs.declared.passage.Trace.{Trace as Did};
+ghost use Rattle.napt_account.specs.OpenEntries.{LeavesOpen};
+ghost use Rattle.napt_account.specs.Book.{use_by_trace};
+ghost use Rattle.napt_account.specs.TraceLogs.{IsNext, IsOfTraces, IsOpenAfter, TracesCome, TracesHaveTheLiving, TracesTellTheLog, entries_after, living_with, told_in, told_with};
+
+use crate::account::Use;
+use crate::log::{Listed, Shortage, is_before};
+use crate::open_entries::OpenEntries;
+use napt_config::Config;
+use napt_pool::PoolFault;
+use napt_sequential::{Passage, RunFault, Trace};
+use napt_table::opening_is_sound;
+use std::alloc::{AllocError, Global};
+
+/// The greatest number of traces that a log takes. Its counts fit 64 bits, and no run comes to it.
+const MOST_TRACES: u64 = 4_611_686_018_427_387_903;
+
+/// The entries of a log whose bindings have not ended, after the traces of some inputs. Its memory is that of the bindings
+/// that live.
+#[derive(Drop)]
+pub(crate) struct TraceLog {
+    /// How many traces it took.
+    many: u64,
+    /// The time of the last, in ns; 0 before the first.
+    clock: u64,
+    entries: OpenEntries,
+}
+
+/// What the log has to say with an input.
+#[derive(Drop)]
+pub struct LoggedTrace {
+    /// What it did to the bindings; its places are numbers less one.
+    pub used: Use,
+    /// The bindings that ended since the time of the input before, each with its final entry, by end, equal ends by
+    /// number.
+    pub ended: Vec<Listed>,
+    /// The binding that the packet made, if any (at most one), with its entry as the packet left it.
+    pub made: Vec<Listed>,
+    /// The packet, if no binding could be made for it.
+    pub refused: Vec<Shortage>,
+}
+
+impl TraceLog {
+    /// The log before the first trace; it has the redirects. Fails only if memory is refused.
+    pub fn begin(alloc: Global, config: &Config) -> Result<TraceLog, AllocError>
+        ensures { IfOk result (IsOpenAfter config.now []) }
+    {
+        // called for its clause alone: a configuration keeps its rules
+        let _pool = config.pool();
+        let entries = OpenEntries::begin(alloc, config)?;
+        Ok(TraceLog {
+            many: 0,
+            clock: 0,
+            entries,
+        })
+    }
+
+    /// Takes the trace of the next input; returns what the log has to say with it. After a fault it does not go on.
+    ///
+    /// Fails with `RunFault::TooMany` exactly if it took 4,611,686,018,427,387,903 traces before, with `RunFault::Pool` if no
+    /// run has this trace next, else with `RunFault::Memory` only if memory is refused.
+    pub fn enter(&mut self, alloc: Global, trace: Trace) -> Result<LoggedTrace, RunFault>
+        requires { (rules : Rules) × (before : List Did) × IsOpenAfter rules before self.old }
+        ensures tells { (rules : Rules) (before : List Did) → IsOpenAfter rules before self.old →
+            IfOk result (λ told. told_in told ≡ told_with rules before trace) }
+        ensures uses { (rules : Rules) (before : List Did) → IsOpenAfter rules before self.old →
+            IfOk result (λ told. told.used ≡ use_by_trace (entries_after rules before) trace) }
+        ensures stays { (rules : Rules) (before : List Did) → IsOpenAfter rules before self.old →
+            OnOk result (IsOpenAfter rules (before ++ trace ∷ []) self.new) }
+        ensures few { (rules : Rules) (before : List Did) → IsOpenAfter rules before self.old →
+            OnOk result (length before + 1 < 2 ^ 62) }
+        ensures err { (rules : Rules) (before : List Did) → IsOpenAfter rules before self.old →
+            IfErr result (IsOfTraces before trace) }
+    {
+        if self.many >= MOST_TRACES {
+            return Err(RunFault::TooMany);
+        }
+        if !is_next(self.clock, trace) {
+            return Err(RunFault::Pool(PoolFault::Ring));
+        }
+        let ended = self.entries.take_ended(alloc, trace.now)?;
+        let legs = self.entries.tell(alloc, trace)?;
+        self.many += 1;
+        self.clock = trace.now;
+        Ok(LoggedTrace {
+            used: legs.used,
+            ended,
+            made: legs.made,
+            refused: legs.refused,
+        })
+    }
+
+    /// The entries that have not ended by the time of the last trace, by end, equal ends by number; redirects, which never
+    /// end, last. Fails only if memory is refused.
+    pub fn living(&self, alloc: Global) -> Result<Vec<Listed>, AllocError>
+        ensures { (rules : Rules) (traces : List Did) → IsOpenAfter rules traces self.now →
+            IfOk result (λ living. living.items ≡ living_with rules traces) }
+    {
+        let living = self.entries.list(alloc)?;
+        Ok(living)
+    }
+}
+
+/// Whether a trace is no earlier than a time, in ns, and leaves its bindings ends that are to come.
+fn is_next(was: u64, trace: Trace) -> bool
+    ensures yes { result ≡ true → (was ≤ trace.now) × (LeavesOpen trace.now trace.first
+        × LeavesOpen trace.now trace.second) }
+    ensures no { result ≡ false → ¬ ((was ≤ trace.now) × (LeavesOpen trace.now trace.first
+        × LeavesOpen trace.now trace.second)) }
+{
+    was <= trace.now && leaves_open(trace.now, trace.first) && leaves_open(trace.now, trace.second)
+}
+
+/// Whether a leg leaves its binding an end that is to come.
+fn leaves_open(now: u64, passage: Passage) -> bool
+    ensures yes { result ≡ true → LeavesOpen now passage }
+    ensures no { result ≡ false → ¬ LeavesOpen now passage }
+{
+    match passage {
+        Passage::Nothing | Passage::Dropped(_) => true,
+        Passage::Out(timed) | Passage::In(timed) => is_before(now, timed.end),
+    }
+}
+
+/// By the traces of a run it tells what the log of the run tells, input by input, and has what lives at the end.
+pub fn traces_tell_the_log()
+    ensures tell { TracesTellTheLog }
+    ensures living { TracesHaveTheLiving }
+    ensures come { TracesCome }
+{
+    opening_is_sound();
+}

@@ -1,0 +1,41 @@
+use Rattle.std.proofs.Common.{ℕ, ◌≡◌, ◌==◌, ◌∙◌, true, false, List, length, Option, Some, None, Result, Ok, Err, eqb-true, refl, sym, ap, arith}
+use Rattle.std.specs.Str.Parse.{ParsesUnsigned}
+use Rattle.std.proofs.lemmas.Fmt.{decimal_is_IsNumeral_wide, parse-decimal_wide}
+use Rattle.napt_log_text.specs.declared.saved_row.SavedField.{SavedField}
+use Rattle.napt_log_text.specs.declared.saved_row.SavedField.TheVariants.{Empty, Number, Other}
+use Rattle.napt_log_text.specs.Rows.{number_if_any}
+use Rattle.napt_log_text.specs.SavedRows.{IsTime, number_field}
+use Rattle.napt_log_text.proofs.saved_row.number_at.Goals as goal
+
+abbrev as_field : {E : Type 0} → Result ℕ E → SavedField
+as_field (Ok number) = Number number
+as_field (Err _) = Other
+
+empty : (number : Option ℕ) (text : List ℕ) → IsTime number → text ≡ number_if_any number →
+    (length text == 0) ≡ true → Empty ≡ number_field number
+empty None text fits is none = refl
+empty (Some number) text fits is none =
+    let some = (decimal_is_IsNumeral_wide number (omega arith)).0.0 in
+    absurd (omega (arith, eqb-true (length text) 0 none, ap length is, some))
+
+read : {E : Type 0} (number : Option ℕ) (text : List ℕ) (r : Result ℕ E) → IsTime number →
+    text ≡ number_if_any number → (length text == 0) ≡ false → ParsesUnsigned 128 10 text r →
+    as_field r ≡ number_field number
+read None text r fits is some parsed =
+    let apart : true ≡ false = sym (ap (λ (l : List ℕ). length l == 0) is) ∙ some in cc
+read (Some number) text r fits is some parsed =
+    ap as_field (parse-decimal_wide 128 number text r fits (omega arith) is parsed)
+
+pub returns-then-is_empty : goal.returns-then-is_empty
+returns-then-is_empty c number fits is =
+    empty number _ fits (c.field-text.ensures ∙ is) (sym c.is_empty.ensures ∙ c.if-is_empty.true)
+
+pub returns-in-Ok : goal.returns-in-Ok
+returns-in-Ok c number fits is =
+    ap as_field (sym c.in-Ok.is) ∙ read number _ c.parse.result fits (c.field-text.ensures ∙ is)
+    (sym c.is_empty.ensures ∙ c.if-is_empty.false) c.parse.ensures.value.0
+
+pub returns-in-Err : goal.returns-in-Err
+returns-in-Err c number fits is =
+    ap as_field (sym c.in-Err.is) ∙ read number _ c.parse.result fits (c.field-text.ensures ∙ is)
+    (sym c.is_empty.ensures ∙ c.if-is_empty.false) c.parse.ensures.value.0

@@ -1,0 +1,364 @@
+-- From what left during a run to what its outputs took, and to what its log was entered.
+use Rattle.std.proofs.Common.{◌≡◌, ◌⊎◌, inl, inr, ℕ, Bool, List, [], ◌∷◌, ◌++◌, length, map, Option, Some, None, Result, Ok, Err, refl, sym, ◌∙◌, ap, subst, arith, append_assoc}
+use Rattle.std.proofs.lemmas.List.{map-append}
+use Rattle.napt_wire.specs.declared.Side.{Side}
+use Rattle.napt_capture.specs.declared.device.Sink as sink
+use Rattle.napt_capture.specs.declared.device.Source as source
+use Rattle.napt_capture.specs.declared.fault.CaptureFault.{CaptureFault}
+use Rattle.napt_config.specs.Rules.{Rules}
+use Rattle.napt_dispatch.specs.Dispatch.{departed, departed_of}
+use Rattle.napt_dispatch.specs.Passing.{HasCome, timed}
+use Rattle.napt_dispatch.specs.Passing as passing
+use Rattle.napt_dispatch.specs.declared.departures.Departed.{Departed}
+use Rattle.napt_dispatch.specs.declared.stopped.Stopped.{Stopped}
+use Rattle.napt_dispatch.specs.declared.stopped.Stopped.TheVariants as stops
+use Rattle.napt_dispatch.specs.declared.workers.Passed.{Passed}
+use Rattle.napt_laws.specs.Dispatching.{IsFront}
+use Rattle.napt_records.specs.Begun.{AreBegun}
+use Rattle.napt_records.specs.Counts.{AreCountsOf}
+use Rattle.napt_records.specs.Merged.{AreLive, EndsWith, HandsOut}
+use Rattle.napt_records.specs.declared.Fault.{Fault}
+use Rattle.napt_records.specs.declared.Fault.TheVariants.{Capture, Run, Write}
+use Rattle.napt_records.specs.declared.merged_streams.MergedStreams.{MergedStreams}
+use Rattle.napt_rules.specs.Prelude.{Arrival}
+use Rattle.napt_rules.specs.declared.Outcome.{Outcome}
+use Rattle.napt_sequential.specs.Steps.{steps}
+use Rattle.napt_sequential.specs.Traces.{traces}
+use Rattle.napt_sequential.specs.declared.outcome.Stepped.{Stepped}
+use Rattle.napt_sequential.specs.declared.passage.Passage.{Passage}
+use Rattle.napt_sequential.specs.declared.passage.Trace.{Trace}
+use Rattle.napt_sequential.proofs.Joined.{steps_long, steps_ran, steps_traces}
+use Rattle.napt_run.specs.Files.{files_until}
+use Rattle.napt_run.specs.Leaving.{AreSound, FailsToBegin, Takes, Timed}
+use Rattle.napt_run.specs.LeavingWithLogs.{AreSettled, FailsEither, IsSamePlace, TakesBoth, legs_in, outcomes_in}
+use Rattle.napt_run.specs.Logging.{EntersFront, FailsOver, Legs, LogsTo, as_run, legs_told}
+use Rattle.napt_run.specs.Passed.{EntersBy, EntersFirst, EntersOr, EntersTo, FailsAfter, FailsFirst, PassesBy, PassesHalted, PassesOr, PassesTo}
+use Rattle.napt_run.specs.Runs.{IfHeld, left_of}
+use Rattle.napt_run.specs.Streams.{AreTaken}
+use Rattle.napt_run.specs.declared.leaving.Leaving.{Leaving}
+use Rattle.napt_run.specs.declared.leaving.OutputFault.{OutputFault}
+use Rattle.napt_run.specs.declared.leaving_with_log.LeavingFault.{LeavingFault}
+use Rattle.napt_run.specs.declared.leaving_with_log.LeavingFault.TheVariants.{Output, Log}
+use Rattle.napt_run.specs.declared.leaving_with_log.LeavingWithLog.{LeavingWithLog}
+use Rattle.napt_run.specs.declared.logging.Halt.{Halt}
+use Rattle.napt_run.specs.declared.logging.Halt.TheVariants as halts
+use Rattle.napt_run.specs.declared.passing.Totals.{Totals}
+use Rattle.napt_run.proofs.Behind.{IfHeld-by, front, taken_is, whole_is}
+use Rattle.napt_run.proofs.TraceFronts.{TraceFront, trace_front}
+
+-- WHAT LEAVES
+
+module _ {P : Type 0} (tells : Passage → P) where
+  abbrev legs_of : Trace → Legs P
+  legs_of trace = (trace.now, tells trace.first, tells trace.second)
+
+  abbrev Goes : Rules → List Arrival → List (ℕ × Departed P)
+  Goes rules inputs = timed inputs (departed tells rules inputs)
+
+  timed_outcomes : (inputs : List Arrival) (all : List Stepped) →
+      outcomes_in (timed inputs (map (departed_of tells) all)) ≡ timed inputs (map (λ s. s.outcome) all)
+  timed_outcomes [] all = refl
+  timed_outcomes (input ∷ inputs) [] = refl
+  timed_outcomes (input ∷ inputs) (step ∷ all) =
+      ap (λ (l : List Timed). (input.time, step.outcome) ∷ l) (timed_outcomes inputs all)
+
+  timed_legs : (inputs : List Arrival) (all : List Stepped) → length all ≡ length inputs →
+      legs_in (timed inputs (map (departed_of tells) all)) ≡ map legs_of (map (λ s. s.trace) all)
+  timed_legs [] [] same = refl
+  timed_legs [] (step ∷ all) same = absurd (omega (arith, same))
+  timed_legs (input ∷ inputs) [] same = absurd (omega (arith, same))
+  timed_legs (input ∷ inputs) (step ∷ all) same =
+      ap (λ (l : List (Legs P)). legs_of step.trace ∷ l) (timed_legs inputs all (omega (arith, same)))
+
+  outcomes_left : (rules : Rules) (inputs : List Arrival) → outcomes_in (Goes rules inputs) ≡ left_of rules inputs
+  outcomes_left rules inputs = timed_outcomes inputs (steps rules inputs)
+      ∙ ap (λ (l : List Outcome). timed inputs l) (steps_ran rules inputs)
+
+  legs_left : (rules : Rules) (inputs : List Arrival) → legs_in (Goes rules inputs) ≡ legs_told tells rules inputs
+  legs_left rules inputs = timed_legs inputs (steps rules inputs) (steps_long rules inputs)
+      ∙ ap (λ (l : List Trace). map legs_of l) (steps_traces rules inputs)
+
+  outcomes_front : (rules : Rules) (inputs : List Arrival) (went : List (ℕ × Departed P)) →
+      IsFront went (Goes rules inputs) → IsFront (outcomes_in went) (left_of rules inputs)
+  outcomes_front rules inputs went (rest, is) = (
+    outcomes_in rest,
+    sym (map-append (λ left. let t : Timed = (left.0, left.1.outcome) in t) went rest)
+        ∙ (ap (λ l. outcomes_in l) is ∙ outcomes_left rules inputs),
+  )
+
+  legs_front : (rules : Rules) (inputs : List Arrival) (went : List (ℕ × Departed P)) →
+      IsFront went (Goes rules inputs) → TraceFront legs_of rules inputs (legs_in went)
+  legs_front rules inputs went (rest, is) =
+      trace_front legs_of rules inputs (legs_in went) (legs_in rest)
+      (sym (map-append (λ left. let l : Legs P = (left.1.now, left.1.first, left.1.second) in l) went rest)
+      ∙ (ap (λ l. legs_in l) is ∙ legs_left rules inputs))
+
+-- A RUN
+
+module _ {P A F W V K E : Type 0} {S : sink.Ghosts W} {T : sink.Ghosts V} (tells : Passage → P) (rules : Rules)
+    (hands : A → List Arrival → A → Type 0) (ends : A → Option F → A → Type 0)
+    (enters : K → List (Legs P) → K → Type 0) (fails : K → List (Legs P) → E → K → Type 0) (is_settled : K → Type 0)
+    (more : (x y z : K) (xs ys : List (Legs P)) → enters x xs y → enters y ys z → enters x (xs ++ ys) z)
+    (fails_more : (x y z : K) (xs ys : List (Legs P)) (fault : E) → enters x xs y → fails y ys fault z →
+    fails x (xs ++ ys) fault z) (from : A) (before : LeavingWithLog W V K S T) (left : A)
+    (after : LeavingWithLog W V K S T) where
+  abbrev Failed : List (ℕ × Departed P) → LeavingFault E → Type 0
+  Failed went fault = passing.Fails (TakesBoth enters) (FailsEither enters fails) before went fault after
+
+  abbrev Told : Option F → Type 0
+  Told end = passing.PassesTo tells rules hands ends (TakesBoth enters) (FailsEither enters fails)
+      (AreSettled is_settled) from before left after end
+
+  abbrev Halted : Type 0
+  Halted = passing.PassesHalted tells rules hands ends (TakesBoth enters) (FailsEither enters fails)
+      (AreSettled is_settled) from before left after
+
+  abbrev pub RunPasses : Result Passed (Stopped F (LeavingFault E)) → Type 0
+  RunPasses result = passing.Passes tells rules hands ends (TakesBoth enters) (FailsEither enters fails)
+      (AreSettled is_settled) from before left after result
+
+  -- THE OUTPUTS
+
+  passes_to : (end : Option F) → Told end → PassesTo rules hands ends from before.leaving left after.leaving end
+  passes_to end p = record {
+    inputs = p.inputs;
+    came = p.came;
+    took = subst (λ (l : List Timed). Takes before.leaving l after.leaving) (outcomes_left tells rules p.inputs)
+        p.took.took;
+    settled = p.settled.0;
+    few = p.few;
+  }
+
+  output_failed : (went : List (ℕ × Departed P)) (fault : OutputFault) → Failed went (Output fault) →
+      FailsAfter before.leaving (outcomes_in went) fault after.leaving
+  output_failed went fault f = record {
+    first = outcomes_in f.first;
+    others = outcomes_in f.others;
+    middle = f.middle.leaving;
+    went_is = ap (λ (l : List (ℕ × Departed P)). outcomes_in l) f.went_is
+        ∙ map-append (λ left. let t : Timed = (left.0, left.1.outcome) in t) f.first f.others;
+    took = f.took.took;
+    failed = f.failed.failed;
+  }
+
+  -- where the log failed the outputs have what left before
+  log_failed : (inputs : List Arrival) (went : List (ℕ × Departed P)) → HasCome hands ends from inputs left →
+      IsFront went (Goes tells rules inputs) → (fault : E) → Failed went (Log fault) →
+      PassesHalted rules hands ends from before.leaving left after.leaving
+  log_failed inputs went come front fault f = record {
+    inputs = inputs;
+    went = outcomes_in f.first;
+    come = come;
+    front = outcomes_front tells rules inputs f.first (
+      f.others ++ front.0,
+      sym (append_assoc f.first f.others front.0)
+          ∙ (ap (λ (l : List (ℕ × Departed P)). l ++ front.0) (sym f.went_is) ∙ front.1),
+    );
+    took = inl (subst (λ (x : Leaving W V S T). Takes before.leaving (outcomes_in f.first) x) (sym f.failed.kept)
+        f.took.took);
+  }
+
+  halted_by : (p : Halted) (fault : LeavingFault E) → Failed p.went fault →
+      PassesHalted rules hands ends from before.leaving left after.leaving
+  halted_by p (Output fault) f = record {
+    inputs = p.inputs;
+    went = outcomes_in p.went;
+    come = p.come;
+    front = outcomes_front tells rules p.inputs p.went p.front;
+    took = inr (fault, output_failed p.went fault f);
+  }
+  halted_by p (Log fault) f = log_failed p.inputs p.went p.come p.front fault f
+
+  halted : (p : Halted) → PassesHalted rules hands ends from before.leaving left after.leaving
+  halted p = elim p.took [
+    | inl took ↦ record {
+      inputs = p.inputs;
+      went = outcomes_in p.went;
+      come = p.come;
+      front = outcomes_front tells rules p.inputs p.went p.front;
+      took = inl took.took;
+    }
+    | inr failed ↦ halted_by p failed.0 failed.1
+  ]
+
+  pub passes_by : (result : Result Passed (Stopped F (LeavingFault E))) → RunPasses result →
+      PassesBy rules hands ends from before.leaving left after.leaving result
+  unfolding passes_to
+  passes_by (Ok passed) p = record { whole = passes_to None p.whole; bindings = p.bindings }
+  passes_by (Err (stops.Arrival fault)) p = passes_to (Some fault) p
+  passes_by (Err (stops.Departure (Output fault))) p = record {
+    inputs = p.inputs;
+    went = outcomes_in p.went;
+    come = p.come;
+    front = outcomes_front tells rules p.inputs p.went p.front;
+    failed = output_failed p.went fault p.failed;
+  }
+  passes_by (Err (stops.Departure (Log fault))) p = log_failed p.inputs p.went p.come p.front fault p.failed
+  passes_by (Err (stops.Run fault)) p = halted p
+
+  -- THE LOG
+
+  abbrev First : Type 0
+  First = EntersFirst tells rules hands ends enters fails is_settled from before.log.now left after.log.now
+
+  abbrev FailedFirst : E → Type 0
+  FailedFirst fault =
+      FailsFirst tells rules hands ends enters fails is_settled from before.log.now left after.log.now fault
+
+  enters_to : (end : Option F) → Told end →
+      EntersTo tells rules hands ends enters fails is_settled from before.log.now left after.log.now end
+  enters_to end p = record {
+    inputs = p.inputs;
+    came = p.came;
+    entered = subst (λ (l : List (Legs P)). enters before.log.now l after.log.now) (legs_left tells rules p.inputs)
+        p.took.entered;
+    settled = p.settled.1;
+  }
+
+  legs_join : (went first others : List (ℕ × Departed P)) → went ≡ first ++ others →
+      legs_in first ++ legs_in others ≡ legs_in went
+  legs_join went first others is =
+      sym (ap (λ (l : List (ℕ × Departed P)). legs_in l) is
+      ∙ map-append (λ left. let l : Legs P = (left.1.now, left.1.first, left.1.second) in l) first others)
+
+  enters_first : (inputs : List Arrival) (went : List (ℕ × Departed P)) → HasCome hands ends from inputs left →
+      IsFront went (Goes tells rules inputs) → enters before.log.now (legs_in went) after.log.now → First
+  enters_first inputs went come front entered =
+      let f : TraceFront (legs_of tells) rules inputs (legs_in went) = legs_front tells rules inputs went front in
+      record {
+        first = f.first;
+        later = f.later;
+        come = subst (λ (l : List Arrival). HasCome hands ends from l left) (sym f.whole) come;
+        entered = subst (λ (l : List (Legs P)). enters before.log.now l after.log.now) f.went_is entered;
+      }
+
+  -- where an output failed the log was entered all
+  output_entered : (went : List (ℕ × Departed P)) (fault : OutputFault) → Failed went (Output fault) →
+      enters before.log.now (legs_in went) after.log.now
+  output_entered went fault f =
+      subst (λ (l : List (Legs P)). enters before.log.now l after.log.now) (legs_join went f.first f.others f.went_is)
+      (more before.log.now f.middle.log.now after.log.now (legs_in f.first) (legs_in f.others) f.took.entered
+      f.failed.entered)
+
+  fails_first : (inputs : List Arrival) (went : List (ℕ × Departed P)) → HasCome hands ends from inputs left →
+      IsFront went (Goes tells rules inputs) → (fault : E) → Failed went (Log fault) → FailedFirst fault
+  fails_first inputs went come front fault f =
+      let g : TraceFront (legs_of tells) rules inputs (legs_in went) = legs_front tells rules inputs went front in
+      record {
+        first = g.first;
+        later = g.later;
+        come = subst (λ (l : List Arrival). HasCome hands ends from l left) (sym g.whole) come;
+        failed = subst (λ (l : List (Legs P)). fails before.log.now l fault after.log.now)
+            (legs_join went f.first f.others f.went_is ∙ g.went_is)
+            (fails_more before.log.now f.middle.log.now after.log.now (legs_in f.first) (legs_in f.others) fault
+            f.took.entered f.failed.failed);
+      }
+
+  enters_or_fails : (p : Halted) (fault : LeavingFault E) → Failed p.went fault →
+      First ⊎ ((fault : E) × FailedFirst fault)
+  enters_or_fails p (Output fault) f =
+      inl (enters_first p.inputs p.went p.come p.front (output_entered p.went fault f))
+  enters_or_fails p (Log fault) f = inr (fault, fails_first p.inputs p.went p.come p.front fault f)
+
+  pub enters_by : (result : Result Passed (Stopped F (LeavingFault E))) → RunPasses result →
+      EntersBy tells rules hands ends enters fails is_settled from before.log.now left after.log.now result
+  enters_by (Ok passed) p = enters_to None p.whole
+  enters_by (Err (stops.Arrival fault)) p = enters_to (Some fault) p
+  enters_by (Err (stops.Departure (Output fault))) p =
+      enters_first p.inputs p.went p.come p.front (output_entered p.went fault p.failed)
+  enters_by (Err (stops.Departure (Log fault))) p = fails_first p.inputs p.went p.come p.front fault p.failed
+  enters_by (Err (stops.Run fault)) p = elim p.took [
+    | inl took ↦ inl (enters_first p.inputs p.went p.come p.front took.entered)
+    | inr failed ↦ enters_or_fails p failed.0 failed.1
+  ]
+
+  -- WHERE THEY ARE LEFT
+
+  same_failed : (went : List (ℕ × Departed P)) (fault : LeavingFault E) → Failed went fault → IsSamePlace before after
+  same_failed went (Output fault) f = f.failed.same ∙ f.took.same
+  same_failed went (Log fault) f = f.failed.same ∙ f.took.same
+
+  pub same_place : (result : Result Passed (Stopped F (LeavingFault E))) → RunPasses result → IsSamePlace before after
+  same_place (Ok passed) p = p.whole.took.same
+  same_place (Err (stops.Arrival fault)) p = p.took.same
+  same_place (Err (stops.Departure fault)) p = same_failed p.went fault p.failed
+  same_place (Err (stops.Run fault)) p = elim p.took [
+    | inl took ↦ took.same
+    | inr failed ↦ same_failed p.went failed.0 failed.1
+  ]
+
+-- OVER CAPTURES
+
+module _ {R Q W V P K E : Type 0} {G : source.Ghosts R} {H : source.Ghosts Q} {S : sink.Ghosts W} {T : sink.Ghosts V}
+    (tells : Passage → P) (enters : K → List (Legs P) → K → Type 0) (fails : K → List (Legs P) → E → K → Type 0)
+    (is_settled : K → Type 0) (open_gate : Bool) (rules : Rules) (from : MergedStreams R Q G H)
+    (before : Leaving W V S T) (left : MergedStreams R Q G H) (after : Leaving W V S T) (old new : K)
+    (bytes others : Option (List ℕ)) (live : AreLive from)
+    (begun : (b o : List ℕ) → bytes ≡ Some b → others ≡ Some o → AreBegun from b o)
+    (sound : AreSound before) (counts : AreCountsOf [] before.counts) where
+  held : (first later : List Arrival) → HasCome HandsOut EndsWith from (first ++ later) left →
+      IfHeld bytes others (λ all. IsFront first all.arrivals)
+  held first later (inl handed) =
+      front open_gate rules from before left after bytes others live begun sound counts (first ++ later) first later
+      left refl handed
+  held first later (inr (end, came)) =
+      front open_gate rules from before left after bytes others live begun sound counts (first ++ later) first later
+      came.last refl came.handed
+
+  enters_front : EntersFirst tells rules HandsOut EndsWith enters fails is_settled from old left new →
+      EntersFront tells rules enters fails is_settled bytes others old new
+  enters_front e =
+      record { inputs = e.first; front = held e.first e.later e.come; entered = e.entered }
+
+  fails_over : (fault : E) → FailsFirst tells rules HandsOut EndsWith enters fails is_settled from old left new fault →
+      FailsOver tells rules enters fails is_settled bytes others old new fault
+  fails_over fault e = record { inputs = e.first; front = held e.first e.later e.come; failed = e.failed }
+
+  pub logs_to : (result : Result Totals (Halt E)) → PassesOr open_gate rules from before left after (as_run result) →
+      EntersOr tells rules HandsOut EndsWith enters fails is_settled from old left new result →
+      LogsTo tells rules enters fails is_settled bytes others old new result
+  logs_to (Ok totals) p e = record {
+    inputs = e.inputs;
+    all = whole_is open_gate rules from before left after bytes others live begun sound counts e.inputs totals.cuts
+        e.came p.cut_inside p.cut_outside;
+    entered = e.entered;
+    settled = e.settled;
+  }
+  logs_to (Err (halts.Run (Capture side fault))) p e = record {
+    inputs = e.inputs;
+    taken = taken_is open_gate rules from before left after bytes others live begun sound counts side fault e.inputs
+        e.came;
+    entered = e.entered;
+    settled = e.settled;
+  }
+  logs_to (Err (halts.Run (Write which fault))) p e = enters_front e
+  logs_to (Err (halts.Run (Run fault))) p e = elim e [
+    | inl entered ↦ inl (enters_front entered)
+    | inr failed ↦ inr (failed.0, fails_over failed.0 failed.1)
+  ]
+  logs_to (Err (halts.Log fault)) p e = fails_over fault e
+
+-- BEFORE ANYTHING CAME
+
+module _ {P K E : Type 0} (tells : Passage → P) (rules : Rules) (enters : K → List (Legs P) → K → Type 0)
+    (fails : K → List (Legs P) → E → K → Type 0) (is_settled : K → Type 0) (inside outside : Option (List ℕ)) (it : K)
+    (none : enters it [] it) where
+  -- the headers of the outputs could not be written
+  pub unbegun_logs : {W V : Type 0} {S : sink.Ghosts W} {T : sink.Ghosts V} (old new : Leaving W V S T)
+      (fault : Fault) → FailsToBegin old fault new →
+      LogsTo tells rules enters fails is_settled inside outside it it (Err (halts.Run fault))
+  unbegun_logs old new (Write which fault) p = record {
+    inputs = [];
+    front = IfHeld-by (λ all. IsFront [] all.arrivals) inside outside
+        (λ b o is same. ((files_until b o).arrivals, refl));
+    entered = none;
+  }
+  unbegun_logs old new (Capture side fault) p = absurd p
+  unbegun_logs old new (Run fault) p = absurd p
+
+  -- a header of a capture was refused
+  pub unread_logs : is_settled it → (side : Side) (fault : CaptureFault) →
+      IfHeld inside outside (λ all. AreTaken side fault all []) →
+      LogsTo tells rules enters fails is_settled inside outside it it (Err (halts.Run (Capture side fault)))
+  unread_logs settled side fault taken =
+      record { inputs = []; taken = taken; entered = none; settled = settled }

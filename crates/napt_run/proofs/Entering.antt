@@ -1,0 +1,49 @@
+-- The rows of an input, written or not.
+use Rattle.std.proofs.Common.{◌≡◌, ℕ, ◌+◌, ◌^◌, ◌<◌, List, [], ◌∷◌, ◌++◌, length, refl, sym, ◌∙◌, arith, subst, append-nil, length-append}
+use Rattle.napt_capture.specs.declared.device.Sink.{Ghosts}
+use Rattle.napt_config.specs.Rules.{Rules}
+use Rattle.napt_account.specs.TraceLogs.{IsOfTraces, told_with}
+use Rattle.napt_log_text.specs.Logs.{rows_with, told_rows}
+use Rattle.napt_records.specs.declared.Fault.TheVariants as faults
+use Rattle.napt_sequential.specs.declared.passage.Trace.{Trace}
+use Rattle.napt_run.specs.LeavingLaws.{grows_none}
+use Rattle.napt_run.specs.Outputs.{Grows}
+use Rattle.napt_run.specs.RunningLogs.{EntersNot, EntersWith, FailsBy, GoesOn, IsAt}
+use Rattle.napt_run.specs.declared.logged_fault.LoggedFault.{LoggedFault}
+use Rattle.napt_run.specs.declared.logged_fault.LoggedFault.TheVariants.{Run, Log}
+use Rattle.napt_run.specs.declared.output.Output.{Output}
+use Rattle.napt_run.specs.declared.running_log.RunningLog.{RunningLog}
+
+module _ {L : Type 0} {S : Ghosts L} (rules : Rules) (before : List Trace) (old : RunningLog L S) where
+  pub enter_failed : (trace : Trace) (fault : LoggedFault) (new : RunningLog L S) →
+      EntersNot before trace old fault new → FailsBy rules before (trace ∷ []) fault old new
+  enter_failed trace (Log fault) new p = absurd p
+  enter_failed trace (Run (faults.Run fault)) new p = record {
+    first = [];
+    next = trace;
+    others = [];
+    all = refl;
+    wrote = subst (λ (o : Output L S). Grows old.output [] o) (sym p.0) (grows_none old.output);
+    of_traces = subst (λ (l : List Trace). IsOfTraces l trace fault) (sym (append-nil before)) p.1;
+  }
+  enter_failed trace (Run (faults.Capture side fault)) new p = absurd p
+  enter_failed trace (Run (faults.Write which fault)) new p = absurd p
+
+  pub enter_written : (trace : Trace) (mid : RunningLog L S) (output : Output L S) (text bytes : List ℕ) →
+      IsAt rules before old → EntersWith rules before trace old mid text → bytes ≡ text →
+      Grows mid.output bytes output →
+      GoesOn rules (before ++ trace ∷ []) (rows_with rules before (trace ∷ [])) old (record mid { output = output })
+  enter_written trace mid output text bytes at s same p =
+      let grown : Grows old.output text output =
+      subst (λ (o : Output L S). Grows o text output) s.output
+      (subst (λ (l : List ℕ). Grows mid.output l output) same p) in
+      let few : length before + 1 < 2 ^ 62 = s.few in
+      record {
+        at = record {
+          log = s.log;
+          few = omega (arith, few, length-append before (trace ∷ []));
+          sound = grown.sound at.sound;
+        };
+        wrote = subst (λ (l : List ℕ). Grows old.output l output)
+            (s.rows ∙ sym (append-nil (told_rows rules (told_with rules before trace)))) grown;
+      }

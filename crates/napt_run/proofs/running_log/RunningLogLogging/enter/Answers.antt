@@ -1,0 +1,18 @@
+use Rattle.std.proofs.lemmas.Result.{err_from_is_err_and}
+use Rattle.napt_sequential.specs.declared.passage.Trace.{Trace}
+use Rattle.napt_run.proofs.Entering.{enter_failed, enter_written}
+use Rattle.napt_run.proofs.running_log.RunningLogLogging.enter.Goals as goal
+
+pub returns-in_err-text : goal.returns-in_err-text
+returns-in_err-text g c =
+    let trace : Trace = record { now = c.args.now; first = c.args.first; second = c.args.second } in
+    let p = err_from_is_err_and c.from_residual.result c.from_residual.ensures.1 in
+    rw (p.1, p.2) (λ rules before at. enter_failed rules before c.args.self.now trace c.in_err-text.field-0.0
+    c.rows.new.self (c.in_err-text.ensures rules before at))
+
+pub returns : goal.returns
+returns g c rules before at =
+    enter_written rules before c.args.self.now
+    (record { now = c.args.now; first = c.args.first; second = c.args.second }) c.rows.new.self c.put_text.new.self _
+    c.as_bytes.result.now at (c.in_ok-text.ensures rules before at) c.as_bytes.ensures.value
+    c.in_ok-put_text.ensures.ok

@@ -1,0 +1,79 @@
+-- What leaves during a run, and what that does to the log and then to the outputs.
+use Rattle.std.specs.Prelude.{◌≡◌, ℕ, List, [], ◌++◌, map, refl}
+use Rattle.std.proofs.Common.{sym, ◌∙◌, subst}
+use Rattle.std.proofs.lemmas.List.{map-append}
+use Rattle.napt_capture.specs.declared.device.Sink.{Ghosts}
+use Rattle.napt_dispatch.specs.declared.departures.Departed.{Departed}
+use Rattle.napt_run.specs.Leaving.{Fails, IsSettled, Takes, Timed}
+use Rattle.napt_run.specs.LeavingLaws.{takes_none, takes_more}
+use Rattle.napt_run.specs.Logging.{Legs}
+use Rattle.napt_run.specs.declared.leaving.OutputFault.{OutputFault}
+use Rattle.napt_run.specs.declared.leaving_with_log.LeavingFault.{LeavingFault}
+use Rattle.napt_run.specs.declared.leaving_with_log.LeavingFault.TheVariants.{Output, Log}
+use Rattle.napt_run.specs.declared.leaving_with_log.LeavingWithLog.{LeavingWithLog}
+
+-- the outcomes of what left, with the arrival times of their inputs
+abbrev pub outcomes_in : {P : Type 0} → List (ℕ × Departed P) → List Timed
+outcomes_in all = map (λ left. (left.0, left.1.outcome)) all
+
+-- and what was told of its legs
+abbrev pub legs_in : {P : Type 0} → List (ℕ × Departed P) → List (Legs P)
+legs_in all = map (λ left. (left.1.now, left.1.first, left.1.second)) all
+
+module _ {W V K : Type 0} {S : Ghosts W} {T : Ghosts V} where
+  -- its log is at the same place
+  abbrev pub IsSamePlace : LeavingWithLog W V K S T → LeavingWithLog W V K S T → Type 0
+  IsSamePlace old new = new.log.ghost_name ≡ old.log.ghost_name
+
+  -- all that left is flushed, the log too
+  abbrev pub AreSettled : (K → Type 0) → LeavingWithLog W V K S T → Type 0
+  AreSettled is_settled it = IsSettled it.leaving × is_settled it.log.now
+
+module _ {P W V K : Type 0} {S : Ghosts W} {T : Ghosts V} where
+  -- the log was entered all that left, and the outputs have its records
+  pub record TakesBoth (enters : K → List (Legs P) → K → Type 0) (old : LeavingWithLog W V K S T)
+      (all : List (ℕ × Departed P)) (new : LeavingWithLog W V K S T) : Type 0 where
+    pub took : Takes old.leaving (outcomes_in all) new.leaving
+    pub entered : enters old.log.now (legs_in all) new.log.now
+    pub same : IsSamePlace old new
+
+  -- an output failed, and the log was entered all
+  pub record FailsOutput (enters : K → List (Legs P) → K → Type 0) (old : LeavingWithLog W V K S T)
+      (all : List (ℕ × Departed P)) (fault : OutputFault) (new : LeavingWithLog W V K S T) : Type 0 where
+    pub failed : Fails old.leaving (outcomes_in all) fault new.leaving
+    pub entered : enters old.log.now (legs_in all) new.log.now
+    pub same : IsSamePlace old new
+
+  -- the log failed, and no output has more than before
+  pub record FailsLog {E : Type 0} (fails : K → List (Legs P) → E → K → Type 0) (old : LeavingWithLog W V K S T)
+      (all : List (ℕ × Departed P)) (fault : E) (new : LeavingWithLog W V K S T) : Type 0 where
+    pub kept : new.leaving ≡ old.leaving
+    pub failed : fails old.log.now (legs_in all) fault new.log.now
+    pub same : IsSamePlace old new
+
+  abbrev pub FailsEither : {E : Type 0} → (K → List (Legs P) → K → Type 0) →
+      (K → List (Legs P) → E → K → Type 0) → LeavingWithLog W V K S T → List (ℕ × Departed P) → LeavingFault E →
+      LeavingWithLog W V K S T → Type 0
+  FailsEither enters fails old all (Output fault) new = FailsOutput enters old all fault new
+  FailsEither enters fails old all (Log fault) new = FailsLog fails old all fault new
+
+  pub both_none : (enters : K → List (Legs P) → K → Type 0) → ((x : K) → enters x [] x) →
+      (x : LeavingWithLog W V K S T) →
+      TakesBoth enters x [] x
+  both_none enters none x =
+      record { took = takes_none x.leaving; entered = none x.log.now; same = refl }
+
+  pub both_more : (enters : K → List (Legs P) → K → Type 0) → ((x y z : K) (xs ys : List (Legs P)) →
+      enters x xs y → enters y ys z → enters x (xs ++ ys) z) → (x y z : LeavingWithLog W V K S T)
+      (first second : List (ℕ × Departed P)) →
+      TakesBoth enters x first y → TakesBoth enters y second z → TakesBoth enters x (first ++ second) z
+  both_more enters more x y z first second one two = record {
+    took = subst (λ (l : List Timed). Takes x.leaving l z.leaving)
+        (sym (map-append (λ left. (left.0, left.1.outcome)) first second))
+        (takes_more x.leaving y.leaving z.leaving (outcomes_in first) (outcomes_in second) one.took
+        two.took);
+    entered = subst (λ (l : List (Legs P)). enters x.log.now l z.log.now)
+        (sym (map-append (λ left. (left.1.now, left.1.first, left.1.second)) first second))
+        (more x.log.now y.log.now z.log.now (legs_in first) (legs_in second) one.entered two.entered);
+    same = two.same ∙ one.same;
+  }

@@ -1,0 +1,70 @@
+-- What the log of a run over captures that are read as they arrive was entered.
+use Rattle.std.specs.Prelude.{◌≡◌, ◌⊎◌, ℕ, List, Option, map, Result, Ok, Err}
+use Rattle.napt_wire.specs.declared.Side.{Side}
+use Rattle.napt_capture.specs.declared.fault.CaptureFault.{CaptureFault}
+use Rattle.napt_config.specs.Rules.{Rules}
+use Rattle.napt_laws.specs.Dispatching.{IsFront}
+use Rattle.napt_records.specs.declared.Fault.{Fault}
+use Rattle.napt_records.specs.declared.Fault.TheVariants.{Capture, Run, Write}
+use Rattle.napt_records.specs.declared.merged_streams.Cuts.{Cuts}
+use Rattle.napt_rules.specs.Prelude.{Arrival}
+use Rattle.napt_sequential.specs.Traces.{traces}
+use Rattle.napt_sequential.specs.declared.fault.RunFault.TheVariants.{Memory}
+use Rattle.napt_sequential.specs.declared.passage.Passage.{Passage}
+use Rattle.napt_run.specs.Runs.{IfHeld}
+use Rattle.napt_run.specs.Streams.{AreTaken}
+use Rattle.napt_run.specs.declared.logging.Halt.{Halt}
+use Rattle.napt_run.specs.declared.logging.Halt.TheVariants as halts
+use Rattle.napt_run.specs.declared.passing.Totals.{Totals}
+
+-- a fault of the log leaves the outputs as a fault of the run does
+abbrev pub as_run : {T F : Type 0} → Result T (Halt F) → Result T Fault
+as_run (Ok given) = Ok given
+as_run (Err (halts.Run fault)) = Err fault
+as_run (Err (halts.Log fault)) = Err (Run Memory)
+
+-- the time of an input's legs, and what is told of the first and the second
+abbrev pub Legs : Type 0 → Type 0
+Legs P = ℕ × P × P
+
+-- what a run over these inputs tells of their legs
+abbrev pub legs_told : {P : Type 0} → (Passage → P) → Rules → List Arrival → List (Legs P)
+legs_told tells rules inputs =
+    map (λ trace. (trace.now, tells trace.first, tells trace.second)) (traces rules inputs)
+
+module _ {P K E : Type 0} (tells : Passage → P) (rules : Rules) (enters : K → List (Legs P) → K → Type 0)
+    (fails : K → List (Legs P) → E → K → Type 0) (is_settled : K → Type 0) (inside outside : Option (List ℕ))
+    (old new : K) where
+  -- all inputs, and it is settled
+  pub record EntersAll (cuts : Cuts) : Type 0 where
+    pub inputs : List Arrival
+    pub all : IfHeld inside outside (λ all. all ≡ record { arrivals = inputs; end = Ok cuts })
+    pub entered : enters old (legs_told tells rules inputs) new
+    pub settled : is_settled new
+
+  -- the inputs before a fault of a capture, and it is settled
+  pub record EntersToFault (side : Side) (fault : CaptureFault) : Type 0 where
+    pub inputs : List Arrival
+    pub taken : IfHeld inside outside (λ all. AreTaken side fault all inputs)
+    pub entered : enters old (legs_told tells rules inputs) new
+    pub settled : is_settled new
+
+  -- a front of the inputs
+  pub record EntersFront : Type 0 where
+    pub inputs : List Arrival
+    pub front : IfHeld inside outside (λ all. IsFront inputs all.arrivals)
+    pub entered : enters old (legs_told tells rules inputs) new
+
+  -- a front of the inputs, and it failed over them
+  pub record FailsOver (fault : E) : Type 0 where
+    pub inputs : List Arrival
+    pub front : IfHeld inside outside (λ all. IsFront inputs all.arrivals)
+    pub failed : fails old (legs_told tells rules inputs) fault new
+
+  -- where the run failed, the log may have failed too
+  abbrev pub LogsTo : Result Totals (Halt E) → Type 0
+  LogsTo (Ok totals) = EntersAll totals.cuts
+  LogsTo (Err (halts.Run (Capture side fault))) = EntersToFault side fault
+  LogsTo (Err (halts.Run (Write which fault))) = EntersFront
+  LogsTo (Err (halts.Run (Run fault))) = EntersFront ⊎ ((fault : E) × FailsOver fault)
+  LogsTo (Err (halts.Log fault)) = FailsOver fault

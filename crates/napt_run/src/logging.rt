@@ -1,0 +1,97 @@
+//! Who keeps the log of a run.
+
+ghost use Rattle.std.specs.Prelude.{◌++◌, [], ◌∷◌, ℕ, List, MatchResult};
+
+use napt_records::Fault;
+use napt_sequential::{NoFault, Telling, Untold};
+
+/// Keeps the log of a run, by what is told of the legs of each input as it leaves.
+pub(crate) trait Logging {
+    /// What has to be told of each leg.
+    type Told: Telling;
+
+    /// Why the log cannot be kept.
+    type Fault: Drop;
+
+    // In the first state these were entered, in this order, and it came to the second. An entry has the time of an input's
+    // legs and what is told of both.
+    ghost enters: { Self → List (ℕ × Self.Told × Self.Told) → Self → Type 0 };
+
+    // In the first state entering these ended in this fault, and it came to the second.
+    ghost fails: { Self → List (ℕ × Self.Told × Self.Told) → Self.Fault → Self → Type 0 };
+
+    // What was entered is at its destination.
+    ghost is_settled: { Self → Type 0 };
+
+    /// Enters the next input, whose legs were at a time in ns.
+    fn enter(&mut self, now: u64, first: Self::Told, second: Self::Told) -> Result<(), Self::Fault>
+        ensures { MatchResult result (λ _. enters self.old ((now, first, second) ∷ []) self.new)
+            (λ fault. fails self.old ((now, first, second) ∷ []) fault self.new) };
+
+    /// Brings what was entered to its destination: a flush.
+    fn settle(&mut self) -> Result<(), Self::Fault>
+        ensures { MatchResult result (λ _. enters self.old [] self.new × is_settled self.new)
+            (λ fault. fails self.old [] fault self.new) };
+
+    ghost enters_none: { (x : Self) → enters x [] x };
+
+    ghost enters_more: { (x y z : Self) (xs ys : List (ℕ × Self.Told × Self.Told)) → enters x xs y →
+        enters y ys z → enters x (xs ++ ys) z };
+
+    ghost fails_more: { (x y z : Self) (xs ys : List (ℕ × Self.Told × Self.Told)) (fault : Self.Fault) →
+        enters x xs y → fails y ys fault z → fails x (xs ++ ys) fault z };
+}
+
+/// Nobody: a run without a log.
+#[derive(Drop)]
+pub(crate) struct Unlogged;
+
+impl Logging for Unlogged {
+    ghost use Rattle.std.specs.Prelude.{⊤};
+
+    type Told = Untold;
+
+    type Fault = NoFault;
+
+    ghost enters = { λ old all new. ⊤ };
+
+    ghost fails = { λ old all fault new. ⊤ };
+
+    ghost is_settled = { λ it. ⊤ };
+
+    ghost enters_none = { λ x. tt };
+
+    ghost enters_more = { λ x y z xs ys one two. tt };
+
+    ghost fails_more = { λ x y z xs ys fault one two. tt };
+
+    #[inline(always)]
+    fn enter(&mut self, _now: u64, _first: Untold, _second: Untold) -> Result<(), NoFault>
+        ensures { MatchResult result (λ _. ⊤) (λ fault. ⊤) }
+    {
+        Ok(())
+    }
+
+    fn settle(&mut self) -> Result<(), NoFault> {
+        Ok(())
+    }
+}
+
+/// Why a run whose log is kept failed.
+#[derive(Drop)]
+pub(crate) enum Halt<F> {
+    Run(Fault),
+    /// The log could not be kept.
+    Log(F),
+}
+
+impl<F> From<Fault> for Halt<F> {
+    ghost use Rattle.std.specs.Prelude.{◌≡◌};
+    ghost use Rattle.napt_run.specs.declared.logging.Halt.TheVariants as halts;
+
+    ghost from_gives = { λ fault halt. halt ≡ halts.Run fault };
+
+    fn from(fault: Fault) -> Halt<F> {
+        Halt::Run(fault)
+    }
+}

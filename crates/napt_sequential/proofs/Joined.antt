@@ -1,0 +1,121 @@
+-- The steps of a run: one for each input, and what they begin with.
+use Rattle.std.proofs.Common.{◌≡◌, ℕ, zero, suc, ◌+◌, max, List, [], ◌∷◌, ◌++◌, length, map, Some, Err, refl, sym, ◌∙◌, ap, arith}
+use Rattle.std.specs.List.{slice_get}
+use Rattle.napt_wire.specs.declared.Cause.{Cause}
+use Rattle.napt_config.specs.Rules.{Rules}
+use Rattle.napt_rules.specs.Prelude.{Binding, opening, admission, Arrival, Course, first_leg, step_as, step, run, last_clock, ran}
+use Rattle.napt_rules.specs.declared.Outcome.{Outcome}
+use Rattle.napt_laws.specs.Dispatching.{IsFront}
+use Rattle.napt_laws.proofs.Grown.{outcomes_long}
+use Rattle.napt_sequential.specs.declared.outcome.Stepped.{Stepped}
+use Rattle.napt_sequential.specs.declared.passage.Passage.TheVariants.{Nothing}
+use Rattle.napt_sequential.specs.declared.passage.Trace.{Trace}
+use Rattle.napt_sequential.specs.Steps.{joined, steps}
+use Rattle.napt_sequential.specs.Traces.{trace_of, traces_from, traces}
+use Rattle.napt_sequential.proofs.Passed.{traces_grow}
+
+-- LISTS
+
+pub joined_get : (os : List Outcome) (ts : List Trace) (n : ℕ) (o : Outcome) (t : Trace) → slice_get os n ≡ Some o →
+    slice_get ts n ≡ Some t → slice_get (joined os ts) n ≡ Some (record { outcome = o; trace = t })
+joined_get [] ts n o t h g = cc
+joined_get (x ∷ os) [] n o t h g = cc
+joined_get (x ∷ os) (y ∷ ts) zero o t h g =
+    let one : x ≡ o = cc (h) in
+    let two : y ≡ t = cc (g) in
+    ap Some (λ i. let s : Stepped = record { outcome = one i; trace = two i } in s)
+joined_get (x ∷ os) (y ∷ ts) (suc n) o t h g = joined_get os ts n o t h g
+
+joined_long : (os : List Outcome) (ts : List Trace) (n : ℕ) → length os ≡ n → length ts ≡ n →
+    length (joined os ts) ≡ n
+joined_long [] ts n h g = h
+joined_long (o ∷ os) [] n h g = absurd (omega arith)
+joined_long (o ∷ os) (t ∷ ts) zero h g = absurd (omega arith)
+joined_long (o ∷ os) (t ∷ ts) (suc n) h g = ap suc (joined_long os ts n (omega arith) (omega arith))
+
+joined_outcomes : (os : List Outcome) (ts : List Trace) → length os ≡ length ts →
+    map (λ s. s.outcome) (joined os ts) ≡ os
+joined_outcomes [] ts e = refl
+joined_outcomes (o ∷ os) [] e = absurd (omega arith)
+joined_outcomes (o ∷ os) (t ∷ ts) e = ap (λ (l : List Outcome). o ∷ l) (joined_outcomes os ts (omega arith))
+
+get_at : {X : Type 0} (xs : List X) (x : X) (rest : List X) (n : ℕ) → length xs ≡ n →
+    slice_get ((xs ++ x ∷ []) ++ rest) n ≡ Some x
+get_at [] x rest zero e = refl
+get_at [] x rest (suc n) e = absurd (omega arith)
+get_at (y ∷ xs) x rest zero e = absurd (omega arith)
+get_at (y ∷ xs) x rest (suc n) e = get_at xs x rest n (omega arith)
+
+-- RUNS
+
+pub traces_long : (rules : Rules) (number clock : ℕ) (inputs : List Arrival) (list : List Binding) →
+    length (traces_from rules number clock inputs list) ≡ length inputs
+traces_long rules number clock [] list = refl
+traces_long rules number clock (input ∷ inputs) list =
+    let now : ℕ = max clock input.clock in
+    ap suc (traces_long rules (number + 1) now inputs (step rules number now input list).list)
+
+pub traces_begin : (rules : Rules) (number clock : ℕ) (xs ys : List Arrival) (list : List Binding) →
+    IsFront (traces_from rules number clock xs list) (traces_from rules number clock (xs ++ ys) list)
+traces_begin rules number clock [] ys list = (traces_from rules number clock ys list, refl)
+traces_begin rules number clock (x ∷ xs) ys list =
+    let now : ℕ = max clock x.clock in
+    let first : Course = step rules number now x list in
+    let more = traces_begin rules (number + 1) now xs ys first.list in
+    (more.0, ap (λ (l : List Trace). trace_of rules.timers now first ∷ l) more.1)
+
+pub steps_long : (rules : Rules) (inputs : List Arrival) → length (steps rules inputs) ≡ length inputs
+steps_long rules inputs = joined_long _ _ _ (outcomes_long rules 0 0 inputs (opening rules))
+    (traces_long rules 0 0 inputs (opening rules))
+
+pub steps_outcomes : (rules : Rules) (inputs : List Arrival) →
+    map (λ s. s.outcome) (steps rules inputs) ≡ (run rules inputs (opening rules)).outcomes
+steps_outcomes rules inputs = joined_outcomes _ _ (outcomes_long rules 0 0 inputs (opening rules)
+    ∙ sym (traces_long rules 0 0 inputs (opening rules)))
+
+pub steps_get : (rules : Rules) (inputs : List Arrival) (n : ℕ) (o : Outcome) (t : Trace) →
+    slice_get (run rules inputs (opening rules)).outcomes n ≡ Some o → slice_get (traces rules inputs) n ≡ Some t →
+    slice_get (steps rules inputs) n ≡ Some (record { outcome = o; trace = t })
+steps_get rules inputs n o t = joined_get (run rules inputs (opening rules)).outcomes (traces rules inputs) n o t
+
+-- the trace of an input that is refused
+pub refused_trace : (rules : Rules) (done rest : List Arrival) (input : Arrival) (number now : ℕ) →
+    length done ≡ number → max (last_clock 0 done) input.clock ≡ now → (cause : Cause) →
+    admission rules input ≡ Err cause →
+    slice_get (traces rules ((done ++ input ∷ []) ++ rest)) number
+    ≡ Some (record { now = now; first = Nothing; second = Nothing })
+refused_trace rules done rest input number now long clock cause is =
+    let list : List Binding = (run rules done (opening rules)).list in
+    let none : Trace = record { now = now; first = Nothing; second = Nothing } in
+    let grown : traces rules (done ++ input ∷ []) ≡ traces rules done ++ none ∷ [] =
+    traces_grow rules 0 0 done input (opening rules) number (omega arith)
+    ∙ (ap (λ (t : ℕ). traces rules done ++ trace_of rules.timers t (step rules number t input list) ∷ []) clock
+    ∙ ap (λ a. traces rules done ++ trace_of rules.timers now (step_as rules (first_leg number now input.side) a list)
+    ∷ []) is) in
+    let front = traces_begin rules 0 0 (done ++ input ∷ []) rest (opening rules) in
+    ap (λ (ts : List Trace). slice_get ts number)
+    (sym front.1 ∙ ap (λ (ts : List Trace). ts ++ front.0) grown)
+    ∙ get_at (traces rules done) none front.0 number (traces_long rules 0 0 done (opening rules) ∙ long)
+
+pub input_there : (done rest : List Arrival) (input : Arrival) (number : ℕ) → length done ≡ number →
+    slice_get ((done ++ input ∷ []) ++ rest) number ≡ Some input
+input_there done rest input number long = get_at done input rest number long
+
+-- they have the outcomes of the run
+pub steps_ran : (rules : Rules) (inputs : List Arrival) →
+    map (λ s. s.outcome) (steps rules inputs) ≡ (ran rules inputs).outcomes
+unfolding ran
+steps_ran rules inputs = steps_outcomes rules inputs
+
+joined_traces : (os : List Outcome) (ts : List Trace) → length os ≡ length ts →
+    map (λ s. s.trace) (joined os ts) ≡ ts
+joined_traces [] [] e = refl
+joined_traces [] (t ∷ ts) e = absurd (omega arith)
+joined_traces (o ∷ os) [] e = absurd (omega arith)
+joined_traces (o ∷ os) (t ∷ ts) e = ap (λ (l : List Trace). t ∷ l) (joined_traces os ts (omega arith))
+
+-- and its traces
+pub steps_traces : (rules : Rules) (inputs : List Arrival) →
+    map (λ s. s.trace) (steps rules inputs) ≡ traces rules inputs
+steps_traces rules inputs = joined_traces _ _ (outcomes_long rules 0 0 inputs (opening rules)
+    ∙ sym (traces_long rules 0 0 inputs (opening rules)))

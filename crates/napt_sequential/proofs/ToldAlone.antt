@@ -1,0 +1,98 @@
+-- What a translator of one address tells of its legs is what the whole run has of them.
+use Rattle.std.proofs.Common.{◌≡◌, ℕ, ◌≤◌, true, false, cond, List, [], ◌∷◌, ◌++◌, map, Option, refl, sym, ◌∙◌, ap, subst, arith, eqb, append_assoc}
+use Rattle.std.proofs.lemmas.Bool.{eqb-true, eqb-false}
+use Rattle.napt_config.specs.Rules.{Rules}
+use Rattle.napt_rules.specs.Prelude.{Through, Binding, of, Acted, act, Arrival, Act, run, last_clock, acts_at, legs_at, Kept, kept_after}
+use Rattle.napt_rules.specs.declared.Leg.{Leg}
+use Rattle.napt_rules.specs.declared.End.{End}
+use Rattle.napt_laws.specs.Agreeing.{IsAtOnce}
+use Rattle.napt_laws.specs.Dispatching.{IsFront}
+use Rattle.napt_laws.proofs.LegsLocal.{ActsAlike, alike}
+use Rattle.napt_laws.proofs.RunsLocal.{ActsOnTime, on_time, leg_at_once, other_at_once}
+use Rattle.napt_laws.proofs.Turns.{InTurn, run_turn}
+use Rattle.napt_sequential.specs.declared.passage.Passage.{Passage}
+use Rattle.napt_sequential.specs.declared.telling.Told.{Told}
+use Rattle.napt_sequential.specs.CountedTranslators.{act_of, act_there, told_of, told_by}
+use Rattle.napt_sequential.specs.Steps.{told_replies}
+
+-- a leg acts there as in the run
+pub acts_same : {X : Type 0} (f : Act → X) (rules : Rules) (address clock : ℕ) (own : Kept) (list : List Binding) →
+    IsAtOnce rules address clock own list → (leg : Leg) → clock ≤ leg.now →
+    f (act_there rules address leg own) ≡ f (act_of address leg (act rules address leg list))
+acts_same f rules address clock own list once leg later =
+    let past : own.at ≤ leg.now = omega (arith, once.past) in
+    let timely : ActsOnTime rules address leg own = on_time rules address leg own past in
+    let same : ActsAlike rules address leg.now (act rules address leg own.list) (act rules address leg list) =
+    alike rules address clock own.list list once.agrees leg later in
+    let by : End → Option Through → Act = λ end through.
+    record { address = address; leg = leg; end = end; through = through } in
+    ap (λ (acted : Acted). f (act_of address leg acted)) timely.is
+    ∙ (ap (λ (end : End). f (by end (act rules address leg own.list).through)) same.end
+    ∙ ap (λ (through : Option Through). f (by (act rules address leg list).end through)) same.through)
+
+module _ {P : Type 0} (tells : Passage → P) (rules : Rules) (address : ℕ) where
+  alone : (clock : ℕ) (own : Kept) (list : List Binding) (acts : List Act) (last : ℕ) (new : List Binding) →
+      IsAtOnce rules address clock own list → InTurn rules clock list acts last new →
+      told_replies tells rules address (map (λ a. a.leg) (acts_at address acts)) own
+      ≡ map (told_of tells rules.timers) (acts_at address acts)
+  alone clock own list [] last new once p = refl
+  alone clock own list (a ∷ acts) last new once p =
+      elim (eqb a.address address) as (λ v. eqb a.address address ≡ v →
+      told_replies tells rules address (map (λ (b : Act). b.leg) (cond v (a ∷ acts_at address acts)
+      (acts_at address acts))) own
+      ≡ map (told_of tells rules.timers) (cond v (a ∷ acts_at address acts) (acts_at address acts))) [
+        | true ↦ λ h.
+            let at : a.address ≡ address = eqb-true a.address address h in
+            let acted : Acted = act rules address a.leg list in
+            let e : act rules a.address a.leg list ≡ acted = ap (λ (x : ℕ). act rules x a.leg list) at in
+            let is : act_of address a.leg acted ≡ a = λ i. record {
+              address = (sym at) i;
+              leg = a.leg;
+              end = (ap (λ (r : Acted). r.end) (sym e) ∙ sym p.0.end) i;
+              through = (ap (λ (r : Acted). r.through) (sym e) ∙ sym p.0.through) i;
+            } in
+            let stays = leg_at_once rules address clock own list once a.leg p.0.later in
+            let rest = alone a.leg.now (kept_after rules address a.leg own) acted.list acts last new stays.left
+            (subst (λ (r : Acted). InTurn rules a.leg.now r.list acts last new) e p.1) in
+            ap (λ (t : Told P). t ∷ told_replies tells rules address (map (λ (b : Act). b.leg) (acts_at address acts))
+            (kept_after rules address a.leg own))
+            (acts_same (told_of tells rules.timers) rules address clock own list once a.leg p.0.later
+            ∙ ap (told_of tells rules.timers) is)
+            ∙ ap (λ (ts : List (Told P)). told_of tells rules.timers a ∷ ts) rest
+        | false ↦ λ h.
+            alone a.leg.now own (act rules a.address a.leg list).list acts last new
+            (other_at_once rules address clock own list once a.address
+            (λ e. eqb-false a.address address h (sym e)) a.leg p.0.later) p.1
+      ] refl
+
+  abbrev fresh_of : List Binding → Kept
+  fresh_of list = record { list = of address list; at = 0 }
+
+  pub told_alone : (inputs : List Arrival) (list : List Binding) →
+      told_replies tells rules address (legs_at address (run rules inputs list).acts) (fresh_of list)
+      ≡ map (told_of tells rules.timers) (acts_at address (run rules inputs list).acts)
+  told_alone inputs list =
+      alone 0 (fresh_of list) list (run rules inputs list).acts (last_clock 0 inputs) (run rules inputs list).list
+      (record { agrees = record { same = refl }; past = omega arith }) (run_turn rules 0 0 inputs list)
+
+  -- what is told of a front of the legs begins what is told of all
+  told_front : (xs rest : List Leg) (own : Kept) →
+      IsFront (told_replies tells rules address xs own) (told_replies tells rules address (xs ++ rest) own)
+  told_front [] rest own = (told_replies tells rules address rest own, refl)
+  told_front (x ∷ xs) rest own =
+      let more = told_front xs rest (kept_after rules address x own) in
+      (more.0, ap (λ (l : List (Told P)). told_by tells rules address x own ∷ l) more.1)
+
+  front_front : {X : Type 0} (xs ys zs : List X) → IsFront xs ys → IsFront ys zs → IsFront xs zs
+  front_front xs ys zs h g = (h.0 ++ g.0, sym (append_assoc xs h.0 g.0) ∙ (ap (λ (l : List _). l ++ g.0) h.1 ∙ g.1))
+
+  -- where a translator was given a front of its address's legs, and told of some of them as it does, this is the run's
+  pub right_told : (inputs : List Arrival) (list : List Binding) (given : List Leg) (taken : List (Told P)) →
+      IsFront given (legs_at address (run rules inputs list).acts) →
+      IsFront taken (told_replies tells rules address given (fresh_of list)) →
+      IsFront taken (map (told_of tells rules.timers) (acts_at address (run rules inputs list).acts))
+  right_told inputs list given taken front right =
+      front_front taken (told_replies tells rules address given (fresh_of list)) _ right
+      (subst (λ (l : List (Told P)). IsFront (told_replies tells rules address given (fresh_of list)) l)
+      (ap (λ (ls : List Leg). told_replies tells rules address ls (fresh_of list)) front.1 ∙ told_alone inputs list)
+      (told_front given front.0 (fresh_of list)))

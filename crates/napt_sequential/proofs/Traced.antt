@@ -1,0 +1,275 @@
+-- What each leg of a run did is in the trace of its input.
+use Rattle.std.proofs.Common.{◌≡◌, ◌≢◌, ◌⊎◌, inl, inr, true, ℕ, zero, suc, ◌+◌, ◌-◌, ◌≤◌, max, cond, List, [], ◌∷◌, ◌++◌, map, Option, Some, refl, sym, ◌∙◌, ap, subst, arith}
+use Rattle.std.proofs.lemmas.Bool.{eq-eqb, ne_eqb}
+use Rattle.std.specs.List.{slice_get}
+use Rattle.napt_wire.specs.declared.Side.TheVariants.{Outside}
+use Rattle.napt_wire.specs.declared.Way.TheVariants.{Incoming}
+use Rattle.napt_config.specs.Rules.{Rules}
+use Rattle.napt_config.specs.declared.settings.Timers.{Timers}
+use Rattle.napt_rules.specs.declared.Leg.{Leg}
+use Rattle.napt_rules.specs.declared.End.{End}
+use Rattle.napt_rules.specs.declared.End.TheVariants.{ToOutside, ToInside, Onward, Dropped}
+use Rattle.napt_rules.specs.Prelude.{Through, Binding, Each, opening, way_from, served_at, Acted, act, Arrival, Act, Course, follow_by, first_leg, step, run_from, run, is_in_or_dropped}
+use Rattle.napt_laws.specs.Places.{numbered, all_but_first, second_legs}
+use Rattle.napt_laws.proofs.AnyStep.{of_input, of_step}
+use Rattle.napt_laws.proofs.LegLaws.{in_stays_in}
+use Rattle.napt_laws.proofs.Lists.{each_weaker, each_append}
+use Rattle.napt_sequential.specs.declared.passage.Passage.TheVariants.{Nothing}
+use Rattle.napt_sequential.specs.declared.passage.Trace.{Trace}
+use Rattle.napt_sequential.specs.Traces.{passage_of, trace_of, traces_from, traces}
+
+-- HOW AN ACT STANDS AMONG THOSE OF ITS INPUT, whose legs after the first are these
+
+pub record IsOnly (timers : Timers) (trace : Trace) (seconds : List Leg) (a : Act) : Type 0 where
+  pub first : trace.first ≡ passage_of timers a
+  pub second : trace.second ≡ Nothing
+  pub none : seconds ≡ []
+
+pub record IsFirst (timers : Timers) (trace : Trace) (seconds : List Leg) (a : Act) : Type 0 where
+  pub first : trace.first ≡ passage_of timers a
+  pub place : ℕ
+  pub packet : List ℕ
+  pub goes : a.end ≡ Onward place packet
+
+pub record IsSecond (timers : Timers) (trace : Trace) (seconds : List Leg) (a : Act) : Type 0 where
+  pub second : trace.second ≡ passage_of timers a
+  pub comes : a.leg.way ≡ Incoming
+  pub leg : Leg
+  pub some : seconds ≡ leg ∷ []
+
+abbrev pub IsPlaced : Timers → Trace → List Leg → Act → Type 0
+IsPlaced timers trace seconds a =
+    IsOnly timers trace seconds a ⊎ (IsFirst timers trace seconds a ⊎ IsSecond timers trace seconds a)
+
+abbrev legs_behind : List Act → List Leg
+legs_behind acts = map (λ a. a.leg) (all_but_first acts)
+
+-- ONE INPUT
+
+record IsHere (timers : Timers) (number now : ℕ) (course : Course) (a : Act) : Type 0 where
+  pub number_is : a.leg.number ≡ number
+  pub now_is : a.leg.now ≡ now
+  pub placed : IsPlaced timers (trace_of timers now course) (legs_behind course.acts) a
+
+follow_here : (rules : Rules) (address : ℕ) (leg : Leg) (through : Option Through) (list : List Binding) (end : End) →
+    (let first : Acted = record { end = end; through = through; list = list } in
+    let course : Course = follow_by rules address leg first end in
+    Each (IsHere rules.timers leg.number leg.now course) course.acts)
+follow_here rules address leg through list (ToOutside packet) =
+    (record { number_is = refl; now_is = refl; placed = inl (record { first = refl; second = refl; none = refl }) }, tt)
+follow_here rules address leg through list (ToInside packet) =
+    (record { number_is = refl; now_is = refl; placed = inl (record { first = refl; second = refl; none = refl }) }, tt)
+follow_here rules address leg through list (Dropped cause) =
+    (record { number_is = refl; now_is = refl; placed = inl (record { first = refl; second = refl; none = refl }) }, tt)
+follow_here rules address leg through list (Onward place packet) = (
+  record {
+    number_is = refl;
+    now_is = refl;
+    placed = inr (inl (record { first = refl; place = place; packet = packet; goes = refl }));
+  },
+  (
+    record {
+      number_is = refl;
+      now_is = refl;
+      placed = inr (inr (record {
+        second = refl;
+        comes = refl;
+        leg = record leg { way = Incoming; packet = packet };
+        some = refl;
+      }));
+    },
+    tt,
+  ),
+)
+
+step_here : (rules : Rules) (number now : ℕ) (input : Arrival) (list : List Binding) →
+    (let course : Course = step rules number now input list in
+    Each (IsHere rules.timers number now course) course.acts)
+step_here rules number now input list =
+    of_step rules number now list (λ (s : Course). Each (IsHere rules.timers number now s) s.acts) (λ cause. tt)
+    (λ address side packet. let leg : Leg = first_leg number now side packet in
+    let acted : Acted = act rules address leg list in
+    follow_here rules address leg acted.through acted.list acted.end) input
+
+-- NUMBERS
+
+all_numbered : (k : ℕ) (acts : List Act) → Each (λ a. a.leg.number ≡ k) acts → numbered k acts ≡ acts
+all_numbered k [] h = refl
+all_numbered k (a ∷ acts) h =
+    ap (λ b. cond b (a ∷ numbered k acts) (numbered k acts)) (eq-eqb a.leg.number k h.0)
+    ∙ ap (λ (xs : List Act). a ∷ xs) (all_numbered k acts h.1)
+
+none_numbered : (k : ℕ) (acts rest : List Act) → Each (λ a. a.leg.number ≢ k) acts →
+    numbered k (acts ++ rest) ≡ numbered k rest
+none_numbered k [] rest h = refl
+none_numbered k (a ∷ acts) rest h =
+    ap (λ b. cond b (a ∷ numbered k (acts ++ rest)) (numbered k (acts ++ rest))) (ne_eqb a.leg.number k h.0)
+    ∙ none_numbered k acts rest h.1
+
+none_later : (k : ℕ) (acts : List Act) → Each (λ a. k + 1 ≤ a.leg.number) acts → numbered k acts ≡ []
+none_later k [] h = refl
+none_later k (a ∷ acts) h =
+    let le : k + 1 ≤ a.leg.number = h.0 in
+    ap (λ b. cond b (a ∷ numbered k acts) (numbered k acts)) (ne_eqb a.leg.number k (λ e. absurd (omega arith)))
+    ∙ none_later k acts h.1
+
+first_numbered : (k : ℕ) (firsts rests : List Act) → Each (λ a. a.leg.number ≡ k) firsts →
+    Each (λ a. k + 1 ≤ a.leg.number) rests → numbered k (firsts ++ rests) ≡ firsts
+first_numbered k [] rests h g = none_later k rests g
+first_numbered k (a ∷ firsts) rests h g =
+    ap (λ b. cond b (a ∷ numbered k (firsts ++ rests)) (numbered k (firsts ++ rests))) (eq-eqb a.leg.number k h.0)
+    ∙ ap (λ (xs : List Act). a ∷ xs) (first_numbered k firsts rests h.1 g)
+
+-- A RUN
+
+record IsFrom (timers : Timers) (number : ℕ) (all : List Trace) (acts : List Act) (a : Act) : Type 0 where
+  pub from : number ≤ a.leg.number
+  pub trace : Trace
+  pub there : slice_get all (a.leg.number - number) ≡ Some trace
+  pub time : trace.now ≡ a.leg.now
+  pub placed : IsPlaced timers trace (second_legs a.leg.number acts) a
+
+module _ (timers : Timers) (number now : ℕ) (first : Course) (rests : List Act) (later : List Trace)
+    (here : Each (IsHere timers number now first) first.acts)
+    (behind : Each (IsFrom timers (number + 1) later rests) rests) where
+  abbrev whole : List Act
+  whole = first.acts ++ rests
+
+  abbrev trace_here : Trace
+  trace_here = trace_of timers now first
+
+  firsts_are : numbered number whole ≡ first.acts
+  firsts_are = first_numbered number first.acts rests
+      (each_weaker (IsHere timers number now first) (λ (a : Act). a.leg.number ≡ number) (λ a h. h.number_is)
+      first.acts here)
+      (each_weaker (IsFrom timers (number + 1) later rests) (λ (a : Act). number + 1 ≤ a.leg.number) (λ a h. h.from)
+      rests behind)
+
+  rests_are : (k : ℕ) → number + 1 ≤ k → numbered k whole ≡ numbered k rests
+  rests_are k le = none_numbered k first.acts rests
+      (each_weaker (IsHere timers number now first) (λ (a : Act). a.leg.number ≢ k) (λ a h.
+      let e : a.leg.number ≡ number = h.number_is in λ same. absurd (omega arith)) first.acts here)
+
+  first_from : (a : Act) → IsHere timers number now first a → IsFrom timers number (trace_here ∷ later) whole a
+  first_from a h =
+      let e : a.leg.number ≡ number = h.number_is in
+      let none : a.leg.number - number ≡ 0 = omega arith in
+      record {
+        from = omega arith;
+        trace = trace_here;
+        there = ap (slice_get (trace_here ∷ later)) none;
+        time = sym h.now_is;
+        placed = subst (λ (seconds : List Leg). IsPlaced timers trace_here seconds a)
+            (sym (ap (λ (k : ℕ). second_legs k whole) e ∙ ap legs_behind firsts_are)) h.placed;
+      }
+
+  rest_from : (a : Act) → IsFrom timers (number + 1) later rests a → IsFrom timers number (trace_here ∷ later) whole a
+  rest_from a h =
+      let le : number + 1 ≤ a.leg.number = h.from in
+      let more : a.leg.number - number ≡ suc (a.leg.number - (number + 1)) = omega arith in
+      record {
+        from = omega arith;
+        trace = h.trace;
+        there = ap (slice_get (trace_here ∷ later)) more ∙ h.there;
+        time = h.time;
+        placed = subst (λ (seconds : List Leg). IsPlaced timers h.trace seconds a)
+            (sym (ap legs_behind (rests_are a.leg.number le))) h.placed;
+      }
+
+  all_from : Each (IsFrom timers number (trace_here ∷ later) whole) whole
+  all_from =
+      each_append (IsFrom timers number (trace_here ∷ later) whole) first.acts rests
+      (each_weaker (IsHere timers number now first) (IsFrom timers number (trace_here ∷ later) whole) first_from
+      first.acts here)
+      (each_weaker (IsFrom timers (number + 1) later rests) (IsFrom timers number (trace_here ∷ later) whole) rest_from
+      rests behind)
+
+run_traced : (rules : Rules) (number clock : ℕ) (inputs : List Arrival) (list : List Binding) →
+    (let acts : List Act = (run_from rules number clock inputs list).acts in
+    Each (IsFrom rules.timers number (traces_from rules number clock inputs list) acts) acts)
+run_traced rules number clock [] list = tt
+run_traced rules number clock (input ∷ inputs) list =
+    let now : ℕ = max clock input.clock in
+    let first : Course = step rules number now input list in
+    all_from rules.timers number now first (run_from rules (number + 1) now inputs first.list).acts
+    (traces_from rules (number + 1) now inputs first.list) (step_here rules number now input list)
+    (run_traced rules (number + 1) now inputs first.list)
+
+-- the trace of a leg's input, and how the leg stands in it
+pub record IsTraced (timers : Timers) (all : List Trace) (acts : List Act) (a : Act) : Type 0 where
+  pub trace : Trace
+  pub there : slice_get all a.leg.number ≡ Some trace
+  pub time : trace.now ≡ a.leg.now
+  pub placed : IsPlaced timers trace (second_legs a.leg.number acts) a
+
+pub legs_traced : (rules : Rules) (inputs : List Arrival) →
+    (let acts : List Act = (run rules inputs (opening rules)).acts in
+    Each (IsTraced rules.timers (traces rules inputs) acts) acts)
+legs_traced rules inputs =
+    let acts : List Act = (run rules inputs (opening rules)).acts in
+    each_weaker (IsFrom rules.timers 0 (traces rules inputs) acts) (IsTraced rules.timers (traces rules inputs) acts)
+    (λ a h. let same : a.leg.number ≡ a.leg.number - 0 = omega arith in
+    record {
+      trace = h.trace;
+      there = ap (slice_get (traces rules inputs)) same ∙ h.there;
+      time = h.time;
+      placed = h.placed;
+    }) acts (run_traced rules 0 0 inputs (opening rules))
+
+-- AN INPUT FROM OUTSIDE HAS ONE LEG AT MOST
+
+single : (rules : Rules) (address : ℕ) (leg : Leg) (first : Acted) (e : End) → is_in_or_dropped e ≡ true →
+    legs_behind (follow_by rules address leg first e).acts ≡ []
+single rules address leg first (ToOutside packet) h = refl
+single rules address leg first (ToInside packet) h = refl
+single rules address leg first (Dropped cause) h = refl
+single rules address leg first (Onward place packet) h = cc
+
+comes_in : (rules : Rules) (address : ℕ) (leg : Leg) (list : List Binding) → leg.way ≡ Incoming →
+    is_in_or_dropped (act rules address leg list).end ≡ true
+comes_in rules address leg list way =
+    let same : max leg.now 0 ≡ leg.now = omega arith in
+    subst (λ (t : ℕ). is_in_or_dropped (act rules address (record leg { now = t }) list).end ≡ true) same
+    (in_stays_in rules address leg (record { list = list; at = 0 }) way)
+
+outside_single : (rules : Rules) (number now : ℕ) (input : Arrival) (list : List Binding) → input.side ≡ Outside →
+    legs_behind (step rules number now input list).acts ≡ []
+outside_single rules number now input list side =
+    of_input rules number now list (λ (s : Course). legs_behind s.acts ≡ []) (λ cause. refl) input
+    (λ packet is. let leg : Leg = first_leg number now input.side packet in
+    let address : ℕ = served_at rules leg.way packet in
+    let acted : Acted = act rules address leg list in
+    single rules address leg acted acted.end (comes_in rules address leg list (ap way_from side)))
+
+outside_from : (rules : Rules) (number clock : ℕ) (inputs : List Arrival) (list : List Binding) (i : ℕ)
+    (input : Arrival) → slice_get inputs i ≡ Some input → input.side ≡ Outside →
+    second_legs (number + i) (run_from rules number clock inputs list).acts ≡ []
+outside_from rules number clock [] list i input at side = cc
+outside_from rules number clock (x ∷ inputs) list zero input at side =
+    let now : ℕ = max clock x.clock in
+    let first : Course = step rules number now x list in
+    let same : number + 0 ≡ number = omega arith in
+    let is : x ≡ input = cc (at) in
+    ap (λ (k : ℕ). second_legs k (run_from rules number clock (x ∷ inputs) list).acts) same
+    ∙ (ap legs_behind (firsts_are rules.timers number now first
+    (run_from rules (number + 1) now inputs first.list).acts (traces_from rules (number + 1) now inputs first.list)
+    (step_here rules number now x list) (run_traced rules (number + 1) now inputs first.list))
+    ∙ outside_single rules number now x list (ap (λ (y : Arrival). y.side) is ∙ side))
+outside_from rules number clock (x ∷ inputs) list (suc i) input at side =
+    let now : ℕ = max clock x.clock in
+    let first : Course = step rules number now x list in
+    let same : number + suc i ≡ (number + 1) + i = omega arith in
+    ap legs_behind (rests_are rules.timers number now first
+    (run_from rules (number + 1) now inputs first.list).acts (traces_from rules (number + 1) now inputs first.list)
+    (step_here rules number now x list) (run_traced rules (number + 1) now inputs first.list) (number + suc i)
+    (omega arith))
+    ∙ (ap (λ (k : ℕ). second_legs k (run_from rules (number + 1) now inputs first.list).acts) same
+    ∙ outside_from rules (number + 1) now inputs first.list i input at side)
+
+pub outside_alone : (rules : Rules) (inputs : List Arrival) (n : ℕ) (input : Arrival) →
+    slice_get inputs n ≡ Some input → input.side ≡ Outside →
+    second_legs n (run rules inputs (opening rules)).acts ≡ []
+outside_alone rules inputs n input at side =
+    let same : n ≡ 0 + n = omega arith in
+    ap (λ (k : ℕ). second_legs k (run rules inputs (opening rules)).acts) same
+    ∙ outside_from rules 0 0 inputs (opening rules) n input at side

@@ -1,0 +1,28 @@
+-- What each input of a run came to: its outcome, and what its legs did to the bindings.
+use Rattle.std.specs.Prelude.{ℕ, List, [], ◌∷◌}
+use Rattle.std.specs.List.{scan}
+use Rattle.napt_config.specs.Rules.{Rules}
+use Rattle.napt_rules.specs.Prelude.{opening, Arrival, run, Kept, kept_after}
+use Rattle.napt_rules.specs.declared.Leg.{Leg}
+use Rattle.napt_rules.specs.declared.Outcome.{Outcome}
+use Rattle.napt_sequential.specs.declared.outcome.Stepped.{Stepped}
+use Rattle.napt_sequential.specs.declared.passage.Passage.{Passage}
+use Rattle.napt_sequential.specs.declared.passage.Trace.{Trace}
+use Rattle.napt_sequential.specs.declared.telling.Told.{Told}
+use Rattle.napt_sequential.specs.CountedTranslators.{told_by}
+use Rattle.napt_sequential.specs.Traces.{traces}
+
+-- each outcome with its trace
+abbrev pub joined : List Outcome → List Trace → List Stepped
+joined [] traces = []
+joined (outcome ∷ outcomes) [] = []
+joined (outcome ∷ outcomes) (trace ∷ traces) = record { outcome = outcome; trace = trace } ∷ joined outcomes traces
+
+-- one for each input
+abbrev pub steps : Rules → List Arrival → List Stepped
+steps rules inputs = joined (run rules inputs (opening rules)).outcomes (traces rules inputs)
+
+-- what a translator tells of legs, one after another
+abbrev pub told_replies : {P : Type 0} → (Passage → P) → Rules → ℕ → List Leg → Kept → List (Told P)
+told_replies tells rules address legs kept =
+    scan (λ own leg. kept_after rules address leg own) (λ own leg. told_by tells rules address leg own) kept legs

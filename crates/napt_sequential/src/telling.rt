@@ -1,0 +1,107 @@
+//! A leg at a translator, with what it did to the bindings.
+
+ghost use Rattle.std.specs.Prelude.{◌≡◌, IfOk, OnOk, OnErr};
+ghost use Rattle.napt_sequential.specs.CountedTranslators.{told_at, passage_seen};
+ghost use Rattle.napt_sequential.specs.declared.passage.Passage.{Passage as KnownPassage};
+ghost use Rattle.napt_sequential.specs.declared.passage.Passage.TheVariants.{Nothing as NoPassage};
+ghost use Rattle.napt_translate.specs.Translators.{left_by};
+
+use crate::passage::{Loss, Passage, Seen, in_through, out_through};
+use napt_rules::{Answer, End, Leg};
+use napt_translate::Translator;
+use std::alloc::{AllocError, Global};
+
+/// The answer to a leg, and what is told of the leg.
+#[derive(Drop)]
+pub struct Told<P> {
+    pub answer: Answer,
+    pub passage: P,
+}
+
+/// What is told of a leg besides its answer. It is made of what the leg did to the bindings, of all or of nothing.
+pub trait Telling: Copy + Drop + Send + 'static {
+    // What is told of a leg that did this.
+    ghost tells: { KnownPassage → Self };
+
+    /// What is told where there is no leg.
+    fn none() -> Self
+        ensures { result ≡ tells NoPassage };
+
+    /// Translates a leg, as `Translator::translate` does, and tells of it. If memory is refused nothing changes, and the leg is
+    /// lost.
+    fn tell(alloc: Global, translator: &mut Translator, leg: Leg) -> Result<Told<Self>, AllocError>
+        ensures told { IfOk result (λ told. told ≡ told_at tells leg translator.old) }
+        ensures left { OnOk result (translator.new ≡ left_by leg translator.old) }
+        ensures refused { OnErr result (translator.new ≡ translator.old) };
+}
+
+/// Nothing is told. It has no bytes.
+#[derive(Clone, Copy, Drop)]
+pub struct Untold;
+
+impl Telling for Untold {
+    ghost use Rattle.napt_sequential.specs.CountedTranslators.{nothing_told};
+
+    ghost tells = { λ passage. nothing_told };
+
+    fn none() -> Untold {
+        Untold
+    }
+
+    fn tell(
+        alloc: Global,
+        translator: &mut Translator,
+        leg: Leg,
+    ) -> Result<Told<Untold>, AllocError> {
+        let answer = translator.translate(alloc, leg)?;
+        Ok(Told {
+            answer,
+            passage: Untold,
+        })
+    }
+}
+
+/// A leg tells through which binding its packet went, as the leg left it.
+impl Telling for Passage {
+    ghost tells = { λ passage. passage };
+
+    fn none() -> Passage {
+        Passage::Nothing
+    }
+
+    fn tell(
+        alloc: Global,
+        translator: &mut Translator,
+        leg: Leg,
+    ) -> Result<Told<Passage>, AllocError> {
+        // called for its clause alone: a translator keeps its rules
+        translator.keep_rules();
+        let now = leg.now;
+        let seen = Seen::of(&leg.packet);
+        let answer = translator.translate(alloc, leg)?;
+        let passage = passage(translator, now, seen, &answer.end);
+        Ok(Told { answer, passage })
+    }
+}
+
+/// What a leg did, by its packet before it and how it ended. The end of its binding is as of `now`, in ns.
+fn passage(translator: &Translator, now: u64, seen: Seen, end: &End) -> Passage
+    ensures { result ≡ passage_seen now seen end.now translator.now }
+{
+    let Some(protocol) = seen.protocol else {
+        return Passage::Nothing;
+    };
+    match end {
+        End::ToOutside(_) | End::Onward(_, _) => {
+            out_through(translator.timed_by_inside(now, protocol, seen.source))
+        }
+        End::ToInside(_) => {
+            in_through(translator.timed_by_number(now, protocol, seen.destination.number))
+        }
+        End::Dropped(cause) => Passage::Dropped(Loss {
+            protocol,
+            host: seen.source.address,
+            cause: *cause,
+        }),
+    }
+}
