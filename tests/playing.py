@@ -4,7 +4,7 @@ import re
 import tomllib
 
 import texts
-from hostile_inputs import captures, packets
+from hostile_inputs import captures
 from hostile_inputs.configurations import text_of
 from shared import TESTS, called
 from texts import nanoseconds

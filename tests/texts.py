@@ -148,6 +148,10 @@ for words in (line.text.split() for line in lines_of((TESTS / "packets.txt").rea
     NAMED[words[0]] = packet(words[2:])
 
 
+def packet_of(text):
+    return packet(text.split())
+
+
 def savefile(records, magic=captures.NANOSECONDS):
     """A capture of records, of each its time and the words of its packet, both in texts."""
     return captures.savefile([(nanoseconds(time), packet(words)) for time, words in records], magic)
