@@ -4,7 +4,6 @@ import random
 import re
 
 from hostile_inputs import captures, packets
-from hostile_inputs.configurations import text_of
 from shared import GATEWAY, SIDES, Wrong, called, content, files, named, want, write_files
 
 FIELDS = ["number", "time", "side", "outcome", "cause", "binding", "hairpin", "before", "after"]
@@ -97,7 +96,3 @@ def check_all(check, runs, folder):
         with named(f"run {seed}"):
             found = check(folder, None if seed == "example" else random.Random(seed))
         yield found
-
-
-def dotted(four):
-    return text_of(int.from_bytes(four, "big"))

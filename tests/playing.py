@@ -4,9 +4,9 @@ import re
 import tomllib
 
 import texts
-from hostile_inputs import captures, packets
+from hostile_inputs import captures
 from hostile_inputs.configurations import text_of
-from shared import called
+from shared import TESTS, called
 from texts import nanoseconds
 
 
@@ -192,11 +192,11 @@ class Run:
     them, and returns the line for the player and what it answers; `line` and `time` are those of the text's line."""
 
     def __init__(self, lines):
-        self.names, self.calls, self.steps, self.called = {}, [], [], set()
-        configs = [line.text.splitlines()[1:] for line in lines if line.text.startswith("config\n")]
+        self.names, self.calls, self.steps, self.called, self.refused = {}, [], [], set(), []
+        configs = [texts.lines_in(line.text[7:]) for line in lines if line.text.startswith("config")]
         self.config = "".join(f"{it}\n" for line in sum(configs, []) for it in texts.repeated(line))
         for line in lines:
-            if not line.text.startswith("config\n"):
+            if not line.text.startswith("config"):
                 try:
                     self.add(line)
                 except (LookupError, AttributeError, ValueError) as error:
@@ -214,24 +214,13 @@ class Run:
             self.time, call, words = nanoseconds(words[0]), words[1], words[2:]
         if bool(arrow) == (call in ("table", "translators", "built_in", "copy")):
             raise ValueError("an answer too many, or none")
-        self.calls.append(Call(self.line, *getattr(self, f"on_{call}")(words, wanted)))
+        answer = plain(call, self, words, wanted) if call in PLAIN else getattr(self, f"on_{call}")(words, wanted)
+        self.calls.append(Call(self.line, *answer))
         self.called.add(call)
 
     def data(self, words):
         """The bytes that words say."""
-        if words[-1:] == ["mended"]:
-            mended = bytearray(self.data(words[:-1]))
-            packets.mend(mended)
-            return bytes(mended)
-        text = " ".join(self.names[word].hex() if word in self.names else word for word in words)
-        text, _, changes = text.partition(" with ")
-        text, _, behind = text.partition(" and then ")
-        made = bytearray(texts.packet(text.split()) + bytes.fromhex(behind))
-        for change in changes.split(" and ") if changes else ():
-            place, *new = change.split()
-            new = bytes.fromhex("".join(new))
-            made[int(place) : int(place) + len(new)] = new
-        return bytes(made)
+        return texts.packet(words, self.names)
 
     def shown_data(self, words):
         return shown_bytes(self.data(words))
@@ -246,33 +235,6 @@ class Run:
         shown = f"{shown_name(rest[0])} {self.shown_data(words)}" if first == "drop" else shown_kind([first, *rest])
         return f"read {side} {told_bytes(self.data(words))}", shown
 
-    def on_local_end(self, words, wanted):
-        return f"local_end {words[0]}", shown_endpoint(wanted)
-
-    def on_remote_end(self, words, wanted):
-        return f"remote_end {words[0]}", shown_endpoint(wanted)
-
-    def on_bytes(self, _words, wanted):
-        return "bytes", self.shown_data(wanted.split())
-
-    def on_set_source(self, words, wanted):
-        return f"set_source {endpoint(words[0])}", self.shown_data(wanted.split())
-
-    def on_set_destination(self, words, wanted):
-        return f"set_destination {endpoint(words[0])}", self.shown_data(wanted.split())
-
-    def on_revert_inner(self, words, wanted):
-        return f"revert_inner {words[0]} {endpoint(words[1])}", self.shown_data(wanted.split())
-
-    def on_fix_check(self, words, wanted, call="fix_check"):
-        return f"{call} {told_bytes(int(word, 16) for word in words)}", str(int(wanted, 16))
-
-    def on_fix_check_udp(self, words, wanted):
-        return self.on_fix_check(words, wanted, "fix_check_udp")
-
-    def on_table(self, words, _wanted):
-        return f"table {endpoint(words[0]).split()[0]} {told_bytes(self.config.encode())}", "begun"
-
     def on_outbound(self, words, wanted):
         """Of a host that has a block where words as `in 1088 64` stand behind."""
         words, block = (words[:-3], words[-2:]) if words[-3] == "in" else (words, [])
@@ -285,19 +247,6 @@ class Run:
         protocol, remote, external, flags = flow(words)
         asked = f"inbound {self.time} {protocol} {endpoint(external).split()[1]} {endpoint(remote)} {flags}"
         return asked, shown_result(wanted, shown_endpoint)
-
-    def on_by_external(self, words, wanted):
-        asked = f"by_external {self.time} {protocol_of(words[0])} {endpoint(words[1]).split()[1]}"
-        return asked, shown_option(wanted, shown_endpoint)
-
-    def on_by_inside(self, words, wanted):
-        return f"by_inside {self.time} {protocol_of(words[0])} {endpoint(words[1])}", shown_option(wanted, str)
-
-    def on_bindings(self, _words, wanted):
-        return f"bindings {self.time}", wanted_rows(wanted)
-
-    def on_translators(self, _words, _wanted):
-        return f"translators {told_bytes(self.config.encode())}", "begun"
 
     def place(self, address):
         """The place of an address in the pool."""
@@ -348,19 +297,13 @@ class Run:
         asked = f"write_capture {nanoseconds(words[0])} {told_bytes(self.data(words[1:]))}"
         return asked, f"Ok(()) {self.shown_data(wanted.split())}"
 
-
     def on_settings(self, words, wanted):
         """Reads the run's configuration with lines behind it, between which stands ` | `, or bytes."""
         self.steps = []
         text = f"{self.config}{' '.join(words)}".replace(" | ", "\n").encode()
         text = bytes.fromhex(words[1]) if words[:1] == ["bytes"] else text
+        self.refused += [(wanted, text)] if wanted != "taken" else []
         return f"settings {told_bytes(text)}", "None" if wanted == "taken" else f"Some({shown_name(wanted)})"
-
-    def on_built_in(self, _words, _wanted):
-        return "built_in", "made"
-
-    def on_copy(self, _words, _wanted):
-        return "copy", "made"
 
     def on_setting(self, words, wanted):
         """A setting by its name."""
@@ -378,22 +321,6 @@ class Run:
             shown = shown_name(wanted)
         return name, shown
 
-    def on_is_inside(self, words, wanted):
-        return f"is_inside {texts.endpoint(words[0])[0]}", {"yes": "true", "no": "false"}[wanted]
-
-    def on_pair(self, words, wanted):
-        return f"pair {texts.endpoint(words[0])[0]}", str(texts.endpoint(wanted)[0])
-
-    def on_pool_index(self, words, wanted):
-        return f"pool_index {texts.endpoint(words[0])[0]}", shown_option(wanted, str)
-
-    def on_block_of(self, words, wanted):
-        shown = "Block {{ first: {}, size: {} }}"
-        return f"block_of {texts.endpoint(words[0])[0]}", shown_option(wanted, lambda it: shown.format(*it.split()))
-
-    def on_host_of(self, words, wanted):
-        return f"host_of {endpoint(words[0])}", shown_option(wanted, lambda it: str(texts.endpoint(it)[0]))
-
     def on_step(self, words, wanted):
         """An input of the run that `living` logs, and what the log tells with it."""
         self.steps.append(step_pattern(wanted))
@@ -408,7 +335,6 @@ class Run:
         """Behind the last step, all entries in order of making."""
         pattern = "".join(f"{it}; " for it in self.steps)
         return "logged", re.compile(f"{pattern}.*; {re.escape(shown_list(map(shown_entry, items_of(wanted))))}")
-
 
     def on_merged(self, words, wanted):
         """The inputs of two captures, whole and as they are read."""
@@ -432,13 +358,66 @@ class Run:
         return f"streams 65535 0 {told_captures(words)}", re.compile(f"{asks}(false [^;]*; )*")
 
 
+def number_in(address):
+    return str(texts.endpoint(address)[0])
+
+
+def option_of(shown):
+    return lambda wanted: shown_option(wanted, shown)
+
+
+# what a field of a line for the player is of the word behind the call at the place that the field ends with
+FIELDS = {
+    "word": str, "end": endpoint, "address": number_in, "number": lambda it: texts.endpoint(it)[1], "protocol": protocol_of,
+    "check": lambda it: int(it, 16),
+}
+CHECKS = ("{check0} {check1} {check2}", lambda wanted: str(int(wanted, 16)))
+# of the calls that need no method what stands behind their names in a line for the player, and the answer: a text, what shows it,
+# or None where it is bytes
+PLAIN = {
+    "local_end": ("{word0}", shown_endpoint),
+    "remote_end": ("{word0}", shown_endpoint),
+    "bytes": ("", None),
+    "set_source": ("{end0}", None),
+    "set_destination": ("{end0}", None),
+    "revert_inner": ("{word0} {end1}", None),
+    "fix_check": CHECKS,
+    "fix_check_udp": CHECKS,
+    "table": ("{address0} {config}", "begun"),
+    "by_external": ("{time} {protocol0} {number1}", option_of(shown_endpoint)),
+    "by_inside": ("{time} {protocol0} {end1}", option_of(str)),
+    "bindings": ("{time}", wanted_rows),
+    "translators": ("{config}", "begun"),
+    "built_in": ("", "made"),
+    "copy": ("", "made"),
+    "is_inside": ("{address0}", {"yes": "true", "no": "false"}.get),
+    "pair": ("{address0}", number_in),
+    "pool_index": ("{address0}", option_of(str)),
+    "block_of": ("{address0}", option_of(lambda it: "Block {{ first: {}, size: {} }}".format(*it.split()))),
+    "host_of": ("{end0}", option_of(number_in)),
+}
 # each call that a text may have
-CALLED = {name.removeprefix("on_") for name in vars(Run) if name.startswith("on_")}
+CALLED = {*PLAIN, *(name.removeprefix("on_") for name in vars(Run) if name.startswith("on_"))}
+
+
+def plain(call, run, words, wanted):
+    """A call that needs no method: the line for the player, and what it answers."""
+    form, shown = PLAIN[call]
+    asked = form.replace("{time}", str(run.time)).replace("{config}", told_bytes(run.config.encode()))
+    asked = re.sub(r"\{([a-z]+)(\d)\}", lambda it: str(FIELDS[it[1]](words[int(it[2])])), f"{call} {asked}".rstrip())
+    return asked, shown if isinstance(shown, str) else run.shown_data(wanted.split()) if shown is None else shown(wanted)
 
 
 def runs_of(text):
     """The runs of a text."""
     return [Run(lines) for _, lines in texts.runs_of(text)]
+
+
+def refused_configurations():
+    """Yields for each configuration of tests/calls that is refused where it stands, the name of its fault, and its text."""
+    for path in sorted((TESTS / "calls").iterdir()):
+        for run in runs_of(path.read_text()):
+            yield from ((path.name, *it) for it in run.refused)
 
 
 def readable(text):

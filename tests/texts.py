@@ -1,8 +1,9 @@
 """Texts of packets, captures and runs: what tests/runs, tests/followed and tests/calls are written in.
 
-'#' begins a comment; an indented line goes on with the one above it. `511 times ..` is a line so often: '+2' behind an
-address or a number adds 2 to it at each time but the first, and '-2' takes 2 away. `run WORDS` begins a run; what stands above the first such
-line stands at the beginning of each. A packet is
+'#' begins a comment; an indented line goes on with the one above it. ` / ` stands between lines in one. `511 times ..` is a line so
+often, or some in turn: '+2' behind an address or a number adds 2 to it at each time but the first, and '-2' takes 2 away. `run WORDS`
+begins a run. What stands above the first such line stands at the beginning of each, and then what stands below the last line
+`given`. A packet is
     udp 10.0.0.2:5000 > 198.51.100.7:53
                                  UDP without payload, with lifetime 64, identification 1 and right checksums
     tcp SA 10.0.0.2:5000 > 198.51.100.7:80
@@ -15,6 +16,11 @@ line stands at the beginning of each. A packet is
                                  an ICMP error, port unreachable, that quotes those bytes, or what other words describe
     front 27 of 4500 001e ..     the first 27 of those bytes, or of those of a packet that other words describe
     damaged 8 of ..              the packet with another bit 0 of the byte at 8
+    udp_query                    one of the packets that tests/packets.txt names
+    udp_query with 10 4693 and 26 0000
+                                 those bytes with changes, each at a place from 0,
+    udp_query and then 0000      with others behind,
+    udp_query with 0 65 mended   or with right checksums
 """
 import dataclasses
 import ipaddress
@@ -51,26 +57,38 @@ def lines_of(text):
 
 
 def repeated(line):
-    """A line so often as it says."""
+    """A line, or some in turn, so often as it says."""
     found = re.match(r"(\d+) times (.*)", line, re.DOTALL)
     if not found:
-        return [line]
+        return line.split(" / ")
 
     def grown(number, by):
         return str(ipaddress.IPv4Address(number) + by) if "." in number else str(int(number) + by)
 
     places = re.compile(r"([\d.]+)([+-]\d+)")
-    return [places.sub(lambda it: grown(it[1], time * int(it[2])), found[2]) for time in range(int(found[1]))]
+    lines = found[2].split(" / ")
+    return [places.sub(lambda it: grown(it[1], time * int(it[2])), line) for time in range(int(found[1])) for line in lines]
+
+
+def lines_in(text):
+    """The lines of a configuration, which stand below one another or with ` | ` between them."""
+    return re.split(r"\s+\|\s+|\n", text)
 
 
 def runs_of(text):
     """The runs of a text: of each what stands behind `run`, or nothing, and its lines."""
-    lines = lines_of(text)
-    starts = [place for place, line in enumerate(lines) if line.text.startswith("run ")]
-    if not starts:
-        return [("", lines)]
-    bounds = zip(starts, [*starts[1:], len(lines)])
-    return [(lines[start].text[4:], lines[: starts[0]] + lines[start + 1 : end]) for start, end in bounds]
+    into = head = []
+    given, runs = [], []
+    for line in lines_of(text):
+        word, _, name = line.text.partition(" ")
+        if word == "given":
+            given = into = []
+        elif word == "run":
+            into = [*head, *given]
+            runs.append((name, into))
+        else:
+            into.append(line)
+    return runs or [("", head)]
 
 
 def nanoseconds(text):
@@ -85,19 +103,36 @@ def endpoint(text):
     return int(ipaddress.IPv4Address(address)), int(number or 0)
 
 
-def packet(words):
-    """The bytes of a packet that words describe."""
+def packet(words, named=None):
+    """The bytes of a packet that words describe, which may name packets beside those of tests/packets.txt."""
+    if words[-1:] == ["mended"]:
+        mended = bytearray(packet(words[:-1], named))
+        packets.mend(mended)
+        return bytes(mended)
+    known = NAMED | (named or {})
+    text, _, changes = " ".join(known[word].hex() if word in known else word for word in words).partition(" with ")
+    text, _, behind = text.partition(" and then ")
+    made = bytearray(described(text.split()) + bytes.fromhex(behind))
+    for change in changes.split(" and ") if changes else ():
+        place, *new = change.split()
+        new = bytes.fromhex("".join(new))
+        made[int(place) : int(place) + len(new)] = new
+    return bytes(made)
+
+
+def described(words):
+    """The bytes of a packet in words of its kind, or in hex."""
     kind, *rest = words or [""]
     if kind == "front":
-        return packet(rest[2:])[: int(rest[0])]
+        return described(rest[2:])[: int(rest[0])]
     if kind == "damaged":
-        data = bytearray(packet(rest[2:]))
+        data = bytearray(described(rest[2:]))
         data[int(rest[0])] ^= 1
         return bytes(data)
     if kind not in ("udp", "tcp", "echo", "echo-reply", "error"):
         return bytes.fromhex("".join(words))
     if kind == "error":
-        return bytes(packets.error(endpoint(rest[0])[0], endpoint(rest[2])[0], 3, 3, packet(rest[4:])))
+        return bytes(packets.error(endpoint(rest[0])[0], endpoint(rest[2])[0], 3, 3, described(rest[4:])))
     source, destination = endpoint(rest[-3]), endpoint(rest[-1])
     if kind == "udp":
         return bytes(packets.udp(source, destination))
@@ -106,6 +141,15 @@ def packet(words):
         return bytes(packets.tcp(source, destination, flags, acknowledged=0, window=8192))
     of_type, number = (8, source[1]) if kind == "echo" else (0, destination[1])
     return bytes(packets.echo(source[0], destination[0], of_type, number))
+
+
+NAMED = {}
+for words in (line.text.split() for line in lines_of((TESTS / "packets.txt").read_text())):
+    NAMED[words[0]] = packet(words[2:])
+
+
+def packet_of(text):
+    return packet(text.split())
 
 
 def savefile(records, magic=captures.NANOSECONDS):
@@ -122,6 +166,8 @@ SPELLINGS = {
     frozenset(["big-endian"]): b"\xa1\xb2\x3c\x4d",
     frozenset(["microseconds", "big-endian"]): b"\xa1\xb2\xc3\xd4",
 }
+# what lines say of a run beside its configuration, packets and bindings
+SAID = ("spelled", "cut", "without", "asked", "fault")
 
 
 @dataclasses.dataclass
@@ -134,35 +180,6 @@ class Run:
     wanted: dict
     fault_line: str = ""
     status: int = 0
-
-
-def capture(text):
-    """The bytes of the capture that a text describes."""
-    spelling, records, cut = set(), [], 0
-    for line in lines_of(text):
-        first, *words = line.text.split()
-        if first == "cut":
-            cut = int(words[0])
-        elif first in ("microseconds", "big-endian"):
-            spelling.add(first)
-        else:
-            records.append((first, words))
-    made = savefile(records, SPELLINGS[frozenset(spelling)])
-    return made[: len(made) - cut]
-
-
-def run_of_files(folder):
-    """The run of a folder."""
-    there = {path.name: path.read_bytes() for path in folder.iterdir()}
-    told = {it: capture(there[f"{it}.txt"].decode()) for it in (*SIDES, *OUTPUTS[:2]) if f"{it}.txt" in there}
-    inputs, wanted = ({it: data for it, data in told.items() if it in names} for names in (SIDES, OUTPUTS))
-    if "report.txt" in there:
-        wanted["report"] = there["report.txt"]
-    run = Run(folder.name, there.get("napt.toml"), inputs, wanted)
-    if "fault" in there:
-        run.fault_line, status = there["fault"].decode().split("\n")[:2]
-        run.status, run.wanted = int(status), dict.fromkeys(OUTPUTS, b"")
-    return run
 
 
 def report_of(ends, rows):
@@ -185,21 +202,41 @@ def told(lines):
     for line in lines:
         first, rest = re.split(r"\s", line.text, maxsplit=1)
         if first == "config":
-            config += f"{rest}\n"
+            config += "".join(f"{it}\n" for it in lines_in(rest))
         elif first == "binding":
-            rows += f"{rest}\n"
+            rows += " ".join(rest.split()).replace(", ", "\n") + "\n"
         else:
             packets.append((first, [part.split() for part in rest.split("->")]))
     return config.encode(), rows, packets
 
 
+def capture(records, spelling, cut):
+    """A capture of records, as `spelled` and `cut` say."""
+    made = savefile(records, SPELLINGS[frozenset(spelling)])
+    return made[: len(made) - int(cut)]
+
+
 def told_run(name, lines):
     """The run that lines tell packet by packet."""
-    config, rows, packets = told(lines)
-    inputs = {side: savefile([(came[0], came[1:]) for first, (came, _) in packets if first == side]) for side in SIDES}
-    ends = [f"drop {left[0]}" if way == "drop" else f"to {way}" for _, (_, (way, *left)) in packets]
+    said, rest = {word: {} for word in SAID}, []
+    for line in lines:
+        word, first, *more = [*line.text.split(), ""]
+        if word in SAID:
+            said[word][first] = more[:-1]
+        else:
+            rest.append(line)
+    config, rows, packets = told(rest)
+    records = {side: [(came[0], came[1:]) for first, (came, _) in packets if first == side] for side in SIDES}
+    how = {side: (said["spelled"].get(side, ()), *said["cut"].get(side, "0")) for side in SIDES}
+    inputs = {side: capture(records[side], *how[side]) for side in SIDES if side not in said["without"]}
+    cut = {first for first, (_, end) in packets if end == ["cut"]}
+    ends = [f"drop {left[0]}" if way == "drop" else f"to {way}" for _, (_, (way, *left)) in packets if way != "cut"]
     left = {side: [(came[0], end[1:]) for _, (came, end) in packets if end[0] == side] for side in SIDES}
+    rows = "".join(f"cut {side}\n" for side in SIDES if side in cut) + rows
     wanted = {f"to-{side}": savefile(records) for side, records in left.items()} | {"report": report_of(ends, rows)}
+    wanted = {it: wanted[it] for it in said["asked"] or wanted}
+    for status, words in said["fault"].items():
+        return Run(name, config or None, inputs, dict.fromkeys(OUTPUTS, b""), f"napt: {' '.join(words)}", int(status))
     return Run(name, config or None, inputs, wanted)
 
 
@@ -208,9 +245,7 @@ def run_names():
 
 
 def runs_named(name):
-    """The runs of a folder or a text of tests/runs."""
-    if (RUNS / name).is_dir():
-        return [run_of_files(RUNS / name)]
+    """The runs of a text of tests/runs."""
     found = runs_of((RUNS / f"{name}.txt").read_text())
     return [told_run(f"{name}, {words}" if words else name, lines) for words, lines in found]
 

@@ -3,7 +3,7 @@
 import re
 import struct
 
-from shared import Wrong, want
+from shared import Wrong, want, want_same
 
 from . import captures, configured, translating
 from .packets import summed
@@ -124,9 +124,7 @@ def judge_exactly(case, outcome, rules, inside, outside):
     """A run whose outputs are worked out here too."""
     counts = judge_run(case, outcome, inside, outside)
     for name, wanted in zip(case.outputs, translating.run(rules, inside, outside)):
-        found = outcome.made[name]
-        place = next((at for at, (one, other) in enumerate(zip(found, wanted)) if one != other), min(len(found), len(wanted)))
-        want(found == wanted, f"{name} differs at byte {place}: {found[place:][:40]} in place of {wanted[place:][:40]}")
+        want_same(name, outcome.made[name], wanted)
     return counts
 
 

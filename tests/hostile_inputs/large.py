@@ -2,6 +2,8 @@
 
 import sys
 
+from shared import content, write_files
+
 from . import captures, running
 
 TEN_MEGABYTES = 10_000_000
@@ -45,14 +47,14 @@ def texts():
 
 
 def complaint_of(program, text, fault):
-    running.write_files(".", {"napt.toml": text, "inside.pcap": bytes(captures.header(b"\xd4\xc3\xb2\xa1"))})
+    write_files(".", {"napt.toml": text, "inside.pcap": bytes(captures.header(b"\xd4\xc3\xb2\xa1"))})
     limit = FEW_BYTES + MOST_FOR_A_BYTE * len(text)
     words = ["-c", LIMITED, str(limit // 1024), program, "--config", "napt.toml"]
     status, is_late = running.ended("/bin/sh", words, "inside.pcap", MOST_SECONDS)
     if is_late:
         return f"no end within {MOST_SECONDS} s"
     wanted = (3, f"napt: config {fault}\n".encode()) if fault else (0, b"")
-    found = (status, running.content(running.FAULT))
+    found = (status, content(running.FAULT))
     return None if found == wanted else f"{found} in place of {wanted}, in {limit} bytes of memory"
 
 

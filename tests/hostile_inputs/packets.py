@@ -25,22 +25,8 @@ def checksum(data):
 
 def ipv4(protocol, source, destination, body, options=b"", flags=0):
     header_length = 20 + len(options)
-    header = bytearray(
-        struct.pack(
-            ">BBHHHBBHII",
-            0x40 + header_length // 4,
-            0,
-            min(header_length + len(body), 0xFFFF),
-            1,
-            flags,
-            TTL,
-            protocol,
-            0,
-            source,
-            destination,
-        )
-        + options
-    )
+    first, length = 0x40 + header_length // 4, min(header_length + len(body), 0xFFFF)
+    header = bytearray(struct.pack(">BBHHHBBHII", first, 0, length, 1, flags, TTL, protocol, 0, source, destination) + options)
     struct.pack_into(">H", header, 10, checksum(header))
     return header + body
 
@@ -215,18 +201,10 @@ ADDRESS_PLACES = (12, 16)
 TRANSPORT_FIELDS = {
     UDP: ((0, 2, (0, 1, 65535)), (2, 2, (0, 1, 65535)), (4, 2, (0, 7, 8, 9, 10, 11, 65535)), (6, 2, (0, 1, 0xFFFF))),
     TCP: (
-        (0, 2, (0, 1, 65535)),
-        (2, 2, (0, 1, 65535)),
-        (12, 1, (0x00, 0x40, 0x4F, 0x50, 0x60, 0xF0, 0xFF)),
-        (13, 1, (0, 1, 2, 4, 16, 17, 18, 255)),
-        (16, 2, (0, 0xFFFF)),
+        (0, 2, (0, 1, 65535)), (2, 2, (0, 1, 65535)), (12, 1, (0x00, 0x40, 0x4F, 0x50, 0x60, 0xF0, 0xFF)),
+        (13, 1, (0, 1, 2, 4, 16, 17, 18, 255)), (16, 2, (0, 0xFFFF)),
     ),
-    ICMP: (
-        (0, 1, (0, 3, 4, 5, 8, 11, 12, 13, 255)),
-        (1, 1, (0, 3, 255)),
-        (2, 2, (0, 0xFFFF)),
-        (4, 2, (0, 1, 65535)),
-    ),
+    ICMP: ((0, 1, (0, 3, 4, 5, 8, 11, 12, 13, 255)), (1, 1, (0, 3, 255)), (2, 2, (0, 0xFFFF)), (4, 2, (0, 1, 65535))),
 }
 
 

@@ -1,7 +1,10 @@
 """Runs the program over a case, in a folder of its own."""
 
+import dataclasses
 import os
 import signal
+
+from shared import content, write_files
 
 # a run's processor time, and its time in all, which is longer where other programs hold it up
 MOST_SECONDS = 5
@@ -9,15 +12,15 @@ MOST_SECONDS_IN_ALL = 60
 STANDARD, FAULT = "standard-output", "standard-error"
 
 
+@dataclasses.dataclass
 class Outcome:
     """How a run ended: its status, or the number of the signal that ended it with a minus sign, and what it wrote."""
 
-    def __init__(self, status, is_late, standard, fault, made):
-        self.status = status
-        self.is_late = is_late
-        self.standard = standard
-        self.fault = fault
-        self.made = made
+    status: int
+    is_late: bool
+    standard: bytes
+    fault: bytes
+    made: dict
 
 
 def ended(program, words, standard_input, most_seconds=MOST_SECONDS):
@@ -44,17 +47,6 @@ def ended(program, words, standard_input, most_seconds=MOST_SECONDS):
     signal.setitimer(signal.ITIMER_REAL, 0)
     is_late = bool(late) or usage.ru_utime + usage.ru_stime > most_seconds
     return os.waitstatus_to_exitcode(status), is_late
-
-
-def content(name):
-    with open(name, "rb") as file:
-        return file.read()
-
-
-def write_files(folder, files):
-    for name, data in files.items():
-        with open(os.path.join(folder, name), "wb") as file:
-            file.write(data)
 
 
 def run(program, case):
