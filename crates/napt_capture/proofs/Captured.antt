@@ -1,17 +1,8 @@
 -- What a text begins with, and what it holds.
-use Rattle.std.proofs.Common.{◌≡◌, ℕ, zero, suc, ◌+◌, ◌-◌, ◌<◌, ◌≤◌, inl, inr, Bool, true, false, List, [], ◌∷◌, length, take, drop, Option, Some, None, Result, Ok, Err, refl, sym, ◌∙◌, ap, arith, length-drop, length-take-le}
-use Rattle.std.specs.Prelude.{nat_lt, ◌==◌, ◌&&◌, ◌||◌}
+use Rattle.std.proofs.Common.{◌≡◌, ℕ, zero, suc, ◌+◌, ◌-◌, ◌<◌, ◌≤◌, inl, inr, Bool, true, false, List, [], ◌∷◌, length, take, drop, Option, Some, None, Result, Ok, Err, refl, sym, ◌∙◌, ap, arith, length-drop, length-take-le, nat_lt, ◌==◌, ◌&&◌, ◌||◌}
 use Rattle.std.proofs.lemmas.Bool.{cases_Bool, cases_lt, lt-ltb, le-ltb}
-use Rattle.napt_capture.specs.declared.TheConstants.{LARGEST_RECORD}
-use Rattle.napt_capture.specs.declared.fault.CaptureFault.{CaptureFault}
-use Rattle.napt_capture.specs.declared.fault.CaptureFault.TheVariants.{TooLarge}
-use Rattle.napt_capture.specs.declared.reading.Next.{Next}
-use Rattle.napt_capture.specs.declared.reading.Next.TheVariants.{Whole, End}
-use Rattle.napt_capture.specs.declared.spelling.Spelling.{Spelling}
+use Rattle.napt_capture.specs.Prelude.{LARGEST_RECORD, CaptureFault, TooLarge, Next, Whole, End, Spelling, long_number, short_number, spelling_of, units_per_second, Entry, Held, announced, asked_first, asked_records, captured, captured_by, captured_of, entry_in, fraction_of, held, held_by, next_by, next_in, number_behind, size_in, spelling_by, spelling_in}
 use Rattle.byteorder.specs.Endian.{big_number}
-use Rattle.napt_capture.specs.Spelling.{long_number, short_number, spelling_of, units_per_second}
-use Rattle.napt_capture.specs.Contents.{Entry}
-use Rattle.napt_capture.specs.Capture.{Held, announced, asked_first, asked_records, captured, captured_by, captured_of, entry_in, fraction_of, held, held_by, next_by, next_in, number_behind, size_in, spelling_by, spelling_in}
 
 -- THE HEADER OF A RECORD
 

@@ -1,11 +1,8 @@
 -- The steps of reading over known bytes.
-use Rattle.std.proofs.Common.{◌≡◌, ℕ, ◌+◌, ◌<◌, ◌≤◌, min, inl, inr, List, [], ◌++◌, length, take, drop, Option, Some, None, Result, Ok, Err, refl, sym, ◌∙◌, ap, arith, take_all, length-take-le, length-append, append-nil, take_at, drop_at, drop_of_length-le}
+use Rattle.std.proofs.Common.{◌≡◌, ℕ, ◌+◌, ◌<◌, ◌≤◌, min, inl, inr, List, [], ◌++◌, length, take, drop, Option, Some, None, Result, Ok, Err, refl, sym, ◌∙◌, ap, arith, take_all, length-take-le, length-append, append-nil, take_at, drop_at, drop_of_length-le, IfSome}
 use Rattle.std.specs.Io.KnownBytes.{Consumes, IsAtEnd}
 use Rattle.std.proofs.lemmas.Bool.{cases_lt}
-use Rattle.napt_capture.specs.declared.fault.CaptureFault.{CaptureFault}
-use Rattle.napt_capture.specs.declared.fault.CaptureFault.TheVariants.{NoHeader, BadMagic, BadVersion, BadLink, BadFraction, TooLong, TooLarge, Read, Memory}
-use Rattle.std.specs.Prelude.{IfSome}
-use Rattle.napt_capture.specs.Reading.{Gives, Says}
+use Rattle.napt_capture.specs.Prelude.{CaptureFault, NoHeader, BadMagic, BadVersion, BadLink, BadFraction, TooLong, TooLarge, Read, Memory, Gives, Says}
 
 -- unless the device or memory failed
 pub Says-fact : {T : Type 0} (result : Result T CaptureFault) {P : Type 0} → P → Says result P

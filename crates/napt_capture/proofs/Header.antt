@@ -1,15 +1,6 @@
 -- The record that is next, from what two reads filled.
-use Rattle.std.proofs.Common.{◌≡◌, ℕ, ◌+◌, ◌-◌, ◌<◌, ◌≤◌, List, length, take, drop, Result, Ok, Err, true, refl, sym, ◌∙◌, ap, arith, length-drop, length-take, drop-drop, drop_of_length-le}
-use Rattle.std.specs.Prelude.{nat_lt}
-use Rattle.std.proofs.lemmas.Bool.{lt-ltb, le-ltb}
-use Rattle.napt_capture.specs.declared.TheConstants.{MOST_ASKED}
-use Rattle.napt_capture.specs.declared.fault.CaptureFault.{CaptureFault}
-use Rattle.napt_capture.specs.declared.fault.CaptureFault.TheVariants.{NoHeader, TooLarge}
-use Rattle.napt_capture.specs.declared.reading.Next.TheVariants.{Whole, End}
-use Rattle.napt_capture.specs.declared.reading.Fields.{Fields}
-use Rattle.napt_capture.specs.declared.spelling.Spelling.{Spelling}
-use Rattle.napt_capture.specs.Capture.{asked_first, entry_in, next_in, size_in, spelling_in}
-use Rattle.napt_capture.specs.Reading.{HasFields, ReadsNext, next_within}
+use Rattle.std.proofs.Common.{◌≡◌, ℕ, ◌+◌, ◌-◌, ◌<◌, ◌≤◌, List, length, take, drop, Result, Ok, Err, true, refl, sym, ◌∙◌, ap, arith, length-drop, length-take, drop-drop, drop_of_length-le, nat_lt, lt-ltb, le-ltb}
+use Rattle.napt_capture.specs.Prelude.{MOST_ASKED, CaptureFault, NoHeader, TooLarge, Whole, End, Fields, Spelling, asked_first, entry_in, next_in, size_in, spelling_in, HasFields, ReadsNext, next_within}
 use Rattle.napt_capture.proofs.Captured.{asked_least, asked_long, asked_short, next_cut, next_fault, next_short, next_whole}
 use Rattle.napt_capture.proofs.Filled.{Fills, fills_all}
 

@@ -4,8 +4,7 @@ use lib.Seq.{take-add}
 use Rattle.std.specs.Io.{WritesAtMost}
 use Rattle.std.specs.Io.KnownBytes.{WriteAppends}
 use Rattle.std.specs.Result.{result_unwrap_or}
-use Rattle.napt_capture.specs.Device.{failed_writes}
-use Rattle.napt_capture.specs.declared.device.DeviceFault.{DeviceFault}
+use Rattle.napt_capture.specs.Prelude.{failed_writes, DeviceFault, WriteFault, Entry, IsWritable, entry_of_packet, file_header, record_header, record_text, text, Puts, PutsAll, PutsFront}
 use Rattle.std.proofs.Math.Seq.{take-append-add}
 use Rattle.std.proofs.lemmas.List.{take-append-le, take_more}
 use Rattle.std.proofs.lemmas.List.Elements.{All-head, All-tail}
@@ -13,10 +12,6 @@ use Rattle.std.proofs.lemmas.List.Concat.{flat_map-append}
 use Rattle.std.specs.List.{flat_map}
 use Rattle.std.specs.Io.KnownBytes.{Appends, Keeps}
 use Rattle.std.proofs.KnownBytes.{Appends-trans, Appends-kept}
-use Rattle.napt_capture.specs.declared.fault.WriteFault.{WriteFault}
-use Rattle.napt_capture.specs.Contents.{Entry}
-use Rattle.napt_capture.specs.Text.{IsWritable, entry_of_packet, file_header, record_header, record_text, text}
-use Rattle.napt_capture.specs.Writing.{Puts, PutsAll, PutsFront}
 
 -- the first was written whole, and then the second
 pub PutsAll-append : {before mid written : ℕ} {old now new : Option (List ℕ)} (xs ys : List ℕ)

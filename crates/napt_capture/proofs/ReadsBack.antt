@@ -1,18 +1,9 @@
 -- What is written holds the records that were written.
-use Rattle.std.proofs.Common.{◌≡◌, ℕ, ◌+◌, ◌/◌, ◌%◌, List, [], ◌∷◌, ◌++◌, length, take, drop, map, All, Ok, false, ap, ◌∙◌, arith, refl, append_assoc, length-append, take_at, drop_at, drop_of_length-le, sym, ◌≤◌}
+use Rattle.std.proofs.Common.{◌≡◌, ℕ, ◌+◌, ◌/◌, ◌%◌, List, [], ◌∷◌, ◌++◌, length, take, drop, map, All, Ok, false, ap, ◌∙◌, arith, refl, append_assoc, length-append, take_at, drop_at, drop_of_length-le, sym, ◌≤◌, le-ltb}
 use Rattle.std.specs.List.{flat_map}
 use Rattle.std.proofs.lemmas.List.Elements.{All-head, All-tail}
 use Rattle.byteorder.specs.Numbers.{little_number-reads_back}
-use Rattle.napt_capture.specs.declared.spelling.Order.TheVariants.{Little}
-use Rattle.napt_capture.specs.declared.spelling.Unit.TheVariants.{Nanosecond}
-use Rattle.napt_capture.specs.declared.spelling.Spelling.{Spelling}
-use Rattle.napt_capture.specs.declared.reading.Next.TheVariants.{Whole}
-use Rattle.napt_capture.specs.Contents.{Entry}
-use Rattle.napt_capture.specs.Capture.{Held, asked_first, asked_of, asked_records, captured, captured_by, captured_of, contents_by, entry_in, fraction_of, held, next_in, number_behind, original_of, read_whole, size_in, spelling_in, time_of}
-use Rattle.napt_capture.specs.Spelling.{long_number}
-use Rattle.napt_capture.specs.Text.{IsWritable, as_written, file_header, record_header, record_text, text}
-use Rattle.std.proofs.lemmas.Bool.{le-ltb}
-use Rattle.napt_capture.specs.declared.TheConstants.{MOST_ASKED}
+use Rattle.napt_capture.specs.Prelude.{Little, Nanosecond, Spelling, Whole, Entry, Held, asked_first, asked_of, asked_records, captured, captured_by, captured_of, contents_by, entry_in, fraction_of, held, next_in, number_behind, original_of, read_whole, size_in, spelling_in, time_of, long_number, IsWritable, as_written, file_header, record_header, record_text, text, MOST_ASKED}
 use Rattle.napt_capture.proofs.Whole.{asked_all, asked_is}
 use Rattle.napt_capture.proofs.Captured.{held_record, next_whole, size_good, with_first}
 

@@ -1,16 +1,7 @@
 -- A capture that is read whole: how far reading has come, and what it comes to.
-use Rattle.std.proofs.Common.{◌≡◌, ℕ, ◌+◌, ◌^◌, ◌<◌, ◌≤◌, min, inl, inr, Bool, true, List, [], ◌∷◌, ◌++◌, length, take, drop, Option, None, Some, Result, Ok, Err, refl, sym, ◌∙◌, ap, subst, arith, append-nil, append_assoc, length-append, length-drop, drop-drop}
-use Rattle.std.specs.Prelude.{IfSome, nat_lt}
+use Rattle.std.proofs.Common.{◌≡◌, ℕ, ◌+◌, ◌^◌, ◌<◌, ◌≤◌, min, inl, inr, Bool, true, List, [], ◌∷◌, ◌++◌, length, take, drop, Option, None, Some, Result, Ok, Err, refl, sym, ◌∙◌, ap, subst, arith, append-nil, append_assoc, length-append, length-drop, drop-drop, IfSome, nat_lt}
 use Rattle.std.proofs.lemmas.Bool.{cases_lt, lt-ltb, le-ltb}
-use Rattle.napt_capture.specs.declared.TheConstants.{MOST_ASKED}
-use Rattle.napt_capture.specs.declared.fault.CaptureFault.{CaptureFault}
-use Rattle.napt_capture.specs.declared.fault.CaptureFault.TheVariants.{NoHeader, BadMagic, BadVersion, BadLink, BadFraction, TooLong, TooLarge, Read, Memory}
-use Rattle.napt_capture.specs.declared.reading.Next.{Next}
-use Rattle.napt_capture.specs.declared.reading.Next.TheVariants.{Whole, End}
-use Rattle.napt_capture.specs.declared.spelling.Spelling.{Spelling}
-use Rattle.napt_capture.specs.Contents.{Entry, Contents}
-use Rattle.napt_capture.specs.Capture.{Held, asked_by, asked_first, asked_of, asked_records, captured, captured_by, contents_by, entry_in, held, next_in, number_behind, read_whole, spelling_in}
-use Rattle.napt_capture.specs.Reading.{Gives, IsForRecords, Leaves, ReadsNext, ReadsWhole, Says, StopsBehind, TakesAtMost, TakesMemory, next_within}
+use Rattle.napt_capture.specs.Prelude.{MOST_ASKED, CaptureFault, NoHeader, BadMagic, BadVersion, BadLink, BadFraction, TooLong, TooLarge, Read, Memory, Next, Whole, End, Spelling, Entry, Contents, Held, asked_by, asked_first, asked_of, asked_records, captured, captured_by, contents_by, entry_in, held, next_in, number_behind, read_whole, spelling_in, Gives, IsForRecords, Leaves, ReadsNext, ReadsWhole, Says, StopsBehind, TakesAtMost, TakesMemory, next_within}
 use Rattle.napt_capture.proofs.Filled.{Gives-both, Gives-map, Says-err}
 use Rattle.napt_capture.proofs.Captured.{FirstOf, asked_least, asked_most, first_of, held_end, held_fault, held_record, is_bad, is_cut, is_short, is_whole, next_asked, next_cut, next_fault, next_short, next_whole, records_within}
 

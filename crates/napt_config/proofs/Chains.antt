@@ -1,12 +1,8 @@
 -- What a reading that ends well went through.
-use Rattle.std.proofs.Common.{◌≡◌, ℕ, ◌+◌, ◌≤◌, Bool, true, false, List, Option, Some, None, Result, Ok, Err, is_some, refl, subst, arith, leb-true}
-use Rattle.std.specs.Prelude.{nat_le, ok_or}
+use Rattle.std.proofs.Common.{◌≡◌, ℕ, ◌+◌, ◌≤◌, Bool, true, false, List, Option, Some, None, Result, Ok, Err, is_some, refl, subst, arith, leb-true, nat_le, ok_or}
 use Rattle.std.specs.Option.{option_map_or}
 use Rattle.toml.specs.Data.{Data, Items, no_items, item, Members, get_member}
-use Rattle.napt_config.specs.declared.fault.ConfigFault.{ConfigFault}
-use Rattle.napt_config.specs.declared.fault.ConfigFault.TheVariants.{TooMany}
-use Rattle.napt_config.specs.Fault.{◌>>=◌, ◌>>◌, must}
-use Rattle.napt_config.specs.Configured.{each_in_order, item_count, list_in, list_up_to, optional}
+use Rattle.napt_config.specs.Prelude.{ConfigFault, TooMany, ◌>>=◌, ◌>>◌, must, each_in_order, item_count, list_in, list_up_to, optional}
 
 pub reads : {A B P : Type 0} (r : Result A ConfigFault) (f : A → Result B ConfigFault) (y : B) → r >>= f ≡ Ok y →
     ((x : A) → r ≡ Ok x → f x ≡ Ok y → P) → P

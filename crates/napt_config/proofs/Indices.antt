@@ -1,10 +1,7 @@
 -- Indices of hosts, and their blocks.
-use Rattle.std.proofs.Common.{◌≡◌, ℕ, ◌+◌, ◌-◌, ◌*◌, ◌/◌, ◌%◌, ◌^◌, ◌<◌, ◌≤◌, Bool, true, false, cond, List, [], ◌∷◌, length, Option, Some, None, refl, ap, ◌∙◌, leb-true, arith}
-use Rattle.std.specs.Prelude.{IfSome, option_map}
+use Rattle.std.proofs.Common.{◌≡◌, ℕ, ◌+◌, ◌-◌, ◌*◌, ◌/◌, ◌%◌, ◌^◌, ◌<◌, ◌≤◌, Bool, true, false, cond, List, [], ◌∷◌, length, Option, Some, None, refl, ap, ◌∙◌, leb-true, arith, IfSome, option_map, pow_pos, pow-add, div-add-mod'}
 use Rattle.std.proofs.Math.Nat.{mod-lt, mul_assoc, mul_comm, mul-le-mul_right, div-mul-le_self, le-div_iff_mul-le, div-lt_iff_lt-mul}
-use Rattle.std.proofs.lemmas.Nat.{pow_pos, pow-add, div-add-mod'}
-use Rattle.napt_config.specs.Network.{Network, IsNetwork, has_address, network_size, host_count, index_of}
-use Rattle.napt_config.specs.Rules.{nth_block, block_in, IsBlock, AreBlocks}
+use Rattle.napt_config.specs.Prelude.{Network, IsNetwork, has_address, network_size, host_count, index_of, nth_block, block_in, IsBlock, AreBlocks}
 
 -- ---- indices
 

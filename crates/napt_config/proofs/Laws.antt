@@ -1,6 +1,5 @@
 -- What a table configures keeps the rules of a configuration.
-use Rattle.std.proofs.Common.{◌≡◌, ℕ, ◌+◌, ◌-◌, ◌%◌, ◌^◌, ◌<◌, ◌≤◌, ◌==◌, Bool, true, false, not, List, [], ◌∷◌, ◌++◌, length, get_or, Option, Some, None, Ok, nat_lt, nat_le, nat_cmp, is_some, refl, sym, ap, subst, ◌∙◌, ltb-true, leb-true, eqb-true, length-append, arith}
-use Rattle.std.specs.Prelude.{All, IfSome, ok_or, codes}
+use Rattle.std.proofs.Common.{◌≡◌, ℕ, ◌+◌, ◌-◌, ◌%◌, ◌^◌, ◌<◌, ◌≤◌, ◌==◌, Bool, true, false, not, List, [], ◌∷◌, ◌++◌, length, get_or, Option, Some, None, Ok, nat_lt, nat_le, nat_cmp, is_some, refl, sym, ap, subst, ◌∙◌, ltb-true, leb-true, eqb-true, length-append, arith, All, IfSome, ok_or, codes}
 use Rattle.std.specs.BTreeMap.{insert_entry}
 use Rattle.std.specs.List.{list_any, before_first, after_first}
 use Rattle.std.specs.List.Sorted.{IsStrictlySortedBy}
@@ -11,12 +10,7 @@ use Rattle.std.proofs.lemmas.List.Folds.{list_any_at}
 use Rattle.std.proofs.lemmas.Map.Views.{All-keys-insert_entry, All-values-insert_entry}
 use Rattle.std.proofs.lemmas.Option.{cond_some, option_and_then_some}
 use Rattle.toml.specs.Data.{Data, Items, Members, get_member}
-use Rattle.napt_config.specs.declared.fault.ConfigFault.TheVariants.{BadAddress, BadPrefix, BadNumber, DoubleAddress, Missing, PoolInside, PrefixesOverlap, BlockTooLarge, PairWithBlock, NotInside, NotInPool, DoublePair, TimerTooShort, UnknownKey}
-use Rattle.napt_config.specs.declared.settings.Timers.{Timers}
-use Rattle.napt_config.specs.Network.{Network, IsNetwork, have_address, are_apart}
-use Rattle.napt_config.specs.Text.{address_of, network_of, network_at, number_of, is_slash}
-use Rattle.napt_config.specs.Rules.{Rules, has, paired_with, paired, block_in, have_room, IsTimer, AreTimers, IsInside, IsQuota, IsBlock, AreBlocks, ArePairs, KeepsRules}
-use Rattle.napt_config.specs.Configured.{item_count, short_list, text_in, number_in, table_in, list_up_to, between, with_address, pool_in, with_prefix, prefixes_in, inside_in, filter_in, refresh_in, timer_at, timers_at, timers_in, default_timers, ring_at, ring_in, quota_at, quota_in, block_size_at, block_size, block_size_in, address_in, with_pair, pairs_at, pairs_in, redirects_in, required, optional, configured, knows_all_keys}
+use Rattle.napt_config.specs.Prelude.{BadAddress, BadPrefix, BadNumber, DoubleAddress, Missing, PoolInside, PrefixesOverlap, BlockTooLarge, PairWithBlock, NotInside, NotInPool, DoublePair, TimerTooShort, UnknownKey, Timers, Network, IsNetwork, have_address, are_apart, address_of, network_of, network_at, number_of, is_slash, Rules, has, paired_with, paired, block_in, have_room, IsTimer, AreTimers, IsInside, IsQuota, IsBlock, AreBlocks, ArePairs, KeepsRules, item_count, short_list, text_in, number_in, table_in, list_up_to, between, with_address, pool_in, with_prefix, prefixes_in, inside_in, filter_in, refresh_in, timer_at, timers_at, timers_in, default_timers, ring_at, ring_in, quota_at, quota_in, block_size_at, block_size, block_size_in, address_in, with_pair, pairs_at, pairs_in, redirects_in, required, optional, configured, knows_all_keys}
 use Rattle.napt_config.proofs.Addresses.{address_of-bound}
 use Rattle.napt_config.proofs.Chains.{list_up_to-counts, reads, holds, ok_or_ok, optional_reads, optional-absent, each_keeps, each_adds}
 use Rattle.napt_config.proofs.Indices.{block_in-is}

@@ -7,8 +7,7 @@ use Rattle.std.proofs.lemmas.Str.Parse.{IsNumeralModel, numerals_by_value, parse
 use Rattle.std.specs.Char.{is_ascii_digit}
 use Rattle.std.specs.List.{list_all}
 use Rattle.std.specs.Str.Parse.{ParsesUnsigned, digits_value}
-use Rattle.napt_config.specs.Text.{number_of, is_number}
-use Rattle.napt_config.specs.Configured.{between}
+use Rattle.napt_config.specs.Prelude.{number_of, is_number, between}
 
 -- digits, as `parse` means them
 pub digits_model : IsNumeralModel (λ ds. list_all is_ascii_digit ds ≡ true) (digits_value 10)

@@ -1,6 +1,5 @@
 -- Pairs by ascending host, and one more among them.
-use Rattle.std.proofs.Common.{◌≡◌, ℕ, ◌+◌, false, cond, List, [], ◌∷◌, length, is_some, Ordering, Less, Equal, Greater, nat_cmp, refl, ap, ◌∙◌, arith}
-use Rattle.std.specs.Prelude.{Some}
+use Rattle.std.proofs.Common.{◌≡◌, ℕ, ◌+◌, false, cond, List, [], ◌∷◌, length, is_some, Ordering, Less, Equal, Greater, nat_cmp, refl, ap, ◌∙◌, arith, Some}
 use Rattle.std.specs.BTreeMap.{insert_entry, is_at}
 use Rattle.std.specs.Cmp.{nat_cmp_total}
 use Rattle.std.specs.List.{AllByRecursion}

@@ -1,6 +1,5 @@
 -- What is spelled is read back, and what is read is spelled so.
-use Rattle.std.proofs.Common.{◌≡◌, ℕ, zero, suc, ◌+◌, ◌-◌, ◌%◌, ◌^◌, ◌<◌, ◌≤◌, ◌==◌, ◌&&◌, ◌||◌, Bool, true, false, cond, not, List, [], ◌∷◌, ◌++◌, length, get_or, take, drop, Option, Some, None, nat_lt, nat_le, decimal, refl, sym, ap, subst, ◌∙◌, inl, inr, le-leb, le-ltb, lt-ltb, ltb-true, leb-true, eq-eqb, eqb-true, ne_eqb, append_assoc, take-append-drop, arith}
-use Rattle.std.specs.Prelude.{ok_or, option_and_then}
+use Rattle.std.proofs.Common.{◌≡◌, ℕ, zero, suc, ◌+◌, ◌-◌, ◌%◌, ◌^◌, ◌<◌, ◌≤◌, ◌==◌, ◌&&◌, ◌||◌, Bool, true, false, cond, not, List, [], ◌∷◌, ◌++◌, length, get_or, take, drop, Option, Some, None, nat_lt, nat_le, decimal, refl, sym, ap, subst, ◌∙◌, inl, inr, le-leb, le-ltb, lt-ltb, ltb-true, leb-true, eq-eqb, eqb-true, ne_eqb, append_assoc, take-append-drop, arith, ok_or, option_and_then}
 use Rattle.std.specs.Char.{is_ascii_digit}
 use Rattle.std.specs.Int.{w32, to_be_bytes, from_be_bytes}
 use Rattle.std.specs.List.{list_all, list_any, position_or_len, before_first, after_first}
@@ -17,9 +16,7 @@ use Rattle.std.proofs.Math.Seq.{take-append_seam, drop-append-add}
 use Rattle.std.proofs.lemmas.Nat.{from_be_bytes-to_be_bytes_4, be_bytes_4}
 use Rattle.std.proofs.lemmas.Option.{cond_some, option_and_then_some}
 use Rattle.std.proofs.lemmas.Option.{none-some}
-use Rattle.napt_config.specs.declared.fault.ConfigFault.{ConfigFault}
-use Rattle.napt_config.specs.Network.{Network, IsNetwork, Socket, IsSocket}
-use Rattle.napt_config.specs.Text.{address_of, address_text, is_number, number_of, is_slash, is_colon, network_at, network_of, network_text, socket_at, socket_of, socket_text, IsReadBack}
+use Rattle.napt_config.specs.Prelude.{ConfigFault, Network, IsNetwork, Socket, IsSocket, address_of, address_text, is_number, number_of, is_slash, is_colon, network_at, network_of, network_text, socket_at, socket_of, socket_text, IsReadBack}
 use Rattle.napt_config.proofs.Addresses.{address_of-dotted, dotted-address_of}
 use Rattle.napt_config.proofs.Numbers.{digits_model, number_of-nothing}
 

@@ -1,6 +1,5 @@
 -- Texts without a separator.
-use Rattle.std.proofs.Common.{◌≡◌, ℕ, ◌+◌, Bool, List, [], length, Option, Some, None, refl, arith}
-use Rattle.std.specs.Prelude.{option_and_then}
+use Rattle.std.proofs.Common.{◌≡◌, ℕ, ◌+◌, Bool, List, [], length, Option, Some, None, refl, arith, option_and_then}
 use Rattle.std.specs.List.{position_or_len, after_first}
 use Rattle.std.proofs.lemmas.List.{drop_all}
 use Rattle.napt_config.specs.Text.{is_slash, is_colon, network_of, socket_of, address_of}

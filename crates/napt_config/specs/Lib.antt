@@ -4,3 +4,4 @@ pub mod Fault
 pub mod Rules
 pub mod Configured
 pub mod Shown
+pub mod Prelude

@@ -1,15 +1,11 @@
 -- What the candidates of a number in a block are: the numbers of the block, each once, that at its place first.
-use Rattle.std.proofs.Common.{◌≡◌, ◌≢◌, ℕ, zero, suc, ◌+◌, ◌-◌, ◌*◌, ◌/◌, ◌%◌, ◌<◌, ◌≤◌, ◌==◌, true, false, nat_le, List, ◌∷◌, ◌++◌, map, Some, ◌⊎◌, inl, inr, refl, sym, ◌∙◌, ap, subst, arith}
+use Rattle.std.proofs.Common.{◌≡◌, ◌≢◌, ℕ, zero, suc, ◌+◌, ◌-◌, ◌*◌, ◌/◌, ◌%◌, ◌<◌, ◌≤◌, ◌==◌, true, false, nat_le, List, ◌∷◌, ◌++◌, map, Some, ◌⊎◌, inl, inr, refl, sym, ◌∙◌, ap, subst, arith, leb-true, leb-false}
 use Rattle.std.specs.List.{All, AllPairs, Contains, range_with_len}
-use Rattle.std.proofs.lemmas.Bool.{leb-true, leb-false}
 use Rattle.std.proofs.lemmas.Nat.{mod_below}
 use Rattle.std.proofs.Math.Nat.{mod-eq_of_lt, add-mod_left, mod-mod}
 use Rattle.std.proofs.lemmas.List.Elements.{All-append, All-contains, Contains-append_left, Contains-append_right}
 use Rattle.std.proofs.lemmas.List.FromFn.{length-map-range_with_len, get_or-map-range_with_len}
-use Rattle.napt_config.specs.Rules.{IsBlock}
-use Rattle.napt_config.specs.declared.settings.Block.{Block}
-use Rattle.napt_wire.specs.declared.Protocol.{Protocol}
-use Rattle.napt_rules.specs.Prelude.{Each, IsOfBlock, BlockBegins, BlockIsThose, BlockDiffers, numbers_below, every_other, candidates}
+use Rattle.napt_rules.specs.Prelude.{Each, IsOfBlock, BlockBegins, BlockIsThose, BlockDiffers, numbers_below, every_other, candidates, IsBlock, Block, Protocol}
 use Rattle.napt_laws.proofs.Classes.{AllPairs-append, each_from}
 
 -- EACH NUMBER BELOW A LIMIT, CHANGED

@@ -1,6 +1,5 @@
 -- What the candidates of a number are: those that may stand for it, each once, itself first.
-use Rattle.std.proofs.Common.{◌≡◌, ◌≢◌, ℕ, zero, suc, ◌+◌, ◌%◌, ◌<◌, ◌≤◌, ◌==◌, Bool, true, false, ◌&&◌, cond, nat_lt, nat_le, List, [], ◌∷◌, ◌++◌, slice_index_or, None, refl, sym, ◌∙◌, ap, subst, arith, ◌↔◌}
-use Rattle.std.specs.Prelude.{filter}
+use Rattle.std.proofs.Common.{◌≡◌, ◌≢◌, ℕ, zero, suc, ◌+◌, ◌%◌, ◌<◌, ◌≤◌, ◌==◌, Bool, true, false, ◌&&◌, cond, nat_lt, nat_le, List, [], ◌∷◌, ◌++◌, slice_index_or, None, refl, sym, ◌∙◌, ap, subst, arith, ◌↔◌, filter}
 use Rattle.std.specs.Bool.{beq}
 use Rattle.std.specs.Cmp.{booleans_Decides}
 use Rattle.std.specs.List.{All, AllPairs, Contains, range_with_len}
@@ -9,9 +8,7 @@ use Rattle.std.proofs.lemmas.Bool.Decides.{Decides-eqb}
 use Rattle.std.proofs.lemmas.List.Elements.{All-append, All-contains, All-filter, Contains-append_left, Contains-append_right, filter_passes}
 use Rattle.std.proofs.lemmas.List.FromFn.{length-range_with_len, get_or-range_with_len}
 use Rattle.std.proofs.lemmas.List.Kept.{AllPairs-cons, AllPairs-filter, AllPairs-from_increasing}
-use Rattle.napt_wire.specs.declared.Protocol.{Protocol}
-use Rattle.napt_wire.specs.declared.Protocol.TheVariants.{Icmp, Tcp, Udp}
-use Rattle.napt_rules.specs.Prelude.{Each, IsPortFor, IsNumberFor, is_port_for, is_number_for, numbers_below, candidates}
+use Rattle.napt_rules.specs.Prelude.{Each, IsPortFor, IsNumberFor, is_port_for, is_number_for, numbers_below, candidates, Protocol, Icmp, Tcp, Udp}
 
 -- THE TEST
 

@@ -1,11 +1,7 @@
 -- The laws for a dispatcher.
 use Rattle.std.proofs.Common.{◌≡◌, ℕ, suc, ◌+◌, ◌-◌, ◌≤◌, List, [], ◌∷◌, ◌++◌, length, Option, Some, None, IfSome, refl, sym, ◌∙◌, ap, subst, arith, append_assoc}
 use Rattle.std.specs.List.{slice_get}
-use Rattle.napt_wire.specs.declared.Way.TheVariants.{Incoming}
-use Rattle.napt_wire.specs.Fields.{destination, kind}
-use Rattle.napt_wire.specs.Laws.{SourcesLeaveDestinations, ErrorsLeaveDestinations}
-use Rattle.napt_config.specs.Rules.{Rules, place_of}
-use Rattle.napt_rules.specs.Prelude.{Through, Binding, Each, of, Acted, act, Arrival, Act, Course, outcome_of, follow_by, run_from, run, Kept, kept_after, kept_answer, kept_replies, answers_at}
+use Rattle.napt_rules.specs.Prelude.{Through, Binding, Each, of, Acted, act, Arrival, Act, Course, outcome_of, follow_by, run_from, run, Kept, kept_after, kept_answer, kept_replies, answers_at, Incoming, destination, kind, SourcesLeaveDestinations, ErrorsLeaveDestinations, Rules, place_of}
 use Rattle.napt_laws.proofs.Lists.{each_weaker, each_append}
 use Rattle.napt_rules.specs.declared.Leg.{Leg}
 use Rattle.napt_rules.specs.declared.Answer.{Answer}

@@ -1,7 +1,6 @@
 -- What each leg of a run has, by the number of its input: an induction over runs.
 use Rattle.std.proofs.Common.{ℕ, ◌+◌, max, Option, List, [], ◌∷◌, ◌++◌}
-use Rattle.napt_config.specs.Rules.{Rules}
-use Rattle.napt_rules.specs.Prelude.{Through, Binding, Each, Acted, act, Arrival, Act, Course, ahead, follow_by, first_leg, step, run_from}
+use Rattle.napt_rules.specs.Prelude.{Through, Binding, Each, Acted, act, Arrival, Act, Course, ahead, follow_by, first_leg, step, run_from, Rules}
 use Rattle.napt_rules.specs.declared.Leg.{Leg}
 use Rattle.napt_rules.specs.declared.End.{End}
 use Rattle.napt_laws.proofs.AnyStep.{of_step}

@@ -1,12 +1,10 @@
 -- Searches by a test that at most one element passes.
-use Rattle.std.proofs.Common.{◌≡◌, Bool, true, false, ◌||◌, cond, List, [], ◌∷◌, ◌++◌, map, Option, Some, None, refl, sym, ◌∙◌, ap, arith}
-use Rattle.std.specs.Prelude.{filter, find}
+use Rattle.std.proofs.Common.{◌≡◌, Bool, true, false, ◌||◌, cond, List, [], ◌∷◌, ◌++◌, map, Option, Some, None, refl, sym, ◌∙◌, ap, arith, filter, find, true≢false}
 use Rattle.std.specs.Option.{option_map}
 use Rattle.std.specs.List.{list_any}
 use Rattle.std.proofs.lemmas.Option.{same_Some}
 use Rattle.napt_rules.specs.Prelude.{change_first}
 use Rattle.napt_laws.proofs.Lists.{find_nowhere}
-use Rattle.std.proofs.lemmas.Bool.{true≢false}
 
 -- at most one element passes
 abbrev pub Once : {X : Type 0} → (X → Bool) → List X → Type 0

@@ -1,17 +1,7 @@
 -- A packet on its way out goes where its destination has a place in the pool.
 use Rattle.std.proofs.Common.{◌≡◌, ℕ, true, max, List, Option, Some, None, Result, Ok, Err, refl, sym, ap, subst}
-use Rattle.napt_wire.specs.declared.Way.{Way}
-use Rattle.napt_wire.specs.declared.Way.TheVariants.{Outgoing}
-use Rattle.napt_wire.specs.declared.Cause.{Cause}
-use Rattle.napt_wire.specs.declared.Endpoint.{Endpoint}
-use Rattle.napt_wire.specs.declared.Kind.{Kind}
 use Rattle.napt_wire.specs.declared.Kind.TheVariants.{Udp, Tcp, Echo, ErrorOf}
-use Rattle.napt_wire.specs.Fields.{destination, kind, is_error}
-use Rattle.napt_wire.specs.Rewriting.{with_source, reverted}
-use Rattle.napt_wire.specs.Packet.{IsPacket}
-use Rattle.napt_wire.specs.Laws.{SourcesLeaveDestinations, ErrorsLeaveDestinations}
-use Rattle.napt_config.specs.Rules.{Rules, place_of}
-use Rattle.napt_rules.specs.Prelude.{Binding, onward_by, gone_out, end_out, error_out, act_by, IsForeseen, Foresees}
+use Rattle.napt_rules.specs.Prelude.{Binding, onward_by, gone_out, end_out, error_out, act_by, IsForeseen, Foresees, Way, Outgoing, Cause, Endpoint, Kind, destination, kind, is_error, with_source, reverted, IsPacket, SourcesLeaveDestinations, ErrorsLeaveDestinations, Rules, place_of}
 use Rattle.napt_rules.specs.declared.Leg.{Leg}
 use Rattle.napt_rules.specs.declared.End.TheVariants.{Dropped}
 

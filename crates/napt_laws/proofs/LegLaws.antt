@@ -1,14 +1,7 @@
 -- What every leg keeps to.
 use Rattle.std.proofs.Common.{◌≡◌, ℕ, true, max, List, Option, Some, None, Result, Ok, Err, refl, ◌∙◌, ap}
-use Rattle.napt_wire.specs.declared.Way.{Way}
-use Rattle.napt_wire.specs.declared.Way.TheVariants.{Outgoing, Incoming}
-use Rattle.napt_wire.specs.declared.Cause.{Cause}
-use Rattle.napt_wire.specs.declared.Endpoint.{Endpoint}
-use Rattle.napt_wire.specs.declared.Kind.{Kind}
 use Rattle.napt_wire.specs.declared.Kind.TheVariants.{Udp, Tcp, Echo, ErrorOf}
-use Rattle.napt_wire.specs.Fields.{destination, kind, is_error}
-use Rattle.napt_config.specs.Rules.{Rules, place_of}
-use Rattle.napt_rules.specs.Prelude.{Binding, onward_by, gone_out, end_out, end_in, error_out, error_in, act_by, Kept, time_after, ErrorsChangeNothing, IsToItsSide, LegsEndAtTheirSide, is_in_or_dropped, InStaysIn}
+use Rattle.napt_rules.specs.Prelude.{Binding, onward_by, gone_out, end_out, end_in, error_out, error_in, act_by, Kept, time_after, ErrorsChangeNothing, IsToItsSide, LegsEndAtTheirSide, is_in_or_dropped, InStaysIn, Way, Outgoing, Incoming, Cause, Endpoint, Kind, destination, kind, is_error, Rules, place_of}
 use Rattle.napt_rules.specs.declared.Leg.{Leg}
 
 -- ERRORS

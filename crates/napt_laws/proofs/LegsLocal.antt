@@ -1,16 +1,8 @@
 -- A leg at one address, on all bindings and on that address's own.
-use Rattle.std.proofs.Common.{◌≡◌, ◌≢◌, ℕ, ◌≤◌, ◌&&◌, List, refl, sym, ◌∙◌, ap, arith, eqb}
-use Rattle.std.specs.Prelude.{find}
-use Rattle.napt_wire.specs.declared.Protocol.{Protocol}
+use Rattle.std.proofs.Common.{◌≡◌, ◌≢◌, ℕ, ◌≤◌, ◌&&◌, List, refl, sym, ◌∙◌, ap, arith, eqb, find}
 use Rattle.napt_wire.specs.declared.Protocol.TheVariants as protocols
-use Rattle.napt_wire.specs.declared.Way.{Way}
-use Rattle.napt_wire.specs.declared.Way.TheVariants.{Outgoing, Incoming}
-use Rattle.napt_wire.specs.declared.Flags.{Flags}
-use Rattle.napt_wire.specs.declared.Kind.{Kind}
 use Rattle.napt_wire.specs.declared.Kind.TheVariants.{Udp, Tcp, Echo, ErrorOf}
-use Rattle.napt_wire.specs.Fields.{kind}
-use Rattle.napt_config.specs.Rules.{Rules}
-use Rattle.napt_rules.specs.Prelude.{Binding, same_protocol, same_endpoint, is_at, of, is_of_inside, has_number, purge, inbound_of, Out, out_purged, step_out, In, in_purged, step_in, no_flags, Acted, end_out, end_in, error_out, error_in, sent_of, received_of, act_out, act_in, act_by, act}
+use Rattle.napt_rules.specs.Prelude.{Binding, same_protocol, same_endpoint, is_at, of, is_of_inside, has_number, purge, inbound_of, Out, out_purged, step_out, In, in_purged, step_in, no_flags, Acted, end_out, end_in, error_out, error_in, sent_of, received_of, act_out, act_in, act_by, act, Protocol, Way, Outgoing, Incoming, Flags, Kind, kind, Rules}
 use Rattle.napt_rules.specs.declared.Sent.{Sent}
 use Rattle.napt_rules.specs.declared.Received.{Received}
 use Rattle.napt_laws.proofs.Lists.{find_filter}

@@ -1,15 +1,9 @@
 -- The numbers that a sound list of bindings tells are numbers of their protocol.
-use Rattle.std.proofs.Common.{◌≡◌, ℕ, Bool, true, false, List, [], ◌∷◌, map, Option, Some, None, Result, Ok, Err, refl, eqb-true}
-use Rattle.std.specs.Prelude.{find, IfOk, IfSome}
+use Rattle.std.proofs.Common.{◌≡◌, ℕ, Bool, true, false, List, [], ◌∷◌, map, Option, Some, None, Result, Ok, Err, refl, eqb-true, find, IfOk, IfSome}
 use Rattle.std.specs.Option.{option_map}
 use Rattle.std.proofs.lemmas.Bool.{and_parts}
-use Rattle.napt_config.specs.Rules.{IsBlock}
-use Rattle.napt_wire.specs.declared.Protocol.{Protocol}
-use Rattle.napt_wire.specs.declared.Protocol.TheVariants.{Icmp, Tcp, Udp}
-use Rattle.napt_wire.specs.declared.Cause.{Cause}
-use Rattle.napt_wire.specs.declared.Endpoint.{Endpoint}
 use Rattle.napt_rules.specs.declared.Inbound.{Inbound}
-use Rattle.napt_rules.specs.Prelude.{Binding, Each, same_protocol, is_of_inside, has_number, permits, granted, of_source, out_made, out_found, out_purged, of_destination, in_found, in_purged, row, IsNumber, IsPaired, IsSound}
+use Rattle.napt_rules.specs.Prelude.{Binding, Each, same_protocol, is_of_inside, has_number, permits, granted, of_source, out_made, out_found, out_purged, of_destination, in_found, in_purged, row, IsNumber, IsPaired, IsSound, IsBlock, Protocol, Icmp, Tcp, Udp, Cause, Endpoint}
 use Rattle.napt_rules.specs.declared.Sent.{Sent}
 use Rattle.napt_rules.specs.declared.Received.{Received}
 use Rattle.napt_rules.specs.declared.Row.{Row}

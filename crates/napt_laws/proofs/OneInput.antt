@@ -1,10 +1,7 @@
 -- One input more.
-use Rattle.std.proofs.Common.{◌≡◌, ℕ, zero, suc, ◌+◌, ◌<◌, max, List, [], ◌∷◌, ◌++◌, length, Some, Result, refl, sym, ◌∙◌, ap, arith, get_or, take, drop}
+use Rattle.std.proofs.Common.{◌≡◌, ℕ, zero, suc, ◌+◌, ◌<◌, max, List, [], ◌∷◌, ◌++◌, length, Some, Result, refl, sym, ◌∙◌, ap, arith, get_or, take, drop, slice_get}
 use Rattle.std.proofs.lemmas.List.{take_more, take-append-drop}
-use Rattle.std.specs.Prelude.{slice_get}
-use Rattle.napt_wire.specs.declared.Cause.{Cause}
-use Rattle.napt_config.specs.Rules.{Rules}
-use Rattle.napt_rules.specs.Prelude.{Binding, opening, Arrival, admission, Course, ahead, first_leg, step_as, step, run_from, run, last_clock}
+use Rattle.napt_rules.specs.Prelude.{Binding, opening, Arrival, admission, Course, ahead, first_leg, step_as, step, run_from, run, last_clock, Cause, Rules}
 use Rattle.napt_rules.specs.declared.Outcome.{Outcome}
 use Rattle.napt_laws.specs.Dispatching.{IsFront}
 use Rattle.napt_laws.proofs.Grown.{run_append}

@@ -1,14 +1,8 @@
 -- Second legs by the number of their input.
-use Rattle.std.proofs.Common.{◌≡◌, ◌≢◌, ℕ, ◌+◌, ◌≤◌, ◌==◌, max, Bool, true, false, cond, Option, List, [], ◌∷◌, ◌++◌, length, map, Ok, refl, sym, ◌∙◌, ap, subst, arith, append_assoc, append-nil}
-use Rattle.std.proofs.lemmas.Bool.{eq-eqb, ne_eqb}
+use Rattle.std.proofs.Common.{◌≡◌, ◌≢◌, ℕ, ◌+◌, ◌≤◌, ◌==◌, max, Bool, true, false, cond, Option, List, [], ◌∷◌, ◌++◌, length, map, Ok, refl, sym, ◌∙◌, ap, subst, arith, append_assoc, append-nil, eq-eqb, ne_eqb}
 use Rattle.std.proofs.lemmas.List.{map-append}
 use Rattle.std.proofs.lemmas.List.Elements.{filter-append}
-use Rattle.napt_wire.specs.declared.Way.{Way}
-use Rattle.napt_wire.specs.declared.Way.TheVariants.{Outgoing}
-use Rattle.napt_wire.specs.Fields.{destination}
-use Rattle.napt_wire.specs.Packet.{IsPacket}
-use Rattle.napt_config.specs.Rules.{Rules}
-use Rattle.napt_rules.specs.Prelude.{Through, Binding, Each, opening, way_from, served_at, Acted, act, Arrival, admission, Act, Course, follow_by, run, last_clock, acts_at, legs_at}
+use Rattle.napt_rules.specs.Prelude.{Through, Binding, Each, opening, way_from, served_at, Acted, act, Arrival, admission, Act, Course, follow_by, run, last_clock, acts_at, legs_at, Way, Outgoing, destination, IsPacket, Rules}
 use Rattle.napt_laws.proofs.Lists.{each_weaker, each_append}
 use Rattle.napt_rules.specs.declared.Leg.{Leg}
 use Rattle.napt_rules.specs.declared.End.{End}

@@ -1,16 +1,7 @@
 -- Where a packet is routed to, and the step of an input by that.
-use Rattle.std.proofs.Common.{◌≡◌, ℕ, Bool, true, false, List, cond, Option, Some, None, Result, Ok, Err, IsSome, refl, ◌∙◌, ap}
-use Rattle.std.specs.Prelude.{ok_or, is_some, not}
-use Rattle.napt_wire.specs.declared.Side.{Side}
-use Rattle.napt_wire.specs.declared.Side.TheVariants.{Inside, Outside}
-use Rattle.napt_wire.specs.declared.Way.TheVariants.{Outgoing}
-use Rattle.napt_wire.specs.declared.Cause.{Cause}
-use Rattle.napt_wire.specs.declared.Cause.TheVariants.{Spoofed, NotOurs, Unsupported}
-use Rattle.napt_wire.specs.Fields.{destination, local_end}
-use Rattle.napt_config.specs.Rules.{Rules, KeepsRules, pair_of, place_of}
+use Rattle.std.proofs.Common.{◌≡◌, ℕ, Bool, true, false, List, cond, Option, Some, None, Result, Ok, Err, IsSome, refl, ◌∙◌, ap, ok_or, is_some, not}
 use Rattle.napt_config.proofs.Pools.{paired_in_pool, position_of_member}
-use Rattle.napt_rules.specs.Prelude.{Binding, is_spoofed, is_not_ours, is_unsupported, refusal, way_from, served_at, routed, route, Arrival, judged_by, admission_as, refused, admitted, first_leg, step_as, step}
-use Rattle.napt_wire.specs.Reading.{reading}
+use Rattle.napt_rules.specs.Prelude.{Binding, is_spoofed, is_not_ours, is_unsupported, refusal, way_from, served_at, routed, route, Arrival, judged_by, admission_as, refused, admitted, first_leg, step_as, step, Side, Inside, Outside, Outgoing, Cause, Spoofed, NotOurs, Unsupported, destination, local_end, Rules, KeepsRules, pair_of, place_of, reading}
 
 -- ROUTES
 

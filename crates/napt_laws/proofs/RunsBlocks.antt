@@ -1,15 +1,6 @@
 -- Every step keeps each binding that is no redirect in its host's block.
-use Rattle.std.proofs.Common.{◌≡◌, ℕ, Bool, List, [], ◌∷◌, map, Option, Some, None}
-use Rattle.std.specs.Prelude.{filter, find, IfSome}
-use Rattle.napt_wire.specs.declared.Protocol.{Protocol}
-use Rattle.napt_wire.specs.declared.Way.{Way}
-use Rattle.napt_wire.specs.declared.Flags.{Flags}
-use Rattle.napt_wire.specs.declared.Kind.{Kind}
-use Rattle.napt_wire.specs.Fields.{kind}
-use Rattle.napt_config.specs.Rules.{Rules, KeepsRules, IsBlock, pair_of}
-use Rattle.napt_config.specs.declared.settings.Block.{Block}
-use Rattle.napt_config.specs.declared.settings.Redirect.{Redirect}
-use Rattle.napt_rules.specs.Prelude.{Binding, Each, inbound_of, candidates, is_free, redirected, opening, fresh, row, Acted, sent_of, received_of, act_out, act_in, act_by, Arrival, run_from, IsOfBlock, IsInItsBlock, RunsKeepToBlocks}
+use Rattle.std.proofs.Common.{◌≡◌, ℕ, Bool, List, [], ◌∷◌, map, Option, Some, None, filter, find, IfSome}
+use Rattle.napt_rules.specs.Prelude.{Binding, Each, inbound_of, candidates, is_free, redirected, opening, fresh, row, Acted, sent_of, received_of, act_out, act_in, act_by, Arrival, run_from, IsOfBlock, IsInItsBlock, RunsKeepToBlocks, Protocol, Way, Flags, Kind, kind, Rules, KeepsRules, IsBlock, pair_of, Block, Redirect}
 use Rattle.napt_rules.specs.declared.Sent.{Sent}
 use Rattle.napt_rules.specs.declared.Row.{Row}
 use Rattle.napt_rules.specs.declared.Leg.{Leg}

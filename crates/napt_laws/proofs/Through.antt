@@ -1,20 +1,13 @@
 -- What a leg says of the binding that its packet went through.
-use Rattle.std.proofs.Common.{◌≡◌, ℕ, Bool, true, false, cond, List, Option, Some, None, Result, Ok, Err, refl, sym, ◌∙◌, ap, subst}
-use Rattle.std.specs.Prelude.{find}
+use Rattle.std.proofs.Common.{◌≡◌, ℕ, Bool, true, false, cond, List, Option, Some, None, Result, Ok, Err, refl, sym, ◌∙◌, ap, subst, find}
 use Rattle.std.specs.Option.{option_map}
-use Rattle.napt_wire.specs.declared.Cause.{Cause}
-use Rattle.napt_wire.specs.declared.Way.{Way}
-use Rattle.napt_wire.specs.declared.Way.TheVariants.{Outgoing, Incoming}
-use Rattle.napt_wire.specs.declared.Kind.{Kind}
 use Rattle.napt_wire.specs.declared.Kind.TheVariants.{Udp, Tcp, Echo, ErrorOf}
-use Rattle.napt_wire.specs.Fields.{kind, is_error}
-use Rattle.napt_config.specs.Rules.{Rules}
 use Rattle.napt_rules.specs.declared.Inbound.{Inbound}
 use Rattle.napt_rules.specs.declared.Sent.{Sent}
 use Rattle.napt_rules.specs.declared.Received.{Received}
 use Rattle.napt_rules.specs.declared.Leg.{Leg}
 use Rattle.napt_rules.specs.declared.End.TheVariants.{Dropped}
-use Rattle.napt_rules.specs.Prelude.{Binding, purge, permits, inbound_of, granted, of_source, sent_by, fresh, Out, out_made, out_found, step_out, of_destination, received_by, In, in_found, step_in, onward_by, end_out, end_in, sent_of, received_of, Acted, act_by}
+use Rattle.napt_rules.specs.Prelude.{Binding, purge, permits, inbound_of, granted, of_source, sent_by, fresh, Out, out_made, out_found, step_out, of_destination, received_by, In, in_found, step_in, onward_by, end_out, end_in, sent_of, received_of, Acted, act_by, Cause, Way, Outgoing, Incoming, Kind, kind, is_error, Rules}
 use Rattle.napt_laws.specs.Through.{IsSaid, OutSaysItsBinding, InSaysItsBinding, ErrorsGoThroughNone, DroppedGoThroughNone}
 use Rattle.napt_laws.proofs.Acts.{of_act}
 use Rattle.napt_laws.proofs.Endpoints.{inside_it}

@@ -1,7 +1,6 @@
 -- The bindings of one address on their own, against those of all addresses.
 use Rattle.std.specs.Prelude.{◌≡◌, ℕ, ◌≤◌, List}
-use Rattle.napt_config.specs.Rules.{Rules}
-use Rattle.napt_rules.specs.Prelude.{Binding, of, purge, Kept}
+use Rattle.napt_rules.specs.Prelude.{Binding, of, purge, Kept, Rules}
 
 -- a list of one address that is, purged from a time on, the whole list's at that address
 pub record Agrees (rules : Rules) (address now : ℕ) (own list : List Binding) : Type 0 where

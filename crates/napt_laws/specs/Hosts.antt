@@ -1,10 +1,9 @@
 -- Whose an external endpoint is, where hosts have blocks (RFC 7422, section 2): one inside host's at most, at all
 -- times, and the configuration alone says which.
 use Rattle.std.specs.Prelude.{◌≡◌, ℕ, true, false, List, map, Some, IfSome}
-use Rattle.napt_config.specs.declared.settings.Block.{Block}
 use Rattle.napt_config.specs.Rules.{Rules, KeepsRules, pair_of, block_of, has_number, host_of}
 use Rattle.napt_rules.specs.declared.Row.{Row}
-use Rattle.napt_rules.specs.Prelude.{Each, row, Arrival, run, opening}
+use Rattle.napt_rules.specs.Prelude.{Each, row, Arrival, run, opening, Block}
 
 -- the host of each number of a host's block, at the host's external address, is that host
 abbrev pub BlocksTellTheirHosts : Type 0

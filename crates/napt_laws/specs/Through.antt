@@ -3,16 +3,12 @@
 -- RFC 3022, section 4: out through the binding of the source, which is made where there is none; in through that of the
 -- destination. An ICMP error goes through none (RFC 5508, REQ-3 to REQ-6).
 use Rattle.std.specs.Prelude.{◌≡◌, ◌↔◌, ℕ, true, List, Option, Some, None, Result, Ok, Err}
-use Rattle.napt_wire.specs.declared.Cause.{Cause}
-use Rattle.napt_wire.specs.Fields.{kind, is_error}
-use Rattle.napt_config.specs.Rules.{Rules, AreTimers}
-use Rattle.napt_config.specs.declared.settings.Timers.{Timers}
 use Rattle.napt_rules.specs.declared.Inbound.{Inbound}
 use Rattle.napt_rules.specs.declared.Sent.{Sent}
 use Rattle.napt_rules.specs.declared.Received.{Received}
 use Rattle.napt_rules.specs.declared.Leg.{Leg}
 use Rattle.napt_rules.specs.declared.End.TheVariants.{Dropped}
-use Rattle.napt_rules.specs.Prelude.{Through, Binding, Out, step_out, In, step_in, by_inside, by_number, act}
+use Rattle.napt_rules.specs.Prelude.{Through, Binding, Out, step_out, In, step_in, by_inside, by_number, act, Cause, kind, is_error, Rules, AreTimers, Timers}
 
 -- the binding that a packet finds after its leg, which it made if and only if it found none before
 pub record IsThrough (before after : Option Binding) (through : Option Through) : Type 0 where

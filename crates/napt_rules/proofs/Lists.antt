@@ -1,6 +1,5 @@
 -- Words on lists against one another.
-use Rattle.std.proofs.Common.{◌≡◌, Bool, true, false, cond, List, [], ◌∷◌, refl, ◌∙◌, ap, arith}
-use Rattle.std.specs.Prelude.{filter}
+use Rattle.std.proofs.Common.{◌≡◌, Bool, true, false, cond, List, [], ◌∷◌, refl, ◌∙◌, ap, arith, filter}
 use Rattle.std.specs.List.{list_any}
 use Rattle.napt_rules.specs.Prelude.{Each}
 

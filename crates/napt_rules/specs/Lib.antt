@@ -55,14 +55,9 @@ pub mod Sequential
 -- LAWS of steps, of legs and of runs
 
 pub mod Endpoints
-pub mod SoundSteps
-pub mod LiveSteps
-pub mod LocalSteps
-pub mod QuotaSteps
+pub mod StepLaws
 pub mod OwnTime
 pub mod LegEnds
-pub mod SoundRuns
-pub mod QuotaRuns
-pub mod BlockRuns
+pub mod RunLaws
 pub mod LocalRuns
 pub mod Prelude

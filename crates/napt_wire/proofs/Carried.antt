@@ -2,14 +2,9 @@
 use Rattle.std.proofs.Common.{◌≡◌, ℕ, ◌^◌, ◌<◌, ◌≤◌, false, List, length, take, Ok, arith, refl, sym, ap, subst, slice_index}
 use Rattle.std.proofs.lemmas.Bool.Decides.{nat_tests}
 use Rattle.std.proofs.lemmas.Grind.{common_steps}
-use Rattle.napt_wire.specs.Fields.{total_length, transport, form_at, source, kind, kind_of, number_at, number_place, is_error, CanCarry}
-use Rattle.napt_wire.specs.Reading.{reading, message_checks, has_zero_port}
-use Rattle.napt_wire.specs.Packet.{IsPacket}
+use Rattle.napt_wire.specs.Prelude.{total_length, transport, form_at, source, kind, kind_of, number_at, number_place, is_error, CanCarry, reading, message_checks, has_zero_port, IsPacket, Side, Form, Source}
 use Rattle.napt_wire.proofs.Readings.{AllPass, passes_of_read}
-use Rattle.napt_wire.specs.declared.Side.{Side}
-use Rattle.napt_wire.specs.declared.form.Form.{Form}
 use Rattle.napt_wire.specs.declared.form.Form.TheVariants.{Udp, Tcp, Request, Reply, Error}
-use Rattle.napt_wire.specs.declared.form.End.TheVariants.{Source}
 
 module _ (side : Side) (bytes : List ℕ) where
   no_zero_port : (form : Form) → has_zero_port (form_at 0 bytes) (transport 0 bytes) bytes ≡ false →

@@ -1,13 +1,10 @@
 -- What replaced words leave as it was, and what they do to the sum of the words of a part.
-use Rattle.std.proofs.Common.{◌≡◌, ℕ, zero, suc, ◌+◌, ◌-◌, ◌*◌, ◌/◌, ◌%◌, ◌<◌, ◌≤◌, List, [], ◌∷◌, ◌++◌, length, min, take, drop, set, sum, slice_index, arith, refl, sym, ◌∙◌, ap, length-drop}
+use Rattle.std.proofs.Common.{◌≡◌, ℕ, zero, suc, ◌+◌, ◌-◌, ◌*◌, ◌/◌, ◌%◌, ◌<◌, ◌≤◌, List, [], ◌∷◌, ◌++◌, length, min, take, drop, set, sum, slice_index, arith, refl, sym, ◌∙◌, ap, length-drop, length-take, length-take-le, length-set, get_or-set_same, get_or-set_other, get_or-drop, get_or-take, take_at}
 use Rattle.std.proofs.lemmas.Grind.{same_number_lists}
-use Rattle.std.proofs.lemmas.List.{length-take, length-take-le, length-set, get_or-set_same, get_or-set_other, get_or-drop, get_or-take, take_at}
 use Rattle.std.proofs.Math.Seq.{take-set-lt}
 use Rattle.std.proofs.lemmas.List.{drop-set-add}
 use Rattle.napt_wire.proofs.Checksums.{sum-cons}
-use Rattle.napt_wire.specs.Bytes.{word_at, long_at, put_word, words}
-use Rattle.napt_wire.specs.Rewriting.{changed, olds, news}
-use Rattle.napt_wire.specs.declared.rewrite.Change.{Change}
+use Rattle.napt_wire.specs.Prelude.{word_at, long_at, put_word, words, changed, olds, news, Change}
 
 pub length-put_word : (place word : ℕ) (bytes : List ℕ) → length (put_word place word bytes) ≡ length bytes
 length-put_word place word bytes = simp length-set

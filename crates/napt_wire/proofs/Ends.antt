@@ -3,17 +3,8 @@ use Rattle.std.proofs.Common.{◌≡◌, ℕ, ◌+◌, ◌*◌, ◌/◌, ◌%◌
 use Rattle.std.proofs.lemmas.Bool.Decides.{nat_tests}
 use Rattle.std.proofs.lemmas.List.Elements.{All-cons, All-head, All-tail}
 use Rattle.napt_wire.proofs.Changes.{AreWithin, AreEdits, AreClear, IsClear, Stands, IsWritten, written-edits, written-front, long-same, clear-append, clear-within, stands-append, part, length-changed, sum-part-changed, within-edits, edits-append, edits-higher}
-use Rattle.napt_wire.specs.Bytes.{word_at, words}
-use Rattle.napt_wire.specs.Checksum.{canon}
-use Rattle.napt_wire.specs.Fields.{address, address_place, transport, form_at, number_place, end_at}
-use Rattle.napt_wire.specs.Rewriting.{change, changed, address_words, address_changes, number_changes, end_changes}
-use Rattle.napt_wire.specs.Room.{HasHeaders, AreThere}
-use Rattle.napt_wire.specs.declared.Endpoint.{Endpoint}
-use Rattle.napt_wire.specs.declared.rewrite.Change.{Change}
-use Rattle.napt_wire.specs.declared.form.Form.{Form}
+use Rattle.napt_wire.specs.Prelude.{word_at, words, canon, address, address_place, transport, form_at, number_place, end_at, change, changed, address_words, address_changes, number_changes, end_changes, HasHeaders, AreThere, Endpoint, Change, Form, End, Source, Destination}
 use Rattle.napt_wire.specs.declared.form.Form.TheVariants.{Udp, Tcp, Request, Reply, Error}
-use Rattle.napt_wire.specs.declared.form.End.{End}
-use Rattle.napt_wire.specs.declared.form.End.TheVariants.{Source, Destination}
 
 pub there-of_within : (low : ℕ) (xs : List Change) (bytes : List ℕ) → AreWithin low (length bytes) xs →
     AreThere xs bytes

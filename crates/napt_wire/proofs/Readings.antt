@@ -1,17 +1,10 @@
 -- What a packet that reads is, check by check.
-use Rattle.std.proofs.Common.{◌≡◌, ℕ, ◌<◌, ◌≤◌, Bool, true, false, List, [], ◌∷◌, ◌++◌, length, take, drop, Option, Some, None, Ok, arith, refl, sym, ◌∙◌, ap, slice_index, length-drop}
+use Rattle.std.proofs.Common.{◌≡◌, ℕ, ◌<◌, ◌≤◌, Bool, true, false, List, [], ◌∷◌, ◌++◌, length, take, drop, Option, Some, None, Ok, arith, refl, sym, ◌∙◌, ap, slice_index, length-drop, length-take-le}
 use Rattle.std.specs.Option.{option_or}
 use Rattle.std.proofs.lemmas.Bool.Decides.{nat_tests}
 use Rattle.std.proofs.lemmas.Grind.{common_steps}
-use Rattle.napt_wire.specs.Fields.{version, header_length, total_length, transport, form_at}
-use Rattle.napt_wire.specs.Reading.{refusal, reading, read_unless, datagram, length_checks, header_checks, body_checks, has_bad_transport}
-use Rattle.napt_wire.specs.Packet.{IsPacket}
-use Rattle.napt_wire.specs.Room.{HasHeaders}
-use Rattle.std.proofs.lemmas.List.{length-take-le}
+use Rattle.napt_wire.specs.Prelude.{version, header_length, total_length, transport, form_at, refusal, reading, read_unless, datagram, length_checks, header_checks, body_checks, has_bad_transport, IsPacket, HasHeaders, Cause, Side, Form}
 use Rattle.std.proofs.Math.Seq.{take-length}
-use Rattle.napt_wire.specs.declared.Cause.{Cause}
-use Rattle.napt_wire.specs.declared.Side.{Side}
-use Rattle.napt_wire.specs.declared.form.Form.{Form}
 use Rattle.napt_wire.specs.declared.form.Form.TheVariants.{Udp, Tcp, Request, Reply, Error}
 
 -- the first part refuses, or the second judges

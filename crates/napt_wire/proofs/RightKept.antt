@@ -7,20 +7,8 @@ use Rattle.napt_wire.proofs.Checksums.{sum-append}
 use Rattle.napt_wire.proofs.Ends.{address-within, address_same, end_address, end-written, numbers, numbers-written, other}
 use Rattle.napt_wire.proofs.WithEnd.{Carries, KeepsHeader, end_keeps_header, first_byte, same_start}
 use Rattle.napt_wire.proofs.WithInner.{PassesError, error_kept, inner_header, inner_room, quoted-part, quoted-written}
-use Rattle.napt_wire.specs.declared.Side.{Side}
-use Rattle.napt_wire.specs.declared.Way.{Way}
-use Rattle.napt_wire.specs.Bytes.{word_at, words}
-use Rattle.napt_wire.specs.Checksum.{canon, canon_udp, is_right}
-use Rattle.napt_wire.specs.Fields.{address, protocol_number, transport, form_at, number_place, number_at, inner_at}
-use Rattle.napt_wire.specs.Right.{pseudo_words, message_length, covered_by, transport_right}
-use Rattle.napt_wire.specs.Rewriting.{change, changed, end_words, address_changes, end_changes, reverted_changes, inner_end}
-use Rattle.napt_wire.specs.Room.{HasHeaders}
-use Rattle.napt_wire.specs.declared.Endpoint.{Endpoint}
-use Rattle.napt_wire.specs.declared.rewrite.Change.{Change}
-use Rattle.napt_wire.specs.declared.form.Form.{Form}
+use Rattle.napt_wire.specs.Prelude.{Side, Way, word_at, words, canon, canon_udp, is_right, address, protocol_number, transport, form_at, number_place, number_at, inner_at, pseudo_words, message_length, covered_by, transport_right, change, changed, end_words, address_changes, end_changes, reverted_changes, inner_end, HasHeaders, Endpoint, Change, Form, End, Source, Destination}
 use Rattle.napt_wire.specs.declared.form.Form.TheVariants.{Udp, Tcp, Request, Reply, Error}
-use Rattle.napt_wire.specs.declared.form.End.{End}
-use Rattle.napt_wire.specs.declared.form.End.TheVariants.{Source, Destination}
 
 -- a check that is there as before, and right as before
 same_right : (gone gone' : Bool) (old new : List ℕ) → gone' ≡ gone →

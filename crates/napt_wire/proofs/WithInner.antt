@@ -9,24 +9,9 @@ use Rattle.napt_wire.proofs.Checksums.{sum-append, sum-cons}
 use Rattle.napt_wire.proofs.Ends.{address-edits, address-within, end-edits, there-of_within, other_clear, end-clear, end_address, address_stands, address_same}
 use Rattle.napt_wire.proofs.Readings.{AllPass, Passes, room_of, passes_of_read}
 use Rattle.napt_wire.proofs.WithEnd.{Carries, KeepsBody, KeepsHeader, written_keeps_body, header_keeps, end_keeps_header, first_byte, same_form, same_start, passes_kept, residue_zero, zero_residue}
-use Rattle.napt_wire.specs.Bytes.{word_at, long_at, words}
-use Rattle.napt_wire.specs.Checksum.{canon}
-use Rattle.napt_wire.specs.Fields.{address, header_length, transport, form_at, inner_at, inner, kind, kind_of, is_error, CanCarry}
-use Rattle.napt_wire.specs.Reading.{reading, message_checks, error_checks, has_bad_inner, is_quoted, has_zero_port}
-use Rattle.napt_wire.specs.Rewriting.{change, changed, olds, news, address_changes, end_changes, reverted_changes, inner_end, outer_end}
-use Rattle.napt_wire.specs.Packet.{IsFound, body_of, quoted_of}
-use Rattle.napt_wire.specs.Room.{HasHeaders, AreThere}
-use Rattle.napt_wire.specs.declared.packet.Body.{Body}
+use Rattle.napt_wire.specs.Prelude.{word_at, long_at, words, canon, address, header_length, transport, form_at, inner_at, inner, kind, kind_of, is_error, CanCarry, reading, message_checks, error_checks, has_bad_inner, is_quoted, has_zero_port, change, changed, olds, news, address_changes, end_changes, reverted_changes, inner_end, outer_end, IsFound, body_of, quoted_of, HasHeaders, AreThere, Body, Quoted, Side, Way, Outgoing, Incoming, Endpoint, Change, Form, Source, Destination}
 use Rattle.napt_wire.specs.declared.packet.Body.TheVariants as bodies
-use Rattle.napt_wire.specs.declared.packet.Quoted.{Quoted}
-use Rattle.napt_wire.specs.declared.Side.{Side}
-use Rattle.napt_wire.specs.declared.Way.{Way}
-use Rattle.napt_wire.specs.declared.Way.TheVariants.{Outgoing, Incoming}
-use Rattle.napt_wire.specs.declared.Endpoint.{Endpoint}
-use Rattle.napt_wire.specs.declared.rewrite.Change.{Change}
-use Rattle.napt_wire.specs.declared.form.Form.{Form}
 use Rattle.napt_wire.specs.declared.form.Form.TheVariants.{Udp, Tcp, Request, Reply, Error}
-use Rattle.napt_wire.specs.declared.form.End.TheVariants.{Source, Destination}
 
 -- the datagram at a place may be quoted
 pub record GoodInner (side : Side) (at : ℕ) (bytes : List ℕ) : Type 0 where

@@ -9,3 +9,4 @@ pub mod Rewrite
 pub mod Room
 pub mod Header
 pub mod Laws
+pub mod Prelude

@@ -2,9 +2,7 @@
 use Rattle.std.proofs.Common.{◌≡◌, ◌+◌, ◌≤◌, [], ◌∷◌, length, refl, ap, ◌∙◌, arith, rules, length-append}
 use Rattle.std.proofs.lemmas.List.Elements.{All-nil, All-push}
 use Rattle.std.proofs.lemmas.Result.{err_from_is_err_and}
-use Rattle.napt_capture.specs.Contents.{Entry}
-use Rattle.napt_capture.specs.declared.fault.CaptureFault.TheVariants.{Memory}
-use Rattle.napt_capture.specs.Text.{IsWritable}
+use Rattle.napt_capture.specs.Prelude.{Entry, Memory, IsWritable}
 use Rattle.napt_capture.proofs.Whole.{asked_joined, for_records, header_refused, reads_end, reads_fault, reads_on, refuses, starts}
 use Rattle.napt_capture.proofs.reading.read_capture.Goals as goal
 

@@ -1,9 +1,6 @@
 -- What was read so far is the front of the file, with these records, and no read failed.
 use Rattle.std.proofs.Common.{◌≡◌, ◌+◌, ◌-◌, ◌*◌, ◌≤◌, All, length}
-use Rattle.napt_capture.specs.declared.TheConstants.{MOST_ASKED}
-use Rattle.napt_capture.specs.Capture.{asked_records}
-use Rattle.napt_capture.specs.Reading.{Gives}
-use Rattle.napt_capture.specs.Text.{IsWritable}
+use Rattle.napt_capture.specs.Prelude.{MOST_ASKED, asked_records, Gives, IsWritable}
 use Rattle.napt_capture.proofs.Whole.{Progress}
 use Rattle.napt_capture.proofs.reading.read_capture.Given as goal
 

@@ -2,9 +2,7 @@
 use Rattle.std.proofs.Common.{◌≤◌, Err, length, arith}
 use Rattle.std.proofs.lemmas.Result.{err_from_is_err_and}
 use Rattle.std.proofs.lemmas.List.{with_items_is}
-use Rattle.napt_capture.specs.declared.reading.Next.{Next}
-use Rattle.napt_capture.specs.declared.fault.CaptureFault.TheVariants.{TooLarge}
-use Rattle.napt_capture.specs.Reading.{ReadsNext}
+use Rattle.napt_capture.specs.Prelude.{Next, TooLarge, ReadsNext}
 use Rattle.napt_capture.proofs.Filled.{Gives-both, Gives-known, Gives-map, Gives-same, Says-fact, filled_by}
 use Rattle.napt_capture.proofs.Header.{header_read, next_all, next_bad, next_early, next_large, next_none, next_part}
 use Rattle.napt_capture.proofs.reading.read_record.Goals as goal

@@ -1,5 +1,4 @@
-use Rattle.std.proofs.Common.{◌≡◌, ◌<◌, [], drop}
-use Rattle.std.specs.Prelude.{IsOk}
+use Rattle.std.proofs.Common.{◌≡◌, ◌<◌, [], drop, IsOk}
 use Rattle.toml.specs.View.{items_view}
 use Rattle.napt_config.specs.Configured.{each_in_order, first_in_order, with_prefix}
 use Rattle.napt_config.proofs.reading.prefixes_of.Given as goal

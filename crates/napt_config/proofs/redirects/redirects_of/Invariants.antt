@@ -1,8 +1,6 @@
-use Rattle.std.proofs.Common.{◌≡◌, ◌<◌, [], drop, length}
-use Rattle.std.specs.Prelude.{IsOk}
+use Rattle.std.proofs.Common.{◌≡◌, ◌<◌, [], drop, length, IsOk}
 use Rattle.toml.specs.View.{items_view}
-use Rattle.napt_config.specs.Rules.{paired, block_in}
-use Rattle.napt_config.specs.Configured.{each_in_order, first_in_order, with_redirect}
+use Rattle.napt_config.specs.Prelude.{paired, block_in, each_in_order, first_in_order, with_redirect}
 use Rattle.napt_config.proofs.redirects.redirects_of.Given as goal
 
 abbrev pub invariant-loop-entry : goal.invariant-loop-entry

@@ -1,9 +1,7 @@
 -- A header is the text of no records.
 use Rattle.std.proofs.Common.{◌≡◌, ◌≤◌, List, [], length, subst, sym, false, Ok, arith, append-nil}
 use Rattle.std.proofs.lemmas.List.Elements.{All-nil}
-use Rattle.napt_capture.specs.Capture.{Held, captured, read_whole}
-use Rattle.napt_capture.specs.Contents.{Contents, Entry}
-use Rattle.napt_capture.specs.Text.{IsWritable, file_header, text}
+use Rattle.napt_capture.specs.Prelude.{Held, captured, read_whole, Contents, Entry, IsWritable, file_header, text}
 use Rattle.napt_capture.proofs.ReadsBack.{captured_text, length-file_header, read_text}
 use Rattle.napt_capture.proofs.absent.NoPackets.new.Goals as goal
 

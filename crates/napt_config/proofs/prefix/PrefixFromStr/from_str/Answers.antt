@@ -1,8 +1,5 @@
-use Rattle.std.proofs.Common.{sym, ap, ◌∙◌, subst}
-use Rattle.std.specs.Prelude.{ok_or}
-use Rattle.napt_config.specs.declared.fault.ConfigFault.TheVariants.{BadPrefix}
-use Rattle.napt_config.specs.Network.{IsNetwork}
-use Rattle.napt_config.specs.Text.{network_text, IsReadBack}
+use Rattle.std.proofs.Common.{sym, ap, ◌∙◌, subst, ok_or}
+use Rattle.napt_config.specs.Prelude.{BadPrefix, IsNetwork, network_text, IsReadBack}
 use Rattle.napt_config.proofs.Spellings.{networks_read_back}
 use Rattle.napt_config.proofs.prefix.PrefixFromStr.from_str.Goals as goal
 

@@ -1,8 +1,5 @@
 use Rattle.std.proofs.Common.{◌≡◌, ℕ, ◌+◌, List, [], ◌∷◌, Option, Some, None, option_map, sym, ◌∙◌, refl}
-use Rattle.napt_wire.specs.Fields.{transport, form_at, number_place, end_at}
-use Rattle.napt_wire.specs.Rewriting.{change, checksum_changes, number_changes, end_changes}
-use Rattle.napt_wire.specs.declared.Endpoint.{Endpoint}
-use Rattle.napt_wire.specs.declared.form.Form.{Form}
+use Rattle.napt_wire.specs.Prelude.{transport, form_at, number_place, end_at, change, checksum_changes, number_changes, end_changes, Endpoint, Form}
 use Rattle.napt_wire.proofs.header.Header.rewrite_end.Goals as goal
 use Rattle.napt_wire.proofs.header.Header.rewrite_end.Goals.{in-Some, in-None}
 

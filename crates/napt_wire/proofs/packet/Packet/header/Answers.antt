@@ -1,7 +1,5 @@
 use Rattle.std.proofs.Common.{◌≡◌, ℕ, List, ap, ◌∙◌, refl}
-use Rattle.napt_wire.specs.Fields.{form_at}
-use Rattle.napt_wire.specs.Packet.{body_of, form_of}
-use Rattle.napt_wire.specs.declared.form.Form.{Form}
+use Rattle.napt_wire.specs.Prelude.{form_at, body_of, form_of, Form}
 use Rattle.napt_wire.specs.declared.form.Form.TheVariants.{Udp, Tcp, Request, Reply, Error}
 use Rattle.napt_wire.proofs.Readings.{room_of_packet}
 use Rattle.napt_wire.proofs.packet.Packet.header.Goals as goal

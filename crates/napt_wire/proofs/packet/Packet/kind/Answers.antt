@@ -1,7 +1,6 @@
 use Rattle.std.proofs.Common.{List, ℕ, sym, ap}
 use Rattle.napt_wire.proofs.WithInner.{is_error_of, quoted_form}
-use Rattle.napt_wire.specs.Fields.{inner, kind, kind_of}
-use Rattle.napt_wire.specs.declared.form.Form.{Form}
+use Rattle.napt_wire.specs.Prelude.{inner, kind, kind_of, Form}
 use Rattle.napt_wire.proofs.packet.Packet.kind.Goals as goal
 
 pub quoted_header-requires-clause-error : goal.quoted_header-requires-clause-error

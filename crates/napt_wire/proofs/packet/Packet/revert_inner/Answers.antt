@@ -3,9 +3,7 @@ use Rattle.napt_wire.proofs.Changes.{vec-changed}
 use Rattle.napt_wire.proofs.Readings.{passes_of_read, reads_of_passes}
 use Rattle.napt_wire.proofs.RightKept.{error_right}
 use Rattle.napt_wire.proofs.WithInner.{passes_error, KeepsError, error_kept_of, error_there, error_of, carries_inner, not_error, error_found, quoted_form}
-use Rattle.napt_wire.specs.Reading.{reading}
-use Rattle.napt_wire.specs.Rewriting.{changed, reverted, reverted_changes}
-use Rattle.napt_wire.specs.declared.Side.{Side}
+use Rattle.napt_wire.specs.Prelude.{reading, changed, reverted, reverted_changes, Side}
 use Rattle.napt_wire.proofs.packet.Packet.revert_inner.Goals as goal
 use Rattle.napt_wire.proofs.packet.Packet.revert_inner.Goals.{After-self-1}
 

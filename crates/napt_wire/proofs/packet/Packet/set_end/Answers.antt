@@ -1,12 +1,10 @@
-use Rattle.std.proofs.Common.{◌≡◌, sym, ◌∙◌, ap, refl, take, drop, length, ◌++◌, List, ℕ}
-use Rattle.std.proofs.lemmas.List.{take_at}
+use Rattle.std.proofs.Common.{◌≡◌, sym, ◌∙◌, ap, refl, take, drop, length, ◌++◌, List, ℕ, take_at}
 use Rattle.napt_wire.proofs.Changes.{length-changed}
 use Rattle.napt_wire.proofs.Ends.{end-there}
 use Rattle.napt_wire.proofs.Readings.{room_of_packet, passes_of_read, reads_of_passes}
 use Rattle.napt_wire.proofs.RightKept.{end_right}
 use Rattle.napt_wire.proofs.WithEnd.{Carries, IsPlain, plain_of, carries_of, end_passes, end_found, end_form}
-use Rattle.napt_wire.specs.Fields.{form_at}
-use Rattle.napt_wire.specs.Rewriting.{changed, end_changes}
+use Rattle.napt_wire.specs.Prelude.{form_at, changed, end_changes}
 use Rattle.napt_wire.proofs.packet.Packet.set_end.Goals as goal
 
 pub write-requires : goal.write-requires

@@ -1,6 +1,5 @@
 use Rattle.std.proofs.Common.{ℕ, List, sym, subst}
-use Rattle.napt_wire.specs.Fields.{source, kind, CanCarry}
-use Rattle.napt_wire.specs.declared.Endpoint.{Endpoint}
+use Rattle.napt_wire.specs.Prelude.{source, kind, CanCarry, Endpoint}
 use Rattle.napt_wire.proofs.Carried.{source-carried}
 use Rattle.napt_wire.proofs.packet.Packet.source.Goals as goal
 

@@ -2,9 +2,7 @@ use Rattle.std.proofs.Common.{◌+◌, ◌≤◌, length, ◌∷◌, []}
 use Rattle.std.proofs.lemmas.List.Elements.{All-head, All-tail}
 use Rattle.napt_wire.proofs.Changes.{length-changed}
 use Rattle.napt_wire.proofs.Ends.{there-front, there-rest, there-changed}
-use Rattle.napt_wire.specs.Rewrite.{changes_of, address_changes_of}
-use Rattle.napt_wire.specs.Rewriting.{changed}
-use Rattle.napt_wire.specs.declared.rewrite.Change.{Change}
+use Rattle.napt_wire.specs.Prelude.{changes_of, address_changes_of, changed, Change}
 use Rattle.napt_wire.proofs.rewrite.ErrorRewrite.write.Goals as goal
 
 pub write-requires : goal.write-requires

@@ -1,0 +1,43 @@
+-- LAWS of runs, after any inputs.
+use Rattle.std.specs.Prelude.{AllPairs, List, ◌≡◌, ℕ, ◌≤◌, Some, false, map, IfSome}
+use Rattle.napt_config.specs.Rules.{Rules, KeepsRules, pair_of, block_of}
+use Rattle.napt_rules.specs.Endpoints.{IsSound, AreApart}
+use Rattle.napt_rules.specs.Opening.{opening}
+use Rattle.napt_rules.specs.Inputs.{Arrival}
+use Rattle.napt_rules.specs.Sequential.{run}
+use Rattle.napt_rules.specs.Quota.{count_for}
+use Rattle.napt_rules.specs.declared.Row.{Row}
+use Rattle.napt_rules.specs.Lists.{Each}
+use Rattle.napt_rules.specs.Classes.{IsOfBlock}
+use Rattle.napt_rules.specs.Rows.{row}
+
+-- SOUND: no two bindings share an endpoint
+
+-- under every configuration, since its redirects are single (RFC 4787, REQ-1 and REQ-3)
+abbrev pub RunsAreSound : Type 0
+RunsAreSound = (rules : Rules) → KeepsRules rules → (inputs : List Arrival) →
+    IsSound (pair_of rules) (run rules inputs (opening rules)).list
+
+-- the same in words of two bindings
+abbrev pub RunsStayApart : Type 0
+RunsStayApart = (rules : Rules) → KeepsRules rules → (inputs : List Arrival) →
+    AllPairs AreApart (run rules inputs (opening rules)).list
+
+-- QUOTA: no inside host has more bindings than the quota allows (RFC 6888, REQ-4)
+
+-- at each external address
+abbrev pub RunsKeepQuota : Type 0
+RunsKeepQuota = (rules : Rules) (quota : ℕ) → rules.quota ≡ Some quota → (inputs : List Arrival) (address host : ℕ) →
+    count_for address host (run rules inputs (opening rules)).list ≤ quota
+
+-- BLOCKS: every binding that is no redirect has an external number of its inside host's block (RFC 7422, section 2): so
+-- the configuration alone tells who had a number
+
+-- where its host has a block
+abbrev pub IsInItsBlock : Rules → Row → Type 0
+IsInItsBlock rules row = row.fixed ≡ false →
+    IfSome (block_of rules row.inside.address) (λ block. IsOfBlock block row.external.number)
+
+abbrev pub RunsKeepToBlocks : Type 0
+RunsKeepToBlocks = (rules : Rules) → KeepsRules rules → (inputs : List Arrival) →
+    Each (IsInItsBlock rules) (map row (run rules inputs (opening rules)).list)
