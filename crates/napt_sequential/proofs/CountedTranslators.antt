@@ -2,6 +2,7 @@
 use Rattle.std.proofs.Common.{◌≡◌, ◌≢◌, ℕ, suc, ◌+◌, ◌≤◌, true, false, List, [], ◌∷◌, ◌++◌, map, length, cond, Some, refl, sym, ◌∙◌, ap, subst, arith, eqb, eq-eqb, append-nil, get_or, set}
 use Rattle.std.specs.List.{slice_get}
 use Rattle.std.proofs.lemmas.Bool.{ne_eqb, eqb-true, eqb-false}
+use Rattle.std.proofs.lemmas.List.{length-set}
 use Rattle.std.proofs.lemmas.List.Elements.{filter-append}
 use Rattle.std.proofs.lemmas.Option.{slice_get_within, slice_get-get_or, get_or_from_slice_get, same_Some}
 use Rattle.napt_config.specs.Rules.{Rules, KeepsRules}
@@ -10,7 +11,7 @@ use Rattle.napt_rules.specs.Prelude.{act, Act, acts_at, legs_at, kept_after}
 use Rattle.napt_translate.specs.Translators.{begun, with_kept, left_by}
 use Rattle.napt_sequential.specs.declared.counted_translator.CountedTranslator.{CountedTranslator}
 use Rattle.napt_sequential.specs.CountedTranslators.{RunState, IsCountedTranslator, AreCountedTranslators, act_of, act_there, told_of, told_at, state_after, counted_after}
-use Rattle.napt_sequential.proofs.Lists.{get_set, get_set_other, long_set}
+use Rattle.napt_sequential.proofs.Lists.{get_set, get_set_other}
 use Rattle.napt_sequential.proofs.ToldAlone.{acts_same}
 use Rattle.napt_laws.proofs.RunsLocal.{leg_at_once, other_at_once}
 
@@ -156,6 +157,6 @@ module _ (rules : Rules) (keeps : KeepsRules rules) (state : RunState) (translat
   pub translators_after : AreCountedTranslators rules (state_after rules address leg state)
       (set translators place (counted_after leg counted))
   translators_after = record {
-    many = long_set translators place (counted_after leg counted) ∙ are.many;
+    many = length-set translators place (counted_after leg counted) ∙ are.many;
     each = counted_later;
   }

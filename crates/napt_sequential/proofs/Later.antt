@@ -2,6 +2,7 @@
 use Rattle.std.proofs.Common.{◌≡◌, ℕ, ◌≤◌, true, false, max, List, Some, refl, sym, ◌∙◌, ap, subst, arith, eqb, set}
 use Rattle.std.specs.List.{slice_get}
 use Rattle.std.proofs.lemmas.Bool.{eqb-true, eqb-false}
+use Rattle.std.proofs.lemmas.List.{length-set}
 use Rattle.std.proofs.lemmas.Option.{slice_get_within, same_Some}
 use Rattle.napt_config.specs.Rules.{Rules}
 use Rattle.napt_rules.specs.Prelude.{Kept, purge}
@@ -11,7 +12,7 @@ use Rattle.napt_laws.proofs.RunsLocal.{latest}
 use Rattle.napt_translate.specs.Translators.{TranslatorState, begun, with_kept}
 use Rattle.napt_sequential.specs.declared.counted_translator.CountedTranslator.{CountedTranslator}
 use Rattle.napt_sequential.specs.CountedTranslators.{RunState, IsCountedTranslator, AreCountedTranslators, at_time, StaysCounted, StayCounted}
-use Rattle.napt_sequential.proofs.Lists.{get_set, get_set_other, long_set}
+use Rattle.napt_sequential.proofs.Lists.{get_set, get_set_other}
 
 -- ONE
 
@@ -89,4 +90,4 @@ module _ (rules : Rules) (now : ℕ) (translators : List CountedTranslator) wher
         ] refl
 
     pub one_changed : AreCountedTranslators rules (at_time now state) (set translators place after)
-    one_changed = record { many = long_set translators place after ∙ are.many; each = each_later }
+    one_changed = record { many = length-set translators place after ∙ are.many; each = each_later }

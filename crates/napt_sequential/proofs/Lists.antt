@@ -27,11 +27,6 @@ get_set_other (x ∷ xs) zero (suc j) y ne = refl
 get_set_other (x ∷ xs) (suc i) zero y ne = refl
 get_set_other (x ∷ xs) (suc i) (suc j) y ne = get_set_other xs i j y (λ e. ne (ap suc e))
 
-pub long_set : {X : Type 0} (xs : List X) (i : ℕ) (y : X) → length (set xs i y) ≡ length xs
-long_set [] i y = refl
-long_set (x ∷ xs) zero y = refl
-long_set (x ∷ xs) (suc i) y = ap suc (long_set xs i y)
-
 -- LISTS OF ONE LENGTH, PLACE BY PLACE
 
 abbrev pub SameAt : {X Y Z : Type 0} → (X → Z) → (Y → Z) → List X → List Y → Type 0

@@ -92,8 +92,9 @@ fn passage(translator: &Translator, now: u64, seen: Seen, end: &End) -> Passage
         return Passage::Nothing;
     };
     match end {
-        End::ToOutside(_) | End::Onward(_, _) => {
-            out_through(translator.timed_by_inside(now, protocol, seen.source))
+        End::ToOutside(packet) | End::Onward(_, packet) => {
+            let number = packet.source().number;
+            out_through(translator.timed_by_inside(now, protocol, seen.source, number))
         }
         End::ToInside(_) => {
             in_through(translator.timed_by_number(now, protocol, seen.destination.number))

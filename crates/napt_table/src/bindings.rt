@@ -163,8 +163,8 @@ impl Bindings {
             (seen self.now.timers now (held_at self.now.held protocol number)) }
     {
         self.timers.keep_limits();
-        match self.held.get(ExternalKey { number, protocol }) {
-            Some(binding) if is_live(binding, self.timers, now) => Some(TimedRow {
+        match self.held.find(ExternalKey { number, protocol }) {
+            Some((_, binding)) if is_live(binding, self.timers, now) => Some(TimedRow {
                 row: binding.row.row(),
                 end: end_of(binding, self.timers),
             }),

@@ -103,7 +103,7 @@ impl Held {
 
     /// The binding with the number, and its place: the one that was noted, if the binding there has the number.
     #[inline(always)]
-    fn find(&self, key: ExternalKey) -> Option<(usize, &Binding)>
+    pub(crate) fn find(&self, key: ExternalKey) -> Option<(usize, &Binding)>
         ensures value { option_map (λ found. found.1.now) result ≡ held self.now key }
         ensures entry { IfSome result (λ found.
             slice_get self.now.entries found.0 ≡ Some (key, found.1.now)) }

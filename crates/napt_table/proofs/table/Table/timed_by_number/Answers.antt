@@ -3,8 +3,8 @@ use Rattle.napt_table.specs.Tables.{TableState}
 use Rattle.napt_table.proofs.TableSteps.{timed_number}
 use Rattle.napt_table.proofs.table.Table.timed_by_number.Goals as goal
 
-pub returns : goal.returns
-returns c =
+pub returns-clause-answer : goal.returns-clause-answer
+returns-clause-answer c =
     let t = c.self.inside in
     let le : t.bindings.at ≤ c.args.now =
     subst (λ (s : TableState). s.at ≤ c.args.now) (sym c.self.view_is) c.requires.later in
