@@ -6,7 +6,7 @@ use crate::pictured_run::{PicturedRun, Turn};
 use jiff::Timestamp;
 use napt_account::{Entry, Party};
 use napt_config::{Address, Config};
-use napt_display::picture::{Binding, BindingKind, MOST_BARS, Pass, Scene};
+use napt_display::picture::{Binding, BindingKind, MOST_BARS, NumberClass, Pass, Scene};
 use napt_records::{EndpointText, cause_name, protocol_name};
 use napt_sequential::Input;
 use napt_wire::{Cause, Protocol};
@@ -161,11 +161,48 @@ fn binding_of(alloc: Global, shown: Shown<'_>, entry: &Entry) -> Binding {
     Binding {
         kind: kind_of(entry),
         lane,
+        class: class_of(shown.config, entry),
         label: String::new(alloc),
         title: String::new(alloc),
         made: entry.made,
         used: entry.last,
         end: end_of(entry),
+    }
+}
+
+/// The class of a binding's number: those that it may have (RFC 4787, REQ-3 (a) and REQ-4; RFC 5508, section 3.1), or its
+/// host's block (RFC 7422). A redirect beside that has none.
+fn class_of(config: &Config, entry: &Entry) -> Option<NumberClass> {
+    let (protocol, host) = (entry.binding.protocol, entry.binding.inside.address);
+    let number = entry.binding.external.number;
+    if let Some(block) = config.block_of(host) {
+        let is_there = block.first <= number && number - block.first < block.size;
+        return is_there.then_some(NumberClass {
+            name: block_name(protocol),
+            owner: host,
+            size: u64::from(block.size),
+        });
+    }
+    let (name, size) = match (protocol, number < 1024, number % 2 == 0) {
+        (Protocol::Icmp, _, _) => ("icmp", 65_536),
+        (Protocol::Tcp, true, true) => ("low even tcp", 511),
+        (Protocol::Tcp, true, false) => ("low odd tcp", 512),
+        (Protocol::Tcp, false, true) => ("even tcp", 32_256),
+        (Protocol::Tcp, false, false) => ("odd tcp", 32_256),
+        (Protocol::Udp, true, true) => ("low even udp", 511),
+        (Protocol::Udp, true, false) => ("low odd udp", 512),
+        (Protocol::Udp, false, true) => ("even udp", 32_256),
+        (Protocol::Udp, false, false) => ("odd udp", 32_256),
+    };
+    let owner = 0;
+    Some(NumberClass { name, owner, size })
+}
+
+fn block_name(protocol: Protocol) -> &'static str {
+    match protocol {
+        Protocol::Icmp => "one icmp block",
+        Protocol::Tcp => "one tcp block",
+        Protocol::Udp => "one udp block",
     }
 }
 
@@ -218,30 +255,18 @@ fn title_of(alloc: Global, entry: &Entry, label: &str, zero: u64) -> Result<Stri
     )
 }
 
-/// The causes for which packets were dropped.
-fn causes_of(alloc: Global, turns: &[Turn]) -> Result<Vec<Cause>, AllocError> {
+/// What each packet did, and a row for each cause for which there are drops.
+fn add_packets(alloc: Global, scene: &mut Scene, turns: &[Turn]) -> Result<(), AllocError> {
     let mut causes = Vec::new(alloc);
     for cause in Cause::ALL {
         if turns.iter().any(|turn| turn.cause == Some(cause)) {
             causes.push(cause)?;
+            scene
+                .causes
+                .push(String::from_str(alloc, cause_name(cause))?)?;
         }
     }
-    Ok(causes)
-}
-
-/// What each packet did, and a row for each cause for which there are drops.
-fn add_packets(alloc: Global, scene: &mut Scene, turns: &[Turn]) -> Result<(), AllocError> {
-    let causes = causes_of(alloc, turns)?;
-    add_rows(alloc, &mut scene.causes, &causes)?;
     add_passes(&mut scene.passes, turns, &causes)
-}
-
-/// A row for each of the causes.
-fn add_rows(alloc: Global, rows: &mut Vec<String>, causes: &[Cause]) -> Result<(), AllocError> {
-    for cause in causes {
-        rows.push(String::from_str(alloc, cause_name(*cause))?)?;
-    }
-    Ok(())
 }
 
 /// What each packet did; `causes` has the cause of every drop.

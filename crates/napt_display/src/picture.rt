@@ -16,5 +16,5 @@ mod span;
 mod svg;
 mod tallies;
 
-pub use crate::picture::scene::{Binding, BindingKind, Pass, Scene};
+pub use crate::picture::scene::{Binding, BindingKind, NumberClass, Pass, Scene};
 pub use crate::picture::svg::{MOST_BARS, drawing_of};

@@ -11,9 +11,9 @@ use clap::{Arg, ArgAction, ArgMatches, Command, Error};
 use std::alloc::{AllocError, Global};
 
 /// What a program says of itself with `--version`, behind its name: the number of its version, and on a line of its own what
-/// its sources were proved with.
+/// was proved of it, and with which kit.
 pub const VERSION: &str = "0.1.0
-sources proved with Rattle's logic dac8208d650f15bf";
+proved with rattle-kit-13f logic dac8208d650f15bf: each function of its sources meets its contract";
 
 /// A program that takes these options, with the texts of its help.
 #[derive(Clone, Copy, Debug)]

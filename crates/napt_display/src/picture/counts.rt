@@ -4,7 +4,7 @@
 use crate::picture::frame::{
     LANE_PAD, Lane, NAME_END, draw_axis, draw_lane, draw_lanes, draw_legend, draw_level, draw_page,
 };
-use crate::picture::lives::{LiveBin, Lives, lives_of};
+use crate::picture::lives::{LiveBin, Lives, Share, lives_of};
 use crate::picture::scene::Scene;
 use crate::picture::shapes::{Area, Point, open_area, open_words, push_moment, push_time};
 use crate::picture::span::{BIN_WIDTH, HEAD, LEFT, Span};
@@ -13,16 +13,14 @@ use std::alloc::{AllocError, Global};
 
 /// The words above the lanes, without the time of a bar, which follows.
 const LEGEND: &[&str] = &[
-    "Each address has how many of its bindings live, over time; below its name stands how many live at once at most, and what share that is of its",
-    "64,512 ports from 1024 on; a line is at half of that. Below are the packets, the hairpins, and those dropped for each cause: how many and, in",
-    "brackets, how many in the highest bar. Each lane is as high as its highest bar. A viewer tells of the bar that it points at.",
+    "Each address has how many of its bindings live, over time; below its name stands how many live at once at most, with a line at half of that, and",
+    "the share of its fullest class of numbers that was in use at once: of one protocol the even or the odd ports from 1024 on or below (low), the",
+    "identifiers, or the block of one host. Below are the packets, the hairpins, and those dropped for each cause: how many and, in brackets, how many",
+    "in the highest bar. Each lane is as high as its highest bar. A viewer tells of the bar that it points at.",
 ];
 
-/// The ports of an address from 1024 on, a class of RFC 4787, REQ-3 (a).
-const PORTS: u64 = 64_512;
-
 /// The line of the time of a bar.
-const TIME_LINE: u64 = 96;
+const TIME_LINE: u64 = 112;
 
 /// The heights of the lane of an address, and of one of packets.
 const LIVE_LANE: u64 = 70;
@@ -164,13 +162,26 @@ fn draw_lives(
 ) -> Result<(), AllocError> {
     for (lives, lane) in lives.iter().zip(lanes.iter()) {
         open_words(text, "most", below_name(*lane))?;
-        let (most, tenths) = (lives.most, lives.most.saturating_mul(1_000) / PORTS);
-        let (percent, tenth) = (tenths / 10, tenths % 10);
-        writeln!(text, "at most {most} ({percent}.{tenth} %)</text>")?;
-        draw_scale(text, *lane, most)?;
+        writeln!(text, "at most {}</text>", lives.live.most)?;
+        draw_share(text, *lane, lives.fullest())?;
+        draw_scale(text, *lane, lives.live.most)?;
         draw_live_bins(text, span, lives, *lane)?;
     }
     Ok(())
+}
+
+/// The share of an address's fullest class, beside the foot of its lane.
+fn draw_share(text: &mut String, lane: Lane, share: Option<Share>) -> Result<(), AllocError> {
+    let Some(Share { class, millionths }) = share else {
+        return Ok(());
+    };
+    let at = Point {
+        column: NAME_END,
+        line: lane.bottom.saturating_sub(10),
+    };
+    open_words(text, "share", at)?;
+    let (percent, tenth) = (millionths / 10_000, millionths / 1_000 % 10);
+    writeln!(text, "{percent}.{tenth} % of {class}</text>")
 }
 
 /// Lines through a lane at its highest bar, which is for `most`, and at half of that, with the number there.
@@ -209,7 +220,7 @@ fn draw_live_bins(
                 first,
                 many: lives.same_from(first),
             };
-            open_area(text, "live", bar_of(lane, run, bin.most, lives.most))?;
+            open_area(text, "live", bar_of(lane, run, bin.most, lives.live.most))?;
             draw_live_title(text, span, run, *bin)?;
         }
     }

@@ -9,7 +9,7 @@ const STYLE: &str = "<style>
   .head { font-size: 14px; font-weight: bold }
   .name { stroke: #f3f5f7; stroke-width: 3; stroke-linejoin: round; paint-order: stroke }
   .side { font-weight: bold; text-anchor: end }
-  .most, .scale { text-anchor: end; fill: #555 }
+  .most, .share, .scale { text-anchor: end; fill: #555 }
   .time { text-anchor: middle; fill: #555 }
   .unit { text-anchor: start }
   .page { fill: #fff }

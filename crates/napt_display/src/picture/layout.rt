@@ -162,22 +162,11 @@ impl Layout {
     }
 
     fn add_all(&mut self, alloc: Global, scene: &Scene) -> Result<(), AllocError> {
-        self.add_lanes(alloc, scene.lanes.len(), &scene.bindings)?;
+        for lane in 0..scene.lanes.len() {
+            self.add_lane(alloc, lane, &scene.bindings)?;
+        }
         self.add_causes(scene.causes.len())?;
         self.add_marks(&scene.passes)
-    }
-
-    /// `many` lanes, with the bars of their bindings.
-    fn add_lanes(
-        &mut self,
-        alloc: Global,
-        many: usize,
-        bindings: &[Binding],
-    ) -> Result<(), AllocError> {
-        for lane in 0..many {
-            self.add_lane(alloc, lane, bindings)?;
-        }
-        Ok(())
     }
 
     /// A lane, with the bars of its bindings.

@@ -1,8 +1,9 @@
-//! How many bindings of each lane are live, in bins of the time shown.
+//! How many bindings of each lane are live, in bins of the time shown, and how much of its numbers is in use.
 
-use crate::picture::scene::{Binding, BindingKind};
+use crate::picture::scene::{Binding, BindingKind, NumberClass};
 use crate::picture::span::{BINS, Span};
 use std::alloc::{AllocError, Global};
+use std::collections::BTreeMap;
 
 /// The bindings of a lane in a bin.
 #[derive(Clone, Copy)]
@@ -19,19 +20,35 @@ pub struct LiveBin {
 #[derive(Drop)]
 pub struct Lives {
     pub bins: Vec<LiveBin>,
-    /// The most that are live at one moment of the time shown.
-    pub most: u64,
-    /// How many are live, and since when.
-    now: u64,
+    /// How many are live.
+    pub live: Level,
+    /// How many are live with a number of each class.
+    levels: BTreeMap<NumberClass, Level>,
+    /// Since when as many are live as now.
     since: u64,
 }
 
-/// A moment at which a binding of a lane begins or ends. At equal moments ends come before beginnings.
+/// How many bindings are live now, and were at one moment of the time shown at most.
+#[derive(Clone, Copy)]
+pub struct Level {
+    now: u64,
+    pub most: u64,
+}
+
+/// How much of a class of numbers is in use at one moment at most.
+#[derive(Clone, Copy)]
+pub struct Share {
+    /// The name of the class.
+    pub class: &'static str,
+    pub millionths: u64,
+}
+
+/// A moment at which a binding, by its place, begins or ends. At equal moments ends come before beginnings.
 #[derive(Clone, Copy, PartialEq, Eq, PartialOrd, Ord)]
 struct Turn {
     moment: u64,
     kind: TurnKind,
-    lane: usize,
+    place: usize,
 }
 
 /// What happens to a binding.
@@ -57,21 +74,21 @@ pub fn lives_of(
     for _ in 0..lanes {
         all.push(Lives::new(alloc, span)?)?;
     }
-    follow(&mut all, span, &turns);
+    follow(&mut all, span, bindings, &turns)?;
     end_all(&mut all, span);
     Ok(all)
 }
 
 /// The turns of all bindings that are shown.
 fn add_turns(turns: &mut Vec<Turn>, span: Span, bindings: &[Binding]) -> Result<(), AllocError> {
-    for binding in bindings {
+    for (place, binding) in bindings.iter().enumerate() {
         if span.shows(binding) {
-            turns.push(begin_of(span, binding))?;
+            turns.push(begin_of(span, place, binding))?;
             if binding.kind != BindingKind::Redirect && span.has(binding.end) {
                 turns.push(Turn {
                     moment: binding.end,
                     kind: TurnKind::Ends,
-                    lane: binding.lane,
+                    place,
                 })?;
             }
         }
@@ -80,7 +97,7 @@ fn add_turns(turns: &mut Vec<Turn>, span: Span, bindings: &[Binding]) -> Result<
 }
 
 /// Where a binding begins in the time shown.
-fn begin_of(span: Span, binding: &Binding) -> Turn {
+fn begin_of(span: Span, place: usize, binding: &Binding) -> Turn {
     let stands = binding.kind == BindingKind::Redirect || binding.made < span.start;
     let (moment, kind) = if stands {
         (span.start, TurnKind::Stands)
@@ -90,17 +107,26 @@ fn begin_of(span: Span, binding: &Binding) -> Turn {
     Turn {
         moment,
         kind,
-        lane: binding.lane,
+        place,
     }
 }
 
 /// Takes the turns, which are in order of time.
-fn follow(all: &mut Vec<Lives>, span: Span, turns: &[Turn]) {
+fn follow(
+    all: &mut Vec<Lives>,
+    span: Span,
+    bindings: &[Binding],
+    turns: &[Turn],
+) -> Result<(), AllocError> {
     for turn in turns {
-        if let Some(lives) = all.get_mut(turn.lane) {
+        if let Some(binding) = bindings.get(turn.place)
+            && let Some(lives) = all.get_mut(binding.lane)
+        {
             lives.take_turn(span, *turn);
+            lives.take_number(turn.kind, binding.class)?;
         }
     }
+    Ok(())
 }
 
 /// What is live stays so to the end of the time shown.
@@ -120,19 +146,15 @@ impl Lives {
         };
         Ok(Lives {
             bins: vec![in alloc; none; BINS]?,
-            most: 0,
-            now: 0,
+            live: Level::NONE,
+            levels: BTreeMap::new(alloc),
             since: span.start,
         })
     }
 
     fn take_turn(&mut self, span: Span, turn: Turn) {
         self.hold(span, turn.moment);
-        let (more, fewer) = match turn.kind {
-            TurnKind::Ends => (0, 1),
-            TurnKind::Stands | TurnKind::Begins => (1, 0),
-        };
-        self.now = self.now.saturating_sub(fewer).saturating_add(more);
+        self.live.take(turn.kind);
         if let Some(bin) = self.bins.get_mut(span.bin_of(turn.moment)) {
             match turn.kind {
                 TurnKind::Ends => bin.ended = bin.ended.saturating_add(1),
@@ -142,18 +164,49 @@ impl Lives {
         }
     }
 
+    /// A number of a class is in use from now on, or no longer.
+    fn take_number(
+        &mut self,
+        kind: TurnKind,
+        class: Option<NumberClass>,
+    ) -> Result<(), AllocError> {
+        let Some(class) = class else {
+            return Ok(());
+        };
+        let mut level = self.levels.get(&class).copied().unwrap_or(Level::NONE);
+        level.take(kind);
+        self.levels.insert(class, level)?;
+        Ok(())
+    }
+
+    /// The class of which the greatest share is in use at one moment, if any is.
+    pub fn fullest(&self) -> Option<Share> {
+        let mut fullest = None;
+        let mut most = 0;
+        for (class, level) in &self.levels {
+            let millionths = level.most.saturating_mul(1_000_000) / class.size.max(1);
+            if most < millionths {
+                most = millionths;
+                fullest = Some(Share {
+                    class: class.name,
+                    millionths,
+                });
+            }
+        }
+        fullest
+    }
+
     /// Up to a moment as many are live as now.
     fn hold(&mut self, span: Span, until: u64) {
         if until <= self.since {
             return;
         }
-        let now = self.now;
+        let now = self.live.now;
         for at in span.bin_of(self.since)..=span.bin_of(until - 1) {
             if let Some(bin) = self.bins.get_mut(at) {
                 bin.most = bin.most.max(now);
             }
         }
-        self.most = self.most.max(now);
         self.since = until;
     }
 
@@ -180,6 +233,18 @@ impl Lives {
             many = many.saturating_add(1);
         }
         many
+    }
+}
+
+impl Level {
+    const NONE: Level = Level { now: 0, most: 0 };
+
+    fn take(&mut self, kind: TurnKind) {
+        self.now = match kind {
+            TurnKind::Ends => self.now.saturating_sub(1),
+            TurnKind::Stands | TurnKind::Begins => self.now.saturating_add(1),
+        };
+        self.most = self.most.max(self.now);
     }
 }
 

@@ -18,6 +18,16 @@ pub struct Scene {
     pub passes: Vec<Pass>,
 }
 
+/// Numbers of which a binding takes any.
+#[derive(Clone, Copy, PartialEq, Eq, PartialOrd, Ord)]
+pub struct NumberClass {
+    pub name: &'static str,
+    /// Tells it from others of its name.
+    pub owner: u32,
+    /// How many numbers it has.
+    pub size: u64,
+}
+
 /// The kind of a binding, which colours its bar.
 #[derive(Clone, Copy, PartialEq, Eq)]
 pub enum BindingKind {
@@ -34,6 +44,8 @@ pub struct Binding {
     pub kind: BindingKind,
     /// The place of its lane, from 0; if there is none, it is not shown.
     pub lane: usize,
+    /// The class of its number, if it has one.
+    pub class: Option<NumberClass>,
     /// The words at its bar.
     pub label: String,
     /// The words that a viewer shows for its bar.
