@@ -4,16 +4,15 @@ ghost use Rattle.std.specs.Prelude.{◌-◌, ◌^◌, ◌<◌};
 
 use crate::flaws::{Flaws, StepBack};
 use crate::options::Options;
-use crate::passed::Consumer;
 use crate::reading::Written;
 use crate::refused;
-use crate::stop::Stop;
 use napt_capture::{CaptureFault, Records, Source};
+use napt_commands::{Consumer, Stop};
 use napt_display::reasons::Splitting;
 use napt_records::{Fault, MergedStreams, SideFault, Stream};
 use napt_sequential::{Arrivals, Input};
 use napt_wire::Side;
-use std::alloc::{AllocError, Global};
+use std::alloc::Global;
 use std::io;
 use std::io::{BufReader, ErrorKind, Read};
 

@@ -1,30 +1,15 @@
 //! What is asked for of a run, as it goes on.
 
-use crate::blocks::tell_needless;
 use crate::flaws::Flaws;
-use crate::holders::Holders;
-use crate::lines::Line;
-use crate::log_file::{LogFile, begin_log};
-use crate::losses::Losses;
-use crate::matched::Unmatched;
-use crate::measures::tell_sizes;
-use crate::only::Only;
-use crate::options::{Choice, Form, Options};
-use crate::page::Page;
-use crate::passed::{Consumer, Passing};
+use crate::options::{Form, Options};
 use crate::progress::Progress;
-use crate::remotes::Remotes;
-use crate::replies::Replies;
-use crate::requests::Asked;
-use crate::sizes::Sizes;
-use crate::sorted::Sorted;
-use crate::stop::Stop;
-use crate::summary::{Bindings, FromOutside, Lines};
-use crate::warning::{tell_astray, tell_warning};
-use crate::who::{Basis, Known};
 use napt_account::{KnownRun, Listed};
+use napt_attribution::{Asked, Holders, LogFile, begin_log};
+use napt_commands::{Consumer, Losses, Page, Passing, Sorted, Stop, tell_warning};
 use napt_config::Config;
+use napt_lines::{Bindings, Choice, FromOutside, Line, Lines, Only, Remotes, Replies, Unmatched};
 use napt_sequential::Input;
+use napt_sizing::{Sizes, tell_sizes};
 use napt_table::Row;
 use std::alloc::{AllocError, Global};
 use std::io::Write;
@@ -152,19 +137,12 @@ impl<'a> Told<'a> {
                     rows: &rows,
                     living: &living,
                 };
-                tell_summary(rt, page, &lines, bindings, outside)
+                lines.tell(rt, page, bindings, outside)
             }
             Told::Only(only) => only.tell(rt, page, &living, packets),
             Told::Objects | Told::Log => Ok(()),
             Told::Holders(holders) => {
-                let known = Known {
-                    entries: &[],
-                    last,
-                    later,
-                    config: Some(config),
-                    basis: Basis::Run,
-                };
-                holders.tell(rt, known, &living)
+                holders.tell(rt, config, &living, last, later)
             }
             Told::Sizes(sizes) => tell_sizes(rt, config, &sizes, &living),
         }
@@ -239,13 +217,15 @@ impl<'a, 'b, W: Write + Drop> Explanation<'a, 'b, W> {
         progress.tell_end(rt, packets);
         flaws.tell(rt, options.form)?;
         if options.is_of_gateway() && remotes.are_astray() {
-            return Err(tell_astray(rt, &remotes));
+            return Err(remotes.tell_astray(rt));
         }
         tell_warning(rt, options.outside, None, &losses);
         let config = running.config();
         let rows = told.rows_of(rt.alloc(), &running)?;
         let living = living_after(rt.alloc(), running)?;
-        finish_log(rt, log, config, &living)?;
+        if let Some(mut log) = log {
+            log.finish(rt, config, &living)?;
+        }
         unmatched.tell(rt);
         let ending = Ending {
             config,
@@ -267,34 +247,6 @@ impl<'a, 'b, W: Write + Drop> Explanation<'a, 'b, W> {
 /// The entries of the bindings that live at the end of a run, which is then gone.
 fn living_after(alloc: Global, run: KnownRun<'_>) -> Result<Vec<Listed>, AllocError> {
     run.living(alloc)
-}
-
-/// Writes the rows of the bindings that live at the end, if there is a log.
-fn finish_log<R: Files + Print + Eprint, W: Write + Drop>(
-    rt: &R,
-    log: Option<LogFile<'_, W>>,
-    config: &Config,
-    living: &[Listed],
-) -> Result<(), Stop> {
-    let Some(mut log) = log else {
-        return Ok(());
-    };
-    log.finish(rt, config, living)?;
-    tell_needless(rt, config);
-    Ok(())
-}
-
-/// Prints the live bindings, and what became of the packets.
-fn tell_summary<R: Print>(
-    rt: &R,
-    page: &mut Page,
-    lines: &Lines,
-    bindings: Bindings<'_>,
-    outside: FromOutside<'_>,
-) -> Result<(), Stop> {
-    lines.tell_bindings(rt, page, bindings)?;
-    lines.add_counts(&mut page.text, outside)?;
-    page.end(rt)
 }
 
 impl<R: Files + Print + Eprint + AllocGlobal, W: Write + Drop> Consumer<R>

@@ -1,7 +1,7 @@
 //! What captures show against themselves.
 
-use crate::options::{Form, Outside};
-use crate::stop::Stop;
+use crate::options::Form;
+use napt_commands::{Outside, Stop};
 use napt_sequential::Input;
 
 /// What is printed about a capture that ends inside a record.

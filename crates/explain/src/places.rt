@@ -2,12 +2,10 @@
 //! `napt`.
 
 use crate::options::Options;
-use crate::stop::Stop;
-use napt_program::{MOST_BYTES, Role, is_same, place_of, unmade};
+use napt_commands::{Stop, tell_failed, unwritten};
+use napt_program::{Role, is_same, place_of, unmade};
 use std::fs::File;
-use std::io::Read;
 use std::rt::Files;
-use std::{fs, io};
 
 /// The paths of the standard streams.
 const INPUT: &str = "/dev/stdin";
@@ -74,60 +72,6 @@ pub fn refuse_written<R: Files + Eprint>(rt: &R, options: &Options<'_>) -> Resul
         },
     }
     Err(unwritten())
-}
-
-/// Prints that the file that `explain` writes fails, with the system's reason, and returns how the program stops.
-pub fn tell_unwritten<R: Eprint>(rt: &R, name: &str, path: &str, error: &io::Error) -> Stop {
-    tell_failed(rt, name, path, error);
-    unwritten()
-}
-
-/// The same where the system gives no reason.
-pub fn unexplained<R: Eprint>(rt: &R, name: &str, path: &str) -> Stop {
-    let _ = eprintln!(rt; "explain: {name} {path}: it cannot be written whole");
-    unwritten()
-}
-
-/// How the program stops if a file cannot be written: as for an output of `napt`.
-fn unwritten() -> Stop {
-    Stop::Told(napt_program::Stop::File(Role::Report))
-}
-
-/// Prints that a file failed, with what names it and the system's reason.
-fn tell_failed<R: Eprint>(rt: &R, name: &str, path: &str, error: &io::Error) {
-    let _ = eprintln!(rt; "explain: {name} {path}: {error}");
-}
-
-/// Prints why a configuration file cannot be used (it is missing, cannot be read, or is too long), and returns how
-/// `napt` would stop.
-pub fn tell_config<R: Files + Eprint>(rt: &R, name: &str, path: &str) -> Stop {
-    match failure_of_reading(rt, path) {
-        Some(error) => tell_failed(rt, name, path, &error),
-        None => {
-            let _ = eprintln!(rt;
-                "explain: {name} {path}: it cannot be read, or has more than {MOST_BYTES} bytes"
-            );
-        }
-    }
-    Stop::Told(napt_program::Stop::File(Role::Config))
-}
-
-/// Why a file or folder is missing or unreadable, if it is. Pipes are not tried: reading one might block.
-fn failure_of_reading<R: Files>(rt: &R, path: &str) -> Option<io::Error> {
-    match fs::metadata(rt, path) {
-        Ok(known) if known.is_file() || known.is_dir() => failure_of_first(rt, path),
-        Ok(_) => None,
-        Err(error) => Some(error),
-    }
-}
-
-/// Why the first byte of a file cannot be read, if it cannot.
-fn failure_of_first<R: Files>(rt: &R, path: &str) -> Option<io::Error> {
-    let mut first = [0u8; 1];
-    match File::open(rt, path) {
-        Ok(mut file) => file.read(&mut first).err(),
-        Err(error) => Some(error),
-    }
 }
 
 /// Prints why a capture cannot be opened.

@@ -1,15 +1,13 @@
 //! Reads the configurations and opens the captures as `napt` does, and explains what it refuses.
 
-use crate::options::Options;
-use crate::places::{refuse_written, tell_closed, tell_config, tell_file, tell_shared};
+use crate::options::{Form, Options};
+use crate::places::{refuse_written, tell_closed, tell_file, tell_shared};
 use crate::refused;
-use crate::requests::{Asked, requests_of};
-use crate::stop::Stop;
+use napt_attribution::{Asked, requests_at};
+use napt_commands::{Stop, text_at};
 use napt_config::{Config, ConfigFault};
 use napt_display::reasons::inside_prefixes;
-use napt_program::{
-    InputFiles, Role, Streams, closed_stream, config_text, open_config, open_inputs, refuse_unmade,
-};
+use napt_program::{InputFiles, Role, Streams, closed_stream, open_inputs, refuse_unmade};
 use std::alloc::{AllocError, Global};
 use std::rt::Files;
 
@@ -175,11 +173,7 @@ fn written_at<R: Files + Input + Eprint + AllocGlobal>(
     name: &str,
     path: &str,
 ) -> Result<Written, Stop> {
-    let text = match configuration_text(rt, path) {
-        Ok(text) => text,
-        Err(napt_program::Stop::File(_)) => return Err(tell_config(rt, name, path)),
-        Err(stop) => return Err(Stop::As(stop)),
-    };
+    let text = text_at(rt, name, path)?;
     let fault = match Config::read(rt.alloc(), &text) {
         Ok(config) => {
             return Ok(Written {
@@ -193,10 +187,14 @@ fn written_at<R: Files + Input + Eprint + AllocGlobal>(
     Err(Stop::Told(napt_program::Stop::Config(fault)))
 }
 
-/// The bytes of a configuration, or of another text that is no longer.
-pub fn configuration_text<R: Files + Input + AllocGlobal>(
+/// The requests of a form, none if it has none. A file that is refused is reported.
+pub fn requests_of<R: Files + Input + Eprint + AllocGlobal>(
     rt: &R,
-    path: &str,
-) -> Result<Vec<u8>, napt_program::Stop> {
-    config_text(rt.alloc(), open_config(rt, path)?)
+    form: Form<'_>,
+) -> Result<Vec<Asked>, Stop> {
+    match form {
+        Form::Holders(request) => Ok(vec![in rt.alloc(); Asked::of(request)]?),
+        Form::Requests(path) => requests_at(rt, path),
+        _ => Ok(Vec::new(rt.alloc())),
+    }
 }

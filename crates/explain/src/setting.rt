@@ -1,23 +1,19 @@
 //! A run over captures, as the command line asks for it.
 
-use crate::against::Against;
 use crate::captures::{Begun, Captures, Opened, Refusing};
-use crate::counted_run::CountedRun;
 use crate::explanation::begin_explanation;
 use crate::following::write_followed;
-use crate::options::{Form, Options, Outside};
-use crate::passed::take_all;
+use crate::options::{Form, Options};
 use crate::pictures::draw;
-use crate::plan::Plans;
 use crate::reading::{Given, Written};
-use crate::replies::ends_of;
-use crate::requests::Asked;
-use crate::stop::Stop;
-use crate::warning::tell_warning;
+use napt_attribution::Asked;
 use napt_capture::{NoPackets, Source, Watched};
+use napt_commands::{CountedRun, Outside, Stop, take_all, tell_warning};
 use napt_config::Config;
+use napt_lines::{Against, Replies, ends_of};
 use napt_program::{InputFiles, Streams};
 use napt_sequential::Input;
+use napt_sizing::Plans;
 use napt_wire::{Endpoint, Side};
 use std::alloc::{AllocError, Global};
 use std::io::Read;
@@ -156,7 +152,10 @@ impl<'a> Setting<'a> {
             captures.hand_over(rt, &mut against)?;
         }
         captures.flaws().tell(rt, options.form)?;
-        against.tell(rt, options)
+        let path = options.files.config.as_ref();
+        let name = path.map_or("the built-in configuration", |path| path.as_str());
+        let other = options.others.first().map_or("", |path| path.as_str());
+        against.tell(rt, options.outside, [name, other])
     }
 
     /// Explains the runs of a plan.
@@ -166,7 +165,7 @@ impl<'a> Setting<'a> {
         captures: &mut Captures<'_, '_, '_, A, B>,
     ) -> Result<(), Stop> {
         let options = self.options;
-        let mut plans = Plans::begin(rt.alloc(), self.others)?;
+        let mut plans = Plans::begin(rt.alloc(), &options.others, self.others)?;
         if options.outside.follows() {
             let inputs = captures.all(rt)?;
             plans.follow(rt.alloc(), options.outside, &inputs)?;
@@ -174,7 +173,8 @@ impl<'a> Setting<'a> {
             captures.hand_over(rt, &mut plans)?;
         }
         captures.flaws().tell(rt, options.form)?;
-        plans.tell(rt, options)
+        let is_csv = matches!(options.form, Form::PlansInCsv);
+        plans.tell(rt, options.outside, is_csv)
     }
 
     /// Explains the packets as they come.
@@ -245,7 +245,7 @@ impl<'a> Setting<'a> {
         let mut inputs = captures.all(rt)?;
         let ends = named_ends(rt.alloc(), options, &mut inputs)?;
         let inputs = options.outside.inputs_under(rt.alloc(), config, inputs)?;
-        let replies = options.outside.replies(config, &ends);
+        let replies = Replies::of(options.outside, config, &ends);
         let mut explanation = begin_explanation(rt, options, config, self.asked, replies)?;
         take_all(rt, &inputs, &mut explanation)?;
         explanation.end(rt, captures.flaws())

@@ -1,0 +1,123 @@
+//! The table of a plan in CSV, for programs. docs/FORMATS.md describes its fields.
+
+use crate::plan::figures::Figures;
+use crate::plan::fullest::Fullest;
+use csv::{ErrorKind, Writer, WriterBuilder};
+use napt_commands::Stop;
+use napt_config::Address;
+use napt_records::protocol_name;
+use serde::Serialize;
+use std::alloc::{AllocError, Global};
+use std::io;
+use std::io::Write;
+
+/// The names of the fields.
+const HEADER: &[&[u8]] = &[
+    b"configuration",
+    b"quota",
+    b"block",
+    b"to_outside",
+    b"to_inside",
+    b"no_port",
+    b"over_quota",
+    b"no_binding",
+    b"filtered",
+    b"truncated",
+    b"bindings",
+    b"median",
+    b"percentile_99",
+    b"refused_hosts",
+    b"fullest_protocol",
+    b"fullest_address",
+    b"fullest_class",
+    b"fullest_bindings",
+    b"fullest_numbers",
+];
+
+/// A line: its fields, in the order of the header.
+#[derive(Drop, Serialize)]
+struct Record {
+    configuration: String,
+    quota: Option<u64>,
+    block: Option<u64>,
+    to_outside: u64,
+    to_inside: u64,
+    no_port: u64,
+    over_quota: u64,
+    no_binding: u64,
+    filtered: u64,
+    truncated: u64,
+    bindings: u64,
+    median: u64,
+    percentile_99: u64,
+    refused_hosts: u64,
+    protocol: Option<&'static str>,
+    address: Option<String>,
+    class: Option<&'static str>,
+    used: Option<u64>,
+    many: Option<u64>,
+}
+
+/// Writes the table to standard output.
+pub fn write_sheet<R: Print + AllocGlobal>(
+    rt: &R,
+    paths: &[String],
+    lines: &[Figures],
+) -> Result<(), Stop> {
+    let mut setup = WriterBuilder::new();
+    let writer = setup.has_headers(false).from_writer(io::writer(rt));
+    match put_lines(rt.alloc(), writer, paths, lines) {
+        Ok(()) => Ok(()),
+        Err(error) => Err(match error.into_kind() {
+            ErrorKind::Io(error) => Stop::Output(error),
+            _ => Stop::from(AllocError),
+        }),
+    }
+}
+
+fn put_lines<W: Write + Drop>(
+    alloc: Global,
+    writer: Writer<W>,
+    paths: &[String],
+    lines: &[Figures],
+) -> Result<(), csv::Error> {
+    let mut writer = writer;
+    writer.write_fields(HEADER)?;
+    for (path, figures) in paths.iter().zip(lines) {
+        let record = record_of(alloc, path, *figures).map_err(|_| csv::Error::out_of_memory())?;
+        writer.serialize(alloc, &record)?;
+    }
+    writer.flush()
+}
+
+fn record_of(alloc: Global, path: &str, figures: Figures) -> Result<Record, AllocError> {
+    let (drops, fullest) = (figures.drops, figures.fullest);
+    Ok(Record {
+        configuration: String::from_str(alloc, path)?,
+        quota: figures.quota,
+        block: figures.block,
+        to_outside: figures.to_outside,
+        to_inside: figures.to_inside,
+        no_port: drops.no_port,
+        over_quota: drops.over_quota,
+        no_binding: drops.no_binding,
+        filtered: drops.filtered,
+        truncated: drops.truncated,
+        bindings: figures.bindings,
+        median: figures.median,
+        percentile_99: figures.percentile_99,
+        refused_hosts: figures.refused_hosts as u64,
+        protocol: fullest.map(|it| protocol_name(it.protocol)),
+        address: address_of(alloc, fullest)?,
+        class: fullest.map(|it| it.class.name),
+        used: fullest.map(|it| it.used),
+        many: fullest.map(|it| it.class.many),
+    })
+}
+
+fn address_of(alloc: Global, fullest: Option<Fullest>) -> Result<Option<String>, AllocError> {
+    match fullest {
+        Some(fullest) => Ok(Some(format!(in alloc; "{}", Address(fullest.address))?)),
+        None => Ok(None),
+    }
+}
