@@ -183,7 +183,7 @@ impl<'r, 'i, 'o, A: Source, B: Source> Captures<'r, 'i, 'o, A, B> {
             inside_head,
             outside_head,
             packets: MergedStreams::new(alloc, inside.stream, outside.stream),
-            back: StepBack::none(),
+            back: StepBack::default(),
         }
     }
 

@@ -5,12 +5,11 @@ use crate::options::{Form, Options};
 use crate::progress::Progress;
 use napt_account::{KnownRun, Listed};
 use napt_attribution::{Asked, Holders, LogFile, begin_log};
-use napt_commands::{Consumer, Losses, Page, Passing, Sorted, Stop, tell_warning};
+use napt_commands::{Consumer, Ending, Losses, Page, Passing, Stop, tell_warning};
 use napt_config::Config;
-use napt_lines::{Bindings, Choice, FromOutside, Line, Lines, Only, Remotes, Replies, Unmatched};
+use napt_lines::{Choice, FromOutside, Line, Lines, Only, Remotes, Replies, Unmatched};
 use napt_sequential::Input;
 use napt_sizing::{Sizes, tell_sizes};
-use napt_table::Row;
 use std::alloc::{AllocError, Global};
 use std::io::Write;
 use std::rt::Files;
@@ -49,19 +48,6 @@ pub struct Explanation<'a, 'b, W> {
     last: u64,
 }
 
-/// How a run ended: how many packets there were, at which time in ns the last one, and which bindings live.
-#[derive(Drop)]
-struct Ending<'a> {
-    config: &'a Config,
-    packets: u64,
-    last: u64,
-    /// How far packets step back in time, in ns.
-    later: u64,
-    /// In the order of the report, if they are to be printed so.
-    rows: Vec<Row>,
-    living: Vec<Listed>,
-}
-
 impl<'a> Told<'a> {
     /// Before the first packet, with the redirects.
     fn of(
@@ -88,28 +74,20 @@ impl<'a> Told<'a> {
         config: &Config,
         choice: Choice,
         text: &mut String,
-        (passing, line): (Passing<'_>, Line<'_>),
+        line: Line<'_>,
     ) -> Result<(), AllocError> {
         match self {
-            Told::Lines(lines) => lines.take(alloc, text, line, &passing.step.ended),
-            Told::Only(only) => only.take(alloc, text, choice, (passing, line)),
+            Told::Lines(lines) => lines.take(alloc, text, line),
+            Told::Only(only) => only.take(alloc, text, choice, line),
             Told::Objects => {
                 if line.is_chosen(alloc, choice)? {
                     line.object().add_to(alloc, text)?;
                 }
                 Ok(())
             }
-            Told::Holders(holders) => holders.take(passing),
-            Told::Sizes(sizes) => sizes.take(config, passing),
+            Told::Holders(holders) => holders.take(line.passing),
+            Told::Sizes(sizes) => sizes.take(config, line.passing),
             Told::Log => Ok(()),
-        }
-    }
-
-    /// The live bindings in the order of the report, if they are to be printed so.
-    fn rows_of(&self, alloc: Global, running: &KnownRun<'_>) -> Result<Vec<Row>, AllocError> {
-        match self {
-            Told::Lines(_) => running.bindings(alloc),
-            _ => Ok(Vec::new(alloc)),
         }
     }
 
@@ -118,33 +96,15 @@ impl<'a> Told<'a> {
         self,
         rt: &R,
         page: &mut Page,
-        ending: Ending<'_>,
+        ending: &Ending<'_>,
         outside: FromOutside<'_>,
     ) -> Result<(), Stop> {
-        let Ending {
-            config,
-            packets,
-            last,
-            later,
-            rows,
-            living,
-        } = ending;
         match self {
-            Told::Lines(lines) => {
-                let living = Sorted::of(living.iter().map(|it| it.entry).collect(rt.alloc())?)?;
-                let bindings = Bindings {
-                    last,
-                    rows: &rows,
-                    living: &living,
-                };
-                lines.tell(rt, page, bindings, outside)
-            }
-            Told::Only(only) => only.tell(rt, page, &living, packets),
+            Told::Lines(lines) => lines.tell(rt, page, ending, outside),
+            Told::Only(only) => only.tell(rt, page, ending),
             Told::Objects | Told::Log => Ok(()),
-            Told::Holders(holders) => {
-                holders.tell(rt, config, &living, last, later)
-            }
-            Told::Sizes(sizes) => tell_sizes(rt, config, &sizes, &living),
+            Told::Holders(holders) => holders.tell(rt, ending),
+            Told::Sizes(sizes) => tell_sizes(rt, &sizes, ending),
         }
     }
 }
@@ -221,7 +181,10 @@ impl<'a, 'b, W: Write + Drop> Explanation<'a, 'b, W> {
         }
         tell_warning(rt, options.outside, None, &losses);
         let config = running.config();
-        let rows = told.rows_of(rt.alloc(), &running)?;
+        let rows = match &told {
+            Told::Lines(_) => running.bindings(rt.alloc())?,
+            _ => Vec::new(rt.alloc()),
+        };
         let living = living_after(rt.alloc(), running)?;
         if let Some(mut log) = log {
             log.finish(rt, config, &living)?;
@@ -240,7 +203,7 @@ impl<'a, 'b, W: Write + Drop> Explanation<'a, 'b, W> {
             remotes: &remotes,
             replies,
         };
-        told.tell(rt, &mut page, ending, outside)
+        told.tell(rt, &mut page, &ending, outside)
     }
 }
 
@@ -279,8 +242,7 @@ impl<R: Files + Print + Eprint + AllocGlobal, W: Write + Drop> Consumer<R>
         }
         let choice = self.options.choice;
         let text = &mut self.page.text;
-        self.told
-            .take(alloc, config, choice, text, (passing, line))?;
+        self.told.take(alloc, config, choice, text, line)?;
         self.page.turn(rt)?;
         self.progress.tell(rt, number);
         Ok(())

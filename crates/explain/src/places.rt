@@ -22,13 +22,20 @@ struct Named<'a> {
 /// Prints why the file of a role cannot be used, and returns how `napt` would stop.
 pub fn tell_file<R: Files + Eprint>(rt: &R, options: &Options<'_>, role: Role) -> Stop {
     let (files, option) = (&options.files, options.option_of(role));
-    match role {
-        Role::Config | Role::Log => {}
-        Role::Inside => tell_input(rt, option, files.inside.as_ref()),
-        Role::Outside => tell_input(rt, option, files.outside.as_ref()),
-        Role::ToOutside => tell_output(rt, options, option, files.to_outside.as_ref()),
-        Role::ToInside => tell_output(rt, options, option, files.to_inside.as_ref()),
-        Role::Report => tell_output(rt, options, option, files.report.as_ref()),
+    let path = match role {
+        Role::Config | Role::Log => None,
+        Role::Inside => files.inside.as_ref(),
+        Role::Outside => files.outside.as_ref(),
+        Role::ToOutside => files.to_outside.as_ref(),
+        Role::ToInside => files.to_inside.as_ref(),
+        Role::Report => files.report.as_ref(),
+    };
+    match (role, path) {
+        (_, None) => {}
+        (Role::Inside | Role::Outside, Some(path)) => tell_input(rt, option, path),
+        (_, Some(path)) => {
+            tells_output(rt, options, option, path);
+        }
     }
     Stop::Told(napt_program::Stop::File(role))
 }
@@ -63,42 +70,31 @@ pub fn refuse_written<R: Files + Eprint>(rt: &R, options: &Options<'_>) -> Resul
     let Some((name, path)) = options.form.written() else {
         return Ok(());
     };
-    match named_again(rt, options, name, path) {
-        _ if path == "-" => tell_again(rt, name, path, "standard output"),
-        Some(other) => tell_again(rt, name, path, other),
-        None => match unmade(rt, path) {
-            Some(error) => tell_failed(rt, name, path, &error),
-            None => return Ok(()),
-        },
+    if path == "-" {
+        tell_again(rt, name, path, "standard output");
+    } else if !tells_output(rt, options, name, path) {
+        return Ok(());
     }
     Err(unwritten())
 }
 
 /// Prints why a capture cannot be opened.
-fn tell_input<R: Files + Eprint>(rt: &R, option: &str, path: Option<&String>) {
-    let Some(path) = path else {
-        return;
-    };
-    if let Err(error) = File::open(rt, path.as_str()) {
+fn tell_input<R: Files + Eprint>(rt: &R, option: &str, path: &str) {
+    if let Err(error) = File::open(rt, path) {
         tell_failed(rt, option, path, &error);
     }
 }
 
-/// Prints why an output cannot be created.
-fn tell_output<R: Files + Eprint>(
-    rt: &R,
-    options: &Options<'_>,
-    option: &str,
-    path: Option<&String>,
-) {
-    let Some(path) = path else {
-        return;
-    };
-    if let Some(other) = named_again(rt, options, option, path) {
-        tell_again(rt, option, path, other);
+/// Prints why an output cannot be created, if it cannot, and returns whether it is so.
+fn tells_output<R: Files + Eprint>(rt: &R, options: &Options<'_>, name: &str, path: &str) -> bool {
+    if let Some(other) = named_again(rt, options, name, path) {
+        tell_again(rt, name, path, other);
     } else if let Some(error) = unmade(rt, path) {
-        tell_failed(rt, option, path, &error);
+        tell_failed(rt, name, path, &error);
+    } else {
+        return false;
     }
+    true
 }
 
 /// Prints what else names the file of an output.

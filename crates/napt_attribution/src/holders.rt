@@ -4,8 +4,7 @@ use crate::requests::Asked;
 use crate::wanted::Wanted;
 use crate::who::{Basis, Known, tell_answers};
 use napt_account::{Listed, in_order_of_making};
-use napt_commands::{Passing, Stop};
-use napt_config::Config;
+use napt_commands::{Ending, Passing, Stop};
 use std::alloc::{AllocError, Global};
 
 /// What a run says to requests so far: of the bindings that ended, those that are asked about.
@@ -42,23 +41,15 @@ impl<'a> Holders<'a> {
         Ok(())
     }
 
-    /// Prints the answers, once these bindings live at the last packet, at a time in ns. A packet may have come so much
-    /// later than it says, in ns. Fails with `Nobody` if a request has none.
-    pub fn tell<R: Print + AllocGlobal>(
-        mut self,
-        rt: &R,
-        config: &Config,
-        living: &[Listed],
-        last: u64,
-        later: u64,
-    ) -> Result<(), Stop> {
-        self.keep(living)?;
+    /// Prints the answers, once the run has ended. Fails with `Nobody` if a request has none.
+    pub fn tell<R: Print + AllocGlobal>(mut self, rt: &R, ending: &Ending<'_>) -> Result<(), Stop> {
+        self.keep(&ending.living)?;
         let entries = in_order_of_making(rt.alloc(), self.ended)?;
         let known = Known {
             entries: &entries,
-            last,
-            later,
-            config: Some(config),
+            last: ending.last,
+            later: ending.later,
+            config: Some(ending.config),
             basis: Basis::Run,
         };
         tell_answers(rt, self.asked, known)

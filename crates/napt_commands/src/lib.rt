@@ -18,7 +18,7 @@ pub use crate::files::{opened, tell_failed, tell_unwritten, text_at, unexplained
 pub use crate::losses::{Losses, Origin, destination_of, source_of};
 pub use crate::outside::{Outside, copied};
 pub use crate::page::Page;
-pub use crate::passed::{Consumer, Passing, take_all};
+pub use crate::passed::{Consumer, Ending, Passing, take_all};
 pub use crate::sorted::Sorted;
 pub use crate::stop::Stop;
 pub use crate::warning::{begin_warning, tell_warning};

@@ -1,7 +1,9 @@
-//! A packet of a run as it comes by.
+//! A packet of a run as it comes by, and how a run ends.
 
 use crate::stop::Stop;
-use napt_account::LoggedStep;
+use napt_account::{Listed, LoggedStep};
+use napt_config::Config;
+use napt_rules::Row;
 use napt_sequential::Input;
 
 /// A packet of a run as it comes by, and what it did.
@@ -11,6 +13,22 @@ pub struct Passing<'a> {
     pub number: u64,
     pub input: &'a Input,
     pub step: &'a LoggedStep,
+}
+
+/// How a run under a configuration ended.
+#[derive(Drop)]
+pub struct Ending<'a> {
+    pub config: &'a Config,
+    /// How many packets there were.
+    pub packets: u64,
+    /// The latest time of a packet, in ns.
+    pub last: u64,
+    /// How far packets step back in time, in ns.
+    pub later: u64,
+    /// The live bindings, in the order of the report, if they are to be printed so.
+    pub rows: Vec<Row>,
+    /// The entries of the live bindings.
+    pub living: Vec<Listed>,
 }
 
 /// Takes the packets of the captures, one after another, and keeps none.

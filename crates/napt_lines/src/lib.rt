@@ -23,4 +23,4 @@ pub use crate::names::Seconds;
 pub use crate::only::Only;
 pub use crate::remotes::Remotes;
 pub use crate::replies::{Replies, ends_of};
-pub use crate::summary::{Bindings, FromOutside, Lines};
+pub use crate::summary::{FromOutside, Lines};

@@ -11,56 +11,55 @@ use napt_commands::Passing;
 use napt_display::reasons::meaning;
 use napt_log_text::Object;
 use napt_records::cause_name;
-use napt_sequential::{Input, Outcome};
+use napt_sequential::Outcome;
 use napt_table::Row;
 use napt_wire::{Cause, Endpoint, Kind, Packet, Side};
 use std::alloc::{AllocError, Global};
 
-/// A packet of a run: its number, from 1, its arrival, and its outcome.
+/// A packet of a run.
 #[derive(Clone, Copy)]
 pub struct Line<'a> {
-    pub number: u64,
-    pub input: &'a Input,
-    pub outcome: &'a Outcome,
-    pub note: Note,
+    pub passing: Passing<'a>,
     /// The packets from outside, if they are replies.
-    pub replies: Option<Replies<'a>>,
+    replies: Option<Replies<'a>>,
     /// The inside endpoint that it named, if it is a reply that reads.
-    pub end: Option<Endpoint>,
+    end: Option<Endpoint>,
 }
 
 impl<'a> Line<'a> {
     /// That of a packet as it comes by.
     pub fn of(passing: Passing<'a>, replies: Option<Replies<'a>>) -> Line<'a> {
-        let Passing {
-            number,
-            input,
-            step,
-        } = passing;
+        let end = replies.and_then(|replies| replies.end_at(passing.number));
         Line {
-            number,
-            input,
-            outcome: &step.outcome,
-            note: step.used.note,
+            passing,
             replies,
-            end: replies.and_then(|replies| replies.end_at(number)),
+            end,
         }
+    }
+
+    fn outcome(self) -> &'a Outcome {
+        &self.passing.step.outcome
     }
 
     /// What its object tells.
     pub fn object(self) -> Object<'a> {
+        let Passing {
+            number,
+            input,
+            step,
+        } = self.passing;
         Object {
-            number: self.number,
-            input: self.input,
-            outcome: self.outcome,
-            note: self.note,
+            number,
+            input,
+            outcome: &step.outcome,
+            note: step.used.note,
         }
     }
 
     /// Whether it is selected.
     pub fn is_chosen(self, alloc: Global, choice: Choice) -> Result<bool, AllocError> {
-        let is_dropped = matches!(self.outcome, Outcome::Dropped(_));
-        let is_numbered = choice.only.is_none_or(|only| only == self.number);
+        let is_dropped = matches!(self.outcome(), Outcome::Dropped(_));
+        let is_numbered = choice.only.is_none_or(|only| only == self.passing.number);
         if !is_numbered || (choice.dropped && !is_dropped) {
             return Ok(false);
         }
@@ -72,9 +71,9 @@ impl<'a> Line<'a> {
 
     /// Whether it arrives or leaves with this host or endpoint, or names it as a reply.
     pub fn has_host(self, alloc: Global, host: Party) -> Result<bool, AllocError> {
-        let input = self.input;
+        let input = self.passing.input;
         Ok(
-            leaves_with(self.outcome, host)
+            leaves_with(self.outcome(), host)
                 || self.end.is_some_and(|end| host.has(end))
                 || is_end_of_arrival(host, alloc, input.side, &input.bytes)?,
         )
@@ -83,8 +82,8 @@ impl<'a> Line<'a> {
     /// Appends its line. The columns of all lines align, except for an ICMP error, which quotes more than fits, and where
     /// a number or a time first needs a digit more.
     pub fn add(self, alloc: Global, text: &mut String, widths: Widths) -> Result<(), AllocError> {
-        let input = self.input;
-        add_number_within(text, self.number, widths.number())?;
+        let Passing { number, input, .. } = self.passing;
+        add_number_within(text, number, widths.number())?;
         text.push_str(" ")?;
         add_seconds(text, input.time, widths.seconds())?;
         text.push_str(side_column(input.side))?;
@@ -97,14 +96,14 @@ impl<'a> Line<'a> {
 
     /// Appends what happened to it, and the packet as it leaves.
     fn add_rest(self, text: &mut String) -> Result<(), AllocError> {
-        let input = self.input;
-        let (packet, is_hairpin) = match self.outcome {
+        let Passing { input, step, .. } = self.passing;
+        let (packet, is_hairpin) = match &step.outcome {
             Outcome::Dropped(cause) => return self.add_loss(text, *cause),
             Outcome::ToInside(packet) => (packet, input.side == Side::Inside),
             Outcome::ToOutside(packet) => (packet, false),
         };
         let begin = text.len();
-        text.push_str(used(packet, self.note))?;
+        text.push_str(used(packet, step.used.note))?;
         end_column(text, begin, HAPPENED)?;
         if is_hairpin {
             text.push_str("hairpin: ")?;
@@ -114,12 +113,11 @@ impl<'a> Line<'a> {
 
     /// Appends why it was dropped.
     fn add_loss(self, text: &mut String, cause: Cause) -> Result<(), AllocError> {
-        let input = self.input;
         text.push_str("dropped, ")?;
         text.push_str(cause_name(cause))?;
         text.push_str(": ")?;
         if let (Some(replies), Some(end)) = (self.replies, self.end) {
-            if replies.add_loss(text, cause, end, &input.bytes)? {
+            if replies.add_loss(text, cause, end, &self.passing.input.bytes)? {
                 return Ok(());
             }
         }

@@ -6,7 +6,7 @@ use crate::ended::add_binding;
 use crate::lines::Line;
 use crate::widths::Widths;
 use napt_account::{Entry, Listed};
-use napt_commands::{Page, Passing, Stop};
+use napt_commands::{Ending, Page, Passing, Stop};
 use std::alloc::{AllocError, Global};
 
 /// A binding that the packet used: its number in the log, from 1, and its entry once it ended.
@@ -65,11 +65,15 @@ impl Only {
         alloc: Global,
         text: &mut String,
         choice: Choice,
-        (passing, line): (Passing<'_>, Line<'_>),
+        line: Line<'_>,
     ) -> Result<(), AllocError> {
-        let step = passing.step;
+        let Passing {
+            number,
+            input,
+            step,
+        } = line.passing;
         self.take_entries(&step.ended);
-        if line.number != self.number {
+        if number != self.number {
             return Ok(());
         }
         self.is_found = true;
@@ -77,8 +81,8 @@ impl Only {
         if !self.is_chosen {
             return Ok(());
         }
-        let mut widths = Widths::new();
-        widths.take(line.number, line.input);
+        let mut widths = Widths::default();
+        widths.take(number, input);
         line.add(alloc, text, widths)?;
         self.out = step.used.out.map(Used::at);
         self.into = step.used.into.map(Used::at);
@@ -95,16 +99,15 @@ impl Only {
         }
     }
 
-    /// Prints the bindings, of which these have not ended. A packet that did not come, of so many, is reported.
+    /// Prints the bindings. A packet that did not come is reported.
     pub fn tell<R: Print + Eprint>(
         self,
         rt: &R,
         page: &mut Page,
-        living: &[Listed],
-        packets: u64,
+        ending: &Ending<'_>,
     ) -> Result<(), Stop> {
         if !self.is_found {
-            let number = self.number;
+            let (number, packets) = (self.number, ending.packets);
             let _ = eprintln!(rt; "explain: --only {number}: there are {packets} packets");
             return Err(Stop::Told(napt_program::Stop::Usage));
         }
@@ -115,7 +118,7 @@ impl Only {
             );
         }
         let mut only = self;
-        only.take_entries(living);
+        only.take_entries(&ending.living);
         add_used(&mut page.text, "out", only.out)?;
         add_used(&mut page.text, "in", only.into)?;
         page.end(rt)

@@ -14,7 +14,7 @@ pub fn add_packet(text: &mut String, packet: &Packet) -> Result<(), AllocError> 
         Kind::Udp => add_ends(text, "udp ", source, destination),
         Kind::Tcp(flags) => {
             add_ends(text, "tcp ", source, destination)?;
-            text.push_str(flags_text(flags))
+            add_flags(text, flags)
         }
         Kind::Echo => {
             let begin = if is_reply(packet.bytes()) {
@@ -69,26 +69,13 @@ fn is_reply(bytes: &[u8]) -> bool {
     }
 }
 
-/// Flags in brackets as tcpdump writes them, such as `[S]`, `[S.]`, `[F.]`, `[R]` and `[.]`, with a space in front.
-fn flags_text(flags: Flags) -> &'static str {
-    match (flags.fin, flags.syn, flags.rst, flags.ack) {
-        (false, false, false, false) => " []",
-        (false, false, false, true) => " [.]",
-        (false, false, true, false) => " [R]",
-        (false, false, true, true) => " [R.]",
-        (false, true, false, false) => " [S]",
-        (false, true, false, true) => " [S.]",
-        (false, true, true, false) => " [SR]",
-        (false, true, true, true) => " [SR.]",
-        (true, false, false, false) => " [F]",
-        (true, false, false, true) => " [F.]",
-        (true, false, true, false) => " [FR]",
-        (true, false, true, true) => " [FR.]",
-        (true, true, false, false) => " [FS]",
-        (true, true, false, true) => " [FS.]",
-        (true, true, true, false) => " [FSR]",
-        (true, true, true, true) => " [FSR.]",
-    }
+/// Appends flags in brackets as tcpdump writes them, such as `[S]`, `[S.]`, `[F.]`, `[R]` and `[.]`, with a space in front.
+fn add_flags(text: &mut String, flags: Flags) -> Result<(), AllocError> {
+    text.push_str(" [")?;
+    text.push_str(if flags.fin { "F" } else { "" })?;
+    text.push_str(if flags.syn { "S" } else { "" })?;
+    text.push_str(if flags.rst { "R" } else { "" })?;
+    text.push_str(if flags.ack { ".]" } else { "]" })
 }
 
 /// The packet that these bytes are on arrival, if they are one.

@@ -8,8 +8,8 @@ use crate::names::Seconds;
 use crate::remotes::Remotes;
 use crate::replies::{Replies, advice_of_replies};
 use crate::widths::Widths;
-use napt_account::{Entry, Listed};
-use napt_commands::{Losses, Page, Sorted, Stop};
+use napt_account::Entry;
+use napt_commands::{Ending, Losses, Page, Passing, Sorted, Stop};
 use napt_display::reasons::{advice, meaning};
 use napt_records::{Counts, cause_name};
 use napt_table::Row;
@@ -30,14 +30,6 @@ pub struct Lines {
     counts: Counts,
 }
 
-/// The live bindings at the last packet's time, in ns.
-#[derive(Clone, Copy)]
-pub struct Bindings<'a> {
-    pub last: u64,
-    pub rows: &'a [Row],
-    pub living: &'a Sorted,
-}
-
 /// What became of the packets from outside, and whether they are replies.
 #[derive(Clone, Copy)]
 pub struct FromOutside<'a> {
@@ -51,7 +43,7 @@ impl Lines {
     pub fn new(choice: Choice) -> Lines {
         Lines {
             choice,
-            widths: Widths::new(),
+            widths: Widths::default(),
             counts: Counts::new(),
         }
     }
@@ -63,11 +55,15 @@ impl Lines {
         alloc: Global,
         text: &mut String,
         line: Line<'_>,
-        ended: &[Listed],
     ) -> Result<(), AllocError> {
-        self.counts.count(line.outcome);
-        self.widths.take(line.number, line.input);
-        for listed in ended {
+        let Passing {
+            number,
+            input,
+            step,
+        } = line.passing;
+        self.counts.count(&step.outcome);
+        self.widths.take(number, input);
+        for listed in &step.ended {
             if self.has_chosen(&listed.entry) {
                 add_end(text, self.widths, &listed.entry)?;
             }
@@ -84,32 +80,35 @@ impl Lines {
     }
 
     /// Prints the live bindings, and what became of the packets.
-    pub fn tell<R: Print>(
+    pub fn tell<R: Print + AllocGlobal>(
         &self,
         rt: &R,
         page: &mut Page,
-        bindings: Bindings<'_>,
+        ending: &Ending<'_>,
         outside: FromOutside<'_>,
     ) -> Result<(), Stop> {
-        self.tell_bindings(rt, page, bindings)?;
+        self.tell_bindings(rt, page, ending)?;
         self.add_counts(&mut page.text, outside)?;
         page.end(rt)
     }
 
     /// Prints the bindings live at the last packet's time, with their ages; only those of a host or endpoint if one is
     /// selected.
-    fn tell_bindings<R: Print>(
+    fn tell_bindings<R: Print + AllocGlobal>(
         &self,
         rt: &R,
         page: &mut Page,
-        bindings: Bindings<'_>,
+        ending: &Ending<'_>,
     ) -> Result<(), Stop> {
-        let time = Seconds(bindings.last);
-        let many = bindings.rows.len();
+        let living = ending.living.iter().map(|listed| listed.entry);
+        let living = Sorted::of(living.collect(rt.alloc())?)?;
+        let time = Seconds(ending.last);
+        let many = ending.rows.len();
         writeln!(page.text, "live bindings at {time}: {many}")?;
-        for row in bindings.rows {
+        for row in &ending.rows {
             if has_party(row, self.choice.host) {
-                bindings.add(&mut page.text, row)?;
+                let entry = living.entry_of(row.protocol, row.external);
+                add_row(&mut page.text, row, entry, ending.last)?;
             }
             page.turn(rt)?;
         }
@@ -117,11 +116,7 @@ impl Lines {
     }
 
     /// Appends the counts of outcomes, and what to do if more than a fifth of the packets were dropped for one cause.
-    fn add_counts(
-        &self,
-        text: &mut String,
-        outside: FromOutside<'_>,
-    ) -> Result<(), AllocError> {
+    fn add_counts(&self, text: &mut String, outside: FromOutside<'_>) -> Result<(), AllocError> {
         let counts = &self.counts;
         writeln!(text, "packets: {}", counts.packets())?;
         writeln!(text, "  {} to the outside", counts.to_outside())?;
@@ -179,21 +174,24 @@ impl Lines {
     }
 }
 
-impl Bindings<'_> {
-    /// Appends the line of a binding.
-    fn add(self, text: &mut String, row: &Row) -> Result<(), AllocError> {
-        text.push_str("  ")?;
-        add_binding(text, row)?;
-        if row.fixed {
-            return text.push_str(", a redirect\n");
-        }
-        if let Some(entry) = self.living.entry_of(row.protocol, row.external) {
-            text.push_str(", made ")?;
-            add_seconds(text, self.last.saturating_sub(entry.made), 1)?;
-            text.push_str(" s ago, last used from inside ")?;
-            add_seconds(text, self.last.saturating_sub(entry.last_sent), 1)?;
-            text.push_str(" s ago")?;
-        }
-        text.push_str("\n")
+/// Appends the line of a live binding, whose entry this is, at the last packet's time, in ns.
+fn add_row(
+    text: &mut String,
+    row: &Row,
+    entry: Option<&Entry>,
+    last: u64,
+) -> Result<(), AllocError> {
+    text.push_str("  ")?;
+    add_binding(text, row)?;
+    if row.fixed {
+        return text.push_str(", a redirect\n");
     }
+    if let Some(entry) = entry {
+        text.push_str(", made ")?;
+        add_seconds(text, last.saturating_sub(entry.made), 1)?;
+        text.push_str(" s ago, last used from inside ")?;
+        add_seconds(text, last.saturating_sub(entry.last_sent), 1)?;
+        text.push_str(" s ago")?;
+    }
+    text.push_str("\n")
 }

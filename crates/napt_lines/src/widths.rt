@@ -8,7 +8,7 @@ pub const BEFORE: usize = 50;
 pub const HAPPENED: usize = 21;
 
 /// How wide the first columns are: as wide as their greatest number so far.
-#[derive(Clone, Copy)]
+#[derive(Clone, Copy, Default)]
 pub struct Widths {
     number: u64,
     /// The seconds of a time, before the point.
@@ -16,14 +16,6 @@ pub struct Widths {
 }
 
 impl Widths {
-    /// Before the first packet.
-    pub fn new() -> Widths {
-        Widths {
-            number: 0,
-            seconds: 0,
-        }
-    }
-
     /// Makes room for the next packet, by its number, and its time.
     pub fn take(&mut self, number: u64, input: &Input) {
         self.number = self.number.max(number);

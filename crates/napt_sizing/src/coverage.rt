@@ -8,7 +8,7 @@ use napt_wire::{Cause, Side};
 const SECOND: u64 = 1_000_000_000;
 
 /// What captures hold, and how many bindings of a run end in them. Redirects do not count.
-#[derive(Clone, Copy)]
+#[derive(Clone, Copy, Default)]
 pub struct Coverage {
     from_inside: u64,
     from_outside: u64,
@@ -19,25 +19,11 @@ pub struct Coverage {
     /// The longest time from the last packet of a binding to its end, in ns.
     longest: u64,
     /// The times of the first and the latest packet, in ns.
-    first: u64,
+    first: Option<u64>,
     last: u64,
 }
 
 impl Coverage {
-    /// That of no packets.
-    pub fn none() -> Coverage {
-        Coverage {
-            from_inside: 0,
-            from_outside: 0,
-            truncated: 0,
-            made: 0,
-            ended: 0,
-            longest: 0,
-            first: u64::MAX,
-            last: 0,
-        }
-    }
-
     /// Takes the next packet, and what it did.
     pub fn take(&mut self, input: &Input, step: &LoggedStep) {
         let many = match input.side {
@@ -51,7 +37,7 @@ impl Coverage {
         self.made = self.made.saturating_add(step.made.len() as u64);
         self.ended = self.ended.saturating_add(step.ended.len() as u64);
         self.end(&step.ended);
-        self.first = self.first.min(input.clock);
+        self.first = self.first.or(Some(input.clock));
         self.last = self.last.max(input.clock);
     }
 
@@ -88,7 +74,7 @@ impl Coverage {
     pub fn tell_living<R: Eprint>(mut self, rt: &R, under: Option<&str>, entries: &[Listed]) {
         self.end(entries);
         let (living, made) = (self.made.saturating_sub(self.ended), self.made);
-        let span = self.last.saturating_sub(self.first);
+        let span = self.last.saturating_sub(self.first.unwrap_or(0));
         let is_half = living > made / 2;
         if !is_half && span >= self.longest {
             return;

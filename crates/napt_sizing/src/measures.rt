@@ -8,9 +8,8 @@ use crate::sizes::lifetimes::{Lifetimes, SPANS};
 use crate::sizes::quotas::Quota;
 use crate::sizes::refusals::Refusals;
 use crate::sizes::spaces::Space;
-use napt_account::Listed;
-use napt_commands::Stop;
-use napt_config::{Address, Config};
+use napt_commands::{Ending, Stop};
+use napt_config::Address;
 use napt_records::protocol_name;
 
 /// How many hosts get a line, those with the most bindings first.
@@ -19,15 +18,15 @@ const TOP: usize = 10;
 /// How many numbers of an address blocks have together: those from 1024 on.
 const NUMBERS: u64 = 64_512;
 
-/// Prints the figures of a run under a configuration.
+/// Prints the figures of a run that has ended.
 pub fn tell_sizes<R: Print + Eprint + AllocGlobal>(
     rt: &R,
-    config: &Config,
     sizes: &Sizes,
-    living: &[Listed],
+    ending: &Ending<'_>,
 ) -> Result<(), Stop> {
+    let config = ending.config;
     sizes.coverage.tell(rt);
-    sizes.coverage.tell_living(rt, None, living);
+    sizes.coverage.tell_living(rt, None, &ending.living);
     let (usage, trials) = (&sizes.usage, &sizes.trials);
     for space in &usage.spaces {
         tell_space(rt, space)?;
@@ -106,7 +105,7 @@ fn tell_quotas<R: Print>(
     let mut is_behind = false;
     for quota in quotas {
         if !is_behind {
-            let (most, refused, hosts) = (quota.most, quota.refused, quota.hosts);
+            let (most, refused, hosts) = (quota.most, quota.refused.many, quota.refused.hosts());
             print!(rt; "quota {most}: new bindings refused {refused}, of hosts {hosts}")?;
             match own {
                 Some(own) if own <= most => println!(rt;
@@ -123,7 +122,7 @@ fn tell_quotas<R: Print>(
 /// Prints what blocks of each size would have refused, and how many addresses all hosts of the prefixes would need.
 fn tell_blocks<R: Print>(rt: &R, blocks: &[Quota], all: u64) -> Result<(), Stop> {
     for block in blocks {
-        let (most, refused, hosts) = (block.most, block.refused, block.hosts);
+        let (most, refused, hosts) = (block.most, block.refused.many, block.refused.hosts());
         let each = (NUMBERS / u64::from(most).max(1)).max(1);
         let addresses = all.saturating_add(each.saturating_sub(1)) / each;
         println!(rt;
@@ -136,7 +135,7 @@ addresses for all {all} hosts {addresses}"
 
 /// Prints how many packets were refused a binding for this cause, if any were.
 fn tell_refusals<R: Print>(rt: &R, cause: &str, refusals: &Refusals) -> Result<(), Stop> {
-    let (packets, hosts) = (refusals.packets, refusals.hosts());
+    let (packets, hosts) = (refusals.many, refusals.hosts());
     if packets > 0 {
         println!(rt; "dropped, {cause}: packets {packets}, of hosts {hosts}")?;
     }

@@ -36,7 +36,7 @@ impl Sizes {
             usage: Usage::of(alloc, config, opening)?,
             trials: Trials::new(alloc)?,
             lifetimes: Lifetimes::NONE,
-            coverage: Coverage::none(),
+            coverage: Coverage::default(),
         })
     }
 

@@ -30,7 +30,7 @@ impl<'a> PlannedRun<'a> {
             usage: Usage::of(alloc, config, &opening)?,
             counts: Counts::new(),
             losses: Losses::new(alloc, config)?,
-            coverage: Coverage::none(),
+            coverage: Coverage::default(),
         })
     }
 

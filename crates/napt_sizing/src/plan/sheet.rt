@@ -11,30 +11,7 @@ use std::alloc::{AllocError, Global};
 use std::io;
 use std::io::Write;
 
-/// The names of the fields.
-const HEADER: &[&[u8]] = &[
-    b"configuration",
-    b"quota",
-    b"block",
-    b"to_outside",
-    b"to_inside",
-    b"no_port",
-    b"over_quota",
-    b"no_binding",
-    b"filtered",
-    b"truncated",
-    b"bindings",
-    b"median",
-    b"percentile_99",
-    b"refused_hosts",
-    b"fullest_protocol",
-    b"fullest_address",
-    b"fullest_class",
-    b"fullest_bindings",
-    b"fullest_numbers",
-];
-
-/// A line: its fields, in the order of the header.
+/// A line: its fields, whose names are those of the header.
 #[derive(Drop, Serialize)]
 struct Record {
     configuration: String,
@@ -51,11 +28,11 @@ struct Record {
     median: u64,
     percentile_99: u64,
     refused_hosts: u64,
-    protocol: Option<&'static str>,
-    address: Option<String>,
-    class: Option<&'static str>,
-    used: Option<u64>,
-    many: Option<u64>,
+    fullest_protocol: Option<&'static str>,
+    fullest_address: Option<String>,
+    fullest_class: Option<&'static str>,
+    fullest_bindings: Option<u64>,
+    fullest_numbers: Option<u64>,
 }
 
 /// Writes the table to standard output.
@@ -64,8 +41,7 @@ pub fn write_sheet<R: Print + AllocGlobal>(
     paths: &[String],
     lines: &[Figures],
 ) -> Result<(), Stop> {
-    let mut setup = WriterBuilder::new();
-    let writer = setup.has_headers(false).from_writer(io::writer(rt));
+    let writer = WriterBuilder::new().from_writer(io::writer(rt));
     match put_lines(rt.alloc(), writer, paths, lines) {
         Ok(()) => Ok(()),
         Err(error) => Err(match error.into_kind() {
@@ -77,12 +53,10 @@ pub fn write_sheet<R: Print + AllocGlobal>(
 
 fn put_lines<W: Write + Drop>(
     alloc: Global,
-    writer: Writer<W>,
+    mut writer: Writer<W>,
     paths: &[String],
     lines: &[Figures],
 ) -> Result<(), csv::Error> {
-    let mut writer = writer;
-    writer.write_fields(HEADER)?;
     for (path, figures) in paths.iter().zip(lines) {
         let record = record_of(alloc, path, *figures).map_err(|_| csv::Error::out_of_memory())?;
         writer.serialize(alloc, &record)?;
@@ -107,11 +81,11 @@ fn record_of(alloc: Global, path: &str, figures: Figures) -> Result<Record, Allo
         median: figures.median,
         percentile_99: figures.percentile_99,
         refused_hosts: figures.refused_hosts as u64,
-        protocol: fullest.map(|it| protocol_name(it.protocol)),
-        address: address_of(alloc, fullest)?,
-        class: fullest.map(|it| it.class.name),
-        used: fullest.map(|it| it.used),
-        many: fullest.map(|it| it.class.many),
+        fullest_protocol: fullest.map(|it| protocol_name(it.protocol)),
+        fullest_address: address_of(alloc, fullest)?,
+        fullest_class: fullest.map(|it| it.class.name),
+        fullest_bindings: fullest.map(|it| it.used),
+        fullest_numbers: fullest.map(|it| it.class.many),
     })
 }
 

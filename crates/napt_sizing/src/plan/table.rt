@@ -83,8 +83,12 @@ impl Widths {
     fn take(&mut self, figures: Figures) {
         let cells = NAMES.iter().zip(numbers_of(figures));
         for (wide, (name, number)) in self.numbers.iter_mut().zip(cells) {
-            let tens = number.and_then(|number| number.checked_ilog10()).unwrap_or(0);
-            *wide = (*wide).max(name.len()).max((tens as usize).saturating_add(1));
+            let tens = number
+                .and_then(|number| number.checked_ilog10())
+                .unwrap_or(0);
+            *wide = (*wide)
+                .max(name.len())
+                .max((tens as usize).saturating_add(1));
         }
     }
 

@@ -46,7 +46,7 @@ impl Hosts {
             host.bindings.rise(entry.made);
             return Ok(());
         }
-        let mut bindings = Level::EMPTY;
+        let mut bindings = Level::default();
         bindings.rise(entry.made);
         let place = self.list.len();
         self.list.push(Host { address, bindings })?;

@@ -1,7 +1,7 @@
 //! How many there were at once.
 
 /// How many there are now, the most there were at once, and when that many were first reached, in ns.
-#[derive(Clone, Copy)]
+#[derive(Clone, Copy, Default)]
 pub struct Level {
     now: u64,
     pub most: u64,
@@ -9,12 +9,6 @@ pub struct Level {
 }
 
 impl Level {
-    pub const EMPTY: Level = Level {
-        now: 0,
-        most: 0,
-        at: 0,
-    };
-
     /// One more, from this time on.
     pub fn rise(&mut self, at: u64) {
         self.now = self.now.saturating_add(1);

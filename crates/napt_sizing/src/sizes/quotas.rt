@@ -1,6 +1,7 @@
 //! What a quota, or a block, would have refused: new bindings of hosts that have reached it, without those that it
 //! refused before.
 
+use crate::sizes::refusals::Refusals;
 use crate::sizes::spaces::protocol_place;
 use napt_wire::Protocol;
 use std::alloc::{AllocError, Global};
@@ -22,20 +23,17 @@ pub enum Scope {
 pub struct Quota {
     /// How many bindings a host may have at once, in all or of each protocol.
     pub most: u16,
-    /// How many new bindings it would have refused.
-    pub refused: u64,
-    /// To how many hosts it would have refused one.
-    pub hosts: u64,
+    /// The new bindings that it would have refused.
+    pub refused: Refusals,
     scope: Scope,
     /// How many live bindings each host has that it allowed, in all or of each protocol.
     kept: Vec<u16>,
-    /// Whether it refused a binding of each host.
-    hurt: Vec<bool>,
 }
 
-/// For whom a binding counts: the index of its host, and its protocol.
+/// For whom a binding counts: its host, by its address and its index, and its protocol.
 #[derive(Clone, Copy)]
 pub struct Holder {
+    pub address: u32,
     pub host: usize,
     pub protocol: Protocol,
 }
@@ -45,11 +43,9 @@ impl Quota {
     pub fn new(alloc: Global, most: u16, scope: Scope) -> Quota {
         Quota {
             most,
-            refused: 0,
-            hosts: 0,
+            refused: Refusals::new(alloc),
             scope,
             kept: Vec::new(alloc),
-            hurt: Vec::new(alloc),
         }
     }
 
@@ -59,22 +55,20 @@ impl Quota {
             Scope::Host => many,
             Scope::Protocol => many.saturating_mul(PROTOCOLS),
         };
-        self.kept.resize(counts, 0)?;
-        self.hurt.resize(many, false)
+        self.kept.resize(counts, 0)
     }
 
     /// A host that it knows makes a binding. Returns whether it allows that.
-    pub fn make(&mut self, holder: Holder) -> bool {
+    pub fn make(&mut self, holder: Holder) -> Result<bool, AllocError> {
         let most = self.most;
         if let Some(kept) = self.count_of(holder) {
             if *kept < most {
                 *kept = kept.saturating_add(1);
-                return true;
+                return Ok(true);
             }
         }
-        self.refused = self.refused.saturating_add(1);
-        self.hurt(holder.host);
-        false
+        self.refused.add(holder.address)?;
+        Ok(false)
     }
 
     /// A binding that it allowed has expired.
@@ -94,15 +88,5 @@ impl Quota {
             }
         };
         self.kept.get_mut(place)
-    }
-
-    /// The host at an index is refused a binding.
-    fn hurt(&mut self, host: usize) {
-        if let Some(hurt) = self.hurt.get_mut(host) {
-            if !*hurt {
-                *hurt = true;
-                self.hosts = self.hosts.saturating_add(1);
-            }
-        }
     }
 }

@@ -1,32 +1,32 @@
-//! Packets that were refused a binding.
+//! Refused bindings.
 
 use std::alloc::{AllocError, Global};
 use std::collections::BTreeSet;
 
-/// Packets refused a binding, and the hosts that sent them.
+/// New bindings that were refused, or the packets that asked for them, and their hosts.
 #[derive(Drop)]
 pub struct Refusals {
-    pub packets: u64,
-    senders: BTreeSet<u32>,
+    pub many: u64,
+    hosts: BTreeSet<u32>,
 }
 
 impl Refusals {
     pub fn new(alloc: Global) -> Refusals {
         Refusals {
-            packets: 0,
-            senders: BTreeSet::new(alloc),
+            many: 0,
+            hosts: BTreeSet::new(alloc),
         }
     }
 
     /// One more from a host.
     pub fn add(&mut self, host: u32) -> Result<(), AllocError> {
-        self.packets = self.packets.saturating_add(1);
-        self.senders.insert(host)?;
+        self.many = self.many.saturating_add(1);
+        self.hosts.insert(host)?;
         Ok(())
     }
 
-    /// How many hosts sent them.
+    /// How many hosts there were.
     pub fn hosts(&self) -> usize {
-        self.senders.len()
+        self.hosts.len()
     }
 }

@@ -59,9 +59,9 @@ impl Space {
         Space {
             address,
             protocol,
-            bindings: Level::EMPTY,
-            hosts: Level::EMPTY,
-            used: [Level::EMPTY; 4],
+            bindings: Level::default(),
+            hosts: Level::default(),
+            used: [Level::default(); 4],
             now: BTreeMap::new(alloc),
         }
     }

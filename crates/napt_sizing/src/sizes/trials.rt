@@ -92,7 +92,7 @@ impl Trials {
     fn make(&mut self, holder: Holder, number: u64) -> Result<(), AllocError> {
         let mut refused = [false; TRIED];
         for (quota, refused) in self.tried.iter_mut().zip(refused.iter_mut()) {
-            *refused = !quota.make(holder);
+            *refused = !quota.make(holder)?;
         }
         if refused.contains(&true) {
             self.refused.insert(number, refused)?;
@@ -118,6 +118,7 @@ fn holder_of(hosts: &Hosts, listed: &Listed) -> Option<Holder> {
         return None;
     }
     Some(Holder {
+        address: binding.inside.address,
         host: hosts.place_of(binding.inside.address)?,
         protocol: binding.protocol,
     })

@@ -32,7 +32,7 @@ impl Usage {
         let mut usage = Usage {
             spaces: spaces_of(alloc, config)?,
             hosts: Hosts::new(alloc),
-            bindings: Level::EMPTY,
+            bindings: Level::default(),
             refused: Refusals::new(alloc),
             over_quota: Refusals::new(alloc),
             no_number: Refusals::new(alloc),
