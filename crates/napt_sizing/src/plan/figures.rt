@@ -8,10 +8,11 @@ use crate::sizes::usage::Usage;
 use napt_config::Config;
 use napt_records::Counts;
 use napt_wire::Cause;
+use serde::Serialize;
 use std::alloc::{AllocError, Global};
 
-/// The figures of a run.
-#[derive(Clone, Copy)]
+/// The figures of a run. In CSV the names of the fields are those of their columns.
+#[derive(Clone, Copy, Serialize)]
 pub struct Figures {
     /// How many bindings the configuration allows a host, if it bounds them.
     pub quota: Option<u64>,
@@ -21,6 +22,7 @@ pub struct Figures {
     pub to_outside: u64,
     /// Packets that left for the inside.
     pub to_inside: u64,
+    #[serde(flatten)]
     pub drops: Drops,
     /// The most bindings at once, redirects included.
     pub bindings: u64,
@@ -31,11 +33,12 @@ pub struct Figures {
     /// Hosts that were refused a binding.
     pub refused_hosts: usize,
     /// The class of numbers of which the greatest share was used, if any was.
+    #[serde(skip)]
     pub fullest: Option<Fullest>,
 }
 
 /// Packets dropped for the causes that a configuration decides, and those that a snapshot length cut.
-#[derive(Clone, Copy)]
+#[derive(Clone, Copy, Serialize)]
 pub struct Drops {
     pub no_port: u64,
     pub over_quota: u64,

@@ -15,19 +15,8 @@ use std::io::Write;
 #[derive(Drop, Serialize)]
 struct Record {
     configuration: String,
-    quota: Option<u64>,
-    block: Option<u64>,
-    to_outside: u64,
-    to_inside: u64,
-    no_port: u64,
-    over_quota: u64,
-    no_binding: u64,
-    filtered: u64,
-    truncated: u64,
-    bindings: u64,
-    median: u64,
-    percentile_99: u64,
-    refused_hosts: u64,
+    #[serde(flatten)]
+    figures: Figures,
     fullest_protocol: Option<&'static str>,
     fullest_address: Option<String>,
     fullest_class: Option<&'static str>,
@@ -65,22 +54,10 @@ fn put_lines<W: Write + Drop>(
 }
 
 fn record_of(alloc: Global, path: &str, figures: Figures) -> Result<Record, AllocError> {
-    let (drops, fullest) = (figures.drops, figures.fullest);
+    let fullest = figures.fullest;
     Ok(Record {
         configuration: String::from_str(alloc, path)?,
-        quota: figures.quota,
-        block: figures.block,
-        to_outside: figures.to_outside,
-        to_inside: figures.to_inside,
-        no_port: drops.no_port,
-        over_quota: drops.over_quota,
-        no_binding: drops.no_binding,
-        filtered: drops.filtered,
-        truncated: drops.truncated,
-        bindings: figures.bindings,
-        median: figures.median,
-        percentile_99: figures.percentile_99,
-        refused_hosts: figures.refused_hosts as u64,
+        figures,
         fullest_protocol: fullest.map(|it| protocol_name(it.protocol)),
         fullest_address: address_of(alloc, fullest)?,
         fullest_class: fullest.map(|it| it.class.name),
