@@ -25,13 +25,11 @@ mod setting;
 use crate::commands::Words;
 use crate::manual::{INSTALLED, OWN};
 use crate::options::{Form, Options, options_of};
-use crate::reading::{
-    GivenToLog, Written, configuration, read_given, read_given_to_log, requests_of,
-};
+use crate::reading::{Written, answer, configuration, read_given, requests_of};
 use crate::setting::explain;
 use clap::Error;
 use clap::error::ErrorKind;
-use napt_attribution::{answer_by_blocks, answer_by_log, tell_blocks};
+use napt_attribution::{answer_by_blocks, tell_blocks};
 use napt_commands::Stop;
 use napt_program::{Call, Streams};
 use std::env::Env;
@@ -121,7 +119,7 @@ fn explained_under<R: Files + Input + Print + Eprint + AllocGlobal>(
     options: &Options<'_>,
 ) -> Result<(), Stop> {
     if !options.pieces.is_empty() {
-        return answered(rt, streams, options);
+        return answer(rt, streams, options);
     }
     match options.form {
         Form::Blocks => tell_blocks(rt, streams, &configuration(rt, options)?.config),
@@ -165,14 +163,4 @@ fn explained_run<R: Files + Input + Print + Eprint + AllocGlobal>(
 ) -> Result<(), Stop> {
     let given = read_given(rt, streams, options, written)?;
     explain(rt, streams, options, given)
-}
-
-/// Answers requests from a log.
-fn answered<R: Files + Input + Print + Eprint + AllocGlobal>(
-    rt: &R,
-    streams: Streams,
-    options: &Options<'_>,
-) -> Result<(), Stop> {
-    let GivenToLog { config, asked } = read_given_to_log(rt, options)?;
-    answer_by_log(rt, streams, &asked, &options.pieces, config.as_ref())
 }

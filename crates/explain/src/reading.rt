@@ -3,7 +3,7 @@
 use crate::options::{Form, Options};
 use crate::places::{refuse_written, tell_closed, tell_file, tell_shared};
 use crate::refused;
-use napt_attribution::{Asked, requests_at};
+use napt_attribution::{Asked, answer_by_log, requests_at};
 use napt_commands::{Stop, text_at};
 use napt_config::{Config, ConfigFault};
 use napt_display::reasons::inside_prefixes;
@@ -22,13 +22,6 @@ pub struct Given<S, F> {
     pub others: Vec<Config>,
     pub asked: Vec<Asked>,
     pub files: InputFiles<S, F>,
-}
-
-/// What requests to a saved log need beside it.
-#[derive(Drop)]
-pub struct GivenToLog {
-    pub config: Option<Config>,
-    pub asked: Vec<Asked>,
 }
 
 /// Reads the configuration, unless it was read before, and opens the captures.
@@ -62,19 +55,20 @@ pub fn read_given<R: Files + Input + Eprint + AllocGlobal>(
     })
 }
 
-/// What requests to a saved log need beside it: the configuration, if one is named, and the requests. What is refused is
-/// explained.
-pub fn read_given_to_log<R: Files + Input + Eprint + AllocGlobal>(
+/// Answers requests by a saved log, under the configuration if one is named. What is refused is explained.
+pub fn answer<R: Files + Input + Print + Eprint + AllocGlobal>(
     rt: &R,
+    streams: Streams,
     options: &Options<'_>,
-) -> Result<GivenToLog, Stop> {
-    refuse_shared_with_log(rt, options)?;
+) -> Result<(), Stop> {
+    let has_config = options.files.is_stream(Role::Config);
+    refuse_more_input(rt, options, has_config, "--from-log")?;
     let config = match &options.files.config {
         Some(path) => Some(configuration_at(rt, "--config", path)?),
         None => None,
     };
     let asked = requests_of(rt, options.form)?;
-    Ok(GivenToLog { config, asked })
+    answer_by_log(rt, streams, &asked, &options.pieces, config.as_ref())
 }
 
 /// Refuses the first option that wants a standard stream which another has, and prints why.
@@ -82,22 +76,25 @@ fn refuse_shared<R: Eprint>(rt: &R, options: &Options<'_>) -> Result<(), Stop> {
     if let Some(role) = options.files.standard_again() {
         return Err(tell_shared(rt, options.option_of(role), role));
     }
-    let most = if options.takes_input() { 0 } else { 1 };
-    if options.more_from_input() > most {
-        return Err(tell_shared(rt, options.form.name_of_read(), Role::Config));
-    }
-    Ok(())
+    refuse_more_input(
+        rt,
+        options,
+        options.takes_input(),
+        options.form.name_of_read(),
+    )
 }
 
-/// Refuses standard input for more than one of the configuration, the requests and the pieces of a log, and prints why.
-fn refuse_shared_with_log<R: Eprint>(rt: &R, options: &Options<'_>) -> Result<(), Stop> {
-    let most = if options.files.is_stream(Role::Config) {
-        0
-    } else {
-        1
-    };
+/// Refuses standard input for more than one of the configurations, the requests and the pieces of a log, or for one if
+/// another file has it, and prints why, with what names such a file.
+fn refuse_more_input<R: Eprint>(
+    rt: &R,
+    options: &Options<'_>,
+    is_taken: bool,
+    name: &str,
+) -> Result<(), Stop> {
+    let most = if is_taken { 0 } else { 1 };
     if options.more_from_input() > most {
-        return Err(tell_shared(rt, "--from-log", Role::Config));
+        return Err(tell_shared(rt, name, Role::Config));
     }
     Ok(())
 }

@@ -1,7 +1,7 @@
 //! What packets from outside say as answers to what left just before. Only the remotes of the last minutes are kept.
 
 use napt_account::Note;
-use napt_commands::{Passing, Stop, destination_of, source_of};
+use napt_commands::{Losses, Passing, Stop, destination_of, source_of};
 use napt_sequential::{Input, Outcome};
 use napt_wire::{Cause, Side};
 use std::alloc::{AllocError, Global};
@@ -30,8 +30,7 @@ pub struct Remotes {
     sent: BTreeMap<u32, Sent>,
     /// How many remotes there are when the next old ones are forgotten.
     full: usize,
-    /// Packets that found no binding or were not for the gateway, and how many of them are answers.
-    unmet: u64,
+    /// How many of the packets that found no binding, or were not for the gateway, are answers.
     unmet_answers: u64,
     /// Answers that were for an address of the gateway, and how many of them find no binding, or that of a host that did
     /// not ask.
@@ -45,7 +44,6 @@ impl Remotes {
         Remotes {
             sent: BTreeMap::new(alloc),
             full: FEW,
-            unmet: 0,
             unmet_answers: 0,
             answers: 0,
             astray: 0,
@@ -53,8 +51,8 @@ impl Remotes {
     }
 
     /// Whether at least half of the packets from outside that found no binding, or were not for the gateway, are answers.
-    pub fn are_answers(&self) -> bool {
-        let others = self.unmet.saturating_sub(self.unmet_answers);
+    pub fn are_answers(&self, losses: &Losses) -> bool {
+        let others = losses.unmet().saturating_sub(self.unmet_answers);
         self.unmet_answers > 0 && self.unmet_answers >= others
     }
 
@@ -124,9 +122,6 @@ not find here who asked for them (--as-napt tells of the run of napt)"
     /// A packet comes from outside.
     fn come(&mut self, input: &Input, outcome: &Outcome) {
         let is_unmet = matches!(outcome, Outcome::Dropped(Cause::NoBinding | Cause::NotOurs));
-        if is_unmet {
-            self.unmet = self.unmet.saturating_add(1);
-        }
         let sent = source_of(&input.bytes).and_then(|remote| self.sent.get(&remote).copied());
         let Some(sent) = sent else {
             return;

@@ -158,7 +158,7 @@ impl Lines {
     ) -> Result<(), AllocError> {
         let is_answered = outside.replies.is_none()
             && matches!(cause, Cause::NoBinding | Cause::NotOurs)
-            && outside.remotes.are_answers();
+            && outside.remotes.are_answers(outside.losses);
         if is_answered {
             writeln!(text, "    many packets end so: {OTHER_NUMBERS}")?;
         }
