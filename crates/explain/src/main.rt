@@ -161,6 +161,6 @@ fn explained_run<R: Files + Input + Print + Eprint + AllocGlobal>(
     options: &Options<'_>,
     written: Option<Written>,
 ) -> Result<(), Stop> {
-    let given = read_given(rt, streams, options, written)?;
-    explain(rt, streams, options, given)
+    let (given, files) = read_given(rt, streams, options, written)?;
+    explain(rt, streams, options, &given, files)
 }

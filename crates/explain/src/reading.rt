@@ -14,17 +14,16 @@ use std::rt::Files;
 /// The prefixes of inside hosts in the built-in configuration (RFC 1918, section 3).
 const BUILT_IN_PREFIXES: &str = "10.0.0.0/8 172.16.0.0/12 192.168.0.0/16";
 
-/// What a run needs. The captures are open, and nothing of them is read. `S` reads standard input, and `F` is a file.
+/// What a run needs beside its captures.
 #[derive(Drop)]
-pub struct Given<S, F> {
+pub struct Given {
     pub written: Written,
     /// The configurations of a plan, or the one to compare with.
     pub others: Vec<Config>,
     pub asked: Vec<Asked>,
-    pub files: InputFiles<S, F>,
 }
 
-/// Reads the configuration, unless it was read before, and opens the captures.
+/// Reads the configuration, unless it was read before, and opens the captures, of which nothing is read.
 ///
 /// Fails as `napt` would, with the same fault first. The outputs of `napt` are neither created nor emptied: one that
 /// could not be is refused as far as that can be known beforehand (`napt_program::unmade`).
@@ -33,7 +32,7 @@ pub fn read_given<R: Files + Input + Eprint + AllocGlobal>(
     streams: Streams,
     options: &Options<'_>,
     written: Option<Written>,
-) -> Result<Given<Box<R::Reader>, R::File>, Stop> {
+) -> Result<(Given, InputFiles<Box<R::Reader>, R::File>), Stop> {
     if let Some(role) = closed_stream(streams, &options.files) {
         return Err(tell_closed(rt, role));
     }
@@ -47,12 +46,12 @@ pub fn read_given<R: Files + Input + Eprint + AllocGlobal>(
     let files = explain_file(rt, options, open_inputs(rt, &options.files))?;
     explain_file(rt, options, refuse_unmade(rt, &options.files))?;
     refuse_written(rt, options)?;
-    Ok(Given {
+    let given = Given {
         written,
         others,
         asked,
-        files,
-    })
+    };
+    Ok((given, files))
 }
 
 /// Answers requests by a saved log, under the configuration if one is named. What is refused is explained.
