@@ -4,16 +4,15 @@ ghost use Rattle.std.specs.Prelude.{◌-◌, ◌^◌, ◌<◌};
 
 use crate::flaws::{Flaws, StepBack};
 use crate::options::Options;
-use crate::passed::Consumer;
 use crate::reading::Written;
 use crate::refused;
-use crate::stop::Stop;
 use napt_capture::{CaptureFault, Records, Source};
+use napt_commands::{Consumer, Stop};
 use napt_display::reasons::Splitting;
 use napt_records::{Fault, MergedStreams, SideFault, Stream};
 use napt_sequential::{Arrivals, Input};
 use napt_wire::Side;
-use std::alloc::{AllocError, Global};
+use std::alloc::Global;
 use std::io;
 use std::io::{BufReader, ErrorKind, Read};
 
@@ -37,22 +36,6 @@ pub struct Opened<'a, S: Source> {
     stream: Stream<'a, S>,
 }
 
-/// Why a capture is refused, with the system's reason if it was given.
-#[derive(Drop)]
-struct Refused {
-    fault: CaptureFault,
-    failed: Option<io::Error>,
-}
-
-impl From<CaptureFault> for Refused {
-    fn from(fault: CaptureFault) -> Refused {
-        Refused {
-            fault,
-            failed: None,
-        }
-    }
-}
-
 /// Explains which captures are refused.
 #[derive(Clone, Copy)]
 pub struct Refusing<'a> {
@@ -70,10 +53,19 @@ impl Refusing<'_> {
         device: D,
     ) -> Result<Begun<D>, Stop> {
         let mut head = Vec::new(rt.alloc());
-        match begin(rt.alloc(), device, &mut head) {
-            Ok(reader) => Ok(Begun { head, reader }),
-            Err(refused) => Err(self.refuse(rt, side, &head, refused)),
-        }
+        let mut reader = match BufReader::with_capacity(rt.alloc(), BUFFERED, device) {
+            Ok(reader) => reader,
+            Err(_) => return Err(self.refuse(rt, side, &head, CaptureFault::Memory, None)),
+        };
+        let error = match reader.by_ref().take(HEADER).read_to_end(&mut head) {
+            Ok(_) => return Ok(Begun { head, reader }),
+            Err(error) => error,
+        };
+        let fault = match error.kind() {
+            ErrorKind::OutOfMemory => CaptureFault::Memory,
+            _ => CaptureFault::Read,
+        };
+        Err(self.refuse(rt, side, &head, fault, Some(error)))
     }
 
     /// Reads the header of a side's capture, which begins with these bytes. A refusal is explained.
@@ -91,25 +83,27 @@ impl Refusing<'_> {
                 head,
                 stream: Stream::new(source, records),
             }),
-            Err(fault) => Err(self.refuse(rt, side, head, Refused::from(fault))),
+            Err(fault) => Err(self.refuse(rt, side, head, fault, None)),
         }
     }
 
-    /// Prints why the capture of a side, which begins with these bytes, is refused, and returns how the program stops.
+    /// Prints why the capture of a side, which begins with these bytes, is refused, with the system's reason if it was
+    /// given, and returns how the program stops.
     fn refuse<R: Eprint + AllocGlobal>(
         self,
         rt: &R,
         side: Side,
         head: &[u8],
-        refused: Refused,
+        fault: CaptureFault,
+        failed: Option<io::Error>,
     ) -> Stop {
-        if let Err(stop) = self.tell_reasons(rt, side, head, refused.fault) {
+        if let Err(stop) = self.tell_reasons(rt, side, head, fault) {
             return stop;
         }
-        if let Some(error) = refused.failed {
+        if let Some(error) = failed {
             let _ = eprintln!(rt; "  {:<9} {error}", "system");
         }
-        Stop::Told(napt_program::Stop::Run(Fault::Capture(side, refused.fault)))
+        Stop::Told(napt_program::Stop::Run(Fault::Capture(side, fault)))
     }
 
     fn tell_reasons<R: Eprint + AllocGlobal>(
@@ -131,32 +125,6 @@ impl Refusing<'_> {
             inside: &inside,
         };
         refused::tell_capture(rt, name, head, fault, splitting)
-    }
-}
-
-/// Reads the first bytes of a capture into `head`.
-fn begin<D: Read + Drop>(
-    alloc: Global,
-    device: D,
-    head: &mut Vec<u8>,
-) -> Result<BufReader<D>, Refused> {
-    let mut reader = match BufReader::with_capacity(alloc, BUFFERED, device) {
-        Ok(reader) => reader,
-        Err(_) => return Err(Refused::from(CaptureFault::Memory)),
-    };
-    match reader.by_ref().take(HEADER).read_to_end(head) {
-        Ok(_) => Ok(reader),
-        Err(error) => Err(Refused {
-            fault: fault_of(&error),
-            failed: Some(error),
-        }),
-    }
-}
-
-fn fault_of(error: &io::Error) -> CaptureFault {
-    match error.kind() {
-        ErrorKind::OutOfMemory => CaptureFault::Memory,
-        _ => CaptureFault::Read,
     }
 }
 
@@ -184,7 +152,7 @@ impl<'r, 'i, 'o, A: Source, B: Source> Captures<'r, 'i, 'o, A, B> {
             inside_head,
             outside_head,
             packets: MergedStreams::new(alloc, inside.stream, outside.stream),
-            back: StepBack::none(),
+            back: StepBack::default(),
         }
     }
 
@@ -254,6 +222,6 @@ impl<'r, 'i, 'o, A: Source, B: Source> Captures<'r, 'i, 'o, A, B> {
             Side::Outside => self.outside_head,
         };
         self.refusing
-            .refuse(rt, fault.side, head, Refused::from(fault.fault))
+            .refuse(rt, fault.side, head, fault.fault, None)
     }
 }

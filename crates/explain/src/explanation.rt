@@ -1,31 +1,15 @@
 //! What is asked for of a run, as it goes on.
 
-use crate::blocks::tell_needless;
 use crate::flaws::Flaws;
-use crate::holders::Holders;
-use crate::lines::Line;
-use crate::log_file::{LogFile, begin_log};
-use crate::losses::Losses;
-use crate::matched::Unmatched;
-use crate::measures::tell_sizes;
-use crate::only::Only;
-use crate::options::{Choice, Form, Options};
-use crate::page::Page;
-use crate::passed::{Consumer, Passing};
+use crate::options::{Form, Options};
 use crate::progress::Progress;
-use crate::remotes::Remotes;
-use crate::replies::Replies;
-use crate::requests::Asked;
-use crate::sizes::Sizes;
-use crate::sorted::Sorted;
-use crate::stop::Stop;
-use crate::summary::{Bindings, FromOutside, Lines};
-use crate::warning::{tell_astray, tell_warning};
-use crate::who::{Basis, Known};
 use napt_account::{KnownRun, Listed};
+use napt_attribution::{Asked, Holders, LogFile, begin_log};
+use napt_commands::{Consumer, Ending, Losses, Page, Passing, Stop, tell_warning};
 use napt_config::Config;
+use napt_lines::{Choice, FromOutside, Line, Lines, Only, Remotes, Replies, Unmatched};
 use napt_sequential::Input;
-use napt_table::Row;
+use napt_sizing::{Sizes, tell_sizes};
 use std::alloc::{AllocError, Global};
 use std::io::Write;
 use std::rt::Files;
@@ -64,19 +48,6 @@ pub struct Explanation<'a, 'b, W> {
     last: u64,
 }
 
-/// How a run ended: how many packets there were, at which time in ns the last one, and which bindings live.
-#[derive(Drop)]
-struct Ending<'a> {
-    config: &'a Config,
-    packets: u64,
-    last: u64,
-    /// How far packets step back in time, in ns.
-    later: u64,
-    /// In the order of the report, if they are to be printed so.
-    rows: Vec<Row>,
-    living: Vec<Listed>,
-}
-
 impl<'a> Told<'a> {
     /// Before the first packet, with the redirects.
     fn of(
@@ -103,28 +74,20 @@ impl<'a> Told<'a> {
         config: &Config,
         choice: Choice,
         text: &mut String,
-        (passing, line): (Passing<'_>, Line<'_>),
+        line: Line<'_>,
     ) -> Result<(), AllocError> {
         match self {
-            Told::Lines(lines) => lines.take(alloc, text, line, &passing.step.ended),
-            Told::Only(only) => only.take(alloc, text, choice, (passing, line)),
+            Told::Lines(lines) => lines.take(alloc, text, line),
+            Told::Only(only) => only.take(alloc, text, choice, line),
             Told::Objects => {
                 if line.is_chosen(alloc, choice)? {
                     line.object().add_to(alloc, text)?;
                 }
                 Ok(())
             }
-            Told::Holders(holders) => holders.take(passing),
-            Told::Sizes(sizes) => sizes.take(config, passing),
+            Told::Holders(holders) => holders.take(line.passing),
+            Told::Sizes(sizes) => sizes.take(config, line.passing),
             Told::Log => Ok(()),
-        }
-    }
-
-    /// The live bindings in the order of the report, if they are to be printed so.
-    fn rows_of(&self, alloc: Global, running: &KnownRun<'_>) -> Result<Vec<Row>, AllocError> {
-        match self {
-            Told::Lines(_) => running.bindings(alloc),
-            _ => Ok(Vec::new(alloc)),
         }
     }
 
@@ -133,40 +96,15 @@ impl<'a> Told<'a> {
         self,
         rt: &R,
         page: &mut Page,
-        ending: Ending<'_>,
+        ending: &Ending<'_>,
         outside: FromOutside<'_>,
     ) -> Result<(), Stop> {
-        let Ending {
-            config,
-            packets,
-            last,
-            later,
-            rows,
-            living,
-        } = ending;
         match self {
-            Told::Lines(lines) => {
-                let living = Sorted::of(living.iter().map(|it| it.entry).collect(rt.alloc())?)?;
-                let bindings = Bindings {
-                    last,
-                    rows: &rows,
-                    living: &living,
-                };
-                tell_summary(rt, page, &lines, bindings, outside)
-            }
-            Told::Only(only) => only.tell(rt, page, &living, packets),
+            Told::Lines(lines) => lines.tell(rt, page, ending, outside),
+            Told::Only(only) => only.tell(rt, page, ending),
             Told::Objects | Told::Log => Ok(()),
-            Told::Holders(holders) => {
-                let known = Known {
-                    entries: &[],
-                    last,
-                    later,
-                    config: Some(config),
-                    basis: Basis::Run,
-                };
-                holders.tell(rt, known, &living)
-            }
-            Told::Sizes(sizes) => tell_sizes(rt, config, &sizes, &living),
+            Told::Holders(holders) => holders.tell(rt, ending),
+            Told::Sizes(sizes) => tell_sizes(rt, &sizes, ending),
         }
     }
 }
@@ -239,13 +177,18 @@ impl<'a, 'b, W: Write + Drop> Explanation<'a, 'b, W> {
         progress.tell_end(rt, packets);
         flaws.tell(rt, options.form)?;
         if options.is_of_gateway() && remotes.are_astray() {
-            return Err(tell_astray(rt, &remotes));
+            return Err(remotes.tell_astray(rt));
         }
         tell_warning(rt, options.outside, None, &losses);
         let config = running.config();
-        let rows = told.rows_of(rt.alloc(), &running)?;
+        let rows = match &told {
+            Told::Lines(_) => running.bindings(rt.alloc())?,
+            _ => Vec::new(rt.alloc()),
+        };
         let living = living_after(rt.alloc(), running)?;
-        finish_log(rt, log, config, &living)?;
+        if let Some(mut log) = log {
+            log.finish(rt, config, &living)?;
+        }
         unmatched.tell(rt);
         let ending = Ending {
             config,
@@ -260,41 +203,13 @@ impl<'a, 'b, W: Write + Drop> Explanation<'a, 'b, W> {
             remotes: &remotes,
             replies,
         };
-        told.tell(rt, &mut page, ending, outside)
+        told.tell(rt, &mut page, &ending, outside)
     }
 }
 
 /// The entries of the bindings that live at the end of a run, which is then gone.
 fn living_after(alloc: Global, run: KnownRun<'_>) -> Result<Vec<Listed>, AllocError> {
     run.living(alloc)
-}
-
-/// Writes the rows of the bindings that live at the end, if there is a log.
-fn finish_log<R: Files + Print + Eprint, W: Write + Drop>(
-    rt: &R,
-    log: Option<LogFile<'_, W>>,
-    config: &Config,
-    living: &[Listed],
-) -> Result<(), Stop> {
-    let Some(mut log) = log else {
-        return Ok(());
-    };
-    log.finish(rt, config, living)?;
-    tell_needless(rt, config);
-    Ok(())
-}
-
-/// Prints the live bindings, and what became of the packets.
-fn tell_summary<R: Print>(
-    rt: &R,
-    page: &mut Page,
-    lines: &Lines,
-    bindings: Bindings<'_>,
-    outside: FromOutside<'_>,
-) -> Result<(), Stop> {
-    lines.tell_bindings(rt, page, bindings)?;
-    lines.add_counts(&mut page.text, outside)?;
-    page.end(rt)
 }
 
 impl<R: Files + Print + Eprint + AllocGlobal, W: Write + Drop> Consumer<R>
@@ -327,8 +242,7 @@ impl<R: Files + Print + Eprint + AllocGlobal, W: Write + Drop> Consumer<R>
         }
         let choice = self.options.choice;
         let text = &mut self.page.text;
-        self.told
-            .take(alloc, config, choice, text, (passing, line))?;
+        self.told.take(alloc, config, choice, text, line)?;
         self.page.turn(rt)?;
         self.progress.tell(rt, number);
         Ok(())

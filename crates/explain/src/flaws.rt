@@ -1,7 +1,7 @@
 //! What captures show against themselves.
 
-use crate::options::{Form, Outside};
-use crate::stop::Stop;
+use crate::options::Form;
+use napt_commands::{Outside, Stop};
 use napt_sequential::Input;
 
 /// What is printed about a capture that ends inside a record.
@@ -39,7 +39,7 @@ impl Flaws {
 }
 
 /// The longest step back in time among the packets so far.
-#[derive(Clone, Copy)]
+#[derive(Clone, Copy, Default)]
 pub struct StepBack {
     latest: Stamp,
     /// How far it goes back, in ns; 0 before the first.
@@ -51,23 +51,13 @@ pub struct StepBack {
 }
 
 /// The number of a packet, from 1, and its time in ns.
-#[derive(Clone, Copy)]
+#[derive(Clone, Copy, Default)]
 struct Stamp {
     number: u64,
     time: u64,
 }
 
 impl StepBack {
-    /// Before the first packet.
-    pub fn none() -> StepBack {
-        StepBack {
-            latest: Stamp { number: 0, time: 0 },
-            far: 0,
-            from: 0,
-            to: 0,
-        }
-    }
-
     /// Takes the next packet.
     pub fn take(&mut self, number: u64, input: &Input) {
         let time = input.time;

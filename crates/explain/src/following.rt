@@ -2,17 +2,11 @@
 
 ghost use Rattle.std.specs.Prelude.{◌≡◌, ◌-◌, ◌^◌, ◌<◌, OnOk};
 
-use crate::options::Outside;
-use crate::places::{tell_unwritten, unexplained};
-use crate::replies::Replies;
-use crate::stop::Stop;
 use napt_capture::{Sink, Watched, WriteFault, Written};
-use napt_config::Config;
-use napt_sequential::{Input, RunFault, followed};
-use napt_wire::{Endpoint, Side};
-use std::alloc::{AllocError, Global};
+use napt_commands::{Stop, tell_unwritten, unexplained};
+use napt_sequential::Input;
+use napt_wire::Side;
 use std::fs::File;
-use std::io;
 use std::io::{BufWriter, Write};
 use std::rt::Files;
 
@@ -27,52 +21,6 @@ const END_OF_TIMES: u64 = 4_294_967_296_000_000_000;
 
 /// The most bytes that are written before a record.
 const MOST_BEFORE: u64 = 4_611_686_018_427_387_904;
-
-impl Outside {
-    /// Whether its packets follow the run.
-    pub fn follows(self) -> bool {
-        self == Outside::Replies
-    }
-
-    /// The inputs as the run under a configuration gets them: replies follow it, and other packets stay as they are.
-    pub fn inputs_under(
-        self,
-        alloc: Global,
-        config: &Config,
-        inputs: Vec<Input>,
-    ) -> Result<Vec<Input>, RunFault> {
-        match self {
-            Outside::Packets => Ok(inputs),
-            Outside::Replies => followed(alloc, config, inputs),
-        }
-    }
-
-    /// The replies of a run under a configuration, with the inside endpoints that they named, if it has some.
-    pub fn replies<'a>(
-        self,
-        config: &'a Config,
-        ends: &'a [Option<Endpoint>],
-    ) -> Option<Replies<'a>> {
-        match self {
-            Outside::Packets => None,
-            Outside::Replies => Some(Replies { config, ends }),
-        }
-    }
-}
-
-/// The same inputs once more.
-pub fn copied(alloc: Global, inputs: &[Input]) -> Result<Vec<Input>, AllocError> {
-    let mut copies = Vec::new(alloc);
-    for input in inputs {
-        copies.push(Input {
-            side: input.side,
-            time: input.time,
-            clock: input.clock,
-            bytes: Vec::from_slice(alloc, &input.bytes)?,
-        })?;
-    }
-    Ok(copies)
-}
 
 /// Writes the capture of the inputs from outside to a file. If that fails, prints the file and the system's reason.
 pub fn write_followed<R: Files + Eprint + AllocGlobal>(

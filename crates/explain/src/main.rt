@@ -6,68 +6,31 @@
 //! status.
 #![tactic(auto)]
 
-mod against;
-mod blocks;
 mod captures;
 mod commands;
-mod counted_run;
-mod coverage;
-mod digits;
-mod ended;
 mod explanation;
 mod flaws;
 mod following;
-mod holders;
-mod lines;
-mod log_file;
-mod losses;
 mod manual;
-mod matched;
-mod measures;
-mod names;
-mod only;
 mod options;
-mod owners;
-mod page;
-mod passed;
 mod pictured_run;
 mod pictures;
 mod places;
-mod plain_run;
-mod plan;
 mod progress;
 mod reading;
 mod refused;
-mod remotes;
-mod replies;
-mod requests;
-mod saved;
 mod scene;
 mod setting;
-mod shown;
-mod sizes;
-mod sorted;
-mod spans;
-mod stop;
-mod summary;
-mod wanted;
-mod warning;
-mod who;
-mod widths;
 
-use crate::blocks::tell_blocks;
 use crate::commands::Words;
 use crate::manual::{INSTALLED, OWN};
 use crate::options::{Form, Options, options_of};
-use crate::reading::{GivenToLog, Written, configuration, read_given, read_given_to_log};
-use crate::requests::{Asked, requests_of};
-use crate::saved::{Saved, read_saved};
+use crate::reading::{Written, answer, configuration, read_given, requests_of};
 use crate::setting::explain;
-use crate::stop::Stop;
-use crate::who::{Basis, Known, tell_answers};
 use clap::Error;
 use clap::error::ErrorKind;
-use napt_config::Config;
+use napt_attribution::{answer_by_blocks, tell_blocks};
+use napt_commands::Stop;
 use napt_program::{Call, Streams};
 use std::env::Env;
 use std::process::ExitCode;
@@ -156,7 +119,7 @@ fn explained_under<R: Files + Input + Print + Eprint + AllocGlobal>(
     options: &Options<'_>,
 ) -> Result<(), Stop> {
     if !options.pieces.is_empty() {
-        return answered(rt, streams, options);
+        return answer(rt, streams, options);
     }
     match options.form {
         Form::Blocks => tell_blocks(rt, streams, &configuration(rt, options)?.config),
@@ -185,30 +148,10 @@ can be seen whether the gateway had the same numbers, or say --as-napt"
         return Err(Stop::Told(napt_program::Stop::Usage));
     }
     if options.is_without_captures() {
-        return answered_by_blocks(rt, streams, options, &written.config);
+        let asked = requests_of(rt, options.form)?;
+        return answer_by_blocks(rt, streams, &asked, &written.config);
     }
     explained_run(rt, streams, options, Some(written))
-}
-
-/// Answers requests from the blocks of a configuration.
-fn answered_by_blocks<R: Files + Input + Print + Eprint + AllocGlobal>(
-    rt: &R,
-    streams: Streams,
-    options: &Options<'_>,
-    config: &Config,
-) -> Result<(), Stop> {
-    let asked = requests_of(rt, options.form)?;
-    if !streams.output {
-        return Err(Stop::NoOutput);
-    }
-    let known = Known {
-        entries: &[],
-        last: 0,
-        later: 0,
-        config: Some(config),
-        basis: Basis::Blocks,
-    };
-    tell_answers(rt, &asked, known)
 }
 
 /// Reads the captures, and the configuration unless it was read, and tells of the run.
@@ -218,42 +161,6 @@ fn explained_run<R: Files + Input + Print + Eprint + AllocGlobal>(
     options: &Options<'_>,
     written: Option<Written>,
 ) -> Result<(), Stop> {
-    let given = read_given(rt, streams, options, written)?;
-    explain(rt, streams, options, given)
-}
-
-/// Answers requests from a log.
-fn answered<R: Files + Input + Print + Eprint + AllocGlobal>(
-    rt: &R,
-    streams: Streams,
-    options: &Options<'_>,
-) -> Result<(), Stop> {
-    let GivenToLog { config, asked } = read_given_to_log(rt, options)?;
-    answered_by_log(rt, streams, options, &asked, config.as_ref())
-}
-
-/// The same under a configuration, if it is known.
-fn answered_by_log<R: Files + Input + Print + Eprint + AllocGlobal>(
-    rt: &R,
-    streams: Streams,
-    options: &Options<'_>,
-    asked: &[Asked],
-    config: Option<&Config>,
-) -> Result<(), Stop> {
-    let Saved {
-        entries,
-        first,
-        last,
-    } = read_saved(rt, &options.pieces, config)?;
-    if !streams.output {
-        return Err(Stop::NoOutput);
-    }
-    let known = Known {
-        entries: &entries,
-        last,
-        later: 0,
-        config,
-        basis: Basis::Log(first.min(last)),
-    };
-    tell_answers(rt, asked, known)
+    let (given, files) = read_given(rt, streams, options, written)?;
+    explain(rt, streams, options, &given, files)
 }

@@ -2,11 +2,11 @@
 
 use crate::manual::INSTALLED;
 use crate::scene::Part;
-use crate::spans::{nanoseconds_of, span_of};
-use crate::stop::Stop;
 use clap::ArgMatches;
 use napt_account::Party;
-use napt_config::Address;
+use napt_attribution::{nanoseconds_of, party_of, span_of};
+use napt_commands::{Outside, Stop};
+use napt_lines::Choice;
 use napt_log_text::{Request, Span};
 use napt_program::{Call, Role};
 use std::alloc::{AllocError, Global};
@@ -84,33 +84,6 @@ impl<'m> Options<'m> {
     }
 }
 
-/// What the outside capture holds.
-#[derive(Clone, Copy, PartialEq, Eq)]
-pub enum Outside {
-    /// Packets for external endpoints, as the gateway got them.
-    Packets,
-    /// Packets for inside endpoints, as inside hosts got them: they follow the run.
-    Replies,
-}
-
-impl Outside {
-    /// The name of its option, without its dashes.
-    pub fn name(self) -> &'static str {
-        match self {
-            Outside::Packets => "outside",
-            Outside::Replies => "replies",
-        }
-    }
-
-    /// Its option.
-    pub fn option(self) -> &'static str {
-        match self {
-            Outside::Packets => "--outside",
-            Outside::Replies => "--replies",
-        }
-    }
-}
-
 /// What is written.
 #[derive(Clone, Copy)]
 pub enum Form<'m> {
@@ -181,17 +154,6 @@ impl<'m> Form<'m> {
             Form::Lines | Form::Plans | Form::Sizes | Form::Differences
         )
     }
-}
-
-/// Which packets get a line: those that meet every condition given.
-#[derive(Clone, Copy)]
-pub struct Choice {
-    /// The packet of this number, from 1.
-    pub only: Option<u64>,
-    /// A packet with this host or endpoint, before or after translation.
-    pub host: Option<Party>,
-    /// Only dropped packets.
-    pub dropped: bool,
 }
 
 /// What a command is to do with its arguments. An invalid number, time or address is reported.
@@ -342,19 +304,6 @@ fn party_at<R: Eprint>(
         Some(party) => Ok(Some(party)),
         None => Err(wrong(rt, words, text, PARTY)),
     }
-}
-
-/// Parses a host or an endpoint, such as `10.0.0.2` or `203.0.113.1:5000`.
-pub fn party_of(text: &str) -> Option<Party> {
-    let (address, number) = match text.split_once(':') {
-        Some((address, number)) => (address, Some(number.parse::<u16>().ok()?)),
-        None => (text, None),
-    };
-    let address = address.parse::<Address>().ok()?;
-    Some(Party {
-        address: address.0,
-        number,
-    })
 }
 
 /// The part of the run that is drawn. An invalid time is reported.

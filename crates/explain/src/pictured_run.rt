@@ -1,12 +1,9 @@
 //! What a picture needs of a run.
 
-use crate::lines::Line;
-use crate::losses::Losses;
-use crate::matched::Unmatched;
-use crate::options::Choice;
-use crate::passed::Passing;
 use napt_account::{Entry, KnownRun, Listed, LoggedStep, Use, in_order_of_making};
+use napt_commands::{Losses, Passing};
 use napt_config::Config;
+use napt_lines::{Choice, Line, Unmatched};
 use napt_sequential::{Input, Outcome, RunFault};
 use napt_wire::Cause;
 use std::alloc::{AllocError, Global};

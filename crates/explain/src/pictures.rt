@@ -2,10 +2,8 @@
 
 use crate::options::Options;
 use crate::pictured_run::PicturedRun;
-use crate::places::tell_unwritten;
 use crate::scene::{Shown, scene_of};
-use crate::stop::Stop;
-use crate::warning::tell_warning;
+use napt_commands::{Stop, tell_unwritten, tell_warning};
 use napt_config::Config;
 use napt_display::picture::drawing_of;
 use napt_sequential::Input;

@@ -2,12 +2,10 @@
 //! `napt`.
 
 use crate::options::Options;
-use crate::stop::Stop;
-use napt_program::{MOST_BYTES, Role, is_same, place_of, unmade};
+use napt_commands::{Stop, tell_failed, unwritten};
+use napt_program::{Role, is_same, place_of, unmade};
 use std::fs::File;
-use std::io::Read;
 use std::rt::Files;
-use std::{fs, io};
 
 /// The paths of the standard streams.
 const INPUT: &str = "/dev/stdin";
@@ -24,13 +22,20 @@ struct Named<'a> {
 /// Prints why the file of a role cannot be used, and returns how `napt` would stop.
 pub fn tell_file<R: Files + Eprint>(rt: &R, options: &Options<'_>, role: Role) -> Stop {
     let (files, option) = (&options.files, options.option_of(role));
-    match role {
-        Role::Config | Role::Log => {}
-        Role::Inside => tell_input(rt, option, files.inside.as_ref()),
-        Role::Outside => tell_input(rt, option, files.outside.as_ref()),
-        Role::ToOutside => tell_output(rt, options, option, files.to_outside.as_ref()),
-        Role::ToInside => tell_output(rt, options, option, files.to_inside.as_ref()),
-        Role::Report => tell_output(rt, options, option, files.report.as_ref()),
+    let path = match role {
+        Role::Config | Role::Log => None,
+        Role::Inside => files.inside.as_ref(),
+        Role::Outside => files.outside.as_ref(),
+        Role::ToOutside => files.to_outside.as_ref(),
+        Role::ToInside => files.to_inside.as_ref(),
+        Role::Report => files.report.as_ref(),
+    };
+    match (role, path) {
+        (_, None) => {}
+        (Role::Inside | Role::Outside, Some(path)) => tell_input(rt, option, path),
+        (_, Some(path)) => {
+            tells_output(rt, options, option, path);
+        }
     }
     Stop::Told(napt_program::Stop::File(role))
 }
@@ -65,96 +70,31 @@ pub fn refuse_written<R: Files + Eprint>(rt: &R, options: &Options<'_>) -> Resul
     let Some((name, path)) = options.form.written() else {
         return Ok(());
     };
-    match named_again(rt, options, name, path) {
-        _ if path == "-" => tell_again(rt, name, path, "standard output"),
-        Some(other) => tell_again(rt, name, path, other),
-        None => match unmade(rt, path) {
-            Some(error) => tell_failed(rt, name, path, &error),
-            None => return Ok(()),
-        },
+    if path == "-" {
+        tell_again(rt, name, path, "standard output");
+    } else if !tells_output(rt, options, name, path) {
+        return Ok(());
     }
     Err(unwritten())
 }
 
-/// Prints that the file that `explain` writes fails, with the system's reason, and returns how the program stops.
-pub fn tell_unwritten<R: Eprint>(rt: &R, name: &str, path: &str, error: &io::Error) -> Stop {
-    tell_failed(rt, name, path, error);
-    unwritten()
-}
-
-/// The same where the system gives no reason.
-pub fn unexplained<R: Eprint>(rt: &R, name: &str, path: &str) -> Stop {
-    let _ = eprintln!(rt; "explain: {name} {path}: it cannot be written whole");
-    unwritten()
-}
-
-/// How the program stops if a file cannot be written: as for an output of `napt`.
-fn unwritten() -> Stop {
-    Stop::Told(napt_program::Stop::File(Role::Report))
-}
-
-/// Prints that a file failed, with what names it and the system's reason.
-fn tell_failed<R: Eprint>(rt: &R, name: &str, path: &str, error: &io::Error) {
-    let _ = eprintln!(rt; "explain: {name} {path}: {error}");
-}
-
-/// Prints why a configuration file cannot be used (it is missing, cannot be read, or is too long), and returns how
-/// `napt` would stop.
-pub fn tell_config<R: Files + Eprint>(rt: &R, name: &str, path: &str) -> Stop {
-    match failure_of_reading(rt, path) {
-        Some(error) => tell_failed(rt, name, path, &error),
-        None => {
-            let _ = eprintln!(rt;
-                "explain: {name} {path}: it cannot be read, or has more than {MOST_BYTES} bytes"
-            );
-        }
-    }
-    Stop::Told(napt_program::Stop::File(Role::Config))
-}
-
-/// Why a file or folder is missing or unreadable, if it is. Pipes are not tried: reading one might block.
-fn failure_of_reading<R: Files>(rt: &R, path: &str) -> Option<io::Error> {
-    match fs::metadata(rt, path) {
-        Ok(known) if known.is_file() || known.is_dir() => failure_of_first(rt, path),
-        Ok(_) => None,
-        Err(error) => Some(error),
-    }
-}
-
-/// Why the first byte of a file cannot be read, if it cannot.
-fn failure_of_first<R: Files>(rt: &R, path: &str) -> Option<io::Error> {
-    let mut first = [0u8; 1];
-    match File::open(rt, path) {
-        Ok(mut file) => file.read(&mut first).err(),
-        Err(error) => Some(error),
-    }
-}
-
 /// Prints why a capture cannot be opened.
-fn tell_input<R: Files + Eprint>(rt: &R, option: &str, path: Option<&String>) {
-    let Some(path) = path else {
-        return;
-    };
-    if let Err(error) = File::open(rt, path.as_str()) {
+fn tell_input<R: Files + Eprint>(rt: &R, option: &str, path: &str) {
+    if let Err(error) = File::open(rt, path) {
         tell_failed(rt, option, path, &error);
     }
 }
 
-/// Prints why an output cannot be created.
-fn tell_output<R: Files + Eprint>(
-    rt: &R,
-    options: &Options<'_>,
-    option: &str,
-    path: Option<&String>,
-) {
-    let Some(path) = path else {
-        return;
-    };
-    if let Some(other) = named_again(rt, options, option, path) {
-        tell_again(rt, option, path, other);
+/// Prints why an output cannot be created, if it cannot, and returns whether it is so.
+fn tells_output<R: Files + Eprint>(rt: &R, options: &Options<'_>, name: &str, path: &str) -> bool {
+    if let Some(other) = named_again(rt, options, name, path) {
+        tell_again(rt, name, path, other);
     } else if let Some(error) = unmade(rt, path) {
-        tell_failed(rt, option, path, &error);
+        tell_failed(rt, name, path, &error);
+    } else {
+        return false;
     }
+    true
 }
 
 /// Prints what else names the file of an output.

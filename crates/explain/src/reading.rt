@@ -1,39 +1,29 @@
 //! Reads the configurations and opens the captures as `napt` does, and explains what it refuses.
 
-use crate::options::Options;
-use crate::places::{refuse_written, tell_closed, tell_config, tell_file, tell_shared};
+use crate::options::{Form, Options};
+use crate::places::{refuse_written, tell_closed, tell_file, tell_shared};
 use crate::refused;
-use crate::requests::{Asked, requests_of};
-use crate::stop::Stop;
+use napt_attribution::{Asked, answer_by_log, requests_at};
+use napt_commands::{Stop, text_at};
 use napt_config::{Config, ConfigFault};
 use napt_display::reasons::inside_prefixes;
-use napt_program::{
-    InputFiles, Role, Streams, closed_stream, config_text, open_config, open_inputs, refuse_unmade,
-};
+use napt_program::{InputFiles, Role, Streams, closed_stream, open_inputs, refuse_unmade};
 use std::alloc::{AllocError, Global};
 use std::rt::Files;
 
 /// The prefixes of inside hosts in the built-in configuration (RFC 1918, section 3).
 const BUILT_IN_PREFIXES: &str = "10.0.0.0/8 172.16.0.0/12 192.168.0.0/16";
 
-/// What a run needs. The captures are open, and nothing of them is read. `S` reads standard input, and `F` is a file.
+/// What a run needs beside its captures.
 #[derive(Drop)]
-pub struct Given<S, F> {
+pub struct Given {
     pub written: Written,
     /// The configurations of a plan, or the one to compare with.
     pub others: Vec<Config>,
     pub asked: Vec<Asked>,
-    pub files: InputFiles<S, F>,
 }
 
-/// What requests to a saved log need beside it.
-#[derive(Drop)]
-pub struct GivenToLog {
-    pub config: Option<Config>,
-    pub asked: Vec<Asked>,
-}
-
-/// Reads the configuration, unless it was read before, and opens the captures.
+/// Reads the configuration, unless it was read before, and opens the captures, of which nothing is read.
 ///
 /// Fails as `napt` would, with the same fault first. The outputs of `napt` are neither created nor emptied: one that
 /// could not be is refused as far as that can be known beforehand (`napt_program::unmade`).
@@ -42,7 +32,7 @@ pub fn read_given<R: Files + Input + Eprint + AllocGlobal>(
     streams: Streams,
     options: &Options<'_>,
     written: Option<Written>,
-) -> Result<Given<Box<R::Reader>, R::File>, Stop> {
+) -> Result<(Given, InputFiles<Box<R::Reader>, R::File>), Stop> {
     if let Some(role) = closed_stream(streams, &options.files) {
         return Err(tell_closed(rt, role));
     }
@@ -56,27 +46,28 @@ pub fn read_given<R: Files + Input + Eprint + AllocGlobal>(
     let files = explain_file(rt, options, open_inputs(rt, &options.files))?;
     explain_file(rt, options, refuse_unmade(rt, &options.files))?;
     refuse_written(rt, options)?;
-    Ok(Given {
+    let given = Given {
         written,
         others,
         asked,
-        files,
-    })
+    };
+    Ok((given, files))
 }
 
-/// What requests to a saved log need beside it: the configuration, if one is named, and the requests. What is refused is
-/// explained.
-pub fn read_given_to_log<R: Files + Input + Eprint + AllocGlobal>(
+/// Answers requests by a saved log, under the configuration if one is named. What is refused is explained.
+pub fn answer<R: Files + Input + Print + Eprint + AllocGlobal>(
     rt: &R,
+    streams: Streams,
     options: &Options<'_>,
-) -> Result<GivenToLog, Stop> {
-    refuse_shared_with_log(rt, options)?;
+) -> Result<(), Stop> {
+    let has_config = options.files.is_stream(Role::Config);
+    refuse_more_input(rt, options, has_config, "--from-log")?;
     let config = match &options.files.config {
         Some(path) => Some(configuration_at(rt, "--config", path)?),
         None => None,
     };
     let asked = requests_of(rt, options.form)?;
-    Ok(GivenToLog { config, asked })
+    answer_by_log(rt, streams, &asked, &options.pieces, config.as_ref())
 }
 
 /// Refuses the first option that wants a standard stream which another has, and prints why.
@@ -84,22 +75,25 @@ fn refuse_shared<R: Eprint>(rt: &R, options: &Options<'_>) -> Result<(), Stop> {
     if let Some(role) = options.files.standard_again() {
         return Err(tell_shared(rt, options.option_of(role), role));
     }
-    let most = if options.takes_input() { 0 } else { 1 };
-    if options.more_from_input() > most {
-        return Err(tell_shared(rt, options.form.name_of_read(), Role::Config));
-    }
-    Ok(())
+    refuse_more_input(
+        rt,
+        options,
+        options.takes_input(),
+        options.form.name_of_read(),
+    )
 }
 
-/// Refuses standard input for more than one of the configuration, the requests and the pieces of a log, and prints why.
-fn refuse_shared_with_log<R: Eprint>(rt: &R, options: &Options<'_>) -> Result<(), Stop> {
-    let most = if options.files.is_stream(Role::Config) {
-        0
-    } else {
-        1
-    };
+/// Refuses standard input for more than one of the configurations, the requests and the pieces of a log, or for one if
+/// another file has it, and prints why, with what names such a file.
+fn refuse_more_input<R: Eprint>(
+    rt: &R,
+    options: &Options<'_>,
+    is_taken: bool,
+    name: &str,
+) -> Result<(), Stop> {
+    let most = if is_taken { 0 } else { 1 };
     if options.more_from_input() > most {
-        return Err(tell_shared(rt, "--from-log", Role::Config));
+        return Err(tell_shared(rt, name, Role::Config));
     }
     Ok(())
 }
@@ -175,11 +169,7 @@ fn written_at<R: Files + Input + Eprint + AllocGlobal>(
     name: &str,
     path: &str,
 ) -> Result<Written, Stop> {
-    let text = match configuration_text(rt, path) {
-        Ok(text) => text,
-        Err(napt_program::Stop::File(_)) => return Err(tell_config(rt, name, path)),
-        Err(stop) => return Err(Stop::As(stop)),
-    };
+    let text = text_at(rt, name, path)?;
     let fault = match Config::read(rt.alloc(), &text) {
         Ok(config) => {
             return Ok(Written {
@@ -193,10 +183,14 @@ fn written_at<R: Files + Input + Eprint + AllocGlobal>(
     Err(Stop::Told(napt_program::Stop::Config(fault)))
 }
 
-/// The bytes of a configuration, or of another text that is no longer.
-pub fn configuration_text<R: Files + Input + AllocGlobal>(
+/// The requests of a form, none if it has none. A file that is refused is reported.
+pub fn requests_of<R: Files + Input + Eprint + AllocGlobal>(
     rt: &R,
-    path: &str,
-) -> Result<Vec<u8>, napt_program::Stop> {
-    config_text(rt.alloc(), open_config(rt, path)?)
+    form: Form<'_>,
+) -> Result<Vec<Asked>, Stop> {
+    match form {
+        Form::Holders(request) => Ok(vec![in rt.alloc(); Asked::of(request)]?),
+        Form::Requests(path) => requests_at(rt, path),
+        _ => Ok(Vec::new(rt.alloc())),
+    }
 }

@@ -1,7 +1,7 @@
 //! Prints why napt refuses a configuration or a capture.
 
-use crate::stop::Stop;
 use napt_capture::CaptureFault;
+use napt_commands::Stop;
 use napt_config::ConfigFault;
 use napt_display::reasons::{Reason, Splitting, capture_reasons, config_reasons};
 use napt_program::{CaptureFaultName, name_of_config_fault};

@@ -1,12 +1,11 @@
 //! What the picture of a run shows, in the words of the printed lines.
 
-use crate::lines::has_party;
-use crate::names::Seconds;
 use crate::pictured_run::{PicturedRun, Turn};
 use jiff::Timestamp;
 use napt_account::{Entry, Party};
 use napt_config::{Address, Config};
 use napt_display::picture::{Binding, BindingKind, MOST_BARS, NumberClass, Pass, Scene};
+use napt_lines::{Seconds, has_party};
 use napt_records::{EndpointText, cause_name, protocol_name};
 use napt_sequential::Input;
 use napt_wire::{Cause, Protocol};

@@ -1,23 +1,18 @@
 //! A run over captures, as the command line asks for it.
 
-use crate::against::Against;
 use crate::captures::{Begun, Captures, Opened, Refusing};
-use crate::counted_run::CountedRun;
 use crate::explanation::begin_explanation;
 use crate::following::write_followed;
-use crate::options::{Form, Options, Outside};
-use crate::passed::take_all;
+use crate::options::{Form, Options};
 use crate::pictures::draw;
-use crate::plan::Plans;
-use crate::reading::{Given, Written};
-use crate::replies::ends_of;
-use crate::requests::Asked;
-use crate::stop::Stop;
-use crate::warning::tell_warning;
+use crate::reading::Given;
 use napt_capture::{NoPackets, Source, Watched};
+use napt_commands::{CountedRun, Outside, Stop, take_all, tell_warning};
 use napt_config::Config;
+use napt_lines::{Against, Replies, ends_of};
 use napt_program::{InputFiles, Streams};
 use napt_sequential::Input;
+use napt_sizing::Plans;
 use napt_wire::{Endpoint, Side};
 use std::alloc::{AllocError, Global};
 use std::io::Read;
@@ -28,9 +23,7 @@ use std::rt::Files;
 pub struct Setting<'a> {
     streams: Streams,
     options: &'a Options<'a>,
-    written: &'a Written,
-    others: &'a [Config],
-    asked: &'a [Asked],
+    given: &'a Given,
 }
 
 /// Reads the captures, and prints the run.
@@ -38,23 +31,16 @@ pub fn explain<R, S: Read + Drop, F: Read + Drop>(
     rt: &R,
     streams: Streams,
     options: &Options<'_>,
-    given: Given<S, F>,
+    given: &Given,
+    files: InputFiles<S, F>,
 ) -> Result<(), Stop>
 where
     R: Files + Print + Eprint + AllocGlobal,
 {
-    let Given {
-        written,
-        others,
-        asked,
-        files,
-    } = given;
     let setting = Setting {
         streams,
         options,
-        written: &written,
-        others: &others,
-        asked: &asked,
+        given,
     };
     setting.read(rt, files)
 }
@@ -63,7 +49,7 @@ impl<'a> Setting<'a> {
     fn refusing(self) -> Refusing<'a> {
         Refusing {
             options: self.options,
-            written: self.written,
+            written: &self.given.written,
         }
     }
 
@@ -129,7 +115,7 @@ impl<'a> Setting<'a> {
         if !self.streams.output {
             return Err(Stop::NoOutput);
         }
-        match (self.options.form, self.others.first()) {
+        match (self.options.form, self.given.others.first()) {
             (Form::Differences, Some(other)) => self.explain_against(rt, captures, other),
             (Form::Plans | Form::PlansInCsv, _) => self.explain_plans(rt, captures),
             (Form::Picture(path), _) => self.draw(rt, captures, path),
@@ -147,7 +133,7 @@ impl<'a> Setting<'a> {
         other: &'a Config,
     ) -> Result<(), Stop> {
         let options = self.options;
-        let configs = [&self.written.config, other];
+        let configs = [&self.given.written.config, other];
         let mut against = Against::begin(rt.alloc(), options.choice, configs)?;
         if options.outside.follows() {
             let inputs = captures.all(rt)?;
@@ -156,7 +142,10 @@ impl<'a> Setting<'a> {
             captures.hand_over(rt, &mut against)?;
         }
         captures.flaws().tell(rt, options.form)?;
-        against.tell(rt, options)
+        let path = options.files.config.as_ref();
+        let name = path.map_or("the built-in configuration", |path| path.as_str());
+        let other = options.others.first().map_or("", |path| path.as_str());
+        against.tell(rt, options.outside, [name, other])
     }
 
     /// Explains the runs of a plan.
@@ -166,7 +155,7 @@ impl<'a> Setting<'a> {
         captures: &mut Captures<'_, '_, '_, A, B>,
     ) -> Result<(), Stop> {
         let options = self.options;
-        let mut plans = Plans::begin(rt.alloc(), self.others)?;
+        let mut plans = Plans::begin(rt.alloc(), &options.others, &self.given.others)?;
         if options.outside.follows() {
             let inputs = captures.all(rt)?;
             plans.follow(rt.alloc(), options.outside, &inputs)?;
@@ -174,7 +163,8 @@ impl<'a> Setting<'a> {
             captures.hand_over(rt, &mut plans)?;
         }
         captures.flaws().tell(rt, options.form)?;
-        plans.tell(rt, options)
+        let is_csv = matches!(options.form, Form::PlansInCsv);
+        plans.tell(rt, options.outside, is_csv)
     }
 
     /// Explains the packets as they come.
@@ -183,13 +173,8 @@ impl<'a> Setting<'a> {
         rt: &R,
         captures: &mut Captures<'_, '_, '_, A, B>,
     ) -> Result<(), Stop> {
-        let mut explanation = begin_explanation(
-            rt,
-            self.options,
-            &self.written.config,
-            self.asked,
-            None,
-        )?;
+        let Given { written, asked, .. } = self.given;
+        let mut explanation = begin_explanation(rt, self.options, &written.config, asked, None)?;
         captures.hand_over(rt, &mut explanation)?;
         explanation.end(rt, captures.flaws())
     }
@@ -201,7 +186,7 @@ impl<'a> Setting<'a> {
         captures: &mut Captures<'_, '_, '_, A, B>,
         path: &str,
     ) -> Result<(), Stop> {
-        let (options, config) = (self.options, &self.written.config);
+        let (options, config) = (self.options, &self.given.written.config);
         let inputs = self.inputs(rt, captures)?;
         captures.flaws().tell(rt, options.form)?;
         draw(rt, path, options, config, &inputs)
@@ -216,7 +201,7 @@ impl<'a> Setting<'a> {
     ) -> Result<(), Stop> {
         let inputs = self.inputs(rt, captures)?;
         captures.flaws().tell(rt, self.options.form)?;
-        let mut run = CountedRun::begin(rt.alloc(), &self.written.config)?;
+        let mut run = CountedRun::begin(rt.alloc(), &self.given.written.config)?;
         for input in &inputs {
             run.step(rt.alloc(), input)?;
         }
@@ -230,7 +215,7 @@ impl<'a> Setting<'a> {
         rt: &R,
         captures: &mut Captures<'_, '_, '_, A, B>,
     ) -> Result<Vec<Input>, Stop> {
-        let (outside, config) = (self.options.outside, &self.written.config);
+        let (outside, config) = (self.options.outside, &self.given.written.config);
         let inputs = captures.all(rt)?;
         Ok(outside.inputs_under(rt.alloc(), config, inputs)?)
     }
@@ -241,12 +226,12 @@ impl<'a> Setting<'a> {
         rt: &R,
         captures: &mut Captures<'_, '_, '_, A, B>,
     ) -> Result<(), Stop> {
-        let (options, config) = (self.options, &self.written.config);
+        let (options, config) = (self.options, &self.given.written.config);
         let mut inputs = captures.all(rt)?;
         let ends = named_ends(rt.alloc(), options, &mut inputs)?;
         let inputs = options.outside.inputs_under(rt.alloc(), config, inputs)?;
-        let replies = options.outside.replies(config, &ends);
-        let mut explanation = begin_explanation(rt, options, config, self.asked, replies)?;
+        let replies = Replies::of(options.outside, config, &ends);
+        let mut explanation = begin_explanation(rt, options, config, &self.given.asked, replies)?;
         take_all(rt, &inputs, &mut explanation)?;
         explanation.end(rt, captures.flaws())
     }

@@ -1,0 +1,75 @@
+//! The blocks of numbers of a configuration's inside hosts (RFC 7422), in CSV.
+
+use napt_commands::{Page, Stop};
+use napt_config::{Address, Config};
+use napt_program::Streams;
+use std::alloc::AllocError;
+use std::fmt::Write;
+
+/// The first number of an address that a block has.
+const FIRST: u32 = 1024;
+
+/// How many blocks an address has at most: those of 64 numbers.
+pub const MOST_BLOCKS: u32 = 1008;
+
+/// The names of the fields of the table: the host, its external address, and the first and the last number of its block.
+const HEADER: &str = "host,address,first,last\n";
+
+/// Prints the table of all blocks, by the index of the host. A configuration without blocks is reported.
+pub fn tell_blocks<R: Print + Eprint + AllocGlobal>(
+    rt: &R,
+    streams: Streams,
+    config: &Config,
+) -> Result<(), Stop> {
+    let Some(size) = config.block() else {
+        let _ = eprintln!(rt; "explain: the configuration has no `block`");
+        return Err(Stop::Told(napt_program::Stop::Usage));
+    };
+    if !streams.output {
+        return Err(Stop::NoOutput);
+    }
+    let mut page = Page::new(rt.alloc());
+    page.text.push_str(HEADER)?;
+    for nth in 0..MOST_BLOCKS {
+        for address in config.pool() {
+            let Some(host) = host_of_block(config, size, *address, nth) else {
+                return page.end(rt);
+            };
+            add_block(&mut page.text, config, host)?;
+            page.turn(rt)?;
+        }
+    }
+    page.end(rt)
+}
+
+/// Appends the line of a host, if it has a block.
+fn add_block(text: &mut String, config: &Config, host: u32) -> Result<(), AllocError> {
+    let Some((first, last)) = numbers_of(config, host) else {
+        return Ok(());
+    };
+    let address = Address(config.pair(host));
+    writeln!(text, "{},{address},{first},{last}", Address(host))
+}
+
+/// The first and the last number of a host's block.
+pub fn numbers_of(config: &Config, host: u32) -> Option<(u16, u16)> {
+    let block = config.block_of(host)?;
+    let last = block.first.saturating_add(block.size.saturating_sub(1));
+    Some((block.first, last))
+}
+
+/// The host that has a block of an address; the blocks are counted from 0.
+pub fn host_of_block(config: &Config, size: u16, address: u32, nth: u32) -> Option<u32> {
+    let before = u32::from(size).saturating_mul(nth);
+    let number = u16::try_from(FIRST.saturating_add(before)).ok()?;
+    config.host_of(address, number)
+}
+
+/// Says, beside a log, that it is not needed to tell whose an external endpoint was, where each host has a block.
+pub fn tell_needless<R: Eprint>(rt: &R, config: &Config) {
+    if config.block().is_some() {
+        let _ = eprintln!(rt;
+            "explain: each host has a block of its own: who had an endpoint needs no log (explain who, explain blocks)"
+        );
+    }
+}

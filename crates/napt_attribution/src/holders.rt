@@ -1,0 +1,57 @@
+//! Who had the external endpoints that requests name, as a run goes.
+
+use crate::requests::Asked;
+use crate::wanted::Wanted;
+use crate::who::{Basis, Known, tell_answers};
+use napt_account::{Listed, in_order_of_making};
+use napt_commands::{Ending, Passing, Stop};
+use std::alloc::{AllocError, Global};
+
+/// What a run says to requests so far: of the bindings that ended, those that are asked about.
+#[derive(Drop)]
+pub struct Holders<'a> {
+    asked: &'a [Asked],
+    wanted: Wanted,
+    /// In the order in which they ended.
+    ended: Vec<Listed>,
+}
+
+impl<'a> Holders<'a> {
+    /// Before the first packet.
+    pub fn of(alloc: Global, asked: &'a [Asked]) -> Result<Holders<'a>, AllocError> {
+        Ok(Holders {
+            asked,
+            wanted: Wanted::of(alloc, asked)?,
+            ended: Vec::new(alloc),
+        })
+    }
+
+    /// Takes what a packet did.
+    pub fn take(&mut self, passing: Passing<'_>) -> Result<(), AllocError> {
+        self.keep(&passing.step.ended)
+    }
+
+    /// Keeps those that are asked about.
+    fn keep(&mut self, entries: &[Listed]) -> Result<(), AllocError> {
+        for listed in entries {
+            if self.wanted.has(listed.entry.binding.external) {
+                self.ended.push(*listed)?;
+            }
+        }
+        Ok(())
+    }
+
+    /// Prints the answers, once the run has ended. Fails with `Nobody` if a request has none.
+    pub fn tell<R: Print + AllocGlobal>(mut self, rt: &R, ending: &Ending<'_>) -> Result<(), Stop> {
+        self.keep(&ending.living)?;
+        let entries = in_order_of_making(rt.alloc(), self.ended)?;
+        let known = Known {
+            entries: &entries,
+            last: ending.last,
+            later: ending.later,
+            config: Some(ending.config),
+            basis: Basis::Run,
+        };
+        tell_answers(rt, self.asked, known)
+    }
+}

@@ -1,0 +1,156 @@
+//! Whose an external endpoint is, by the configuration alone: where each inside host has a block of numbers (RFC 7422).
+
+use crate::blocks::{MOST_BLOCKS, host_of_block, numbers_of};
+use crate::requests::Asked;
+use crate::who::{Basis, Known, mark};
+use napt_account::Party;
+use napt_commands::Page;
+use napt_config::{Address, Config, Redirect};
+use napt_log_text::Request;
+use napt_records::{EndpointText, protocol_name};
+use napt_wire::{Endpoint, Protocol};
+use std::alloc::AllocError;
+use std::fmt::Write;
+
+/// Appends a line for each host whose block a request is in. If there is no run, appends one for each redirect too, or
+/// that nobody ever has the endpoint. Returns whether somebody has it.
+pub fn add_owners(asked: &Asked, known: Known<'_>, page: &mut Page) -> Result<bool, AllocError> {
+    let Some(config) = known.config else {
+        return Ok(false);
+    };
+    let Some(size) = config.block() else {
+        return Ok(false);
+    };
+    let text = &mut page.text;
+    let is_alone = known.basis == Basis::Blocks;
+    let has_redirect = is_alone && add_redirects(asked, config, text)?;
+    let has_host = match asked.endpoint() {
+        Some(endpoint) => add_host_of(asked, config, endpoint, text)?,
+        None => add_hosts_of(asked, config, size, text)?,
+    };
+    if is_alone && !has_redirect && !has_host {
+        add_nobody(asked, config, text)?;
+    }
+    Ok(has_redirect || has_host)
+}
+
+/// Appends the line of the host whose block an endpoint is in, if there is one.
+fn add_host_of(
+    asked: &Asked,
+    config: &Config,
+    endpoint: Endpoint,
+    text: &mut String,
+) -> Result<bool, AllocError> {
+    let Some(host) = config.host_of(endpoint.address, endpoint.number) else {
+        return Ok(false);
+    };
+    add_host(asked, config, host, text)
+}
+
+/// Appends the lines of all hosts with a block of an address.
+fn add_hosts_of(
+    asked: &Asked,
+    config: &Config,
+    size: u16,
+    text: &mut String,
+) -> Result<bool, AllocError> {
+    let address = asked.request.party.address;
+    for nth in 0..MOST_BLOCKS {
+        let Some(host) = host_of_block(config, size, address, nth) else {
+            return Ok(nth > 0);
+        };
+        add_host(asked, config, host, text)?;
+    }
+    Ok(true)
+}
+
+/// Appends the line of a host, if it has a block.
+fn add_host(
+    asked: &Asked,
+    config: &Config,
+    host: u32,
+    text: &mut String,
+) -> Result<bool, AllocError> {
+    let Some((first, last)) = numbers_of(config, host) else {
+        return Ok(false);
+    };
+    mark(asked, text)?;
+    write!(text, "{} at ", Address(host))?;
+    add_party(asked.request.party, text)?;
+    writeln!(text, " always: its block is {first} to {last}")?;
+    Ok(true)
+}
+
+/// Appends the lines of the redirects that a request names.
+fn add_redirects(asked: &Asked, config: &Config, text: &mut String) -> Result<bool, AllocError> {
+    let mut has_one = false;
+    for redirect in config.redirects() {
+        if is_asked(&asked.request, config, redirect) {
+            mark(asked, text)?;
+            add_redirect(config, redirect, text)?;
+            has_one = true;
+        }
+    }
+    Ok(has_one)
+}
+
+/// Whether a request names the external endpoint of a redirect.
+fn is_asked(request: &Request, config: &Config, redirect: &Redirect) -> bool {
+    let Request {
+        protocol,
+        party,
+        ..
+    } = *request;
+    config.pair(redirect.address) == party.address
+        && party
+            .number
+            .is_none_or(|number| number == redirect.external)
+        && protocol.is_none_or(|protocol| protocol == protocol_of(redirect))
+}
+
+fn protocol_of(redirect: &Redirect) -> Protocol {
+    if redirect.tcp {
+        Protocol::Tcp
+    } else {
+        Protocol::Udp
+    }
+}
+
+/// Appends a redirect, as the line of its binding in a run has it.
+fn add_redirect(config: &Config, redirect: &Redirect, text: &mut String) -> Result<(), AllocError> {
+    let inside = Endpoint {
+        address: redirect.address,
+        number: redirect.port,
+    };
+    let external = Endpoint {
+        address: config.pair(redirect.address),
+        number: redirect.external,
+    };
+    writeln!(
+        text,
+        "{} {} at {} always, a redirect",
+        protocol_name(protocol_of(redirect)),
+        EndpointText(inside),
+        EndpointText(external)
+    )
+}
+
+/// Appends the line that says that nobody ever has an endpoint, and why.
+fn add_nobody(asked: &Asked, config: &Config, text: &mut String) -> Result<(), AllocError> {
+    let party = asked.request.party;
+    mark(asked, text)?;
+    text.push_str("nobody has ")?;
+    add_party(party, text)?;
+    text.push_str(match config.pool_index(party.address) {
+        Some(_) => ": it is in no host's block, and no redirect\n",
+        None => ": it is no address of the pool\n",
+    })
+}
+
+/// Appends an address, or an endpoint.
+pub fn add_party(party: Party, text: &mut String) -> Result<(), AllocError> {
+    match party.number {
+        Some(number) => write!(text, "{}:{number}", Address(party.address)),
+        None => write!(text, "{}", Address(party.address)),
+    }
+}

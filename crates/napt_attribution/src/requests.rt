@@ -1,0 +1,146 @@
+//! Requests: who had an external endpoint, and when. One is on the command line, or many are in a file.
+
+use crate::spans::{NoTime, span_of};
+use napt_account::Party;
+use napt_commands::{Stop, text_at};
+use napt_config::Address;
+use napt_log_text::Request;
+use napt_records::protocol_name;
+use napt_wire::{Endpoint, Protocol};
+use std::rt::Files;
+use std::str;
+
+/// What a line of requests is to be.
+const WANTED: &str =
+    "expected ADDRESS[:PORT] TIME [PROTOCOL], as 203.0.113.1:5000 2026-11-26T10:02:07Z udp";
+
+/// A request.
+#[derive(Clone, Copy)]
+pub struct Asked {
+    /// Its line in a file of requests, from 1.
+    pub line: Option<u64>,
+    pub request: Request,
+}
+
+impl Asked {
+    /// That of the command line.
+    pub fn of(request: Request) -> Asked {
+        Asked {
+            line: None,
+            request,
+        }
+    }
+
+    /// The external endpoint that it names, if it is one.
+    pub fn endpoint(&self) -> Option<Endpoint> {
+        let party = self.request.party;
+        Some(Endpoint {
+            address: party.address,
+            number: party.number?,
+        })
+    }
+
+    /// The same about a time that ends so much later, in ns, if it is about one.
+    pub fn until_later(&self, by: u64) -> Asked {
+        let mut asked = *self;
+        if let Some(span) = &mut asked.request.at {
+            span.until = span.until.saturating_add(u128::from(by));
+        }
+        asked
+    }
+}
+
+/// The requests of a file. One that cannot be read, or a line of it that is no request, is reported.
+pub fn requests_at<R: Files + Input + Eprint + AllocGlobal>(
+    rt: &R,
+    path: &str,
+) -> Result<Vec<Asked>, Stop> {
+    let text = text_at(rt, "--requests", path)?;
+    let lines = match str::from_utf8(&text) {
+        Ok(lines) => lines,
+        Err(error) => {
+            let line = line_at(&text, error.valid_up_to());
+            return Err(tell_wrong(rt, path, line, WANTED));
+        }
+    };
+    let mut asked = Vec::new(rt.alloc());
+    for (place, line) in lines.lines().enumerate() {
+        let number = (place as u64).saturating_add(1);
+        // a line without a word is left out
+        if line.trim().is_empty() {
+            continue;
+        }
+        match request_of(line) {
+            Ok(request) => asked.push(Asked {
+                line: Some(number),
+                request,
+            })?,
+            Err(no_time) => return Err(tell_wrong(rt, path, number, no_time.words(WANTED))),
+        }
+    }
+    Ok(asked)
+}
+
+/// Prints which line of a file is no request, and why, and returns how the program stops.
+fn tell_wrong<R: Eprint>(rt: &R, path: &str, line: u64, why: &str) -> Stop {
+    let _ = eprintln!(rt; "explain: --requests {path}: line {line}: {why}");
+    Stop::Told(napt_program::Stop::Usage)
+}
+
+/// The number of the line that a byte of a text is in.
+fn line_at(text: &[u8], place: usize) -> u64 {
+    let ended = text.iter().take(place).filter(|it| **it == b'\n').count();
+    (ended as u64).saturating_add(1)
+}
+
+/// Parses an endpoint or an address, a time and maybe a protocol. A date may have a space before its time of day.
+fn request_of(line: &str) -> Result<Request, NoTime> {
+    let (party, rest) = first_word(line.trim());
+    let party = party_of(party).ok_or(NoTime::Unread)?;
+    let (time, last) = last_word(rest);
+    let (time, protocol) = match protocol_of(last) {
+        Some(protocol) => (time, Some(protocol)),
+        None => (rest, None),
+    };
+    Ok(Request {
+        protocol,
+        party,
+        at: Some(span_of(time)?),
+    })
+}
+
+/// Parses a host or an endpoint, such as `10.0.0.2` or `203.0.113.1:5000`.
+pub fn party_of(text: &str) -> Option<Party> {
+    let (address, number) = match text.split_once(':') {
+        Some((address, number)) => (address, Some(number.parse::<u16>().ok()?)),
+        None => (text, None),
+    };
+    let address = address.parse::<Address>().ok()?;
+    Some(Party {
+        address: address.0,
+        number,
+    })
+}
+
+/// The first word of a text, and the text behind it.
+fn first_word(text: &str) -> (&str, &str) {
+    match text.split_once(|it: char| it.is_whitespace()) {
+        Some((word, rest)) => (word, rest.trim_start()),
+        None => (text, ""),
+    }
+}
+
+/// The text before its last word, and that word.
+fn last_word(text: &str) -> (&str, &str) {
+    match text.rsplit_once(|it: char| it.is_whitespace()) {
+        Some((rest, word)) => (rest.trim_end(), word),
+        None => ("", text),
+    }
+}
+
+/// The protocol of a name, in letters of either case.
+fn protocol_of(name: &str) -> Option<Protocol> {
+    [Protocol::Icmp, Protocol::Tcp, Protocol::Udp]
+        .into_iter()
+        .find(|protocol| name.eq_ignore_ascii_case(protocol_name(*protocol)))
+}

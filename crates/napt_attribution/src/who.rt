@@ -1,0 +1,194 @@
+//! Who had an external endpoint, and when (RFC 6888, section 4; RFC 6269, section 12). `napt_log_text` defines the
+//! holders and the lines.
+
+use crate::owners::{add_owners, add_party};
+use crate::requests::Asked;
+use crate::saved::{Saved, read_saved};
+use napt_account::Entry;
+use napt_commands::{Page, Sorted, Stop};
+use napt_config::Config;
+use napt_log_text::{Moment, Request, Span, add_holder, add_mark, add_nobody};
+use napt_program::Streams;
+use napt_records::protocol_name;
+use std::alloc::AllocError;
+use std::fmt::Write;
+use std::rt::Files;
+
+/// What requests are answered from.
+#[derive(Clone, Copy)]
+pub struct Known<'a> {
+    /// The entries of a log, in the order in which their bindings were made.
+    pub entries: &'a [Entry],
+    /// The time of the last packet, in ns.
+    pub last: u64,
+    /// How much later than it says a packet may have come, in ns.
+    pub later: u64,
+    /// The configuration of the run, if it is known.
+    pub config: Option<&'a Config>,
+    pub basis: Basis,
+}
+
+/// What a holder is known by.
+#[derive(Clone, Copy, PartialEq, Eq)]
+pub enum Basis {
+    /// The blocks of the configuration.
+    Blocks,
+    /// A run over captures.
+    Run,
+    /// A log whose first event is at this time, in ns.
+    Log(u64),
+}
+
+impl Known<'_> {
+    /// Whether the log is over before the time that a request asks about, or begins behind it.
+    fn is_beside(self, request: &Request) -> bool {
+        match (self.basis, request.at) {
+            (Basis::Log(first), Some(Span { first: from, until })) => {
+                until <= u128::from(first) || u128::from(self.last) < from
+            }
+            _ => false,
+        }
+    }
+}
+
+/// Answers requests from the blocks of a configuration. Fails with `Nobody` if one has no answer.
+pub fn answer_by_blocks<R: Print + AllocGlobal>(
+    rt: &R,
+    streams: Streams,
+    asked: &[Asked],
+    config: &Config,
+) -> Result<(), Stop> {
+    if !streams.output {
+        return Err(Stop::NoOutput);
+    }
+    let known = Known {
+        entries: &[],
+        last: 0,
+        later: 0,
+        config: Some(config),
+        basis: Basis::Blocks,
+    };
+    tell_answers(rt, asked, known)
+}
+
+/// Answers requests from the log whose pieces have these paths, under a configuration if it is known. A piece that is
+/// refused is reported. Fails with `Nobody` if one has no answer.
+pub fn answer_by_log<R: Files + Input + Print + Eprint + AllocGlobal>(
+    rt: &R,
+    streams: Streams,
+    asked: &[Asked],
+    pieces: &[String],
+    config: Option<&Config>,
+) -> Result<(), Stop> {
+    let Saved {
+        entries,
+        first,
+        last,
+    } = read_saved(rt, pieces, config)?;
+    if !streams.output {
+        return Err(Stop::NoOutput);
+    }
+    let known = Known {
+        entries: &entries,
+        last,
+        later: 0,
+        config,
+        basis: Basis::Log(first.min(last)),
+    };
+    tell_answers(rt, asked, known)
+}
+
+/// Prints for each request the hosts whose blocks it is in, a line for each binding that had the endpoint, in the order
+/// in which they were made, or that nobody had it. Fails with `Nobody` if there is such a request.
+pub fn tell_answers<R: Print + AllocGlobal>(
+    rt: &R,
+    asked: &[Asked],
+    known: Known<'_>,
+) -> Result<(), Stop> {
+    let sorted = match asked.len() {
+        0 | 1 => None,
+        _ => Some(Sorted::of(Vec::from_slice(rt.alloc(), known.entries)?)?),
+    };
+    let mut page = Page::new(rt.alloc());
+    let mut is_answered = true;
+    for one in asked {
+        let one = one.until_later(known.later);
+        let entries = match (&sorted, one.endpoint()) {
+            (Some(sorted), Some(endpoint)) => sorted.at(endpoint),
+            _ => known.entries,
+        };
+        let known = Known { entries, ..known };
+        is_answered &= tell_answer(rt, &one, known, &mut page)?;
+    }
+    page.end(rt)?;
+    if is_answered {
+        Ok(())
+    } else {
+        Err(Stop::Nobody)
+    }
+}
+
+/// Prints the lines of a request, and returns whether somebody had the endpoint.
+fn tell_answer<R: Print + AllocGlobal>(
+    rt: &R,
+    asked: &Asked,
+    known: Known<'_>,
+    page: &mut Page,
+) -> Result<bool, Stop> {
+    let is_owned = add_owners(asked, known, page)?;
+    page.turn(rt)?;
+    if known.basis == Basis::Blocks {
+        return Ok(is_owned);
+    }
+    let holders = asked.request.holders_among(rt.alloc(), known.entries)?;
+    for entry in &holders {
+        mark(asked, &mut page.text)?;
+        add_holder(entry, known.last, &mut page.text)?;
+        page.turn(rt)?;
+    }
+    if !holders.is_empty() {
+        return Ok(true);
+    }
+    if known.is_beside(&asked.request) {
+        add_beside(asked, known, &mut page.text)?;
+        return Ok(is_owned);
+    }
+    let nearest = asked.request.nearest_among(known.entries);
+    mark(asked, &mut page.text)?;
+    add_nobody(
+        &asked.request,
+        &nearest,
+        known.config,
+        known.last,
+        &mut page.text,
+    )?;
+    page.turn(rt)?;
+    Ok(is_owned)
+}
+
+/// Appends the line that says that the log is not of the time that a request asks about.
+fn add_beside(asked: &Asked, known: Known<'_>, text: &mut String) -> Result<(), AllocError> {
+    mark(asked, text)?;
+    text.push_str("nobody is known at ")?;
+    if let Some(protocol) = asked.request.protocol {
+        write!(text, "{} ", protocol_name(protocol))?;
+    }
+    add_party(asked.request.party, text)?;
+    let first = match known.basis {
+        Basis::Log(first) => first,
+        _ => 0,
+    };
+    text.push_str(" then: the log begins at ")?;
+    Moment(u128::from(first)).add_to(text)?;
+    text.push_str(", ends at ")?;
+    Moment(u128::from(known.last)).add_to(text)?;
+    text.push_str("\n")
+}
+
+/// Begins a line of a request that is one of several.
+pub fn mark(asked: &Asked, text: &mut String) -> Result<(), AllocError> {
+    match asked.line {
+        Some(number) => add_mark(number, text),
+        None => Ok(()),
+    }
+}

@@ -1,0 +1,149 @@
+//! The lines of packets.
+
+use crate::choice::Choice;
+use crate::digits::{add_number_within, add_seconds, end_column};
+use crate::names::side_column;
+use crate::replies::Replies;
+use crate::shown::{add_arrival, add_packet, is_end_of, is_end_of_arrival};
+use crate::widths::{BEFORE, HAPPENED, Widths};
+use napt_account::{Note, Party};
+use napt_commands::Passing;
+use napt_display::reasons::meaning;
+use napt_log_text::Object;
+use napt_records::cause_name;
+use napt_sequential::Outcome;
+use napt_table::Row;
+use napt_wire::{Cause, Endpoint, Kind, Packet, Side};
+use std::alloc::{AllocError, Global};
+
+/// A packet of a run.
+#[derive(Clone, Copy)]
+pub struct Line<'a> {
+    pub passing: Passing<'a>,
+    /// The packets from outside, if they are replies.
+    replies: Option<Replies<'a>>,
+    /// The inside endpoint that it named, if it is a reply that reads.
+    end: Option<Endpoint>,
+}
+
+impl<'a> Line<'a> {
+    /// That of a packet as it comes by.
+    pub fn of(passing: Passing<'a>, replies: Option<Replies<'a>>) -> Line<'a> {
+        let end = replies.and_then(|replies| replies.end_at(passing.number));
+        Line {
+            passing,
+            replies,
+            end,
+        }
+    }
+
+    fn outcome(self) -> &'a Outcome {
+        &self.passing.step.outcome
+    }
+
+    /// What its object tells.
+    pub fn object(self) -> Object<'a> {
+        let Passing {
+            number,
+            input,
+            step,
+        } = self.passing;
+        Object {
+            number,
+            input,
+            outcome: &step.outcome,
+            note: step.used.note,
+        }
+    }
+
+    /// Whether it is selected.
+    pub fn is_chosen(self, alloc: Global, choice: Choice) -> Result<bool, AllocError> {
+        let is_dropped = matches!(self.outcome(), Outcome::Dropped(_));
+        let is_numbered = choice.only.is_none_or(|only| only == self.passing.number);
+        if !is_numbered || (choice.dropped && !is_dropped) {
+            return Ok(false);
+        }
+        match choice.host {
+            None => Ok(true),
+            Some(host) => self.has_host(alloc, host),
+        }
+    }
+
+    /// Whether it arrives or leaves with this host or endpoint, or names it as a reply.
+    pub fn has_host(self, alloc: Global, host: Party) -> Result<bool, AllocError> {
+        let input = self.passing.input;
+        Ok(
+            leaves_with(self.outcome(), host)
+                || self.end.is_some_and(|end| host.has(end))
+                || is_end_of_arrival(host, alloc, input.side, &input.bytes)?,
+        )
+    }
+
+    /// Appends its line. The columns of all lines align, except for an ICMP error, which quotes more than fits, and where
+    /// a number or a time first needs a digit more.
+    pub fn add(self, alloc: Global, text: &mut String, widths: Widths) -> Result<(), AllocError> {
+        let Passing { number, input, .. } = self.passing;
+        add_number_within(text, number, widths.number())?;
+        text.push_str(" ")?;
+        add_seconds(text, input.time, widths.seconds())?;
+        text.push_str(side_column(input.side))?;
+        let begin = text.len();
+        add_arrival(alloc, text, input.side, &input.bytes)?;
+        end_column(text, begin, BEFORE)?;
+        self.add_rest(text)?;
+        text.push_str("\n")
+    }
+
+    /// Appends what happened to it, and the packet as it leaves.
+    fn add_rest(self, text: &mut String) -> Result<(), AllocError> {
+        let Passing { input, step, .. } = self.passing;
+        let (packet, is_hairpin) = match &step.outcome {
+            Outcome::Dropped(cause) => return self.add_loss(text, *cause),
+            Outcome::ToInside(packet) => (packet, input.side == Side::Inside),
+            Outcome::ToOutside(packet) => (packet, false),
+        };
+        let begin = text.len();
+        text.push_str(used(packet, step.used.note))?;
+        end_column(text, begin, HAPPENED)?;
+        if is_hairpin {
+            text.push_str("hairpin: ")?;
+        }
+        add_packet(text, packet)
+    }
+
+    /// Appends why it was dropped.
+    fn add_loss(self, text: &mut String, cause: Cause) -> Result<(), AllocError> {
+        text.push_str("dropped, ")?;
+        text.push_str(cause_name(cause))?;
+        text.push_str(": ")?;
+        if let (Some(replies), Some(end)) = (self.replies, self.end) {
+            if replies.add_loss(text, cause, end, &self.passing.input.bytes)? {
+                return Ok(());
+            }
+        }
+        text.push_str(meaning(cause))
+    }
+}
+
+/// Whether a packet leaves with this host or endpoint.
+pub fn leaves_with(outcome: &Outcome, host: Party) -> bool {
+    match outcome {
+        Outcome::ToOutside(packet) | Outcome::ToInside(packet) => is_end_of(host, packet),
+        Outcome::Dropped(_) => false,
+    }
+}
+
+/// Whether a binding has the selected host or endpoint, if one is selected.
+pub fn has_party(row: &Row, host: Option<Party>) -> bool {
+    host.is_none_or(|host| host.has(row.inside) || host.has(row.external))
+}
+
+/// What a forwarded packet did to a binding.
+fn used(packet: &Packet, note: Note) -> &'static str {
+    match (packet.kind(), note) {
+        (Kind::ErrorOf(_), _) => "error about a binding",
+        (_, Note::Made) => "made a binding",
+        (_, Note::Redirect) => "found a redirect",
+        (_, Note::Found | Note::Nothing) => "found a binding",
+    }
+}

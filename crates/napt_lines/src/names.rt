@@ -1,0 +1,24 @@
+//! Names and times as users read them.
+
+use napt_wire::Side;
+use std::fmt;
+
+/// The column of a side, with a space in front and at least one behind.
+pub fn side_column(side: Side) -> &'static str {
+    match side {
+        Side::Inside => " inside  ",
+        Side::Outside => " outside ",
+    }
+}
+
+/// A time in nanoseconds, shown in seconds with six decimals, as `tcpdump -tt` writes it.
+#[derive(Clone, Copy)]
+pub struct Seconds(pub u64);
+
+impl fmt::Display for Seconds {
+    fn fmt<W: fmt::Write>(&self, f: &mut fmt::Formatter<W>) -> fmt::Result {
+        let seconds = self.0 / 1_000_000_000;
+        let micros = self.0 % 1_000_000_000 / 1000;
+        write!(f, "{seconds}.{micros:06}")
+    }
+}

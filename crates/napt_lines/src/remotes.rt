@@ -1,0 +1,154 @@
+//! What packets from outside say as answers to what left just before. Only the remotes of the last minutes are kept.
+
+use napt_account::Note;
+use napt_commands::{Losses, Passing, Stop, destination_of, source_of};
+use napt_sequential::{Input, Outcome};
+use napt_wire::{Cause, Side};
+use std::alloc::{AllocError, Global};
+use std::collections::BTreeMap;
+
+/// How long after an inside packet to a remote a packet from it counts as an answer, in ns.
+const JUST_BEFORE: u64 = 60_000_000_000;
+
+/// How many remotes are kept before any is forgotten.
+const FEW: usize = 1024;
+
+/// What inside hosts sent to a remote.
+#[derive(Clone, Copy)]
+struct Sent {
+    /// The time in ns of the last packet.
+    at: u64,
+    /// The host that sent it.
+    host: u32,
+    /// Whether other hosts sent some too.
+    by_others: bool,
+}
+
+/// The remotes so far, and counts of packets from outside.
+#[derive(Drop)]
+pub struct Remotes {
+    sent: BTreeMap<u32, Sent>,
+    /// How many remotes there are when the next old ones are forgotten.
+    full: usize,
+    /// How many of the packets that found no binding, or were not for the gateway, are answers.
+    unmet_answers: u64,
+    /// Answers that were for an address of the gateway, and how many of them find no binding, or that of a host that did
+    /// not ask.
+    answers: u64,
+    astray: u64,
+}
+
+impl Remotes {
+    /// Before the first packet.
+    pub fn new(alloc: Global) -> Remotes {
+        Remotes {
+            sent: BTreeMap::new(alloc),
+            full: FEW,
+            unmet_answers: 0,
+            answers: 0,
+            astray: 0,
+        }
+    }
+
+    /// Whether at least half of the packets from outside that found no binding, or were not for the gateway, are answers.
+    pub fn are_answers(&self, losses: &Losses) -> bool {
+        let others = losses.unmet().saturating_sub(self.unmet_answers);
+        self.unmet_answers > 0 && self.unmet_answers >= others
+    }
+
+    /// Whether more than one in a hundred answers, and more than one, go astray: the captured gateway had other numbers.
+    pub fn are_astray(&self) -> bool {
+        self.astray > 1 && self.astray > self.answers / 100
+    }
+
+    /// Prints that the captured gateway had other numbers than the run has, so that this tells nothing of it, and returns
+    /// how the program stops.
+    pub fn tell_astray<R: Eprint>(&self, rt: &R) -> Stop {
+        let (astray, answers) = (self.astray, self.answers);
+        let _ = eprintln!(rt;
+            "explain: these captures are of a gateway with other numbers: {astray} of {answers} answers from outside do \
+not find here who asked for them (--as-napt tells of the run of napt)"
+        );
+        Stop::Others
+    }
+
+    /// Takes the next packet.
+    pub fn take(&mut self, passing: Passing<'_>) -> Result<(), AllocError> {
+        let (input, step) = (passing.input, passing.step);
+        match (input.side, &step.outcome) {
+            (Side::Inside, Outcome::ToOutside(_)) => self.send(input),
+            (Side::Outside, outcome) if step.used.note != Note::Redirect => {
+                self.come(input, outcome);
+                Ok(())
+            }
+            _ => Ok(()),
+        }
+    }
+
+    /// An inside packet leaves.
+    fn send(&mut self, input: &Input) -> Result<(), AllocError> {
+        let bytes = &input.bytes;
+        let (Some(host), Some(remote)) = (source_of(bytes), destination_of(bytes)) else {
+            return Ok(());
+        };
+        let mut sent = Sent {
+            at: input.clock,
+            host,
+            by_others: false,
+        };
+        match self.sent.get_mut(&remote) {
+            Some(before) => {
+                sent.by_others = before.by_others || before.host != host;
+                *before = sent;
+            }
+            None => {
+                self.forget(input.clock);
+                self.sent.insert(remote, sent)?;
+            }
+        }
+        Ok(())
+    }
+
+    /// Forgets the remotes whose minute is over, once there are twice as many as were left before.
+    fn forget(&mut self, now: u64) {
+        if self.sent.len() < self.full {
+            return;
+        }
+        self.sent
+            .retain(|_, sent| now.saturating_sub(sent.at) <= JUST_BEFORE);
+        self.full = self.sent.len().saturating_mul(2).max(FEW);
+    }
+
+    /// A packet comes from outside.
+    fn come(&mut self, input: &Input, outcome: &Outcome) {
+        let is_unmet = matches!(outcome, Outcome::Dropped(Cause::NoBinding | Cause::NotOurs));
+        let sent = source_of(&input.bytes).and_then(|remote| self.sent.get(&remote).copied());
+        let Some(sent) = sent else {
+            return;
+        };
+        if input.clock.saturating_sub(sent.at) > JUST_BEFORE {
+            return;
+        }
+        if is_unmet {
+            self.unmet_answers = self.unmet_answers.saturating_add(1);
+        }
+        self.answer(sent, outcome);
+    }
+
+    /// A packet comes from a remote to which this was sent just before.
+    fn answer(&mut self, sent: Sent, outcome: &Outcome) {
+        let is_astray = match outcome {
+            Outcome::Dropped(cause) => *cause == Cause::NoBinding,
+            Outcome::ToInside(packet) => {
+                !sent.by_others && packet.destination().address != sent.host
+            }
+            Outcome::ToOutside(_) => false,
+        };
+        if is_astray || matches!(outcome, Outcome::ToInside(_)) {
+            self.answers = self.answers.saturating_add(1);
+        }
+        if is_astray {
+            self.astray = self.astray.saturating_add(1);
+        }
+    }
+}

@@ -1,0 +1,157 @@
+//! Replies that were dropped, in a user's words.
+
+use crate::digits::{add_address, add_endpoint};
+use napt_commands::{Losses, Origin, Outside};
+use napt_config::{Address, Config};
+use napt_sequential::Input;
+use napt_wire::{Cause, Endpoint, Packet, Side, Way};
+use std::alloc::{AllocError, Global};
+use std::fmt::Write;
+use std::mem;
+
+/// What is said of replies from inside addresses.
+const FROM_INSIDE: &str = "the captured gateway itself, or one host to another";
+
+/// What is said of replies from an address of the pool.
+const FROM_POOL: &str =
+    "packets that the captured gateway sent back inside, or a remote; another pool would count them";
+
+/// What to do if many have no binding.
+const UNBOUND: &str =
+    "`quota`, the timers or the pool leave their hosts without a binding, or the inside capture lacks what was sent before";
+
+/// The replies of a run that followed it.
+#[derive(Clone, Copy)]
+pub struct Replies<'a> {
+    config: &'a Config,
+    /// Of each input the inside endpoint that it named, if it is a reply that reads.
+    ends: &'a [Option<Endpoint>],
+}
+
+/// The inside endpoint that each input names, if it comes from outside and reads. Bytes behind a packet's end are cut off
+/// there, as when it follows.
+pub fn ends_of(alloc: Global, inputs: &mut [Input]) -> Result<Vec<Option<Endpoint>>, AllocError> {
+    let mut ends = Vec::new(alloc);
+    for input in inputs.iter_mut() {
+        ends.push(end_of(alloc, input))?;
+    }
+    Ok(ends)
+}
+
+fn end_of(alloc: Global, input: &mut Input) -> Option<Endpoint> {
+    if input.side == Side::Inside {
+        return None;
+    }
+    let bytes = mem::replace(&mut input.bytes, Vec::new(alloc));
+    match Packet::read(Side::Outside, bytes) {
+        Ok(packet) => {
+            let end = packet.local_end(Way::Incoming);
+            input.bytes = packet.into_bytes();
+            Some(end)
+        }
+        Err((_, bytes)) => {
+            input.bytes = bytes;
+            None
+        }
+    }
+}
+
+impl<'a> Replies<'a> {
+    /// Those of a run under a configuration, with the inside endpoints that they named, if the outside capture holds some.
+    pub fn of(
+        outside: Outside,
+        config: &'a Config,
+        ends: &'a [Option<Endpoint>],
+    ) -> Option<Replies<'a>> {
+        outside.follows().then_some(Replies { config, ends })
+    }
+
+    /// The inside endpoint that the packet of this number, from 1, named, if it is a reply that reads.
+    pub fn end_at(self, number: u64) -> Option<Endpoint> {
+        let at = usize::try_from(number.checked_sub(1)?).ok()?;
+        *self.ends.get(at)?
+    }
+
+    /// Appends why the reply with these bytes, which named this inside endpoint, was dropped. Returns whether there are
+    /// words for it.
+    pub fn add_loss(
+        self,
+        text: &mut String,
+        cause: Cause,
+        end: Endpoint,
+        bytes: &[u8],
+    ) -> Result<bool, AllocError> {
+        match cause {
+            Cause::NoBinding => {
+                text.push_str("its inside endpoint ")?;
+                add_endpoint(text, end)?;
+                text.push_str(" has no live binding here")?;
+            }
+            Cause::NotOurs => {
+                text.push_str("it is not to an inside host, but to ")?;
+                add_address(text, end.address)?;
+            }
+            Cause::Spoofed => match Origin::of(self.config, bytes) {
+                Origin::Inside => add_both(text, "from an inside address: ", FROM_INSIDE)?,
+                Origin::Pool(_) => add_both(text, "from an address of the pool: ", FROM_POOL)?,
+                Origin::Remote => return Ok(false),
+            },
+            _ => return Ok(false),
+        }
+        Ok(true)
+    }
+
+    /// Appends how many replies were dropped for a cause, and why.
+    pub fn add_losses(
+        self,
+        text: &mut String,
+        cause: Cause,
+        losses: &Losses,
+    ) -> Result<(), AllocError> {
+        match cause {
+            Cause::NoBinding if losses.no_binding > 0 => writeln!(
+                text,
+                "    {} to inside endpoints that have no live binding here",
+                losses.no_binding
+            ),
+            Cause::NotOurs if losses.not_ours > 0 => writeln!(
+                text,
+                "    {} to no inside host",
+                losses.not_ours
+            ),
+            Cause::Spoofed => self.add_spoofed(text, losses),
+            _ => Ok(()),
+        }
+    }
+
+    fn add_spoofed(self, text: &mut String, losses: &Losses) -> Result<(), AllocError> {
+        let many = losses.from_inside;
+        if many > 0 {
+            writeln!(text, "    {many} from inside addresses: {FROM_INSIDE}")?;
+        }
+        for (address, many) in self.config.pool().iter().zip(&losses.from_pool) {
+            if *many > 0 {
+                let address = Address(*address);
+                writeln!(
+                    text,
+                    "    {many} from {address}, which is in the pool: {FROM_POOL}"
+                )?;
+            }
+        }
+        Ok(())
+    }
+}
+
+fn add_both(text: &mut String, first: &str, second: &str) -> Result<(), AllocError> {
+    text.push_str(first)?;
+    text.push_str(second)
+}
+
+/// What to do if many replies are dropped for a cause, where that is not what it is for other packets.
+pub fn advice_of_replies(cause: Cause) -> Option<&'static str> {
+    match cause {
+        Cause::NoBinding => Some(UNBOUND),
+        Cause::NotOurs => Some("is this an outside capture? (`--outside`)"),
+        _ => None,
+    }
+}

@@ -1,0 +1,197 @@
+//! The lines of a run as it goes on, and its summary: the live bindings, and what became of the packets.
+
+use crate::choice::Choice;
+use crate::digits::add_seconds;
+use crate::ended::{add_binding, add_end};
+use crate::lines::{Line, has_party};
+use crate::names::Seconds;
+use crate::remotes::Remotes;
+use crate::replies::{Replies, advice_of_replies};
+use crate::widths::Widths;
+use napt_account::Entry;
+use napt_commands::{Ending, Losses, Page, Passing, Sorted, Stop};
+use napt_display::reasons::{advice, meaning};
+use napt_records::{Counts, cause_name};
+use napt_table::Row;
+use napt_wire::Cause;
+use std::alloc::{AllocError, Global};
+use std::fmt::Write;
+
+/// What to do if many packets from outside find no binding although inside packets left for their remotes.
+const OTHER_NUMBERS: &str =
+    "inside packets left for their remotes just before, so the captured gateway seems to have chosen other numbers or \
+addresses: give what inside hosts got as --replies";
+
+/// The lines of a run, and the counts for its summary.
+#[derive(Drop)]
+pub struct Lines {
+    choice: Choice,
+    widths: Widths,
+    counts: Counts,
+}
+
+/// What became of the packets from outside, and whether they are replies.
+#[derive(Clone, Copy)]
+pub struct FromOutside<'a> {
+    pub losses: &'a Losses,
+    pub remotes: &'a Remotes,
+    pub replies: Option<Replies<'a>>,
+}
+
+impl Lines {
+    /// Before the first packet.
+    pub fn new(choice: Choice) -> Lines {
+        Lines {
+            choice,
+            widths: Widths::default(),
+            counts: Counts::new(),
+        }
+    }
+
+    /// Takes the next packet: appends its line if it is selected, and before it the lines of the bindings that expired by
+    /// then.
+    pub fn take(
+        &mut self,
+        alloc: Global,
+        text: &mut String,
+        line: Line<'_>,
+    ) -> Result<(), AllocError> {
+        let Passing {
+            number,
+            input,
+            step,
+        } = line.passing;
+        self.counts.count(&step.outcome);
+        self.widths.take(number, input);
+        for listed in &step.ended {
+            if self.has_chosen(&listed.entry) {
+                add_end(text, self.widths, &listed.entry)?;
+            }
+        }
+        if line.is_chosen(alloc, self.choice)? {
+            line.add(alloc, text, self.widths)?;
+        }
+        Ok(())
+    }
+
+    /// Whether a binding's end is selected.
+    fn has_chosen(&self, entry: &Entry) -> bool {
+        !self.choice.dropped && has_party(&entry.binding, self.choice.host)
+    }
+
+    /// Prints the live bindings, and what became of the packets.
+    pub fn tell<R: Print + AllocGlobal>(
+        &self,
+        rt: &R,
+        page: &mut Page,
+        ending: &Ending<'_>,
+        outside: FromOutside<'_>,
+    ) -> Result<(), Stop> {
+        self.tell_bindings(rt, page, ending)?;
+        self.add_counts(&mut page.text, outside)?;
+        page.end(rt)
+    }
+
+    /// Prints the bindings live at the last packet's time, with their ages; only those of a host or endpoint if one is
+    /// selected.
+    fn tell_bindings<R: Print + AllocGlobal>(
+        &self,
+        rt: &R,
+        page: &mut Page,
+        ending: &Ending<'_>,
+    ) -> Result<(), Stop> {
+        let living = ending.living.iter().map(|listed| listed.entry);
+        let living = Sorted::of(living.collect(rt.alloc())?)?;
+        let time = Seconds(ending.last);
+        let many = ending.rows.len();
+        writeln!(page.text, "live bindings at {time}: {many}")?;
+        for row in &ending.rows {
+            if has_party(row, self.choice.host) {
+                let entry = living.entry_of(row.protocol, row.external);
+                add_row(&mut page.text, row, entry, ending.last)?;
+            }
+            page.turn(rt)?;
+        }
+        Ok(())
+    }
+
+    /// Appends the counts of outcomes, and what to do if more than a fifth of the packets were dropped for one cause.
+    fn add_counts(&self, text: &mut String, outside: FromOutside<'_>) -> Result<(), AllocError> {
+        let counts = &self.counts;
+        writeln!(text, "packets: {}", counts.packets())?;
+        writeln!(text, "  {} to the outside", counts.to_outside())?;
+        writeln!(text, "  {} to the inside", counts.to_inside())?;
+        for cause in Cause::ALL {
+            self.add_cause(text, outside, cause)?;
+        }
+        Ok(())
+    }
+
+    fn add_cause(
+        &self,
+        text: &mut String,
+        outside: FromOutside<'_>,
+        cause: Cause,
+    ) -> Result<(), AllocError> {
+        let many = self.counts.dropped(cause);
+        if many == 0 {
+            return Ok(());
+        }
+        let name = cause_name(cause);
+        writeln!(text, "  {many} dropped, {name}: {}", meaning(cause))?;
+        if let Some(replies) = outside.replies {
+            replies.add_losses(text, cause, outside.losses)?;
+        }
+        if many > self.counts.packets() / 5 {
+            self.add_advice(text, outside, cause)?;
+        }
+        Ok(())
+    }
+
+    /// Appends what to do if many packets were dropped for a cause. That other numbers were chosen comes first where
+    /// they seem to be answers.
+    fn add_advice(
+        &self,
+        text: &mut String,
+        outside: FromOutside<'_>,
+        cause: Cause,
+    ) -> Result<(), AllocError> {
+        let is_answered = outside.replies.is_none()
+            && matches!(cause, Cause::NoBinding | Cause::NotOurs)
+            && outside.remotes.are_answers(outside.losses);
+        if is_answered {
+            writeln!(text, "    many packets end so: {OTHER_NUMBERS}")?;
+        }
+        let told = match outside.replies {
+            Some(_) => advice_of_replies(cause).or(advice(cause)),
+            None => advice(cause),
+        };
+        match told {
+            Some(advice) if is_answered => writeln!(text, "    else: {advice}"),
+            Some(advice) => writeln!(text, "    many packets end so: {advice}"),
+            None => Ok(()),
+        }
+    }
+}
+
+/// Appends the line of a live binding, whose entry this is, at the last packet's time, in ns.
+fn add_row(
+    text: &mut String,
+    row: &Row,
+    entry: Option<&Entry>,
+    last: u64,
+) -> Result<(), AllocError> {
+    text.push_str("  ")?;
+    add_binding(text, row)?;
+    if row.fixed {
+        return text.push_str(", a redirect\n");
+    }
+    if let Some(entry) = entry {
+        text.push_str(", made ")?;
+        add_seconds(text, last.saturating_sub(entry.made), 1)?;
+        text.push_str(" s ago, last used from inside ")?;
+        add_seconds(text, last.saturating_sub(entry.last_sent), 1)?;
+        text.push_str(" s ago")?;
+    }
+    text.push_str("\n")
+}

@@ -1,0 +1,73 @@
+//! A run of a plan.
+
+use crate::coverage::Coverage;
+use crate::plan::figures::Figures;
+use crate::sizes::usage::Usage;
+use napt_account::KnownRun;
+use napt_commands::{Losses, Outside, Stop, copied};
+use napt_config::Config;
+use napt_records::Counts;
+use napt_sequential::Input;
+use std::alloc::{AllocError, Global};
+
+/// A run of a plan after some packets.
+#[derive(Drop)]
+pub struct PlannedRun<'a> {
+    run: KnownRun<'a>,
+    usage: Usage,
+    counts: Counts,
+    pub losses: Losses,
+    pub coverage: Coverage,
+}
+
+impl<'a> PlannedRun<'a> {
+    /// Before the first packet.
+    pub fn begin(alloc: Global, config: &'a Config) -> Result<PlannedRun<'a>, AllocError> {
+        let run = KnownRun::begin(alloc, config)?;
+        let opening = run.living(alloc)?;
+        Ok(PlannedRun {
+            run,
+            usage: Usage::of(alloc, config, &opening)?,
+            counts: Counts::new(),
+            losses: Losses::new(alloc, config)?,
+            coverage: Coverage::default(),
+        })
+    }
+
+    /// Takes the next packet.
+    pub fn take(&mut self, alloc: Global, input: &Input) -> Result<(), Stop> {
+        let config = self.run.config();
+        let step = self.run.step(alloc, input)?;
+        self.counts.count(&step.outcome);
+        self.losses.take(config, input, &step.outcome);
+        self.usage.take(config, &step)?;
+        self.coverage.take(input, &step);
+        Ok(())
+    }
+
+    /// Takes the packets of captures of which the outside one follows the run.
+    pub fn follow(
+        &mut self,
+        alloc: Global,
+        outside: Outside,
+        inputs: &[Input],
+    ) -> Result<(), Stop> {
+        let inputs = outside.inputs_under(alloc, self.run.config(), copied(alloc, inputs)?)?;
+        for input in &inputs {
+            self.take(alloc, input)?;
+        }
+        Ok(())
+    }
+
+    /// Reports what the captures lack of the lives of its bindings; `path` names its configuration.
+    pub fn tell_living<R: Eprint + AllocGlobal>(&self, rt: &R, path: &str) -> Result<(), Stop> {
+        let living = self.run.living(rt.alloc())?;
+        self.coverage.tell_living(rt, Some(path), &living);
+        Ok(())
+    }
+
+    /// Its figures.
+    pub fn figures(&self, alloc: Global) -> Result<Figures, AllocError> {
+        Figures::of(alloc, self.run.config(), &self.usage, &self.counts)
+    }
+}

@@ -1,0 +1,74 @@
+//! The table of a plan in CSV, for programs. docs/FORMATS.md describes its fields.
+
+use crate::plan::figures::Figures;
+use crate::plan::fullest::Fullest;
+use csv::{ErrorKind, Writer, WriterBuilder};
+use napt_commands::Stop;
+use napt_config::Address;
+use napt_records::protocol_name;
+use serde::Serialize;
+use std::alloc::{AllocError, Global};
+use std::io;
+use std::io::Write;
+
+/// A line: its fields, whose names are those of the header.
+#[derive(Drop, Serialize)]
+struct Record {
+    configuration: String,
+    #[serde(flatten)]
+    figures: Figures,
+    fullest_protocol: Option<&'static str>,
+    fullest_address: Option<String>,
+    fullest_class: Option<&'static str>,
+    fullest_bindings: Option<u64>,
+    fullest_numbers: Option<u64>,
+}
+
+/// Writes the table to standard output.
+pub fn write_sheet<R: Print + AllocGlobal>(
+    rt: &R,
+    paths: &[String],
+    lines: &[Figures],
+) -> Result<(), Stop> {
+    let writer = WriterBuilder::new().from_writer(io::writer(rt));
+    match put_lines(rt.alloc(), writer, paths, lines) {
+        Ok(()) => Ok(()),
+        Err(error) => Err(match error.into_kind() {
+            ErrorKind::Io(error) => Stop::Output(error),
+            _ => Stop::from(AllocError),
+        }),
+    }
+}
+
+fn put_lines<W: Write + Drop>(
+    alloc: Global,
+    mut writer: Writer<W>,
+    paths: &[String],
+    lines: &[Figures],
+) -> Result<(), csv::Error> {
+    for (path, figures) in paths.iter().zip(lines) {
+        let record = record_of(alloc, path, *figures).map_err(|_| csv::Error::out_of_memory())?;
+        writer.serialize(alloc, &record)?;
+    }
+    writer.flush()
+}
+
+fn record_of(alloc: Global, path: &str, figures: Figures) -> Result<Record, AllocError> {
+    let fullest = figures.fullest;
+    Ok(Record {
+        configuration: String::from_str(alloc, path)?,
+        figures,
+        fullest_protocol: fullest.map(|it| protocol_name(it.protocol)),
+        fullest_address: address_of(alloc, fullest)?,
+        fullest_class: fullest.map(|it| it.class.name),
+        fullest_bindings: fullest.map(|it| it.used),
+        fullest_numbers: fullest.map(|it| it.class.many),
+    })
+}
+
+fn address_of(alloc: Global, fullest: Option<Fullest>) -> Result<Option<String>, AllocError> {
+    match fullest {
+        Some(fullest) => Ok(Some(format!(in alloc; "{}", Address(fullest.address))?)),
+        None => Ok(None),
+    }
+}

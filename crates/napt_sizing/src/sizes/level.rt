@@ -1,0 +1,25 @@
+//! How many there were at once.
+
+/// How many there are now, the most there were at once, and when that many were first reached, in ns.
+#[derive(Clone, Copy, Default)]
+pub struct Level {
+    now: u64,
+    pub most: u64,
+    pub at: u64,
+}
+
+impl Level {
+    /// One more, from this time on.
+    pub fn rise(&mut self, at: u64) {
+        self.now = self.now.saturating_add(1);
+        if self.now > self.most {
+            self.most = self.now;
+            self.at = at;
+        }
+    }
+
+    /// One fewer.
+    pub fn fall(&mut self) {
+        self.now = self.now.saturating_sub(1);
+    }
+}

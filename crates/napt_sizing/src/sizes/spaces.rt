@@ -1,0 +1,140 @@
+//! How much of a protocol's numbers is used at an external address.
+
+use crate::sizes::level::Level;
+use napt_account::Entry;
+use napt_wire::Protocol;
+use std::alloc::{AllocError, Global};
+use std::collections::BTreeMap;
+
+/// A class of external numbers, and its size (RFC 4787, REQ-3 (a) and REQ-4; RFC 5508, section 3.1).
+#[derive(Clone, Copy)]
+pub struct Class {
+    pub name: &'static str,
+    pub many: u64,
+}
+
+/// A port keeps its parity and its side of 1024.
+const PORTS: &[Class] = &[
+    Class {
+        name: "even ports below 1024",
+        many: 511,
+    },
+    Class {
+        name: "odd ports below 1024",
+        many: 512,
+    },
+    Class {
+        name: "even ports from 1024 on",
+        many: 32_256,
+    },
+    Class {
+        name: "odd ports from 1024 on",
+        many: 32_256,
+    },
+];
+
+/// An ICMP identifier may become any other.
+const IDENTIFIERS: &[Class] = &[Class {
+    name: "identifiers",
+    many: 65_536,
+}];
+
+/// The bindings of a protocol at an external address, redirects included.
+#[derive(Drop)]
+pub struct Space {
+    pub address: u32,
+    pub protocol: Protocol,
+    pub bindings: Level,
+    /// Hosts with a binding there.
+    pub hosts: Level,
+    /// The bindings of each class, in the order of `classes`.
+    pub used: [Level; 4],
+    /// How many each host with one has now.
+    now: BTreeMap<u32, u64>,
+}
+
+impl Space {
+    /// Nothing is used.
+    pub fn new(alloc: Global, address: u32, protocol: Protocol) -> Space {
+        Space {
+            address,
+            protocol,
+            bindings: Level::default(),
+            hosts: Level::default(),
+            used: [Level::default(); 4],
+            now: BTreeMap::new(alloc),
+        }
+    }
+
+    /// The classes of its numbers.
+    pub fn classes(&self) -> &'static [Class] {
+        match self.protocol {
+            Protocol::Icmp => IDENTIFIERS,
+            Protocol::Tcp | Protocol::Udp => PORTS,
+        }
+    }
+
+    /// The binding of an entry is made.
+    pub fn make(&mut self, entry: &Entry) -> Result<(), AllocError> {
+        let at = entry.made;
+        self.bindings.rise(at);
+        if let Some(level) = self
+            .used
+            .get_mut(class_at(self.protocol, entry.binding.external.number))
+        {
+            level.rise(at);
+        }
+        let host = entry.binding.inside.address;
+        if let Some(many) = self.now.get_mut(&host) {
+            *many = many.saturating_add(1);
+            return Ok(());
+        }
+        self.hosts.rise(at);
+        self.now.insert(host, 1)?;
+        Ok(())
+    }
+
+    /// The binding of an entry has expired.
+    pub fn end(&mut self, entry: &Entry) {
+        self.bindings.fall();
+        if let Some(level) = self
+            .used
+            .get_mut(class_at(self.protocol, entry.binding.external.number))
+        {
+            level.fall();
+        }
+        self.leave(entry.binding.inside.address);
+    }
+
+    /// A host has one binding fewer.
+    fn leave(&mut self, host: u32) {
+        let Some(many) = self.now.get_mut(&host) else {
+            return;
+        };
+        *many = many.saturating_sub(1);
+        if *many == 0 {
+            self.now.remove(&host);
+            self.hosts.fall();
+        }
+    }
+}
+
+/// The index of a number's class among those of its protocol.
+fn class_at(protocol: Protocol, number: u16) -> usize {
+    match (protocol, number < 1024, number % 2 == 0) {
+        (Protocol::Icmp, _, _) => 0,
+        (_, true, true) => 0,
+        (_, true, false) => 1,
+        (_, false, true) => 2,
+        (_, false, false) => 3,
+    }
+}
+
+/// The place of a protocol among all.
+pub fn protocol_place(protocol: Protocol) -> usize {
+    match protocol {
+        Protocol::Icmp => 0,
+        Protocol::Tcp => 1,
+        Protocol::Udp => 2,
+    }
+}
