@@ -134,12 +134,8 @@ def of_captures(draw):
     else:
         kinds = (side_packets, side_packets, side_packets, conversation, session, newcomers)
         inside, outside = draw.choice(kinds)(draw, configuration)
-    files = {
-        "napt.toml": configuration.text(),
-        "inside.pcap": captures.drawn(draw, inside),
-        "outside.pcap": captures.drawn(draw, outside),
-    }
-    return Case("captures", files, command_lines.usual())
+    files = {"inside.pcap": captures.drawn(draw, inside), "outside.pcap": captures.drawn(draw, outside)}
+    return Case("captures", {"napt.toml": configuration.text(), **files}, command_lines.usual())
 
 
 def plain_captures(draw):

@@ -81,16 +81,8 @@ class Configuration:
         ]
 
     def lines(self):
-        parts = [
-            f"pool = {quoted(text_of(address) for address in self.pool)}",
-            f"inside = {quoted(self.prefixes)}",
-            self.settings,
-            self.ring,
-            self.quota,
-            self.block,
-            self.timers,
-            *self.entries,
-        ]
+        parts = [f"pool = {quoted(map(text_of, self.pool))}", f"inside = {quoted(self.prefixes)}"]
+        parts += [self.settings, self.ring, self.quota, self.block, self.timers, *self.entries]
         return "\n".join(part for part in parts if part).split("\n")
 
     def text(self):
