@@ -1,16 +1,11 @@
 -- A binding lives before its end, and no longer.
-use Rattle.std.proofs.Common.{◌≡◌, ℕ, ◌+◌, ◌<◌, ◌≤◌, ◌++◌, length, take, get_or, max, Bool, true, false, ◌||◌, cond, List, [], ◌∷◌, Option, Some, None, refl, sym, ◌∙◌, ap, arith}
-use Rattle.std.specs.Prelude.{nat_lt, nat_le}
+use Rattle.std.proofs.Common.{◌≡◌, ℕ, ◌+◌, ◌<◌, ◌≤◌, ◌++◌, length, take, get_or, max, Bool, true, false, ◌||◌, cond, List, [], ◌∷◌, Option, Some, None, refl, sym, ◌∙◌, ap, arith, nat_lt, nat_le}
 use Rattle.std.specs.List.{list_any}
 use Rattle.std.proofs.lemmas.Bool.Decides.{nat_tests}
 use Rattle.std.proofs.lemmas.List.{take_more}
-use Rattle.napt_wire.specs.declared.Protocol.{Protocol}
-use Rattle.napt_wire.specs.declared.Protocol.TheVariants.{Icmp, Tcp, Udp}
-use Rattle.napt_config.specs.Rules.{AreTimers}
-use Rattle.napt_config.specs.declared.settings.Timers.{Timers}
 use Rattle.napt_rules.specs.declared.Marks.{Marks}
 use Rattle.napt_rules.specs.declared.Flow.{Flow}
-use Rattle.napt_rules.specs.Prelude.{Binding, is_established, idle, is_recent, is_live_flow, is_live_by, is_live, with_live_flows}
+use Rattle.napt_rules.specs.Prelude.{Binding, is_established, idle, is_recent, is_live_flow, is_live_by, is_live, with_live_flows, Protocol, Icmp, Tcp, Udp, AreTimers, Timers}
 use Rattle.napt_rules.proofs.Life.{lived, live_same}
 use Rattle.napt_binding.specs.Ends.{end_after, last_end, end_by, end_of, is_before, EndsAreFirst}
 

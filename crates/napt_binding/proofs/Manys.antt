@@ -5,10 +5,9 @@ use Rattle.std.specs.HashMap.{hash_map_len}
 use Rattle.std.proofs.lemmas.Bool.{eq-eqb, and_from, and_parts, true≢false}
 use Rattle.std.proofs.lemmas.Option.{same_Some, get_or_from_slice_get}
 use Rattle.std.proofs.lemmas.List.Sums.{sum_by-set, sum_by_push}
-use Rattle.napt_wire.specs.declared.Endpoint.{Endpoint}
 use Rattle.napt_rules.specs.declared.Flow.{Flow}
 use Rattle.napt_binding.specs.declared.flows.many.Many.{Many}
-use Rattle.napt_rules.specs.Prelude.{same_endpoint, is_flow_of}
+use Rattle.napt_rules.specs.Prelude.{same_endpoint, is_flow_of, Endpoint}
 use Rattle.napt_binding.specs.Counts.{count_at}
 use Rattle.napt_binding.specs.Many.{place_at, IsMany}
 use Rattle.napt_binding.specs.Slots.{somes, Stands, of_address, count_of}

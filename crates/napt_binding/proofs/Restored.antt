@@ -6,9 +6,8 @@ use Rattle.std.proofs.lemmas.Bool.{cases_eq}
 use Rattle.std.proofs.lemmas.List.{get_or_default}
 use Rattle.std.proofs.lemmas.List.Elements.{All-nil, All-cons}
 use Rattle.std.proofs.lemmas.Option.{same_Some}
-use Rattle.napt_wire.specs.declared.Endpoint.{Endpoint}
 use Rattle.napt_rules.specs.declared.Flow.{Flow}
-use Rattle.napt_rules.specs.Prelude.{is_flow_of}
+use Rattle.napt_rules.specs.Prelude.{is_flow_of, Endpoint}
 use Rattle.napt_binding.specs.Slots.{somes, Stands, NoneUsedAfter, AreByLastUse}
 use Rattle.napt_binding.proofs.Slots.{stands_there, stands_elsewhere}
 use Rattle.napt_binding.proofs.Used.{used_set}

@@ -1,19 +1,11 @@
 -- The flows of a binding that stand, when a packet goes out, and its bindings that live.
-use Rattle.std.proofs.Common.{◌≡◌, ℕ, Bool, true, false, ◌&&◌, cond, List, [], ◌∷◌, ◌++◌, get_or, set, slice_get, Option, Some, refl, sym, ◌∙◌, ap, arith, eqb}
-use Rattle.std.specs.Prelude.{filter, position}
+use Rattle.std.proofs.Common.{◌≡◌, ℕ, Bool, true, false, ◌&&◌, cond, List, [], ◌∷◌, ◌++◌, get_or, set, slice_get, Option, Some, refl, sym, ◌∙◌, ap, arith, eqb, filter, position}
 use Rattle.std.specs.List.{list_any}
 use Rattle.std.proofs.lemmas.Bool.{and_from, or_parts, eq-eqb}
 use Rattle.std.proofs.lemmas.Option.{same_Some}
 use Rattle.std.proofs.lemmas.List.Quantifiers.{position-Some}
-use Rattle.napt_wire.specs.declared.Protocol.{Protocol}
-use Rattle.napt_wire.specs.declared.Protocol.TheVariants.{Icmp, Tcp, Udp}
-use Rattle.napt_wire.specs.declared.Way.TheVariants.{Outgoing, Incoming}
-use Rattle.napt_wire.specs.declared.Endpoint.{Endpoint}
-use Rattle.napt_wire.specs.declared.Flags.{Flags}
-use Rattle.napt_config.specs.Rules.{AreTimers}
-use Rattle.napt_config.specs.declared.settings.Timers.{Timers}
 use Rattle.napt_rules.specs.declared.Flow.{Flow}
-use Rattle.napt_rules.specs.Prelude.{change_first, no_marks, is_live_flow, live_flows, is_flow_of, used, with_flow}
+use Rattle.napt_rules.specs.Prelude.{change_first, no_marks, is_live_flow, live_flows, is_flow_of, used, with_flow, Protocol, Icmp, Tcp, Udp, Outgoing, Incoming, Endpoint, Flags, AreTimers, Timers}
 use Rattle.napt_binding.specs.Standing.{is_standing, standing_flow_of}
 use Rattle.napt_binding.proofs.Lists.{any_at, any_seen, set_seen, change_pushed, filter_pushed, map_same, any_set, any_pushed}
 use Rattle.napt_rules.proofs.Life.{used_live, flows_all, flows_kept}

@@ -1,6 +1,5 @@
 -- Rows of flows by last use.
-use Rattle.std.proofs.Common.{◌≡◌, ◌≢◌, ℕ, zero, suc, ◌+◌, ◌-◌, ◌<◌, ◌≤◌, ◌⊎◌, inl, inr, Bool, true, false, ◌||◌, cond, List, [], ◌∷◌, ◌++◌, length, get_or, Option, Some, None, nat_lt, refl, sym, ◌∙◌, ap, arith, eqb, subst}
-use Rattle.std.specs.Prelude.{is_some, IfSome, IfNone}
+use Rattle.std.proofs.Common.{◌≡◌, ◌≢◌, ℕ, zero, suc, ◌+◌, ◌-◌, ◌<◌, ◌≤◌, ◌⊎◌, inl, inr, Bool, true, false, ◌||◌, cond, List, [], ◌∷◌, ◌++◌, length, get_or, Option, Some, None, nat_lt, refl, sym, ◌∙◌, ap, arith, eqb, subst, is_some, IfSome, IfNone}
 use Rattle.std.specs.List.{list_any}
 use Rattle.std.proofs.lemmas.Bool.{cases_eq, cases_lt, true≢false}
 use Rattle.std.proofs.lemmas.Bool.Decides.{nat_tests}
@@ -9,9 +8,8 @@ use Rattle.std.proofs.lemmas.Option.{same_Some, none-some, get_or_from_slice_get
 use Rattle.napt_collections.specs.declared.links.Links.{Links}
 use Rattle.napt_collections.specs.Links.{no_links, next, prev}
 use Rattle.napt_collections.proofs.Linked.{on_same, on_other, lowered, raised, row_out, less_out, row_in, less_in, under_in, over_in}
-use Rattle.napt_config.specs.declared.settings.Timers.{Timers}
 use Rattle.napt_rules.specs.declared.Flow.{Flow}
-use Rattle.napt_rules.specs.Prelude.{is_established, is_recent, is_live_flow}
+use Rattle.napt_rules.specs.Prelude.{is_established, is_recent, is_live_flow, Timers}
 use Rattle.napt_rules.proofs.Lists.{any_weaker}
 use Rattle.napt_rules.proofs.Life.{lived_flow}
 use Rattle.std.specs.Option.{option_map}

@@ -1,10 +1,8 @@
 -- The flows of a binding, when a packet goes out through it.
 use Rattle.std.specs.Prelude.{List}
-use Rattle.napt_wire.specs.declared.Way.TheVariants.{Outgoing}
-use Rattle.napt_config.specs.declared.settings.Timers.{Timers}
 use Rattle.napt_rules.specs.declared.Flow.{Flow}
 use Rattle.napt_rules.specs.declared.Sent.{Sent}
-use Rattle.napt_rules.specs.Prelude.{change_first, no_marks, live_flows, is_flow_of, used, with_flow}
+use Rattle.napt_rules.specs.Prelude.{change_first, no_marks, live_flows, is_flow_of, used, with_flow, Outgoing, Timers}
 
 -- the flow that begins with the packet
 abbrev pub begun_by : Sent → Flow

@@ -1,5 +1,4 @@
-use Rattle.std.proofs.Common.{◌∙◌, sym, ap}
-use Rattle.std.specs.Prelude.{is_some}
+use Rattle.std.proofs.Common.{◌∙◌, sym, ap, is_some}
 use Rattle.napt_binding.proofs.Few.{never_full, full_where}
 use Rattle.napt_binding.proofs.flows.is_full.Goals as goal
 

@@ -1,6 +1,5 @@
 use Rattle.std.proofs.Common.{ap, sym}
-use Rattle.napt_wire.specs.declared.Protocol.TheVariants.{Tcp}
-use Rattle.napt_wire.specs.declared.Way.TheVariants.{Incoming}
+use Rattle.napt_rules.specs.Prelude.{Tcp, Incoming}
 use Rattle.napt_rules.specs.declared.Flow.{Flow}
 use Rattle.napt_rules.specs.Traffic as traffic
 use Rattle.napt_binding.proofs.Distinct.{distinct_set}

@@ -1,5 +1,4 @@
-use Rattle.std.proofs.Common.{rules, ◌≡◌, ◌<◌, ℕ, inl, inr, [], ◌∷◌, ◌++◌, get_or, Some, slice_get, length, sym, ◌∙◌, ap, subst, arith}
-use Rattle.std.specs.Prelude.{Contains}
+use Rattle.std.proofs.Common.{rules, ◌≡◌, ◌<◌, ℕ, inl, inr, [], ◌∷◌, ◌++◌, get_or, Some, slice_get, length, sym, ◌∙◌, ap, subst, arith, Contains}
 use Rattle.std.proofs.lemmas.Bool.{cases_eq}
 use Rattle.std.proofs.lemmas.List.Elements.{All-push, Contains-push, Contains-append_left}
 use Rattle.std.proofs.lemmas.List.Sorted.{answers_always, All-permutation, Contains-permutation, IsNonDecreasingBy-from_sort}

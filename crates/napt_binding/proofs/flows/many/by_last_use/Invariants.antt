@@ -1,5 +1,4 @@
-use Rattle.std.proofs.Common.{◌≡◌, ◌<◌, ℕ, Some, slice_get}
-use Rattle.std.specs.Prelude.{All, Contains}
+use Rattle.std.proofs.Common.{◌≡◌, ◌<◌, ℕ, Some, slice_get, All, Contains}
 use Rattle.napt_rules.specs.declared.Flow.{Flow}
 use Rattle.napt_binding.proofs.flows.many.by_last_use.Given as goal
 

@@ -1,5 +1,4 @@
-use Rattle.std.proofs.Common.{◌≡◌, length}
-use Rattle.std.specs.Prelude.{filter}
+use Rattle.std.proofs.Common.{◌≡◌, length, filter}
 use Rattle.napt_rules.specs.Life as life
 use Rattle.napt_binding.specs.Slots.{somes}
 use Rattle.napt_binding.specs.Many.{IsMany, HasRoom}

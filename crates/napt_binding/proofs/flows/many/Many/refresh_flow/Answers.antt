@@ -1,6 +1,5 @@
 use Rattle.std.proofs.Common.{◌≡◌, Some, sym, refl}
-use Rattle.napt_wire.specs.declared.Protocol.TheVariants.{Tcp}
-use Rattle.napt_wire.specs.declared.Way.TheVariants.{Incoming}
+use Rattle.napt_rules.specs.Prelude.{Tcp, Incoming}
 use Rattle.napt_binding.specs.Many.{place_at}
 use Rattle.napt_rules.specs.Traffic as traffic
 use Rattle.napt_binding.proofs.Lists.{change_nowhere}
