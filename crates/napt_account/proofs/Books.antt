@@ -10,7 +10,7 @@ use Rattle.napt_account.specs.declared.log.Entry.{Entry}
 use Rattle.napt_account.specs.Log.{is_of, place_of, through}
 use Rattle.napt_account.specs.declared.account.Note.{Note}
 use Rattle.napt_account.specs.declared.account.Use.{Use}
-use Rattle.napt_account.specs.Book.{after_trace, noted, use_by_trace, uses_told}
+use Rattle.napt_account.specs.Book.{after_trace, noted, use_at, use_by_trace, uses_told}
 use Rattle.napt_account.specs.Uses.{used}
 
 -- LISTS
@@ -113,6 +113,13 @@ map_unmoved now w change es none = change_none (is_of now w) change es (λ j e a
 pub used_there : (way : Way) (es : List Entry) (i : ℕ) (e : Entry) → slice_get es i ≡ Some e → (note : Note) →
     note ≡ noted (Some e) → used way note (Some i) ≡ used way (noted (slice_get es i)) (Some i)
 used_there way es i e at note is = ap (λ (n : Note). used way n (Some i)) (is ∙ ap noted (sym at))
+
+pub any_used : (way : Way) (now : ℕ) (w : Row) (es : List Entry) (u : Use) →
+    Some u ≡ use_at way es (place_of now w es) → list_any (is_of now w) es ≡ true
+any_used way now w es u is = elim (list_any (is_of now w) es) as (λ v. list_any (is_of now w) es ≡ v → v ≡ true) [
+  | true ↦ λ e. refl
+  | false ↦ λ e. let never : Some u ≡ None = is ∙ ap (use_at way es) (no_place now w es e) in cc
+] refl
 
 pub uses_more : (es : List Entry) (traces : List Trace) (t : Trace) → uses_told es (traces ++ t ∷ [])
     ≡ uses_told es traces ++ use_by_trace (fold after_trace es traces) t ∷ []

@@ -1,5 +1,5 @@
 -- A run with its log as it runs: what it tells of one more input.
-use Rattle.std.proofs.Common.{◌≡◌, max, List, [], ◌∷◌, ◌++◌, length, map, append-nil, sym, ◌∙◌, ap, drop, refl}
+use Rattle.std.proofs.Common.{◌≡◌, ℕ, max, List, [], ◌∷◌, ◌++◌, length, map, append-nil, sym, ◌∙◌, ap, drop, refl}
 use Rattle.std.specs.Prelude.{flat_map, filter}
 use Rattle.std.specs.List.{fold}
 use Rattle.napt_config.specs.Rules.{Rules, KeepsRules}
@@ -10,11 +10,13 @@ use Rattle.napt_account.specs.declared.account.Use.{Use}
 use Rattle.napt_account.specs.declared.log.Entry.{Entry}
 use Rattle.napt_account.specs.declared.log.Shortage.{Shortage}
 use Rattle.napt_account.specs.Book.{after_trace, lost_by, use_by_trace, uses_told}
+use Rattle.napt_account.specs.KnownRuns.{inputs_in}
 use Rattle.napt_account.specs.Log.{begun, log_of}
 use Rattle.napt_account.specs.TraceLogs.{entries_after}
 use Rattle.napt_account.specs.Uses.{uses_of}
 use Rattle.napt_account.proofs.Attribution.{retold}
 use Rattle.napt_account.proofs.Books.{fold_joined, uses_more}
+use Rattle.napt_account.proofs.Lists.{map_joined}
 use Rattle.napt_account.proofs.Retold.{flat_joined, log_is}
 use Rattle.napt_account.specs.Telling.{numbered, is_open, ends_within, in_order_of_end, told_by, living_of}
 
@@ -38,6 +40,10 @@ pub living_is : (rules : Rules) (inputs : List Arrival) → living_of rules inpu
     ≡ in_order_of_end (filter (is_open (last_clock 0 inputs)) (numbered (log_of rules inputs).entries))
 unfolding living_of
 living_is rules inputs = refl
+
+pub inputs_more : (past : List (ℕ × Arrival)) (n : ℕ) (input : Arrival) →
+    inputs_in (past ++ (n, input) ∷ []) ≡ inputs_in past ++ input ∷ []
+inputs_more past n input = map_joined (λ taken. taken.1) past ((n, input) ∷ [])
 
 -- THE LOG, ONE INPUT LATER
 

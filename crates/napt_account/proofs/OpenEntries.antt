@@ -1,5 +1,5 @@
 -- What is kept of the entries that have not ended: what is put, changed and taken out.
-use Rattle.std.proofs.Common.{◌≡◌, ◌≢◌, ℕ, ◌+◌, ◌<◌, ◌≤◌, inl, inr, true, false, ◌&&◌, cond, List, [], ◌∷◌, ◌++◌, length, map, set, Option, Some, None, refl, sym, ◌∙◌, ap, subst, arith, eqb, eqb-true, length-append, length-set}
+use Rattle.std.proofs.Common.{◌≡◌, ◌≢◌, ℕ, ◌+◌, ◌<◌, ◌≤◌, inl, inr, true, false, ◌&&◌, cond, List, [], ◌∷◌, ◌++◌, ◌^◌, length, map, set, Option, Some, None, unwrap_or, refl, sym, ◌∙◌, ap, subst, arith, eqb, eqb-true, length-append, length-set}
 use Rattle.std.specs.Prelude.{◌==◌}
 use Rattle.std.specs.List.{slice_get, list_any}
 use Rattle.std.specs.Option.{option_map}
@@ -8,20 +8,26 @@ use Rattle.std.proofs.lemmas.Option.{same_Some, slice_get_within}
 use denote.Enum.Bare.{sameb, same_true}
 use denote.Enum.Declared.{tag_of}
 use Rattle.napt_wire.specs.contracts.Protocol.{the_type}
+use Rattle.napt_wire.specs.declared.Way.{Way}
+use Rattle.napt_wire.specs.declared.Way.TheVariants.{Outgoing, Incoming}
 use Rattle.napt_rules.specs.declared.Row.{Row}
 use Rattle.napt_rules.specs.Prelude.{same_protocol, same_endpoint}
 use Rattle.napt_laws.proofs.Endpoints.{protocol_is, end_is}
 use Rattle.napt_binding.specs.Ends.{is_before}
+use Rattle.napt_table.specs.declared.TimedRow.{TimedRow}
 use Rattle.napt_sequential.proofs.Lists.{get_before, get_last, get_set, get_set_other}
+use Rattle.napt_account.specs.declared.account.Note.{Note}
 use Rattle.napt_account.specs.declared.log.Entry.{Entry}
 use Rattle.napt_account.specs.declared.log.Listed.{Listed}
 use Rattle.napt_account.specs.declared.open_entries.Due.{Due}
 use Rattle.napt_account.specs.declared.open_entries.ExternalKey.{ExternalKey}
 use Rattle.napt_account.specs.declared.open_entries.Open.{Open}
 use Rattle.napt_account.specs.declared.open_entries.OpenEntries.{OpenEntries}
-use Rattle.napt_account.specs.Log.{shares, is_of, place_of, through}
+use Rattle.napt_account.specs.Book.{noted, use_at}
+use Rattle.napt_account.specs.Log.{counted, shares, is_of, place_of, through}
 use Rattle.napt_account.specs.Telling.{is_open}
-use Rattle.napt_account.proofs.Books.{change_one, none_at, any_at, first_place}
+use Rattle.napt_account.specs.Uses.{used}
+use Rattle.napt_account.proofs.Books.{change_one, none_at, any_at, first_place, used_there}
 use Rattle.napt_account.proofs.Entries.{shares_itself}
 use Rattle.napt_account.specs.OpenEntries.{external_key, external_eq, open_at, listed_at, due_of, due_at, is_queued, is_at, listed_as, IsPlaced, IsIndexed, IsIndexedBut, IsListed, Shows}
 
@@ -268,10 +274,6 @@ module _ (now most : ℕ) (old new : OpenEntries) (es : List Entry) (shows : Sho
   other_place : (m : Listed) → m.number ≢ o.listed.number → (j : ℕ) → m.number ≡ j + 1 → j ≢ place
   other_place m differs j is equal = differs (omega (arith, is, equal, number))
 
-  pub change_indexed : IsIndexedBut (external_key e.binding) o.due old
-  change_indexed = subst (λ (y : ExternalKey). IsIndexedBut y o.due old) its_key
-      (subst (λ (due : Option ℕ). IsIndexedBut x due old) (ap due_of at) (indexed_but old shows.indexed x))
-
   pub change_shows : is_before now e.end ≡ true → e.sent ≤ o.listed.entry.sent + 1 →
       e.received ≤ o.listed.entry.received + 1 → new.made ≡ old.made → IsIndexed new →
       ((y : ExternalKey) → listed_at new y
@@ -350,6 +352,73 @@ module _ (now most : ℕ) (all : OpenEntries) (es : List Entry) (shows : Shows n
 
       pub row_any : list_any (is_of now r) es ≡ true
       row_any = any_at (is_of now r) es place l.entry row_there row_of
+
+-- A PACKET WENT THROUGH
+
+counted_end : (way : Way) (now : ℕ) (end : Option ℕ) (e : Entry) → (counted way now end e).end ≡ end
+counted_end Outgoing now end e = refl
+counted_end Incoming now end e = refl
+
+counted_binding : (way : Way) (now : ℕ) (end : Option ℕ) (e : Entry) → (counted way now end e).binding ≡ e.binding
+counted_binding Outgoing now end e = refl
+counted_binding Incoming now end e = refl
+
+counted_more : (way : Way) (now : ℕ) (end : Option ℕ) (e : Entry) → ((counted way now end e).sent ≤ e.sent + 1)
+    × ((counted way now end e).received ≤ e.received + 1)
+counted_more Outgoing now end e = (omega arith, omega arith)
+counted_more Incoming now end e = (omega arith, omega arith)
+
+module _ (way : Way) (now most : ℕ) (old : OpenEntries) (es : List Entry) (shows : Shows now most es old)
+    (timed : TimedRow) (key : ExternalKey) (is : key ≡ external_key timed.row) (o : Open)
+    (at : open_at old key ≡ Some o) (place : ℕ) (number : place + 1 ≡ o.listed.number) where
+  there : listed_at old (external_key timed.row) ≡ Some o.listed
+  there = ap (listed_at old) (sym is) ∙ open_listed old key o at
+
+  pub counted_used : (note : Note) → note ≡ noted (Some o.listed.entry) →
+      Some (used way note (Some place)) ≡ use_at way es (place_of now timed.row es)
+  counted_used note its = ap Some (used_there way es place o.listed.entry
+      (row_there now most old es shows timed.row o.listed there place number) note its)
+      ∙ sym (ap (use_at way es) (row_place now most old es shows timed.row o.listed there place number))
+
+  module _ (e : Entry) (counts : e ≡ counted way now timed.end o.listed.entry) (due : Option ℕ)
+      (early : (time : ℕ) → time < unwrap_or due (2 ^ 64) → is_before time timed.end ≡ true)
+      (new : OpenEntries) (made : new.made ≡ old.made) where
+    abbrev changed : Open
+    changed = record { listed = record { number = o.listed.number; entry = e }; due = due }
+
+    pub counted_shows :
+        ((y : ExternalKey) → open_at new y ≡ cond (external_eq key y) (Some changed) (open_at old y)) →
+        ((d : Due) → (external_eq key d.key ≡ true → is_queued old d ≡ is_at o.due d.at) →
+        is_queued new d ≡ cond (external_eq key d.key) (is_at due d.at) (is_queued old d)) →
+        is_before now timed.end ≡ true →
+        Shows now (most + 1) (map (through now timed.row (counted way now timed.end)) es) new
+    counted_shows opens queue opened =
+        let was : Entry = o.listed.entry in
+        let same : e.binding ≡ was.binding =
+        ap (λ (f : Entry). f.binding) counts ∙ counted_binding way now timed.end was in
+        let end : e.end ≡ timed.end = ap (λ (f : Entry). f.end) counts ∙ counted_end way now timed.end was in
+        let more = counted_more way now timed.end was in
+        let sent : e.sent ≤ was.sent + 1 = subst (λ (f : Entry). f.sent ≤ was.sent + 1) (sym counts) more.0 in
+        let received : e.received ≤ was.received + 1 =
+        subst (λ (f : Entry). f.received ≤ was.received + 1) (sym counts) more.1 in
+        let but : IsIndexedBut key o.due old =
+        subst (λ (d : Option ℕ). IsIndexedBut key d old) (ap due_of at) (indexed_but old shows.indexed key) in
+        let its : key ≡ external_key e.binding =
+        (shows.indexed.placed key o at).0 ∙ ap external_key (sym same) in
+        let indexed : IsIndexed new = moved old new key o.due but (Some changed) opens
+        (λ d. queue d (queued_at old key o.due but d))
+        (λ p h. subst (IsPlaced key) (same_Some changed p h)
+        (its, λ time h. ap (is_before time) end ∙ early time h)) in
+        subst (λ (xs : List Entry). Shows now (most + 1) xs new)
+        (ap (set es place) counts
+        ∙ row_changed now most old es shows timed.row o.listed there place number (counted way now timed.end))
+        (change_shows now most old new es shows key o at e same place number (ap (is_before now) end ∙ opened)
+        sent received made indexed
+        (λ y. ap (option_map (λ (p : Open). p.listed)) (opens y)
+        ∙ (elim (external_eq key y) as (λ v. option_map (λ (p : Open). p.listed)
+        (cond v (Some changed) (open_at old y)) ≡ cond v (Some changed.listed) (listed_at old y))
+        [ true ↦ refl | false ↦ refl ]
+        ∙ ap (λ (k : ExternalKey). cond (external_eq k y) (Some changed.listed) (listed_at old y)) its)))
 
 pub shows_more : (now most more : ℕ) → most ≤ more → (es : List Entry) (all : OpenEntries) → Shows now most es all →
     Shows now more es all

@@ -1,24 +1,23 @@
 -- The log by the traces of a run's inputs is the log of the run.
-use Rattle.std.proofs.Common.{◌≡◌, ℕ, ◌+◌, ◌*◌, ◌^◌, ◌<◌, ◌≤◌, max, List, [], ◌∷◌, ◌++◌, length, map, drop, refl, sym, ◌∙◌, ap, subst, arith, length-append}
+use Rattle.std.proofs.Common.{◌≡◌, ℕ, ◌+◌, max, List, [], ◌∷◌, ◌++◌, length, map, drop, refl, sym, ◌∙◌, ap, arith}
 use Rattle.std.specs.Prelude.{filter}
-use Rattle.std.specs.List.{fold}
 use Rattle.napt_config.specs.Rules.{Rules, KeepsRules, pair_of}
-use Rattle.napt_rules.specs.Prelude.{Arrival, Binding, OpeningIsSound, last_clock, opening, redirected, run, step}
-use Rattle.napt_sequential.specs.Traces.{trace_of, traces, traces_from}
+use Rattle.napt_rules.specs.Prelude.{Arrival, Binding, OpeningIsSound, last_clock, opening, redirected, step}
+use Rattle.napt_sequential.specs.Traces.{traces, traces_from}
 use Rattle.napt_sequential.specs.declared.passage.Trace.{Trace}
 use Rattle.napt_sequential.proofs.Passed.{traces_grow}
 use Rattle.napt_account.specs.declared.log.Entry.{Entry}
 use Rattle.napt_account.specs.declared.log.Listed.{Listed}
 use Rattle.napt_account.specs.declared.log.Shortage.{Shortage}
-use Rattle.napt_account.specs.declared.open_entries.OpenEntries.{OpenEntries}
-use Rattle.napt_account.specs.Book.{after_trace, lost_by}
+use Rattle.napt_account.specs.Book.{after_trace}
+use Rattle.napt_account.specs.KnownLogs.{traces_in}
 use Rattle.napt_account.specs.Log.{begun, log_of}
-use Rattle.napt_account.specs.OpenEntries.{Shows}
-use Rattle.napt_account.specs.Telling.{Told, ends_within, in_order_of_end, is_open, living_of, numbered, told_by}
-use Rattle.napt_account.specs.TraceLogs.{entries_after, time_after, told_with, living_with, IsNext, TracesTellTheLog, TracesHaveTheLiving, TracesCome}
+use Rattle.napt_account.specs.Telling.{Told, ends_within, in_order_of_end, is_open, numbered, told_by}
+use Rattle.napt_account.specs.TraceLogs.{entries_after, time_after, told_with, IsNext, TracesTellTheLog, TracesHaveTheLiving, TracesCome}
 use Rattle.napt_account.proofs.Begun.{long_mapped}
 use Rattle.napt_account.proofs.Books.{fold_joined}
 use Rattle.napt_account.proofs.Leaves.{Leaves, last_leaves}
+use Rattle.napt_account.proofs.Lists.{map_joined}
 use Rattle.napt_account.proofs.LoggedRuns.{ended_told, made_told, refused_told, living_is, entries_told, entries_next, shortages_next}
 use Rattle.napt_account.proofs.MadeLegs.{drop_joined}
 
@@ -40,6 +39,10 @@ entries_more rules before trace =
 pub first_long : (rules : Rules) → length (entries_after rules []) ≡ length rules.redirects
 first_long rules = long_mapped (begun rules.timers 0) (opening rules)
     ∙ long_mapped (redirected (pair_of rules)) rules.redirects
+
+pub traces_more : (past : List (ℕ × Trace)) (n : ℕ) (trace : Trace) →
+    traces_in (past ++ (n, trace) ∷ []) ≡ traces_in past ++ trace ∷ []
+traces_more past n trace = map_joined (λ taken. taken.1) past ((n, trace) ∷ [])
 
 -- TIMES
 

@@ -1,7 +1,9 @@
 -- How entries change passage by passage, and what each packet did: it changes the open entry of its binding, or begins
 -- one if there is none.
-use Rattle.std.specs.Prelude.{ℕ, cond, length, List, [], ◌∷◌, ◌++◌, map, Option, Some, None}
+use Rattle.std.specs.Prelude.{ℕ, cond, length, List, [], ◌∷◌, ◌++◌, map, Option, Some, None, unwrap_or}
 use Rattle.std.specs.List.{list_any, slice_get}
+use Rattle.std.specs.Option.{option_map}
+use Rattle.napt_wire.specs.declared.Way.{Way}
 use Rattle.napt_wire.specs.declared.Way.TheVariants.{Outgoing, Incoming}
 use Rattle.napt_rules.specs.declared.Row.{Row}
 use Rattle.napt_table.specs.declared.TimedRow.{TimedRow}
@@ -76,13 +78,16 @@ abbrev pub noted : Option Entry → Note
 noted None = notes.Nothing
 noted (Some entry) = cond entry.binding.fixed notes.Redirect notes.Found
 
+-- through the binding of the entry at a place, if there is one
+abbrev pub use_at : Way → List Entry → Option ℕ → Option Use
+use_at way entries place = option_map (λ i. used way (noted (slice_get entries i)) (Some i)) place
+
 abbrev pub out_at : List Entry → Option ℕ → Use
-out_at entries None = used Outgoing notes.Made (Some (length entries))
-out_at entries (Some place) = used Outgoing (noted (slice_get entries place)) (Some place)
+out_at entries place =
+    unwrap_or (use_at Outgoing entries place) (used Outgoing notes.Made (Some (length entries)))
 
 abbrev pub in_at : List Entry → Option ℕ → Use
-in_at entries None = no_use
-in_at entries (Some place) = used Incoming (noted (slice_get entries place)) (Some place)
+in_at entries place = unwrap_or (use_at Incoming entries place) no_use
 
 abbrev pub use_told : ℕ → Passage → List Entry → Use
 use_told now Nothing entries = no_use

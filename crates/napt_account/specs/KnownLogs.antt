@@ -1,7 +1,10 @@
 -- The log of a run, by the traces that it took.
-use Rattle.std.specs.Prelude.{ℕ, Bool, List, map}
+use Rattle.std.specs.Prelude.{◌≡◌, ℕ, ◌+◌, ◌*◌, ◌≤◌, Bool, List, length, map}
 use Rattle.napt_config.specs.Rules.{Rules}
 use Rattle.napt_sequential.specs.declared.passage.Trace.{Trace}
+use Rattle.napt_account.specs.declared.open_entries.OpenEntries.{OpenEntries}
+use Rattle.napt_account.specs.OpenEntries.{Shows}
+use Rattle.napt_account.specs.TraceLogs.{entries_after, time_after}
 
 pub record KnownTraces : Type 0 where
   pub rules : Rules
@@ -12,3 +15,10 @@ pub record KnownTraces : Type 0 where
 -- the traces of a record of what it took
 abbrev pub traces_in : List (ℕ × Trace) → List Trace
 traces_in past = map (λ taken. taken.1) past
+
+-- it took so many traces, these, the last at this time, and has what has not ended of the entries after them
+pub record IsOpenAfter (rules : Rules) (traces : List Trace) (many clock : ℕ) (kept : OpenEntries) : Type 0 where
+  pub taken : many ≡ length traces
+  pub time : clock ≡ time_after 0 traces
+  pub entries : Shows clock (2 * length traces) (entries_after rules traces) kept
+  pub few : length (entries_after rules traces) ≤ 256 + 2 * length traces

@@ -1,9 +1,16 @@
 -- A run with its log as it runs, by the inputs that it took.
-use Rattle.std.specs.Prelude.{ℕ, ◌^◌, ◌≤◌, Bool, List, length, map}
-use Rattle.napt_config.specs.Rules.{Rules}
-use Rattle.napt_rules.specs.Prelude.{Arrival}
+use Rattle.std.specs.Prelude.{◌≡◌, ℕ, ◌^◌, ◌≤◌, Bool, false, List, [], ◌∷◌, ◌++◌, length, map}
+use Rattle.napt_config.specs.Rules.{Rules, KeepsRules}
+use Rattle.napt_rules.specs.Prelude.{opening, Arrival, run}
+use Rattle.napt_sequential.specs.SequentialRuns.{StandsAfter}
+use Rattle.napt_sequential.specs.Traces.{traces}
 use Rattle.napt_sequential.specs.declared.fault.RunFault.{RunFault}
 use Rattle.napt_sequential.specs.declared.fault.RunFault.TheVariants as reasons
+use Rattle.napt_sequential.specs.declared.sequential_run.SequentialRun.{SequentialRun}
+use Rattle.napt_account.specs.declared.known_run.LoggedStep.{LoggedStep}
+use Rattle.napt_account.specs.KnownLogs.{KnownTraces}
+use Rattle.napt_account.specs.Telling.{Told, told_by}
+use Rattle.napt_account.specs.Uses.{uses_of}
 
 pub record KnownState : Type 0 where
   pub rules : Rules
@@ -20,3 +27,22 @@ IsOfInputs inputs (reasons.Pool fault) = ⊥
 -- the inputs of a record of what it took
 abbrev pub inputs_in : List (ℕ × Arrival) → List Arrival
 inputs_in past = map (λ taken. taken.1) past
+
+-- it took these inputs, and its log the traces of the run over them
+pub record IsLogged (inputs : List Arrival) (it : SequentialRun) (log : KnownTraces) : Type 0 where
+  pub keeps : KeepsRules log.rules
+  pub stands : StandsAfter log.rules inputs it
+  pub taken : log.traces ≡ traces log.rules inputs
+  pub goes_on : log.is_stopped ≡ false
+
+-- what a step tells
+abbrev pub told_of : LoggedStep → Told
+told_of step = record { ended = step.ended.items; made = step.made.items; refused = step.refused.items }
+
+-- what it tells of an input after these: the last outcome of the run over all of them, what its packet did, and what
+-- the log tells with it
+pub record TellsLast (rules : Rules) (before : List Arrival) (input : Arrival) (step : LoggedStep) : Type 0 where
+  pub outcome : (run rules (before ++ input ∷ []) (opening rules)).outcomes
+      ≡ (run rules before (opening rules)).outcomes ++ step.outcome ∷ []
+  pub used : uses_of rules (before ++ input ∷ []) ≡ uses_of rules before ++ step.used ∷ []
+  pub told : told_of step ≡ told_by rules before input

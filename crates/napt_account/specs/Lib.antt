@@ -4,7 +4,6 @@ pub mod Book
 pub mod Ended
 pub mod Log
 pub mod OpenEntries
-pub mod LoggedRuns
 pub mod KnownRuns
 pub mod Questions
 pub mod Telling

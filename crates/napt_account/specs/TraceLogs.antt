@@ -1,5 +1,5 @@
 -- The log by the traces of a run's inputs alone, without the inputs.
-use Rattle.std.specs.Prelude.{◌≡◌, ℕ, ◌+◌, ◌*◌, ◌≤◌, ◌<◌, ◌^◌, List, [], ◌∷◌, ◌++◌, length, map, drop, filter}
+use Rattle.std.specs.Prelude.{◌≡◌, ℕ, ◌+◌, ◌≤◌, ◌<◌, ◌^◌, List, [], ◌∷◌, ◌++◌, length, map, drop, filter}
 use Rattle.std.specs.List.{fold}
 use Rattle.napt_config.specs.Rules.{Rules, KeepsRules}
 use Rattle.napt_rules.specs.Prelude.{Arrival, opening}
@@ -9,11 +9,10 @@ use Rattle.napt_sequential.specs.declared.fault.RunFault.TheVariants as reasons
 use Rattle.napt_sequential.specs.declared.passage.Trace.{Trace}
 use Rattle.napt_account.specs.declared.log.Entry.{Entry}
 use Rattle.napt_account.specs.declared.log.Listed.{Listed}
-use Rattle.napt_account.specs.declared.trace_log.LoggedTrace.{LoggedTrace}
-use Rattle.napt_account.specs.declared.trace_log.TraceLog.{TraceLog}
+use Rattle.napt_account.specs.declared.known_log.LoggedTrace.{LoggedTrace}
 use Rattle.napt_account.specs.Book.{after_trace, lost_by}
 use Rattle.napt_account.specs.Log.{begun}
-use Rattle.napt_account.specs.OpenEntries.{LeavesOpen, Shows}
+use Rattle.napt_account.specs.OpenEntries.{LeavesOpen}
 use Rattle.napt_account.specs.Telling.{Told, ends_within, in_order_of_end, is_open, living_of, numbered, told_by}
 
 -- the entries after some traces; the redirects are there before the first
@@ -49,13 +48,6 @@ pub record IsNext (before : List Trace) (trace : Trace) : Type 0 where
 -- what is told, without where it lies in memory
 abbrev pub told_in : LoggedTrace → Told
 told_in told = record { ended = told.ended.items; made = told.made.items; refused = told.refused.items }
-
--- it took these traces, and has what has not ended of the entries after them
-pub record IsOpenAfter (rules : Rules) (traces : List Trace) (it : TraceLog) : Type 0 where
-  pub many : it.many ≡ length traces
-  pub time : it.clock ≡ time_after 0 traces
-  pub entries : Shows it.clock (2 * length traces) (entries_after rules traces) it.entries
-  pub few : length (entries_after rules traces) ≤ 256 + 2 * length traces
 
 -- why a trace is not taken: there are too many, or there are not and memory ran out or no run has it next
 abbrev pub IsOfTraces : List Trace → Trace → RunFault → Type 0

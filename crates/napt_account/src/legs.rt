@@ -29,6 +29,7 @@ pub(crate) struct Legs {
 
 impl OpenEntries {
     /// Enters the legs of an input.
+    #[inline(always)]
     pub(crate) fn tell(&mut self, alloc: Global, trace: Trace) -> Result<Legs, AllocError>
         requires { (most : ℕ) × (entries : List Logged) × Shows trace.now most entries self.old
             × LeavesOpen trace.now trace.first × (most + 2 < 2 ^ 64)
@@ -61,6 +62,7 @@ impl OpenEntries {
     }
 
     /// Appends the entry that a leg made, as it is now, if it made one.
+    #[inline(always)]
     fn list_made(
         &self,
         made: &mut Vec<Listed>,
@@ -84,6 +86,7 @@ impl OpenEntries {
     }
 
     /// Appends the entry of a row.
+    #[inline(never)]
     fn list_row(&self, made: &mut Vec<Listed>, row: Row) -> Result<(), AllocError>
         ensures { (now most : ℕ) (entries : List Logged) → Shows now most entries self.now →
             (place : ℕ) (entry : Logged) →
@@ -100,6 +103,7 @@ impl OpenEntries {
 }
 
 /// The packets of the legs for which no binding could be made.
+#[inline(always)]
 fn refused_by(alloc: Global, trace: Trace) -> Result<Vec<Shortage>, AllocError>
     ensures { IfOk result (λ refused. refused.items ≡ books.lost_by trace) }
 {
@@ -110,6 +114,7 @@ fn refused_by(alloc: Global, trace: Trace) -> Result<Vec<Shortage>, AllocError>
 }
 
 /// Appends the loss of a packet, if no binding could be made for it.
+#[inline(always)]
 fn list_refused(refused: &mut Vec<Shortage>, now: u64, passage: Passage) -> Result<(), AllocError>
     ensures { OnOk result (refused.new.items ≡ refused.old.items ++ books.lost now passage) }
 {

@@ -7,19 +7,15 @@ mod known_log;
 mod known_run;
 mod legs;
 mod log;
-mod logged_run;
 mod open_entries;
 mod question;
-mod trace_log;
 mod uses;
 
 pub use crate::account::{Note, Use};
-pub use crate::known_log::KnownLog;
-pub use crate::known_run::KnownRun;
+pub use crate::known_log::{KnownLog, LoggedTrace, traces_tell_the_log};
+pub use crate::known_run::{KnownRun, LoggedStep};
 pub use crate::log::{
     Entry, Listed, Shortage, ended_entries_stay, in_order_of_making, log_attributes,
     what_is_told_is_the_log,
 };
-pub use crate::logged_run::{LoggedRun, LoggedStep};
 pub use crate::question::Party;
-pub use crate::trace_log::{LoggedTrace, traces_tell_the_log};

@@ -1,6 +1,6 @@
 //! The log of a run: who had which external endpoint, from when and until when (RFC 6888, section 4).
 
-ghost use Rattle.std.specs.Prelude.{◌≡◌, List, map, IfOk};
+ghost use Rattle.std.specs.Prelude.{◌≡◌, ◌+◌, ◌<◌, ◌^◌, List, map, IfOk};
 ghost use Rattle.std.specs.List.Sorted.{IsPermutation};
 ghost use Rattle.napt_config.specs.Rules.{pair_of};
 ghost use Rattle.napt_rules.specs.Prelude.{redirected, row};
@@ -14,7 +14,7 @@ ghost use Rattle.napt_binding.specs.Ends.{EndsAreFirst, is_before};
 
 use napt_config::{Config, Redirect};
 use napt_table::{Row, TimedRow, opening_is_sound};
-use napt_wire::{Cause, Endpoint, Protocol};
+use napt_wire::{Cause, Endpoint, Protocol, Way};
 use std::alloc::{AllocError, Global};
 
 /// A binding of a run, from when it was made until it ended, with times in ns.
@@ -39,6 +39,7 @@ pub struct Entry {
 
 impl Entry {
     ghost use Rattle.napt_account.specs.Book.{made_by, of_redirect};
+    ghost use Rattle.napt_account.specs.Log.{counted};
 
     /// The entry of a redirect, before a packet went through it.
     pub(crate) fn of_redirect(binding: Row) -> Entry
@@ -67,6 +68,23 @@ impl Entry {
             received: 0,
             last: now,
             last_sent: now,
+        }
+    }
+
+    /// Counts a packet that went one way through the binding at a time, in ns, and left it this end.
+    #[inline(always)]
+    pub(crate) fn count(&mut self, way: Way, now: u64, end: Option<u128>)
+        requires { (self.old.sent + 1 < 2 ^ 64) × (self.old.received + 1 < 2 ^ 64) }
+        ensures { self.new ≡ counted way now end self.old }
+    {
+        self.end = end;
+        self.last = now;
+        match way {
+            Way::Outgoing => {
+                self.sent += 1;
+                self.last_sent = now;
+            }
+            Way::Incoming => self.received += 1,
         }
     }
 }

@@ -1,12 +1,12 @@
 //! The entries of the log whose bindings have not ended.
 
-ghost use Rattle.std.specs.Prelude.{◌≡◌, ◌+◌, ◌<◌, ◌≤◌, ◌^◌, ◌++◌, ◌&&◌, ◌||◌, not, ℕ, [], ◌∷◌, List, true, false, cond, length, map, set, filter, Some, None, OnOk, IfOk, IfSome, IfNone, unwrap_or};
+ghost use Rattle.std.specs.Prelude.{◌≡◌, ◌+◌, ◌<◌, ◌≤◌, ◌^◌, ◌++◌, ◌&&◌, ◌||◌, not, ℕ, [], ◌∷◌, List, true, false, cond, length, map, set, filter, Some, None, Ok, OnOk, IfOk, IfSome, IfNone, unwrap_or};
 ghost use Rattle.std.specs.List.Sorted.{IsPermutation, IsSortedByKey};
 ghost use Rattle.std.specs.Option.{is_some};
 ghost use Rattle.napt_rules.specs.Prelude.{Each, opening};
 ghost use Rattle.napt_binding.specs.Ends.{is_before};
 ghost use Rattle.napt_account.specs.Book as books;
-ghost use Rattle.napt_account.specs.Log.{begun};
+ghost use Rattle.napt_account.specs.Log.{begun, counted, place_of, through};
 ghost use Rattle.napt_account.specs.OpenEntries as keys;
 ghost use Rattle.napt_account.specs.Telling.{numbered, ends_within, in_order_of_end, is_open};
 
@@ -16,7 +16,7 @@ use crate::uses::{NO_USE, found};
 use napt_config::Config;
 use napt_sequential::Passage;
 use napt_table::{Row, TimedRow, opening_is_sound};
-use napt_wire::Protocol;
+use napt_wire::{Protocol, Way};
 use std::alloc::{AllocError, Global};
 use std::collections::{BTreeSet, HashMap};
 
@@ -94,11 +94,11 @@ fn end_key(listed: Listed) -> EndKey
 }
 
 /// The place of an entry in the log, from 0.
-fn place_of(listed: Listed) -> usize
-    requires { 0 < listed.number }
-    ensures { result + 1 ≡ listed.number }
+fn place_of(number: u64) -> usize
+    requires { 0 < number }
+    ensures { result + 1 ≡ number }
 {
-    (listed.number - 1) as usize
+    (number - 1) as usize
 }
 
 /// When an entry with this end is looked at next that was to be looked at by a time: then, or at its end if that is
@@ -116,10 +116,14 @@ fn due_by(was: Option<u64>, end: Option<u128>) -> Option<u64>
 }
 
 /// Puts entries in order of end.
+#[inline(always)]
 fn sort_by_end(entries: &mut Vec<Listed>)
     ensures moved { IsPermutation entries.old.items entries.new.items }
     ensures sorted { IsSortedByKey keys.end_key keys.end_cmp entries.new.items }
 {
+    if entries.is_empty() {
+        return;
+    }
     entries.sort_unstable_by_key(|listed| end_key(*listed));
 }
 
@@ -164,6 +168,7 @@ impl OpenEntries {
     }
 
     /// Adds an entry, and returns its place. Its external endpoint has no other.
+    #[inline(never)]
     fn put(&mut self, entry: Entry) -> Result<usize, AllocError>
         requires { self.old.made + 1 < 2 ^ 64 }
         ensures place { IfOk result (λ place. place ≡ self.old.made) }
@@ -203,6 +208,7 @@ impl OpenEntries {
     }
 
     /// Moves an endpoint from one time in the queue to another.
+    #[inline(always)]
     fn queue_at(
         &mut self,
         key: ExternalKey,
@@ -261,26 +267,37 @@ impl OpenEntries {
         self.by_external.get(&external_key(row)).copied()
     }
 
-    /// Changes an entry to another of its binding.
-    fn change(&mut self, old: Open, entry: Entry) -> Result<(), AllocError>
-        ensures shows { (now most : ℕ) (entries : List Logged) → Shows now most entries self.old →
-            (x : Endpoint) → open_at self.old x ≡ Some old → entry.binding ≡ old.listed.entry.binding →
-            is_before now entry.end ≡ true →
-            entry.sent ≤ old.listed.entry.sent + 1 → entry.received ≤ old.listed.entry.received + 1 →
-            (place : ℕ) → place + 1 ≡ old.listed.number →
-            OnOk result (Shows now (most + 1) (set entries place entry) self.new) }
+    /// Counts a packet that went one way through the binding of a row, which now has this end; returns what it did to the
+    /// binding, if the binding has an entry.
+    #[inline(always)]
+    fn count(&mut self, way: Way, now: u64, timed: TimedRow) -> Result<Option<Use>, AllocError>
+        requires { (most : ℕ) × (entries : List Logged) × Shows now most entries self.old
+            × (most + 1 < 2 ^ 64) }
+        ensures shows { (most : ℕ) (entries : List Logged) → Shows now most entries self.old →
+            is_before now timed.end ≡ true → OnOk result (Shows now (most + 1)
+            (map (through now timed.row (counted way now timed.end)) entries) self.new) }
+        ensures uses { (most : ℕ) (entries : List Logged) → Shows now most entries self.old →
+            IfOk result (λ used. used
+            ≡ books.use_at way entries (place_of now timed.row entries)) }
+        ensures none { result ≡ Ok None → (self.new ≡ self.old)
+            × (open_at self.old (keys.external_key timed.row) ≡ None) }
     {
-        self.set(
-            Listed {
-                number: old.listed.number,
-                entry,
-            },
-            old.due,
-        )?;
-        Ok(())
+        let key = external_key(timed.row);
+        let Some(open) = self.by_external.get_mut(&key) else {
+            return Ok(None);
+        };
+        let place = place_of(open.listed.number);
+        let note = found(&open.listed.entry);
+        let was = open.due;
+        let due = due_by(was, timed.end);
+        open.due = due;
+        open.listed.entry.count(way, now, timed.end);
+        self.queue_at(key, was, due)?;
+        Ok(Some(Use::through(way, note, place)))
     }
 
     /// Takes the first endpoint out of the queue if its time there has come by a time, in ns.
+    #[inline(always)]
     fn take_due(&mut self, now: u64) -> Option<ExternalKey>
         ensures open { (x : Endpoint) → open_at self.new x ≡ open_at self.old x }
         ensures made { self.new.made ≡ self.old.made }
@@ -306,6 +323,7 @@ impl OpenEntries {
 
     /// Looks at the entry of an endpoint that is not queued: takes it out if its binding has ended by a time, in ns, and
     /// queues it at its end if not.
+    #[inline(never)]
     fn look_at(&mut self, key: ExternalKey, now: u64) -> Result<Option<Listed>, AllocError>
         ensures made { self.new.made ≡ self.old.made }
         ensures indexed { IsIndexedBut key None self.old → OnOk result (IsIndexed self.new) }
@@ -328,6 +346,7 @@ impl OpenEntries {
     }
 
     /// Takes out the entries of the bindings that have ended by a time, in ns.
+    #[inline(always)]
     pub(crate) fn take_ended(&mut self, alloc: Global, now: u64) -> Result<Vec<Listed>, AllocError>
         ensures ended { (was most : ℕ) (entries : List Logged) → Shows was most entries self.old →
             IfOk result (λ ended. ended.items
@@ -368,6 +387,7 @@ impl OpenEntries {
     }
 
     /// Counts a packet that left through the binding, which now has this end; returns what it did to the binding.
+    #[inline(always)]
     fn go_out(&mut self, now: u64, timed: TimedRow) -> Result<Use, AllocError>
         requires { (most : ℕ) × (entries : List Logged) × Shows now most entries self.old
             × (most + 1 < 2 ^ 64) × (length entries + 1 < 2 ^ 64) }
@@ -377,65 +397,15 @@ impl OpenEntries {
         ensures uses { (most : ℕ) (entries : List Logged) → Shows now most entries self.old →
             IfOk result (λ used. used ≡ books.use_told now (Passage.Out timed) entries) }
     {
-        let Some(open) = self.find(timed.row) else {
-            let made = self.put(Entry::by_packet(now, timed))?;
-            return Ok(Use {
-                note: Note::Made,
-                out: Some(made),
-                into: None,
-            });
-        };
-        let place = place_of(open.listed);
-        let entry = open.listed.entry;
-        self.change(
-            open,
-            Entry {
-                end: timed.end,
-                sent: entry.sent + 1,
-                last: now,
-                last_sent: now,
-                ..entry
-            },
-        )?;
-        Ok(Use {
-            note: found(entry),
-            out: Some(place),
-            into: None,
-        })
-    }
-
-    /// Counts a packet that came in through the binding, which now has this end; returns what it did to the binding.
-    fn come_in(&mut self, now: u64, timed: TimedRow) -> Result<Use, AllocError>
-        requires { (most : ℕ) × (entries : List Logged) × Shows now most entries self.old
-            × (most + 1 < 2 ^ 64) }
-        ensures shows { (most : ℕ) (entries : List Logged) → Shows now most entries self.old →
-            is_before now timed.end ≡ true →
-            OnOk result (Shows now (most + 1) (books.after_in now timed entries) self.new) }
-        ensures uses { (most : ℕ) (entries : List Logged) → Shows now most entries self.old →
-            IfOk result (λ used. used ≡ books.use_told now (Passage.In timed) entries) }
-    {
-        let Some(open) = self.find(timed.row) else {
-            return Ok(NO_USE);
-        };
-        let place = place_of(open.listed);
-        let entry = open.listed.entry;
-        self.change(
-            open,
-            Entry {
-                end: timed.end,
-                received: entry.received + 1,
-                last: now,
-                ..entry
-            },
-        )?;
-        Ok(Use {
-            note: found(entry),
-            out: None,
-            into: Some(place),
-        })
+        if let Some(used) = self.count(Way::Outgoing, now, timed)? {
+            return Ok(used);
+        }
+        let made = self.put(Entry::by_packet(now, timed))?;
+        Ok(Use::through(Way::Outgoing, Note::Made, made))
     }
 
     /// Records one leg; returns what it did to the bindings.
+    #[inline(always)]
     pub(crate) fn pass(&mut self, now: u64, passage: Passage) -> Result<Use, AllocError>
         requires { (most : ℕ) × (entries : List Logged) × Shows now most entries self.old
             × (most + 1 < 2 ^ 64) × (length entries + 1 < 2 ^ 64) }
@@ -448,7 +418,7 @@ impl OpenEntries {
         match passage {
             Passage::Nothing | Passage::Dropped(_) => Ok(NO_USE),
             Passage::Out(timed) => self.go_out(now, timed),
-            Passage::In(timed) => self.come_in(now, timed),
+            Passage::In(timed) => Ok(self.count(Way::Incoming, now, timed)?.unwrap_or(NO_USE)),
         }
     }
 }

@@ -6,10 +6,11 @@ ghost use Rattle.napt_account.specs.Uses as uses;
 
 use crate::account::{Note, Use};
 use crate::log::Entry;
+use napt_wire::Way;
 
 /// What a packet did to a binding that was there before it.
-pub(crate) fn found(entry: Entry) -> Note
-    ensures { result ≡ books.noted (Some entry) }
+pub(crate) fn found(entry: &Entry) -> Note
+    ensures { result ≡ books.noted (Some entry.now) }
 {
     if entry.binding.fixed {
         Note::Redirect
@@ -24,6 +25,27 @@ pub(crate) const NO_USE: Use = Use {
     out: None,
     into: None,
 };
+
+impl Use {
+    /// What a packet did that went one way through the binding of the entry at a place.
+    #[inline(always)]
+    pub(crate) fn through(way: Way, note: Note, place: usize) -> Use
+        ensures { result ≡ uses.used way note (Some place) }
+    {
+        match way {
+            Way::Outgoing => Use {
+                note,
+                out: Some(place),
+                into: None,
+            },
+            Way::Incoming => Use {
+                note,
+                out: None,
+                into: Some(place),
+            },
+        }
+    }
+}
 
 /// What both legs of a packet did.
 pub(crate) fn both_uses(first: Use, second: Use) -> Use

@@ -1,6 +1,6 @@
 //! The text of the log of a run, part by part, while packets come.
 ghost use Rattle.std.specs.Prelude.{◌≡◌, ◌++◌, OnOk, string_bytes};
-ghost use Rattle.napt_account.specs.LoggedRuns.{told_of};
+ghost use Rattle.napt_account.specs.KnownRuns.{told_of};
 ghost use Rattle.napt_account.specs.TraceLogs.{told_in};
 ghost use Rattle.napt_log_text.specs.Logs as logs;
 
@@ -35,6 +35,7 @@ pub fn add_told(config: &Config, step: &LoggedStep, text: &mut String) -> Result
 }
 
 /// Appends the rows of what the log tells with the trace of an input, as `add_told` does. Fails only if memory runs out.
+#[inline(never)]
 pub fn add_entered(config: &Config, told: &LoggedTrace, text: &mut String) -> Result<(), AllocError>
     ensures { OnOk result (string_bytes text.new ≡ string_bytes text.old
         ++ logs.told_rows config.now (told_in told.now)) }

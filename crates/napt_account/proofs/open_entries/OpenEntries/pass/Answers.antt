@@ -1,8 +1,10 @@
-use Rattle.std.proofs.Common.{◌+◌, ◌≡◌, sym, subst}
+use Rattle.std.proofs.Common.{◌+◌, ◌≡◌, ◌∙◌, ap, Option, unwrap_or, sym, subst}
 use Rattle.std.specs.Prelude.{OnOk, IfOk}
 use Rattle.napt_sequential.specs.declared.passage.Passage.{Passage}
 use Rattle.napt_account.specs.Book.{after, use_told}
 use Rattle.napt_account.specs.OpenEntries.{Shows, LeavesOpen}
+use Rattle.napt_account.specs.Uses.{no_use}
+use Rattle.napt_account.specs.declared.account.Use.{Use}
 use Rattle.napt_account.proofs.open_entries.OpenEntries.pass.Goals as goal
 
 pub returns-in-Out-clause-shows : goal.returns-in-Out-clause-shows
@@ -16,13 +18,12 @@ returns-in-Out-clause-uses c = λ most entries shows.
     subst (λ (p : Passage). IfOk c.go_out.result (λ used. used ≡ use_told c.args.now p entries)) (sym c.in-Out.is)
     (c.go_out.ensures.uses most entries shows)
 
-pub returns-in-In-clause-shows : goal.returns-in-In-clause-shows
-returns-in-In-clause-shows c = λ most entries shows leaves.
-    subst (λ (p : Passage). OnOk c.come_in.result (Shows c.args.now (most + 1) (after c.args.now p entries)
-    c.come_in.new.self)) (sym c.in-In.is)
-    (c.come_in.ensures.shows most entries shows (subst (LeavesOpen c.args.now) c.in-In.is leaves))
+pub returns-in_ok-count-in-In-clause-shows : goal.returns-in_ok-count-in-In-clause-shows
+returns-in_ok-count-in-In-clause-shows c = λ most entries shows leaves.
+    subst (λ (p : Passage). Shows c.args.now (most + 1) (after c.args.now p entries) c.count.new.self) (sym c.in-In.is)
+    (c.in_ok-count-in-In.ensures.shows most entries shows (subst (LeavesOpen c.args.now) c.in-In.is leaves))
 
-pub returns-in-In-clause-uses : goal.returns-in-In-clause-uses
-returns-in-In-clause-uses c = λ most entries shows.
-    subst (λ (p : Passage). IfOk c.come_in.result (λ used. used ≡ use_told c.args.now p entries)) (sym c.in-In.is)
-    (c.come_in.ensures.uses most entries shows)
+pub returns-in_ok-count-in-In-clause-uses : goal.returns-in_ok-count-in-In-clause-uses
+returns-in_ok-count-in-In-clause-uses c = λ most entries shows.
+    subst (λ (p : Passage). c.unwrap_or.result ≡ use_told c.args.now p entries) (sym c.in-In.is)
+    (c.unwrap_or.ensures ∙ ap (λ (u : Option Use). unwrap_or u no_use) (c.in_ok-count-in-In.ensures.uses most entries shows))

@@ -1,0 +1,119 @@
+use Rattle.std.proofs.Common.{◌≡◌, ◌↔◌, ◌+◌, ◌^◌, ◌<◌, ◌≤◌, inl, inr, refl, List, [], ◌∷◌, ◌++◌, length, Result, Err, sym, ◌∙◌, ap, subst, arith}
+use Rattle.std.proofs.lemmas.Bool.{cases_lt}
+use Rattle.std.proofs.lemmas.Result.{err_from_is_err_and}
+use Rattle.napt_config.specs.Rules.{Rules}
+use Rattle.napt_rules.specs.Prelude.{Arrival, opening}
+use Rattle.napt_sequential.specs.SequentialRuns.{StandsAfter}
+use Rattle.napt_sequential.specs.SequentialRuns as sequential
+use Rattle.napt_sequential.specs.Traces.{traces}
+use Rattle.napt_sequential.specs.declared.fault.RunFault.{RunFault}
+use Rattle.napt_sequential.specs.declared.fault.RunFault.TheVariants.{TooMany, Memory, Pool}
+use Rattle.napt_sequential.specs.declared.passage.Trace.{Trace}
+use Rattle.napt_sequential.proofs.Joined.{traces_long}
+use Rattle.napt_account.specs.declared.account.Use.{Use}
+use Rattle.napt_account.specs.declared.known_run.LoggedStep.{LoggedStep}
+use Rattle.napt_account.specs.Book.{use_by_trace}
+use Rattle.napt_account.specs.KnownLogs.{KnownTraces}
+use Rattle.napt_account.specs.KnownRuns.{KnownState, IsLogged, IsOfInputs, TellsLast, inputs_in}
+use Rattle.napt_account.specs.TraceLogs.{IsNext, IsOfTraces, entries_after, told_with}
+use Rattle.napt_account.specs.Uses.{uses_of}
+use Rattle.napt_account.proofs.LoggedRuns.{inputs_more, uses_next}
+use Rattle.napt_account.proofs.known_run.KnownRun.step.Goals as goal
+
+-- a log counts further than a run, and takes each trace of it
+log_fault : (rules : Rules) (before : List Arrival) (log : KnownTraces) → log.traces ≡ traces rules before →
+    (trace : Trace) → IsNext (traces rules before) trace → length before + 1 < 2 ^ 32 → (fault : RunFault) →
+    IsOfTraces log.traces trace fault → fault ≡ Memory
+log_fault rules before log taken trace next few TooMany many =
+    let long = traces_long rules 0 0 before (opening rules) in
+    let same = ap length taken in absurd (omega (arith, many, few, long, same))
+log_fault rules before log taken trace next few Memory p = refl
+log_fault rules before log taken trace next few (Pool fault) p =
+    absurd (p.1 (subst (λ (ts : List Trace). IsNext ts trace) (sym taken) next))
+
+not_many : {T : Type 0} (inputs : List Arrival) → length inputs + 1 < 2 ^ 32 → (fault : RunFault) → fault ≡ Memory →
+    ((let r : Result T RunFault = Err fault in r ≡ Err TooMany) ↔ (2 ^ 32 ≤ length inputs + 1))
+not_many inputs few fault memory = (λ e. cc (e, memory), λ many. absurd (omega (arith, many, few)))
+
+pub step-requires : goal.step-requires
+step-requires c =
+    let it = c.self.inside in
+    let is = c.self.invariant c.if-self.false in
+    let before : List Arrival = inputs_in it.past.items in
+    (before, subst (λ (r : Rules). StandsAfter r before it.run) (sym c.config-config.ensures) is.stands)
+
+pub returns-in_err-told : goal.returns-in_err-told
+returns-in_err-told c =
+    let it = c.self.inside in
+    let rules : Rules = it.log.rules in
+    let before : List Arrival = inputs_in it.past.items in
+    let input : Arrival = c.args.input.now in
+    let trace : Trace = c.in_ok-stepped.stepped.trace in
+    let is = c.self.invariant c.if-self.false in
+    let stands = subst (λ (r : Rules). StandsAfter r before it.run) (sym c.config-config.ensures) is.stands in
+    let tells = subst (λ (r : Rules). sequential.TellsLast r before input c.in_ok-stepped.stepped)
+    c.config-config.ensures (c.in_ok-stepped.ensures.tells before stands) in
+    let few : length before + 1 < 2 ^ 32 = elim (cases_lt (length before + 1) (2 ^ 32)) [
+      | inl lt ↦ lt
+      | inr ge ↦ let never = (c.in_ok-stepped.ensures.too_many before stands).1 ge in cc
+    ] in
+    let p = err_from_is_err_and c.from_residual-in_err-told.result c.from_residual-in_err-told.ensures.1 in
+    let memory = log_fault rules before it.log is.taken trace
+    (c.traces_tell_the_log.ensures.come rules is.keeps before input trace tells.trace) few c.in_err-told.field-0.0
+    (c.in_err-told.ensures.err is.goes_on) in
+    rw (p.1, p.2) (record {
+      tells = λ going. tt;
+      goes = λ going. tt;
+      err = λ going. subst (IsOfInputs (c.args.self.now.inputs ++ input ∷ [])) (sym memory) tt;
+      too_many = λ going. not_many c.args.self.now.inputs
+          (subst (λ (v : KnownState). length v.inputs + 1 < 2 ^ 32) c.self.view_is few) c.in_err-told.field-0.0 memory;
+    })
+
+pub returns-clause-tells : goal.returns-clause-tells
+returns-clause-tells c = λ going.
+    let it = c.self.inside in
+    let rules : Rules = it.log.rules in
+    let before : List Arrival = inputs_in it.past.items in
+    let input : Arrival = c.args.input.now in
+    let trace : Trace = c.in_ok-stepped.stepped.trace in
+    let is = c.self.invariant (ap (λ (v : KnownState). v.is_stopped) c.self.view_is ∙ going) in
+    let stands = subst (λ (r : Rules). StandsAfter r before it.run) (sym c.config-config.ensures) is.stands in
+    let tells = subst (λ (r : Rules). sequential.TellsLast r before input c.in_ok-stepped.stepped)
+    c.config-config.ensures (c.in_ok-stepped.ensures.tells before stands) in
+    let told = c.in_ok-told.ensures in
+    let step : LoggedStep = record {
+      outcome = c.in_ok-stepped.stepped.outcome;
+      used = c.in_ok-told.told.used;
+      ended = c.in_ok-told.told.ended;
+      made = c.in_ok-told.told.made;
+      refused = c.in_ok-told.told.refused;
+    } in
+    subst (λ (v : KnownState). TellsLast v.rules v.inputs input step) c.self.view_is (record {
+      outcome = tells.outcome;
+      used = uses_next rules is.keeps c.opening_is_sound.ensures before input trace tells.trace
+          ∙ ap (λ (u : Use). uses_of rules before ++ u ∷ []) (sym (told.uses is.goes_on
+          ∙ ap (λ (ts : List Trace). use_by_trace (entries_after rules ts) trace) is.taken));
+      told = told.tells is.goes_on ∙ (ap (λ (ts : List Trace). told_with rules ts trace) is.taken
+          ∙ c.traces_tell_the_log.ensures.tell rules is.keeps before input trace tells.trace);
+    })
+
+pub invariant_of-self-2 : goal.invariant_of-self-2
+invariant_of-self-2 c = λ going.
+    let it = c.self.inside in
+    let before : List Arrival = inputs_in it.past.items in
+    let input : Arrival = c.args.input.now in
+    let trace : Trace = c.in_ok-stepped.stepped.trace in
+    let is = c.self.invariant c.if-self.false in
+    let stands = subst (λ (r : Rules). StandsAfter r before it.run) (sym c.config-config.ensures) is.stands in
+    let tells = subst (λ (r : Rules). sequential.TellsLast r before input c.in_ok-stepped.stepped)
+    c.config-config.ensures (c.in_ok-stepped.ensures.tells before stands) in
+    subst (λ (xs : List Arrival). IsLogged xs c.step.new.self c.enter.new.self)
+    (sym (ap inputs_in c.and-self-inside.ensures ∙ inputs_more it.past.items 0 input))
+    (subst (λ (l : KnownTraces). IsLogged (before ++ input ∷ []) c.step.new.self l)
+    (sym (c.in_ok-told.ensures.goes is.goes_on)) (record {
+      keeps = is.keeps;
+      stands = subst (λ (r : Rules). StandsAfter r (before ++ input ∷ []) c.step.new.self) c.config-config.ensures
+          (c.in_ok-stepped.ensures.stands before stands);
+      taken = ap (λ (ts : List Trace). ts ++ trace ∷ []) is.taken ∙ sym tells.trace;
+      goes_on = is.goes_on;
+    }))
