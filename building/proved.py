@@ -13,10 +13,10 @@ NO_INPUT = 4
 # of a crate: its built library, and what checks of it kept
 RLIB, KEPT = "out/rlib", "out/incremental"
 GIGABYTES = 4
-# seconds that a crate takes on a quiet machine: for itself, for a line of src/, for each crate below in a line, and to compile a program
-FIRST, LINE, BELOW, COMPILED = 5, 0.048, 0.0024, 34
-# processor seconds of that for each second: the large crates take two processors, and provers side by side slow one another. A build
-# of all beside other work took 38 minutes and 95 processor minutes, which is more than on a quiet machine
+# seconds that a crate takes on a quiet machine: for itself, for a line of src/, and to compile a program
+FIRST, LINE, COMPILED = 5, 0.105, 34
+# processor seconds of that for each second: the large crates take two processors, and provers side by side slow one another. So a line
+# takes 0.22 of them: a build of 26,000 lines took 95 processor minutes, and the lines of single crates 0.1 to 0.4 seconds
 BUSY = 2.1
 # seconds of a quiet machine that are taken as seen when a build begins, so that the first crates do not decide its pace alone
 SEEN = 120
@@ -128,8 +128,7 @@ class Build:
 
     def seconds_for(self, name):
         """Returns about how long the proof of a crate takes on a quiet machine, and for a program its code."""
-        below = len(with_below(self.deps, name)) - 1
-        return FIRST + (LINE + BELOW * below) * self.lines[name] + COMPILED * (name in self.programs)
+        return FIRST + LINE * self.lines[name] + COMPILED * (name in self.programs)
 
     def chain(self, name, seconds):
         """Returns how long a crate and the longest chain of crates above it take, where each takes so many seconds."""
