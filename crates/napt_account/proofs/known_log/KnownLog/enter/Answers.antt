@@ -79,7 +79,8 @@ invariant_of-self-2 c = λ going.
     (sym (ap traces_in c.and-self-inside.ensures ∙ traces_more it.past.items 0 trace)) (record {
       taken = ap (λ (n : ℕ). n + 1) is.taken ∙ sym long;
       time = sym (time_more 0 before trace);
-      entries = subst (λ (m : ℕ). Shows trace.now m (entries_after it.config.now (before ++ trace ∷ [])) c.tell.new.self)
+      entries = subst
+          (λ (m : ℕ). Shows trace.now m (entries_after it.config.now (before ++ trace ∷ [])) c.tell.new.self)
           twice (subst (λ (es : List Entry). Shows trace.now (most + 2) es c.tell.new.self)
           (sym (entries_more it.config.now before trace))
           (c.in_ok-legs.ensures.shows most entries shows next.1.0 next.1.1));

@@ -56,6 +56,7 @@ returns-clause-uses c = λ most entries shows.
     let missing : c.count.result ≡ Ok None = search rules in
     let (same, free) = c.count.ensures.none missing in
     let none = ap (option_map (λ (o : Open). o.listed)) free in
-    c.through.ensures ∙ (ap (λ (n : ℕ). used Outgoing Made (Some n)) (c.in_ok-made.ensures.place ∙ (ap (λ (all : OpenEntries). all.made) same ∙ shows.made))
+    c.through.ensures ∙ (ap (λ (n : ℕ). used Outgoing Made (Some n))
+    (c.in_ok-made.ensures.place ∙ (ap (λ (all : OpenEntries). all.made) same ∙ shows.made))
     ∙ sym (ap (out_at entries) (no_place c.args.now c.args.timed.row entries
     (row_none c.args.now most c.args.self.now entries shows c.args.timed.row none))))

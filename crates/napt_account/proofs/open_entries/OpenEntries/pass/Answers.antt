@@ -26,4 +26,5 @@ returns-in_ok-count-in-In-clause-shows c = λ most entries shows leaves.
 pub returns-in_ok-count-in-In-clause-uses : goal.returns-in_ok-count-in-In-clause-uses
 returns-in_ok-count-in-In-clause-uses c = λ most entries shows.
     subst (λ (p : Passage). c.unwrap_or.result ≡ use_told c.args.now p entries) (sym c.in-In.is)
-    (c.unwrap_or.ensures ∙ ap (λ (u : Option Use). unwrap_or u no_use) (c.in_ok-count-in-In.ensures.uses most entries shows))
+    (c.unwrap_or.ensures ∙ ap (λ (u : Option Use). unwrap_or u no_use)
+    (c.in_ok-count-in-In.ensures.uses most entries shows))
