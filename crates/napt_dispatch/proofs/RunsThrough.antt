@@ -22,18 +22,19 @@ use Rattle.napt_sequential.specs.declared.telling.Untold.{Untold}
 use Rattle.napt_sequential.specs.declared.passage.Passage.{Passage}
 use Rattle.napt_dispatch.specs.declared.departures.Departed.{Departed}
 
-module _ {P : Type 0} {tells : Passage → P} {A F S B M G : Type 0} (rules : Rules)
-    (hands : A → List Arrival → A → Type 0)
-    (ends : A → Option F → A → Type 0) (takes : S → List (ℕ × Departed P) → S → Type 0)
-    (fails : S → List (ℕ × Departed P) → B → S → Type 0) (is_settled : S → Type 0) (from : A) (before : S)
-    (pool : Pool M G Leg (Told P)) (left : A) (after : S) (right : Right tells rules (accepts pool) (taken pool)) where
+module _ {P : Type 0} {tells : Passage → P} {A F S B M G : Type 0} {rules : Rules}
+    {hands : A → List Arrival → A → Type 0} {ends : A → Option F → A → Type 0}
+    {takes : S → List (ℕ × Departed P) → S → Type 0} {fails : S → List (ℕ × Departed P) → B → S → Type 0}
+    {is_settled : S → Type 0} {from : A} {before : S} (pool : Pool M G Leg (Told P)) {left : A} {after : S}
+    (right : length (accepts pool) ≡ length rules.pool → Right tells rules (accepts pool) (taken pool)) where
   pub passes_to : (end : Option F) (done : Dispatched F B) →
       EndsWith tells rules hands ends takes fails is_settled from before pool left after end done →
       PassesTo tells rules hands ends takes fails is_settled from before left after end
   passes_to end done e = record {
     inputs = e.inputs;
     came = e.came;
-    took = subst (λ (pairs : List (ℕ × Departed P)). takes before pairs after) (e.right right).0 e.took;
+    took = subst (λ (pairs : List (ℕ × Departed P)). takes before pairs after) (e.right (right e.offered_many)).0
+        e.took;
     settled = e.settled;
     few = e.few;
   }
@@ -60,21 +61,11 @@ module _ {P : Type 0} {tells : Passage → P} {A F S B M G : Type 0} (rules : Ru
     inputs = e.inputs;
     went = e.went;
     come = e.come;
-    front = e.right right;
+    front = e.right (right e.offered_many);
     failed = e.failed;
   }
 
-  -- where the run itself failed
-  passes_halt : EndsHalted tells rules hands ends takes fails is_settled from before pool left after →
-      PassesHalted tells rules hands ends takes fails is_settled from before left after
-  passes_halt e = record {
-    inputs = e.inputs;
-    went = e.went;
-    come = e.come;
-    front = e.right right;
-    took = inl e.took;
-  }
-
+  -- where the run itself failed, however dispatching ended
   passes_late : (end : Option F) (done : Dispatched F B) →
       EndsWith tells rules hands ends takes fails is_settled from before pool left after end done →
       PassesHalted tells rules hands ends takes fails is_settled from before left after
@@ -82,45 +73,37 @@ module _ {P : Type 0} {tells : Passage → P} {A F S B M G : Type 0} (rules : Ru
     inputs = e.inputs;
     went = e.went;
     come = inr (end, e.came);
-    front = ([], append-nil e.went ∙ (e.right right).0);
+    front = ([], append-nil e.went ∙ (e.right (right e.offered_many)).0);
     took = inl e.took;
   }
 
-  passes_failed : (fault : B) →
-      EndsEarly tells rules hands ends takes fails is_settled from before pool left after fault →
-      PassesHalted tells rules hands ends takes fails is_settled from before left after
-  passes_failed fault e = record {
-    inputs = e.inputs;
-    went = e.went;
-    come = e.come;
-    front = e.right right;
-    took = inr (fault, e.failed);
-  }
-
--- the run itself failed, however dispatching ended
-module _ {P : Type 0} {tells : Passage → P} {A F S B M G : Type 0} (rules : Rules)
-    (hands : A → List Arrival → A → Type 0) (ends : A → Option F → A → Type 0)
-    (takes : S → List (ℕ × Departed P) → S → Type 0) (fails : S → List (ℕ × Departed P) → B → S → Type 0)
-    (is_settled : S → Type 0) (from : A) (before : S) (pool : Pool M G Leg (Told P)) (left : A) (after : S)
-    (right : length (accepts pool) ≡ length rules.pool → Right tells rules (accepts pool) (taken pool)) where
   pub passes_ended : (done : Dispatched F B) (ending : Ending F B) →
       EndsBy tells rules hands ends takes fails is_settled from before pool left after done ending →
       PassesHalted tells rules hands ends takes fails is_settled from before left after
-  passes_ended done endings.Whole e =
-      passes_late rules hands ends takes fails is_settled from before pool left after (right e.offered_many) None done e
-  passes_ended done (endings.Arrival fault) e =
-      passes_late rules hands ends takes fails is_settled from before pool left after (right e.offered_many)
-      (Some fault) done e
+  passes_ended done endings.Whole e = passes_late None done e
+  passes_ended done (endings.Arrival fault) e = passes_late (Some fault) done e
   passes_ended done (endings.Departure fault) e =
-      passes_failed rules hands ends takes fails is_settled from before pool left after (right e.offered_many) fault e
+      let early = passes_early fault e in
+      record {
+        inputs = early.inputs;
+        went = early.went;
+        come = early.come;
+        front = early.front;
+        took = inr (fault, early.failed);
+      }
 
   pub passes_closed : (result : Result (Dispatched F B) RunFault) → IfOk result
       (λ done. EndsBy tells rules hands ends takes fails is_settled from before pool left after done done.ending) →
       OnErr result (EndsHalted tells rules hands ends takes fails is_settled from before pool left after) →
       PassesHalted tells rules hands ends takes fails is_settled from before left after
   passes_closed (Ok done) ended halted = passes_ended done done.ending ended
-  passes_closed (Err fault) ended halted =
-      passes_halt rules hands ends takes fails is_settled from before pool left after (right halted.offered_many) halted
+  passes_closed (Err fault) ended halted = record {
+    inputs = halted.inputs;
+    went = halted.went;
+    come = halted.come;
+    front = halted.right (right halted.offered_many);
+    took = inl halted.took;
+  }
 
 -- WHERE THE INPUTS COME OFF A LIST
 

@@ -3,7 +3,7 @@ use Rattle.std.proofs.lemmas.Result.{IfOk-at_ok, err_from_is_err_and}
 use Rattle.napt_config.specs.Rules.{Rules}
 use Rattle.napt_pool.specs.Pools.{starts, accepts, takes}
 use Rattle.napt_dispatch.specs.Collecting.{outcome_of}
-use Rattle.napt_dispatch.specs.Dispatch.{started, Right}
+use Rattle.napt_dispatch.specs.Dispatch.{started}
 use Rattle.napt_dispatch.specs.Passing.{EndsWith, EndsBy}
 use Rattle.napt_dispatch.proofs.Closed.{rows_shown, workers_shown}
 use Rattle.napt_dispatch.proofs.Ended.{right_begin}
@@ -25,26 +25,20 @@ returns-in_err-pool-clause-passes g c =
 
 pub returns-in_err-dispatched-clause-passes : goal.returns-in_err-dispatched-clause-passes
 returns-in_err-dispatched-clause-passes g c =
-    let rules : Rules = c.args.config.now in
     let pool = c.dispatch_to-dispatched.new.pool in
     let p = err_from_is_err_and c.from_residual-in_err-dispatched.result c.from_residual-in_err-dispatched.ensures.1 in
     rw (p.1, p.2)
-    (passes_closed rules g.A.Arrivals.hands g.A.Arrivals.ends g.D.Departures.takes g.D.Departures.fails
-    g.D.Departures.is_settled c.args.arrivals.now c.args.departures.now pool c.dispatch_to-dispatched.new.arrivals
-    c.dispatch_to-dispatched.new.departures
-    (right_begin g.D.Told.Telling.tells rules (starts pool) (accepts pool) (takes pool)
+    (passes_closed pool
+    (right_begin g.D.Told.Telling.tells c.args.config.now (starts pool) (accepts pool) (takes pool)
     (c.dispatch_to-dispatched.ensures.starts ∙ c.in_ok-pool.ensures.started) c.in_err-dispatched.ensures.taken
     (λ s leg. refl) (λ s leg. refl))
     c.dispatch_to-dispatched.result c.dispatch_to-dispatched.ensures.ends c.dispatch_to-dispatched.ensures.halts)
 
 pub returns-in-Whole-clause-passes : goal.returns-in-Whole-clause-passes
 returns-in-Whole-clause-passes g c =
-    let rules : Rules = c.args.config.now in
     let pool = c.dispatch_to-dispatched.new.pool in
-    passes_ended rules g.A.Arrivals.hands g.A.Arrivals.ends g.D.Departures.takes g.D.Departures.fails
-    g.D.Departures.is_settled c.args.arrivals.now c.args.departures.now pool c.dispatch_to-dispatched.new.arrivals
-    c.dispatch_to-dispatched.new.departures
-    (right_begin g.D.Told.Telling.tells rules (starts pool) (accepts pool) (takes pool)
+    passes_ended pool
+    (right_begin g.D.Told.Telling.tells c.args.config.now (starts pool) (accepts pool) (takes pool)
     (c.dispatch_to-dispatched.ensures.starts ∙ c.in_ok-pool.ensures.started) c.in_ok-dispatched.ensures.taken
     (λ s leg. refl) (λ s leg. refl))
     c.in_ok-dispatched.dispatched c.in_ok-dispatched.dispatched.ending
@@ -55,61 +49,49 @@ returns-in-Ok-clause-passes g c =
     let rules : Rules = c.args.config.now in
     let pool = c.dispatch_to-dispatched.new.pool in
     let closed = c.in_ok-dispatched.ensures in
-    let e : EndsWith g.D.Told.Telling.tells rules g.A.Arrivals.hands g.A.Arrivals.ends g.D.Departures.takes
-    g.D.Departures.fails
-    g.D.Departures.is_settled c.args.arrivals.now c.args.departures.now pool c.dispatch_to-dispatched.new.arrivals
-    c.dispatch_to-dispatched.new.departures None c.in_ok-dispatched.dispatched =
-    subst (λ ending. EndsBy g.D.Told.Telling.tells rules g.A.Arrivals.hands g.A.Arrivals.ends g.D.Departures.takes
-    g.D.Departures.fails
-    g.D.Departures.is_settled c.args.arrivals.now c.args.departures.now pool c.dispatch_to-dispatched.new.arrivals
-    c.dispatch_to-dispatched.new.departures c.in_ok-dispatched.dispatched ending) c.in-Whole.is
-    (IfOk-at_ok _ closed.given c.dispatch_to-dispatched.ensures.ends) in
+    let e : EndsWith g.D.Told.Telling.tells c.args.config.now g.A.Arrivals.hands g.A.Arrivals.ends g.D.Departures.takes
+    g.D.Departures.fails g.D.Departures.is_settled c.args.arrivals.now c.args.departures.now pool
+    c.dispatch_to-dispatched.new.arrivals c.dispatch_to-dispatched.new.departures None
+    c.in_ok-dispatched.dispatched =
+    subst (λ ending. EndsBy g.D.Told.Telling.tells c.args.config.now g.A.Arrivals.hands g.A.Arrivals.ends
+    g.D.Departures.takes g.D.Departures.fails g.D.Departures.is_settled c.args.arrivals.now c.args.departures.now pool
+    c.dispatch_to-dispatched.new.arrivals c.dispatch_to-dispatched.new.departures c.in_ok-dispatched.dispatched ending)
+    c.in-Whole.is (IfOk-at_ok _ closed.given c.dispatch_to-dispatched.ensures.ends) in
     let began : starts pool ≡ started rules (length rules.pool) =
     c.dispatch_to-dispatched.ensures.starts ∙ c.in_ok-pool.ensures.started in
-    let right : Right g.D.Told.Telling.tells rules (accepts pool) (takes pool) =
-    right_begin g.D.Told.Telling.tells rules (starts pool) (accepts pool) (takes pool) began closed.taken
-    (λ s leg. refl) (λ s leg. refl) e.offered_many in
-    passes_well rules g.A.Arrivals.hands g.A.Arrivals.ends g.D.Departures.takes g.D.Departures.fails
-    g.D.Departures.is_settled c.args.arrivals.now c.args.departures.now pool c.dispatch_to-dispatched.new.arrivals
-    c.dispatch_to-dispatched.new.departures right c.in_ok-dispatched.dispatched _ e
+    let right = right_begin g.D.Told.Telling.tells rules (starts pool) (accepts pool) (takes pool) began closed.taken
+    (λ s leg. refl) (λ s leg. refl) in
+    passes_well pool right c.in_ok-dispatched.dispatched _ e
     (workers_shown _ rules e.inputs (starts pool) (accepts pool)
     (map (λ e. e.machine) c.in_ok-dispatched.ended.items) (map outcome_of e.went)
     c.in_ok-dispatched.dispatched.legs.items c.in_ok-dispatched.dispatched.clock c.in-Ok.bindings.items began
-    closed.machines (e.right right).1 e.clock
+    closed.machines (e.right (right e.offered_many)).1 e.clock
     (rows_shown _ _ _ _ c.in-Ok.ensures c.deref.ensures.value) (λ s. refl) (λ s leg legs. refl))
 
 pub returns-in-Arrival-clause-passes : goal.returns-in-Arrival-clause-passes
 returns-in-Arrival-clause-passes g c =
-    let rules : Rules = c.args.config.now in
     let pool = c.dispatch_to-dispatched.new.pool in
     let closed = c.in_ok-dispatched.ensures in
-    let e : EndsWith g.D.Told.Telling.tells rules g.A.Arrivals.hands g.A.Arrivals.ends g.D.Departures.takes
-    g.D.Departures.fails
-    g.D.Departures.is_settled c.args.arrivals.now c.args.departures.now pool c.dispatch_to-dispatched.new.arrivals
-    c.dispatch_to-dispatched.new.departures (Some c.in-Arrival.fault) c.in_ok-dispatched.dispatched =
-    subst (λ ending. EndsBy g.D.Told.Telling.tells rules g.A.Arrivals.hands g.A.Arrivals.ends g.D.Departures.takes
-    g.D.Departures.fails
-    g.D.Departures.is_settled c.args.arrivals.now c.args.departures.now pool c.dispatch_to-dispatched.new.arrivals
-    c.dispatch_to-dispatched.new.departures c.in_ok-dispatched.dispatched ending) c.in-Arrival.is
-    (IfOk-at_ok _ closed.given c.dispatch_to-dispatched.ensures.ends) in
-    passes_to rules g.A.Arrivals.hands g.A.Arrivals.ends g.D.Departures.takes g.D.Departures.fails
-    g.D.Departures.is_settled c.args.arrivals.now c.args.departures.now pool c.dispatch_to-dispatched.new.arrivals
-    c.dispatch_to-dispatched.new.departures
-    (right_begin g.D.Told.Telling.tells rules (starts pool) (accepts pool) (takes pool)
+    let e : EndsWith g.D.Told.Telling.tells c.args.config.now g.A.Arrivals.hands g.A.Arrivals.ends g.D.Departures.takes
+    g.D.Departures.fails g.D.Departures.is_settled c.args.arrivals.now c.args.departures.now pool
+    c.dispatch_to-dispatched.new.arrivals c.dispatch_to-dispatched.new.departures (Some c.in-Arrival.fault)
+    c.in_ok-dispatched.dispatched =
+    subst (λ ending. EndsBy g.D.Told.Telling.tells c.args.config.now g.A.Arrivals.hands g.A.Arrivals.ends
+    g.D.Departures.takes g.D.Departures.fails g.D.Departures.is_settled c.args.arrivals.now c.args.departures.now pool
+    c.dispatch_to-dispatched.new.arrivals c.dispatch_to-dispatched.new.departures c.in_ok-dispatched.dispatched ending)
+    c.in-Arrival.is (IfOk-at_ok _ closed.given c.dispatch_to-dispatched.ensures.ends) in
+    passes_to pool
+    (right_begin g.D.Told.Telling.tells c.args.config.now (starts pool) (accepts pool) (takes pool)
     (c.dispatch_to-dispatched.ensures.starts ∙ c.in_ok-pool.ensures.started) closed.taken (λ s leg. refl)
-    (λ s leg. refl) e.offered_many)
+    (λ s leg. refl))
     (Some c.in-Arrival.fault) c.in_ok-dispatched.dispatched e
 
 pub returns-clause-passes : goal.returns-clause-passes
 returns-clause-passes g c =
-    let rules : Rules = c.args.config.now in
     let pool = c.dispatch_to-dispatched.new.pool in
     let closed = c.in_ok-dispatched.ensures in
-    let e = rw c.in-Departure.is at (IfOk-at_ok _ closed.given c.dispatch_to-dispatched.ensures.ends) in
-    passes_early rules g.A.Arrivals.hands g.A.Arrivals.ends g.D.Departures.takes g.D.Departures.fails
-    g.D.Departures.is_settled c.args.arrivals.now c.args.departures.now pool c.dispatch_to-dispatched.new.arrivals
-    c.dispatch_to-dispatched.new.departures
-    (right_begin g.D.Told.Telling.tells rules (starts pool) (accepts pool) (takes pool)
+    passes_early pool
+    (right_begin g.D.Told.Telling.tells c.args.config.now (starts pool) (accepts pool) (takes pool)
     (c.dispatch_to-dispatched.ensures.starts ∙ c.in_ok-pool.ensures.started) closed.taken (λ s leg. refl)
-    (λ s leg. refl) e.offered_many)
-    c.in-Departure.fault e
+    (λ s leg. refl))
+    c.in-Departure.fault (rw c.in-Departure.is at (IfOk-at_ok _ closed.given c.dispatch_to-dispatched.ensures.ends))
