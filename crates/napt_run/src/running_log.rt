@@ -1,10 +1,11 @@
 //! The log of a run, written while its outcomes leave.
 
-ghost use Rattle.std.specs.Prelude.{◌≡◌, ◌++◌, [], ◌∷◌, List, IfOk, MatchResult, string_bytes};
+ghost use Rattle.std.specs.Prelude.{◌≡◌, ◌++◌, [], ◌∷◌, List, true, IfOk, MatchResult, string_bytes};
 ghost use Rattle.std.specs.Io.KnownBytes.{Appends};
 ghost use Rattle.napt_config.specs.Rules.{Rules, KeepsRules};
 ghost use Rattle.napt_rules.specs.Prelude.{Arrival};
 ghost use Rattle.napt_account.specs.Telling.{living_of};
+ghost use Rattle.napt_account.specs.TraceLogs.{told_in};
 ghost use Rattle.napt_sequential.specs.Traces.{traces};
 ghost use Rattle.napt_sequential.specs.declared.passage.Trace.{Trace as Did};
 ghost use Rattle.napt_log_text.specs.Logs.{living_rows, opening_text};
@@ -12,7 +13,7 @@ ghost use Rattle.napt_log_text.specs.Logs.{living_rows, opening_text};
 use crate::logged_fault::LoggedFault;
 use crate::logging::{Halt, Logging};
 use crate::output::Output;
-use napt_account::{KnownLog, traces_tell_the_log};
+use napt_account::{KnownLog, LoggedTrace, traces_tell_the_log};
 use napt_capture::Sink;
 use napt_log_text::{add_entered, add_living, add_opening};
 use napt_records::Fault;
@@ -128,6 +129,7 @@ impl<'a, 'b, L: Sink> RunningLog<'a, 'b, L> {
     }
 
     /// Takes the trace of the next input, and returns its rows.
+    #[inline(always)]
     fn rows(&mut self, trace: Trace) -> Result<String, LoggedFault>
         ensures { (rules : Rules) (before : List Did) → IsAt rules before self.old →
             MatchResult result
@@ -136,9 +138,20 @@ impl<'a, 'b, L: Sink> RunningLog<'a, 'b, L> {
     {
         let told = self.log.enter(self.alloc, trace)?;
         let mut text = String::new(self.alloc);
+        if is_quiet(&told) {
+            return Ok(text);
+        }
         add_entered(self.log.config(), &told, &mut text)?;
         Ok(text)
     }
+}
+
+/// Whether the log has no row with an input.
+#[inline(always)]
+fn is_quiet(told: &LoggedTrace) -> bool
+    ensures { result ≡ true → told_in told.now ≡ record { ended = []; made = []; refused = [] } }
+{
+    told.ended.is_empty() && told.made.is_empty() && told.refused.is_empty()
 }
 
 impl<L: Sink> Logging for RunningLog<'_, '_, L> {
@@ -161,13 +174,18 @@ impl<L: Sink> Logging for RunningLog<'_, '_, L> {
 
     ghost fails_more = { λ x y z xs ys fault one two. fails_more x y z xs ys fault one two };
 
+    #[inline(always)]
     fn enter(&mut self, now: u64, first: Passage, second: Passage) -> Result<(), LoggedFault>
         ensures { MatchResult result
             (λ _. Enters self.old (traces_of ((now, first, second) ∷ [])) self.new)
             (λ fault. Fails self.old (traces_of ((now, first, second) ∷ [])) fault self.new) }
     {
         let text = self.rows(Trace { now, first, second })?;
-        self.output.put_text(text.as_bytes())?;
+        let rows = text.as_bytes();
+        if rows.is_empty() {
+            return Ok(());
+        }
+        self.output.put_text(rows)?;
         Ok(())
     }
 

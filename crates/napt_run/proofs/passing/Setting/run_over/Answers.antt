@@ -1,4 +1,4 @@
-use Rattle.std.proofs.Common.{add-zero, sym, refl, Err}
+use Rattle.std.proofs.Common.{ℕ, List, Option, add-zero, sym, refl, Err}
 use Rattle.std.proofs.lemmas.Result.{err_from_is_err_and}
 use Rattle.napt_wire.specs.declared.Side.TheVariants as sides
 use Rattle.napt_records.specs.declared.Fault.TheVariants.{Capture}
@@ -7,47 +7,58 @@ use Rattle.napt_run.proofs.BothPassed.{unread_logs}
 use Rattle.napt_run.proofs.Headers.{header_failed, header_of, inside_refused, more_after, none_taken, outside_refused}
 use Rattle.napt_run.proofs.passing.Setting.run_over.Goals as goal
 
-pub returns-in_err-ours-clause-runs : goal.returns-in_err-ours-clause-runs
-returns-in_err-ours-clause-runs g c =
+pub returns-in_err-ours : goal.returns-in_err-ours
+returns-in_err-ours g c =
     let p = err_from_is_err_and c.from_residual.result c.from_residual.ensures.1 in
-    rw (p.1, p.2) (header_failed g.G.Gate.is_open c.args.self.config.now (g.R.Source.remaining c.args.inside.now)
-    (g.Q.Source.remaining c.args.outside.now) c.args.both.now.leaving c.requires.settled
-    sides.Inside c.in_err-ours.field-0.0 _ _ (λ inner. inside_refused _ _ _ inner) c.in_err-ours.ensures.fault)
+    let inside : Option (List ℕ) = g.R.Source.remaining c.args.inside.now in
+    let outside : Option (List ℕ) = g.Q.Source.remaining c.args.outside.now in
+    let unread = c.in_err-ours.ensures in
+    let (fault, is, heads) = header_of sides.Inside c.in_err-ours.field-0.0 _ _ unread.fault in
+    rw (p.1, p.2) (record {
+      runs = header_failed g.G.Gate.is_open c.args.self.config.now inside outside c.args.both.now.leaving
+          c.requires.settled sides.Inside c.in_err-ours.field-0.0 _ _ (λ inner. inside_refused _ _ _ inner) unread.fault;
+      readings = λ not_run. rw is (
+        Err (Capture sides.Inside fault),
+        refl,
+        rw is at unread.count,
+        sym (add-zero (g.Q.Source.failed c.args.outside.now)),
+      );
+      logs = rw is (unread_logs g.K.Told.Telling.tells c.args.self.config.now g.K.Logging.enters g.K.Logging.fails
+          g.K.Logging.is_settled inside outside c.args.both.now.log.now
+          (g.met.K.Logging.enters_none c.args.both.now.log.now) c.requires.log sides.Inside fault
+          (none_taken _ _ sides.Inside fault (inside_refused _ _ _ fault heads)));
+      same = refl;
+    })
 
-pub returns-in_err-theirs-clause-runs : goal.returns-in_err-theirs-clause-runs
-returns-in_err-theirs-clause-runs g c =
+pub returns-in_err-theirs : goal.returns-in_err-theirs
+returns-in_err-theirs g c =
     let p = err_from_is_err_and c.from_residual-in_err-theirs.result c.from_residual-in_err-theirs.ensures.1 in
-    rw (p.1, p.2) (header_failed g.G.Gate.is_open c.args.self.config.now (g.R.Source.remaining c.args.inside.now)
-    (g.Q.Source.remaining c.args.outside.now) c.args.both.now.leaving c.requires.settled
-    sides.Outside c.in_err-theirs.field-0.0 _ _ (λ inner. outside_refused _ _ _ _ _ inner
-    c.in_ok-ours.ensures.header.header) c.in_err-theirs.ensures.fault)
+    let inside : Option (List ℕ) = g.R.Source.remaining c.args.inside.now in
+    let outside : Option (List ℕ) = g.Q.Source.remaining c.args.outside.now in
+    let unread = c.in_err-theirs.ensures in
+    let (fault, is, heads) = header_of sides.Outside c.in_err-theirs.field-0.0 _ _ unread.fault in
+    rw (p.1, p.2) (record {
+      runs = header_failed g.G.Gate.is_open c.args.self.config.now inside outside c.args.both.now.leaving
+          c.requires.settled sides.Outside c.in_err-theirs.field-0.0 _ _
+          (λ inner. outside_refused _ _ _ _ _ inner c.in_ok-ours.ensures.header.header) unread.fault;
+      readings = λ not_run. rw is (
+        Err (Capture sides.Outside fault),
+        refl,
+        c.in_ok-ours.ensures.count,
+        rw is at unread.count,
+      );
+      logs = rw is (unread_logs g.K.Told.Telling.tells c.args.self.config.now g.K.Logging.enters g.K.Logging.fails
+          g.K.Logging.is_settled inside outside c.args.both.now.log.now
+          (g.met.K.Logging.enters_none c.args.both.now.log.now) c.requires.log sides.Outside fault
+          (none_taken _ _ sides.Outside fault (outside_refused _ _ _ _ _ fault c.in_ok-ours.ensures.header.header
+          heads)));
+      same = refl;
+    })
 
 pub returns-clause-runs : goal.returns-clause-runs
 returns-clause-runs g c =
     c.run_behind_headers.ensures.runs (g.R.Source.remaining c.args.inside.now)
     (g.Q.Source.remaining c.args.outside.now) c.in_ok-ours.ensures.header c.in_ok-theirs.ensures.header
-
-pub returns-in_err-ours-clause-readings : goal.returns-in_err-ours-clause-readings
-returns-in_err-ours-clause-readings g c not_run =
-    let p = err_from_is_err_and c.from_residual.result c.from_residual.ensures.1 in
-    let (fault, is, _) = header_of sides.Inside c.in_err-ours.field-0.0 _ _ c.in_err-ours.ensures.fault in
-    rw (p.1, p.2, is) (
-      Err (Capture sides.Inside fault),
-      refl,
-      rw is at c.in_err-ours.ensures.count,
-      sym (add-zero (g.Q.Source.failed c.args.outside.now)),
-    )
-
-pub returns-in_err-theirs-clause-readings : goal.returns-in_err-theirs-clause-readings
-returns-in_err-theirs-clause-readings g c not_run =
-    let p = err_from_is_err_and c.from_residual-in_err-theirs.result c.from_residual-in_err-theirs.ensures.1 in
-    let (fault, is, _) = header_of sides.Outside c.in_err-theirs.field-0.0 _ _ c.in_err-theirs.ensures.fault in
-    rw (p.1, p.2, is) (
-      Err (Capture sides.Outside fault),
-      refl,
-      c.in_ok-ours.ensures.count,
-      rw is at c.in_err-theirs.ensures.count,
-    )
 
 pub returns-clause-readings : goal.returns-clause-readings
 returns-clause-readings g c not_run =
@@ -57,28 +68,6 @@ returns-clause-readings g c not_run =
       more_after _ _ _ (failed_readings sides.Inside read) c.in_ok-ours.ensures.count ours,
       more_after _ _ _ (failed_readings sides.Outside read) c.in_ok-theirs.ensures.count theirs,
     )
-
-pub returns-in_err-ours-clause-logs : goal.returns-in_err-ours-clause-logs
-returns-in_err-ours-clause-logs g c =
-    let p = err_from_is_err_and c.from_residual.result c.from_residual.ensures.1 in
-    let (fault, is, heads) = header_of sides.Inside c.in_err-ours.field-0.0 _ _ c.in_err-ours.ensures.fault in
-    rw (p.1, p.2, is) (unread_logs g.K.Told.Telling.tells c.args.self.config.now g.K.Logging.enters
-    g.K.Logging.fails g.K.Logging.is_settled (g.R.Source.remaining c.args.inside.now)
-    (g.Q.Source.remaining c.args.outside.now) c.args.both.now.log.now
-    (g.met.K.Logging.enters_none c.args.both.now.log.now)
-    c.requires.log sides.Inside fault
-    (none_taken _ _ sides.Inside fault (inside_refused _ _ _ fault heads)))
-
-pub returns-in_err-theirs-clause-logs : goal.returns-in_err-theirs-clause-logs
-returns-in_err-theirs-clause-logs g c =
-    let p = err_from_is_err_and c.from_residual-in_err-theirs.result c.from_residual-in_err-theirs.ensures.1 in
-    let (fault, is, heads) = header_of sides.Outside c.in_err-theirs.field-0.0 _ _ c.in_err-theirs.ensures.fault in
-    rw (p.1, p.2, is) (unread_logs g.K.Told.Telling.tells c.args.self.config.now g.K.Logging.enters
-    g.K.Logging.fails g.K.Logging.is_settled (g.R.Source.remaining c.args.inside.now)
-    (g.Q.Source.remaining c.args.outside.now) c.args.both.now.log.now
-    (g.met.K.Logging.enters_none c.args.both.now.log.now)
-    c.requires.log sides.Outside fault
-    (none_taken _ _ sides.Outside fault (outside_refused _ _ _ _ _ fault c.in_ok-ours.ensures.header.header heads)))
 
 pub returns-clause-logs : goal.returns-clause-logs
 returns-clause-logs g c =

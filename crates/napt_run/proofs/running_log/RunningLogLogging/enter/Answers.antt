@@ -1,5 +1,8 @@
+use Rattle.std.proofs.Common.{◌≡◌, [], sym, ◌∙◌, eqb-true}
+use Rattle.std.proofs.lemmas.List.{nil_from_length}
 use Rattle.std.proofs.lemmas.Result.{err_from_is_err_and}
 use Rattle.napt_sequential.specs.declared.passage.Trace.{Trace}
+use Rattle.napt_run.specs.LeavingLaws.{grows_none}
 use Rattle.napt_run.proofs.Entering.{enter_failed, enter_written}
 use Rattle.napt_run.proofs.running_log.RunningLogLogging.enter.Goals as goal
 
@@ -10,9 +13,17 @@ returns-in_err-text g c =
     rw (p.1, p.2) (λ rules before at. enter_failed rules before c.args.self.now trace c.in_err-text.field-0.0
     c.rows.new.self (c.in_err-text.ensures rules before at))
 
+pub returns-then-is_empty : goal.returns-then-is_empty
+returns-then-is_empty g c rules before at =
+    let none = nil_from_length c.as_bytes-rows.result.now (eqb-true _ 0 (sym c.is_empty.ensures ∙ c.if-is_empty.true)) in
+    enter_written rules before c.args.self.now
+    (record { now = c.args.now; first = c.args.first; second = c.args.second }) c.rows.new.self c.rows.new.self.output _
+    [] at (c.in_ok-text.ensures rules before at) (sym none ∙ c.as_bytes-rows.ensures.value)
+    (grows_none c.rows.new.self.output)
+
 pub returns : goal.returns
 returns g c rules before at =
     enter_written rules before c.args.self.now
     (record { now = c.args.now; first = c.args.first; second = c.args.second }) c.rows.new.self c.put_text.new.self _
-    c.as_bytes.result.now at (c.in_ok-text.ensures rules before at) c.as_bytes.ensures.value
+    c.as_bytes-rows.result.now at (c.in_ok-text.ensures rules before at) c.as_bytes-rows.ensures.value
     c.in_ok-put_text.ensures.ok
