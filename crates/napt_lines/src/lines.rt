@@ -113,11 +113,12 @@ impl<'a> Line<'a> {
 
     /// Appends why it was dropped.
     fn add_loss(self, text: &mut String, cause: Cause) -> Result<(), AllocError> {
+        let input = self.passing.input;
         text.push_str("dropped, ")?;
         text.push_str(cause_name(cause))?;
         text.push_str(": ")?;
         if let (Some(replies), Some(end)) = (self.replies, self.end) {
-            if replies.add_loss(text, cause, end, &self.passing.input.bytes)? {
+            if replies.add_loss(text, cause, end, &input.bytes)? {
                 return Ok(());
             }
         }
