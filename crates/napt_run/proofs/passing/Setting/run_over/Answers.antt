@@ -16,7 +16,8 @@ returns-in_err-ours g c =
     let (fault, is, heads) = header_of sides.Inside c.in_err-ours.field-0.0 _ _ unread.fault in
     rw (p.1, p.2) (record {
       runs = header_failed g.G.Gate.is_open c.args.self.config.now inside outside c.args.both.now.leaving
-          c.requires.settled sides.Inside c.in_err-ours.field-0.0 _ _ (λ inner. inside_refused _ _ _ inner) unread.fault;
+          c.requires.settled sides.Inside c.in_err-ours.field-0.0 _ _ (λ inner. inside_refused _ _ _ inner)
+          unread.fault;
       readings = λ not_run. rw is (
         Err (Capture sides.Inside fault),
         refl,

@@ -95,9 +95,9 @@ returns-in-Err g c =
       says = rw c.fault_of.ensures (halt_says g.G.Gate.is_open rules c.log_laws.ensures inside outside c.args.log.now
           c.open.new.self c.stream.new.log c.requires.written begun halt stopped.logs stopped.says);
       readings = λ not_run. halt_reads g.G.Gate.is_open rules c.log_laws.ensures inside outside c.args.log.now
-          c.open.new.self c.stream.new.log c.requires.written begun halt stopped.logs g.R.Source.failed g.Q.Source.failed
-          c.args.inside.now c.stream.new.inside c.args.outside.now c.stream.new.outside stopped.readings c.fault_of.result
-          c.fault_of.ensures not_run;
+          c.open.new.self c.stream.new.log c.requires.written begun halt stopped.logs g.R.Source.failed
+          g.Q.Source.failed c.args.inside.now c.stream.new.inside c.args.outside.now c.stream.new.outside
+          stopped.readings c.fault_of.result c.fault_of.ensures not_run;
     }
 
 pub stream-requires-clause-log : goal.stream-requires-clause-log

@@ -15,7 +15,8 @@ returns-in_err-text g c =
 
 pub returns-then-is_empty : goal.returns-then-is_empty
 returns-then-is_empty g c rules before at =
-    let none = nil_from_length c.as_bytes-rows.result.now (eqb-true _ 0 (sym c.is_empty.ensures ∙ c.if-is_empty.true)) in
+    let none = nil_from_length c.as_bytes-rows.result.now
+    (eqb-true _ 0 (sym c.is_empty.ensures ∙ c.if-is_empty.true)) in
     enter_written rules before c.args.self.now
     (record { now = c.args.now; first = c.args.first; second = c.args.second }) c.rows.new.self c.rows.new.self.output _
     [] at (c.in_ok-text.ensures rules before at) (sym none ∙ c.as_bytes-rows.ensures.value)
