@@ -1,5 +1,6 @@
 -- `address_of` reads dotted decimals, and nothing else.
-use Rattle.std.proofs.Common.{◌≡◌, ℕ, ◌^◌, ◌<◌, List, [], ◌∷◌, Option, Some, None, refl, sym, ap, subst, ◌∙◌, append-nil, lit≤, arith, option_and_then}
+use Rattle.std.proofs.lemmas.Grind.{common_steps}
+use Rattle.std.proofs.Common.{◌≡◌, ℕ, ◌^◌, ◌<◌, List, [], ◌∷◌, Option, Some, None, refl, sym, subst, ◌∙◌, append-nil, lit≤, arith, option_and_then}
 use Rattle.std.specs.Int.{w32, from_be_bytes}
 use Rattle.std.specs.Net.Grammar.{IsDotted}
 use Rattle.std.specs.Net.Reader.{read_ipv4}
@@ -54,8 +55,4 @@ unfolding address_of
 dotted-address_of text address is = dotted_read text (read_ipv4 text) address refl is
 
 pub address_of-bound : (text : List ℕ) (address : ℕ) → address_of text ≡ Some address → address < 2 ^ 32
-address_of-bound text address is =
-    let (octets, dotted, value) = dotted-address_of text address is in
-    let number : from_be_bytes w32 (dotted.a ∷ dotted.b ∷ dotted.c ∷ dotted.d ∷ []) ≡ address =
-    ap (from_be_bytes w32) (sym dotted.value) ∙ value in
-    omega (arith, dotted.fit.0, dotted.fit.1, dotted.fit.2, dotted.fit.3)
+address_of-bound text address is = grind (arith, common_steps, dotted-address_of)

@@ -1,8 +1,9 @@
 -- What a reading that ends well went through.
+use Rattle.std.proofs.lemmas.Grind.{common_steps}
 use Rattle.std.proofs.Common.{◌≡◌, ℕ, ◌+◌, ◌≤◌, Bool, true, false, List, Option, Some, None, Result, Ok, Err, is_some, refl, subst, arith, leb-true, nat_le, ok_or}
 use Rattle.std.specs.Option.{option_map_or}
 use Rattle.toml.specs.Data.{Data, Items, no_items, item, Members, get_member}
-use Rattle.napt_config.specs.Prelude.{ConfigFault, TooMany, ◌>>=◌, ◌>>◌, must, each_in_order, item_count, list_in, list_up_to, optional}
+use Rattle.napt_config.specs.Prelude.{ConfigFault, ◌>>=◌, ◌>>◌, must, each_in_order, item_count, list_up_to, optional}
 
 pub reads : {A B P : Type 0} (r : Result A ConfigFault) (f : A → Result B ConfigFault) (y : B) → r >>= f ≡ Ok y →
     ((x : A) → r ≡ Ok x → f x ≡ Ok y → P) → P
@@ -46,11 +47,7 @@ optional-absent key default reading table x none e = absent_reads (get_member ke
 pub list_up_to-counts : (most : ℕ) (value : Data) (entries : Items) → list_up_to most value ≡ Ok entries →
     item_count entries ≤ most
 unfolding list_up_to
-list_up_to-counts most value entries is =
-    reads (list_in value) _ entries is λ found _ ruled.
-    holds (nat_le (item_count found) most) TooMany _ entries ruled λ few last.
-    let same : found ≡ entries = cc in
-    rw (← same) (leb-true (item_count found) most few)
+list_up_to-counts most value entries is = grind (arith, common_steps, reads, holds, nat_le, leb-true)
 
 module _ {A : Type 0} (step : A → Data → Result A ConfigFault) where
   -- what each step keeps is kept

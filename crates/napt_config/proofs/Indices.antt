@@ -1,4 +1,5 @@
 -- Indices of hosts, and their blocks.
+use Rattle.std.proofs.lemmas.Grind.{common_steps}
 use Rattle.std.proofs.Common.{◌≡◌, ℕ, ◌+◌, ◌-◌, ◌*◌, ◌/◌, ◌%◌, ◌^◌, ◌<◌, ◌≤◌, Bool, true, false, cond, List, [], ◌∷◌, length, Option, Some, None, refl, ap, ◌∙◌, leb-true, arith, IfSome, option_map, pow_pos, pow-add, div-add-mod'}
 use Rattle.std.proofs.Math.Nat.{mod-lt, mul_assoc, mul_comm, mul-le-mul_right, div-mul-le_self, le-div_iff_mul-le, div-lt_iff_lt-mul}
 use Rattle.napt_config.specs.Prelude.{Network, IsNetwork, has_address, network_size, host_count, index_of, nth_block, block_in, IsBlock, AreBlocks}
@@ -33,10 +34,7 @@ one_more q n = mul_comm (q + 1) n ∙ omega (arith, mul_comm q n)
 next_fits : (address size many : ℕ) → 0 < size → address % size ≡ 0 → address < many * size →
     address + size ≤ many * size
 next_fits address size many some whole below =
-    let nth : address / size < many = (div-lt_iff_lt-mul {k = size} {x = address} {y = many} some).1 below in
-    let next : address / size + 1 ≤ many = omega (arith, nth) in
-    let all = mul-le-mul_right {m = address / size + 1} {n = many} size next in
-    omega (arith, all, one_more (address / size) size, div-add-mod' address size, whole)
+    grind (arith, common_steps, div-lt_iff_lt-mul, mul-le-mul_right, one_more, div-add-mod')
 
 -- an address at a place of a network is an address
 pub address_fits : (network : Network) (place : ℕ) → IsNetwork network → place < network_size network →

@@ -1,4 +1,5 @@
 -- What a table configures keeps the rules of a configuration.
+use Rattle.std.proofs.lemmas.Grind.{common_steps}
 use Rattle.std.proofs.Common.{◌≡◌, ℕ, ◌+◌, ◌-◌, ◌%◌, ◌^◌, ◌<◌, ◌≤◌, ◌==◌, Bool, true, false, not, List, [], ◌∷◌, ◌++◌, length, get_or, Option, Some, None, Ok, nat_lt, nat_le, nat_cmp, is_some, refl, sym, ap, subst, ◌∙◌, ltb-true, leb-true, eqb-true, length-append, arith, All, IfSome, ok_or, codes}
 use Rattle.std.specs.BTreeMap.{insert_entry}
 use Rattle.std.specs.List.{list_any, before_first, after_first}
@@ -10,7 +11,7 @@ use Rattle.std.proofs.lemmas.List.Folds.{list_any_at}
 use Rattle.std.proofs.lemmas.Map.Views.{All-keys-insert_entry, All-values-insert_entry}
 use Rattle.std.proofs.lemmas.Option.{cond_some, option_and_then_some}
 use Rattle.toml.specs.Data.{Data, Items, Members, get_member}
-use Rattle.napt_config.specs.Prelude.{BadAddress, BadPrefix, BadNumber, DoubleAddress, Missing, PoolInside, PrefixesOverlap, BlockTooLarge, PairWithBlock, NotInside, NotInPool, DoublePair, TimerTooShort, UnknownKey, Timers, Network, IsNetwork, have_address, are_apart, address_of, network_of, network_at, number_of, is_slash, Rules, has, paired_with, paired, block_in, have_room, IsTimer, AreTimers, IsInside, IsQuota, IsBlock, AreBlocks, ArePairs, KeepsRules, item_count, short_list, text_in, number_in, table_in, list_up_to, between, with_address, pool_in, with_prefix, prefixes_in, inside_in, filter_in, refresh_in, timer_at, timers_at, timers_in, default_timers, ring_at, ring_in, quota_at, quota_in, block_size_at, block_size, block_size_in, address_in, with_pair, pairs_at, pairs_in, redirects_in, required, optional, configured, knows_all_keys}
+use Rattle.napt_config.specs.Prelude.{BadAddress, BadPrefix, BadNumber, DoubleAddress, Missing, PrefixesOverlap, BlockTooLarge, PairWithBlock, NotInside, NotInPool, DoublePair, TimerTooShort, UnknownKey, Timers, Network, IsNetwork, have_address, are_apart, address_of, network_of, network_at, number_of, is_slash, Rules, has, paired_with, paired, block_in, have_room, IsTimer, AreTimers, IsInside, IsQuota, IsBlock, AreBlocks, ArePairs, KeepsRules, item_count, short_list, text_in, number_in, table_in, list_up_to, between, with_address, pool_in, with_prefix, prefixes_in, inside_in, filter_in, refresh_in, timer_at, timers_at, timers_in, default_timers, ring_at, ring_in, quota_at, quota_in, block_size_at, block_size, block_size_in, address_in, with_pair, pairs_at, pairs_in, redirects_in, required, optional, configured, knows_all_keys}
 use Rattle.napt_config.proofs.Addresses.{address_of-bound}
 use Rattle.napt_config.proofs.Chains.{list_up_to-counts, reads, holds, ok_or_ok, optional_reads, optional-absent, each_keeps, each_adds}
 use Rattle.napt_config.proofs.Indices.{block_in-is}
@@ -123,9 +124,7 @@ inside_keeps now next entry start is =
     subst (All IsNetwork) (sym made) (All-push IsNetwork now network start is_network)
 
 inside_adds : (now next : List Network) (entry : Data) → with_prefix now entry ≡ Ok next → length next ≡ length now + 1
-inside_adds now next entry is =
-    let (network, _, made) = inside_step now next entry is in
-    ap length made ∙ length-append now (network ∷ [])
+inside_adds now next entry is = grind (arith, common_steps, inside_step, length-append)
 
 prefixes_in-keeps : (table : Members) (inside : List Network) → prefixes_in table ≡ Ok inside → IsInside inside
 unfolding prefixes_in
@@ -152,11 +151,7 @@ all_outside inside pool none = λ i d lt. not_there (have_address inside) pool i
 pub inside_in-keeps : (pool : List ℕ) (table : Members) (inside : List Network) → inside_in pool table ≡ Ok inside →
     IsInside inside × All (λ address. have_address inside address ≡ false) pool
 unfolding inside_in
-inside_in-keeps pool table inside is =
-    reads (prefixes_in table) _ inside is λ read found ruled.
-    holds (not (list_any (have_address read) pool)) PoolInside _ inside ruled λ outside last.
-    let same : read ≡ inside = cc in
-    rw (← same) (prefixes_in-keeps table read found, all_outside read pool (not-true _ outside))
+inside_in-keeps pool table inside is = grind (arith, common_steps, prefixes_in-keeps, all_outside, not-true)
 
 -- ---- timers, ring and quota
 
@@ -216,9 +211,7 @@ IsRing slots = (1 ≤ slots) × (slots ≤ 4096)
 
 ring_at-keeps : (slots : ℕ) (value : Data) → ring_at value ≡ Ok slots → IsRing slots
 unfolding ring_at
-ring_at-keeps slots value is =
-    reads (number_in value) _ slots is λ number _ ranged.
-    between-range 1 4096 slots number (ok_or_ok _ _ _ ranged)
+ring_at-keeps slots value is = grind (arith, common_steps, between-range, ok_or_ok)
 
 pub ring_in-keeps : (slots : ℕ) (table : Members) → ring_in table ≡ Ok slots → IsRing slots
 unfolding ring_in
@@ -227,17 +220,11 @@ ring_in-keeps slots table is = optional_reads IsRing (codes "ring") 64 ring_at t
 
 quota_at-keeps : (quota : Option ℕ) (value : Data) → quota_at value ≡ Ok quota → IfSome quota IsQuota
 unfolding quota_at
-quota_at-keeps quota value is =
-    reads (number_in value) _ quota is λ number _ ranged.
-    reads (ok_or (between 1 65535 number) BadNumber) _ quota ranged λ bindings found last.
-    let same : Some bindings ≡ quota = cc in
-    subst (λ q. IfSome q IsQuota) same (between-range 1 65535 bindings number (ok_or_ok _ _ _ found))
+quota_at-keeps quota value is = grind (arith, common_steps, ok_or, between-range, ok_or_ok)
 
 pub quota_in-keeps : (quota : Option ℕ) (table : Members) → quota_in table ≡ Ok quota → IfSome quota IsQuota
 unfolding quota_in
-quota_in-keeps quota table is =
-    optional_reads (λ q. IfSome q IsQuota) (codes "quota") None quota_at table quota is tt (λ value y read.
-    quota_at-keeps y value read)
+quota_in-keeps quota table is = grind (arith, common_steps, optional_reads, quota_at-keeps)
 
 -- ---- blocks
 
@@ -283,9 +270,7 @@ block_size-keeps pool inside table block value is =
 pub block_size_in-keeps : (pool : List ℕ) (inside : List Network) (table : Members) (block : Option ℕ) →
     block_size_in pool inside table ≡ Ok block → IfSome block (SizeRules pool inside table)
 unfolding block_size_in
-block_size_in-keeps pool inside table block is =
-    optional_reads (λ b. IfSome b (SizeRules pool inside table)) (codes "block") None (block_size pool inside table)
-    table block is tt (λ value y read. block_size-keeps pool inside table y value read)
+block_size_in-keeps pool inside table block is = grind (arith, common_steps, optional_reads, block_size-keeps)
 
 -- ---- pairs
 

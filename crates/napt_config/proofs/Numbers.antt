@@ -1,5 +1,6 @@
 -- Decimal numbers in texts.
-use Rattle.std.proofs.Common.{◌≡◌, ℕ, ◌^◌, ◌<◌, ◌==◌, ◌≤◌, ◌&&◌, not, true, ℤ, pos, negsuc, Some, List, [], ◌∷◌, length, get_or, None, Err, nat_lt, refl, subst, leb-true, inl, inr, arith, rules}
+use Rattle.std.proofs.lemmas.Grind.{common_steps}
+use Rattle.std.proofs.Common.{◌≡◌, ℕ, ◌^◌, ◌<◌, ◌≤◌, true, ℤ, pos, negsuc, Some, List, [], ◌∷◌, length, get_or, None, Err, nat_lt, refl, subst, leb-true, inl, inr, arith, rules}
 use Rattle.std.proofs.lemmas.Bool.{cases_lt, and_parts}
 use Rattle.std.proofs.lemmas.Option.{cond_some}
 use Rattle.std.proofs.lemmas.Bool.Decides.{nat_tests}
@@ -14,10 +15,7 @@ pub digits_model : IsNumeralModel (λ ds. list_all is_ascii_digit ds ≡ true) (
 digits_model = numerals_by_value _ (search rules)
 
 are_digits : (text : List ℕ) → is_number text ≡ true → list_all is_ascii_digit text ≡ true
-are_digits text number =
-    let outer = and_parts (nat_lt 0 (length text) && list_all is_ascii_digit text)
-    (not (nat_lt 1 (length text) && (get_or text 0 0 == 48))) number in
-    (and_parts (nat_lt 0 (length text)) (list_all is_ascii_digit text) outer.0).1
+are_digits text number = grind (arith, common_steps, and_parts, nat_lt, get_or)
 
 some_digits : (text : List ℕ) → is_number text ≡ true → 0 < length text
 some_digits [] number = cc
@@ -46,12 +44,7 @@ number_of-nothing least most = refl
 -- a number that is read is in its range
 pub number_of-range : (least most n : ℕ) (text : List ℕ) → number_of least most text ≡ Some n → (least ≤ n) × (n ≤ most)
 unfolding number_of
-number_of-range least most n text is =
-    let (tests, same) = cond_some _ _ n is in
-    let range = (and_parts _ _ tests).1 in
-    let (low, high) = and_parts _ _ range in
-    let P : ℕ → Type 0 = λ k. (least ≤ k) × (k ≤ most) in
-    subst P same (leb-true _ _ low, leb-true _ _ high)
+number_of-range least most n text is = grind (arith, common_steps, cond_some, and_parts, leb-true)
 
 pub between-range : (least most n : ℕ) (z : ℤ) → between least most z ≡ Some n → (least ≤ n) × (n ≤ most)
 between-range least most n (pos k) is =

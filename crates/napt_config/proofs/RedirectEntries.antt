@@ -1,4 +1,5 @@
 -- Redirects that are read keep their rules.
+use Rattle.std.proofs.lemmas.Grind.{common_steps}
 use Rattle.std.proofs.Common.{◌≡◌, ℕ, ◌+◌, ◌<◌, ◌≤◌, true, false, not, List, [], ◌∷◌, ◌++◌, length, Option, Some, Ok, refl, sym, ap, subst, ◌∙◌, length-append, arith, All, codes}
 use Rattle.std.specs.List.{before_first, after_first}
 use Rattle.std.proofs.lemmas.Bool.{not-true, or_parts, or_from}
@@ -6,7 +7,7 @@ use Rattle.std.proofs.lemmas.List.Elements.{All-push, All-nil}
 use Rattle.std.proofs.lemmas.List.Folds.{list_any-append}
 use Rattle.std.proofs.lemmas.Option.{option_and_then_some}
 use Rattle.toml.specs.Data.{Data, Members}
-use Rattle.napt_config.specs.Prelude.{NotInside, RedirectInBlock, DoubleRedirect, Redirect, Block, Network, Socket, have_address, address_of, number_of, socket_of, socket_at, is_colon, IsRedirect, may_redirect, is_double, AreSingle, text_in, number_in, table_in, list_up_to, required, is_tcp_in, transport_address_in, port_in, redirect_in, have_double, with_redirect, redirects_at, redirects_in}
+use Rattle.napt_config.specs.Prelude.{NotInside, RedirectInBlock, DoubleRedirect, Redirect, Block, Network, Socket, have_address, address_of, number_of, socket_of, socket_at, is_colon, IsRedirect, may_redirect, is_double, AreSingle, table_in, list_up_to, is_tcp_in, transport_address_in, port_in, redirect_in, have_double, with_redirect, redirects_at, redirects_in}
 use Rattle.napt_config.proofs.Chains.{list_up_to-counts, reads, holds, ok_or_ok, optional_reads, each_keeps, each_adds}
 use Rattle.napt_config.proofs.Numbers.{number_of-range, between-range}
 
@@ -30,17 +31,11 @@ socket_of-port text socket is =
 transport_address_in-port : (key : List ℕ) (keys : Members) (socket : Socket) →
     transport_address_in key keys ≡ Ok socket → 0 < socket.port
 unfolding transport_address_in
-transport_address_in-port key keys socket is =
-    reads (required key keys) _ socket is λ value _ read.
-    reads (text_in value) _ socket read λ text _ found.
-    socket_of-port text socket (ok_or_ok _ _ _ found)
+transport_address_in-port key keys socket is = grind (arith, common_steps, socket_of-port, ok_or_ok)
 
 port_in-some : (key : List ℕ) (keys : Members) (port : ℕ) → port_in key keys ≡ Ok port → 0 < port
 unfolding port_in
-port_in-some key keys port is =
-    reads (required key keys) _ port is λ value _ read.
-    reads (number_in value) _ port read λ number _ ranged.
-    omega (arith, (between-range 1 65535 port number (ok_or_ok _ _ _ ranged)).0)
+port_in-some key keys port is = grind (arith, common_steps, between-range, ok_or_ok)
 
 redirect_in-is : (inside : List Network) (block : ℕ → Option Block) (entry : Data) (redirect : Redirect) →
     redirect_in inside block entry ≡ Ok redirect → IsRedirect inside redirect × IsInBlock block redirect

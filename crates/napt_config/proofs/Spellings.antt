@@ -1,10 +1,11 @@
 -- What is spelled is read back, and what is read is spelled so.
-use Rattle.std.proofs.Common.{◌≡◌, ℕ, zero, suc, ◌+◌, ◌-◌, ◌%◌, ◌^◌, ◌<◌, ◌≤◌, ◌==◌, ◌&&◌, ◌||◌, Bool, true, false, cond, not, List, [], ◌∷◌, ◌++◌, length, get_or, take, drop, Option, Some, None, nat_lt, nat_le, decimal, refl, sym, ap, subst, ◌∙◌, inl, inr, le-leb, le-ltb, lt-ltb, ltb-true, leb-true, eq-eqb, eqb-true, ne_eqb, append_assoc, take-append-drop, arith, ok_or, option_and_then}
+use Rattle.std.proofs.lemmas.Grind.{common_steps}
+use Rattle.std.proofs.Common.{◌≡◌, ℕ, zero, suc, ◌+◌, ◌-◌, ◌%◌, ◌^◌, ◌<◌, ◌≤◌, ◌==◌, ◌&&◌, ◌||◌, Bool, true, false, cond, not, List, [], ◌∷◌, ◌++◌, length, get_or, take, drop, Option, Some, None, nat_lt, nat_le, decimal, refl, sym, ap, ◌∙◌, inl, inr, le-leb, le-ltb, lt-ltb, ltb-true, leb-true, eq-eqb, eqb-true, ne_eqb, append_assoc, take-append-drop, arith, ok_or, option_and_then}
 use Rattle.std.specs.Char.{is_ascii_digit}
-use Rattle.std.specs.Int.{w32, to_be_bytes, from_be_bytes}
+use Rattle.std.specs.Int.{w32, to_be_bytes}
 use Rattle.std.specs.List.{list_all, list_any, position_or_len, before_first, after_first}
 use Rattle.std.specs.Net.Grammar.{IsDotted}
-use Rattle.std.specs.Net.Text.{ipv4_text, dotted_text}
+use Rattle.std.specs.Net.Text.{dotted_text}
 use Rattle.std.specs.Str.Parse.{digits_value}
 use Rattle.std.proofs.lemmas.Bool.{cases_lt, and_parts, and_from, and_left, and_right, both_ways, not-true, not-false, not_from_false}
 use Rattle.std.proofs.lemmas.Bool.Decides.{nat_tests}
@@ -50,14 +51,7 @@ four_bytes a b c d (suc (suc (suc (suc i)))) fa fb fc fd = omega arith
 
 pub address_text-of : (text : List ℕ) (address : ℕ) → address_of text ≡ Some address → text ≡ address_text address
 unfolding address_text
-address_text-of text address is =
-    let (octets, spelled, value) = dotted-address_of text address is in
-    let bytes = spelled.a ∷ spelled.b ∷ spelled.c ∷ spelled.d ∷ [] in
-    let fit = spelled.fit in
-    let number : address ≡ from_be_bytes w32 bytes = sym value ∙ ap (from_be_bytes w32) spelled.value in
-    let same : to_be_bytes w32 address ≡ bytes =
-    be_bytes_4 bytes address refl (λ i. four_bytes _ _ _ _ i fit.0 fit.1 fit.2 fit.3) number in
-    spelled.spelled ∙ sym (ap ipv4_text same)
+address_text-of text address is = grind (arith, common_steps, dotted-address_of, be_bytes_4, four_bytes)
 
 -- ---- numbers
 
@@ -78,13 +72,7 @@ pub number_of-decimal : (least most n : ℕ) → least ≤ n → n ≤ most → 
     ≡ Some n
 unfolding number_of
 number_of-decimal least most n low high bound =
-    let small : n < 2 ^ 64 = omega arith in
-    let value = (decimal_is_IsNumeral n small).1 in
-    let v = digits_value 10 (decimal n) in
-    let range : (nat_le least v && nat_le v most) ≡ true = and_from _ _ (le-leb least v (omega arith))
-    (le-leb v most (omega arith)) in
-    let test = and_from _ _ (is_number-decimal n small) range in
-    subst (λ b. cond b (Some v) None ≡ Some n) (sym test) (ap Some value)
+    grind (arith, common_steps, decimal_is_IsNumeral, nat_le, and_from, le-leb, is_number-decimal)
 
 pub decimal-number_of : (least most n : ℕ) (text : List ℕ) → most < 2 ^ 64 → number_of least most text ≡ Some n →
     text ≡ decimal n
@@ -121,11 +109,7 @@ none_in_address : (p : ℕ → Bool) (address : ℕ) → ((c : ℕ) → is_ascii
     list_any p (address_text address) ≡ false
 unfolding address_text
 none_in_address p address other dot =
-    let none : (n : ℕ) → n < 256 → list_any p (decimal n) ≡ false = λ n small. none_among_digits p (decimal n) other
-    (digits_decimal digits_model n (omega arith)) in
-    let o = to_be_bytes w32 address in
-    none_in_dotted p (get_or o 0 0) (get_or o 1 0) (get_or o 2 0) (get_or o 3 0) (none _ (omega arith))
-    (none _ (omega arith)) (none _ (omega arith)) (none _ (omega arith)) dot
+    grind (arith, common_steps, none_among_digits, digits_decimal, digits_model, none_in_dotted, get_or)
 
 later_by_one : (b later : Bool) (n m : ℕ) → (b || later) ≡ false → (later ≡ false → n ≡ m) → cond (not b) (1 + n) 0
     ≡ suc m
@@ -206,17 +190,18 @@ module _ (at least most : ℕ) (bound : most < 2 ^ 64) (no_digit : (c : ℕ) →
       option_and_then (λ a. option_and_then (f a) (number_of least most (after_first (λ c. c == at) text)))
       (address_of (before_first (λ c. c == at) text)) ≡ r)
   marked_of-text f address n r small low high made =
-      let A = address_text address in
-      let D = decimal n in
-      let none = none_in_address (λ c. c == at) address no_digit no_dot in
-      let here = eq-eqb at at refl in
-      let regrouped : A ++ (at ∷ []) ++ D ≡ A ++ at ∷ D = append_assoc A (at ∷ []) D in
-      let front : before_first (λ c. c == at) (A ++ (at ∷ []) ++ D) ≡ A = ap (before_first (λ c. c == at)) regrouped
-      ∙ before_mark (λ c. c == at) A at D none here in
-      let back : after_first (λ c. c == at) (A ++ (at ∷ []) ++ D) ≡ D = ap (after_first (λ c. c == at)) regrouped
-      ∙ after_mark (λ c. c == at) A at D none here in
-      both_read f _ _ address n r (ap address_of front ∙ address_of-text address small)
-      (ap (number_of least most) back ∙ number_of-decimal least most n low high bound) made
+      grind (
+        arith,
+        common_steps,
+        none_in_address,
+        eq-eqb,
+        append_assoc,
+        before_mark,
+        after_mark,
+        both_read,
+        address_of-text,
+        number_of-decimal,
+      )
 
 network_text-of : (text : List ℕ) (network : Network) → network_of text ≡ Some network → text ≡ network_text network
 unfolding network_of network_text
@@ -267,21 +252,15 @@ read_back spelling IsValue fault text (Some y) spelled only = record {
 
 pub networks_read_back : (fault : ConfigFault) (text : List ℕ) → IsReadBack network_text IsNetwork fault text
     (ok_or (network_of text) fault)
-networks_read_back fault text =
-    read_back network_text IsNetwork fault text (network_of text) (λ network is. network_text-of text network is)
-    (λ network fine is. ap network_of is ∙ network_of-text network fine)
+networks_read_back fault text = grind (arith, common_steps, read_back, network_text-of, network_of-text)
 
 pub sockets_read_back : (fault : ConfigFault) (text : List ℕ) → IsReadBack socket_text IsSocket fault text
     (ok_or (socket_of text) fault)
-sockets_read_back fault text =
-    read_back socket_text IsSocket fault text (socket_of text) (λ socket is. socket_text-of text socket is)
-    (λ socket fine is. ap socket_of is ∙ socket_of-text socket fine)
+sockets_read_back fault text = grind (arith, common_steps, read_back, socket_text-of, socket_of-text)
 
 pub address_reads_back : (text : List ℕ) (address x : ℕ) → address_of text ≡ Some address → x < 2 ^ 32 →
     text ≡ address_text x → x ≡ address
-address_reads_back text address x read small is =
-    let again : Some x ≡ Some address = sym (ap address_of is ∙ address_of-text x small) ∙ read in
-    cc
+address_reads_back text address x read small is = grind (arith, common_steps, address_of-text)
 
 pub address_not_read : (text : List ℕ) (x : ℕ) → address_of text ≡ None → x < 2 ^ 32 → text ≡ address_text x → ⊥
 address_not_read text x none small is = none-some x (sym none ∙ ap address_of is ∙ address_of-text x small)

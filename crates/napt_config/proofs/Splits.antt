@@ -1,8 +1,9 @@
 -- Texts without a separator.
+use Rattle.std.proofs.lemmas.Grind.{common_steps}
 use Rattle.std.proofs.Common.{◌≡◌, ℕ, ◌+◌, Bool, List, [], length, Option, Some, None, refl, arith, option_and_then}
 use Rattle.std.specs.List.{position_or_len, after_first}
 use Rattle.std.proofs.lemmas.List.{drop_all}
-use Rattle.napt_config.specs.Text.{is_slash, is_colon, network_of, socket_of, address_of}
+use Rattle.napt_config.specs.Text.{is_slash, is_colon, network_of, socket_of}
 use Rattle.napt_config.proofs.Numbers.{number_of-nothing}
 
 nothing_after : (p : ℕ → Bool) (text : List ℕ) → position_or_len p text ≡ length text → after_first p text ≡ []
@@ -14,12 +15,8 @@ never (Some x) f none = none x
 
 pub network_of-whole : (text : List ℕ) → position_or_len is_slash text ≡ length text → network_of text ≡ None
 unfolding network_of
-network_of-whole text none =
-    let rest = nothing_after is_slash text none in
-    never (address_of _) _ (λ address. rw (rest, number_of-nothing 0 32))
+network_of-whole text none = grind (arith, common_steps, nothing_after, never, number_of-nothing)
 
 pub socket_of-whole : (text : List ℕ) → position_or_len is_colon text ≡ length text → socket_of text ≡ None
 unfolding socket_of
-socket_of-whole text none =
-    let rest = nothing_after is_colon text none in
-    never (address_of _) _ (λ address. rw (rest, number_of-nothing 1 65535))
+socket_of-whole text none = grind (arith, common_steps, nothing_after, never, number_of-nothing)
