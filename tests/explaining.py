@@ -19,8 +19,8 @@ WARNING = re.compile(
 START = 1_700_000_000 * captures.SECOND
 # what who and log say of captures that are not of the configuration's numbers
 OTHER_NUMBERS = (
-    "explain: these captures are of a gateway with other numbers: {} of {} answers from outside do not find here who asked for them "
-    "(--as-napt tells of the run of napt)\n"
+    "explain: these captures are of a gateway with other numbers: {} of {} answers from outside, packet {} the first, do not find here "
+    "who asked for them (--as-napt tells of the run of napt)\n"
 )
 
 

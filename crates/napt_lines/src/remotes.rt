@@ -36,6 +36,8 @@ pub struct Remotes {
     /// not ask.
     answers: u64,
     astray: u64,
+    /// The number of the first of these; 0 if there is none.
+    first_astray: u64,
 }
 
 impl Remotes {
@@ -47,6 +49,7 @@ impl Remotes {
             unmet_answers: 0,
             answers: 0,
             astray: 0,
+            first_astray: 0,
         }
     }
 
@@ -64,10 +67,10 @@ impl Remotes {
     /// Prints that the captured gateway had other numbers than the run has, so that this tells nothing of it, and returns
     /// how the program stops.
     pub fn tell_astray<R: Eprint>(&self, rt: &R) -> Stop {
-        let (astray, answers) = (self.astray, self.answers);
+        let (astray, answers, first) = (self.astray, self.answers, self.first_astray);
         let _ = eprintln!(rt;
-            "explain: these captures are of a gateway with other numbers: {astray} of {answers} answers from outside do \
-not find here who asked for them (--as-napt tells of the run of napt)"
+            "explain: these captures are of a gateway with other numbers: {astray} of {answers} answers from outside, packet \
+{first} the first, do not find here who asked for them (--as-napt tells of the run of napt)"
         );
         Stop::Others
     }
@@ -78,7 +81,7 @@ not find here who asked for them (--as-napt tells of the run of napt)"
         match (input.side, &step.outcome) {
             (Side::Inside, Outcome::ToOutside(_)) => self.send(input),
             (Side::Outside, outcome) if step.used.note != Note::Redirect => {
-                self.come(input, outcome);
+                self.come(passing.number, input, outcome);
                 Ok(())
             }
             _ => Ok(()),
@@ -119,8 +122,8 @@ not find here who asked for them (--as-napt tells of the run of napt)"
         self.full = self.sent.len().saturating_mul(2).max(FEW);
     }
 
-    /// A packet comes from outside.
-    fn come(&mut self, input: &Input, outcome: &Outcome) {
+    /// The packet of this number comes from outside.
+    fn come(&mut self, number: u64, input: &Input, outcome: &Outcome) {
         let is_unmet = matches!(outcome, Outcome::Dropped(Cause::NoBinding | Cause::NotOurs));
         let sent = source_of(&input.bytes).and_then(|remote| self.sent.get(&remote).copied());
         let Some(sent) = sent else {
@@ -132,11 +135,11 @@ not find here who asked for them (--as-napt tells of the run of napt)"
         if is_unmet {
             self.unmet_answers = self.unmet_answers.saturating_add(1);
         }
-        self.answer(sent, outcome);
+        self.answer(number, sent, outcome);
     }
 
-    /// A packet comes from a remote to which this was sent just before.
-    fn answer(&mut self, sent: Sent, outcome: &Outcome) {
+    /// The packet of this number comes from a remote to which this was sent just before.
+    fn answer(&mut self, number: u64, sent: Sent, outcome: &Outcome) {
         let is_astray = match outcome {
             Outcome::Dropped(cause) => *cause == Cause::NoBinding,
             Outcome::ToInside(packet) => {
@@ -148,6 +151,9 @@ not find here who asked for them (--as-napt tells of the run of napt)"
             self.answers = self.answers.saturating_add(1);
         }
         if is_astray {
+            if self.astray == 0 {
+                self.first_astray = number;
+            }
             self.astray = self.astray.saturating_add(1);
         }
     }
