@@ -315,6 +315,10 @@ class Run:
         elif name == "timers":
             names = ("udp", "established", "transitory", "icmp")
             shown = f"Timers {{ {', '.join(map('{}: {}'.format, names, wanted.split()))} }}"
+        elif name == "choosing":
+            parity, numbers = wanted.split()
+            seed = "Some(Seed)" if numbers == "random" else "None"
+            shown = f"Choosing {{ keeps_parity: {str(parity == 'kept').lower()}, seed: {seed} }}"
         elif name in ("quota", "block"):
             shown = shown_option(wanted, str)
         else:

@@ -82,7 +82,7 @@ def conversation(draw, configuration):
         if draw.random() < 0.5:
             inside.append((now, traffic.of_protocol(protocol, host, remote)))
         else:
-            address, number = traffic.external_of((host[0], port))
+            address, number = traffic.external_of(protocol, (host[0], port))
             external = (address, (number + draw.choice((0, 0, 1, 2))) % 65536)
             outside.append((now, traffic.of_protocol(protocol, remote, external, incoming=True)))
     return inside, outside
@@ -104,7 +104,7 @@ def session(draw, configuration):
     """A TCP session of two endpoints, and a segment of the remote near the end of its time."""
     traffic = packets.Traffic(draw, configuration, configurations.HOSTS)
     host, remote = (draw.choice(configurations.HOSTS), 5000), (packets.REMOTES[0], 80)
-    external = traffic.external_of(host)
+    external = traffic.external_of(packets.TCP, host)
     inside, outside, now = [], [], 0
     for is_out, flags in draw.choice(SESSIONS):
         now += draw.choice((0, 1000, SECOND, SECOND))
@@ -129,7 +129,7 @@ def of_captures(draw):
     configuration = configurations.Configuration(draw)
     if draw.random() < 0.001:
         configuration.pool = configuration.pool[:1]
-        configuration.entries, configuration.block, configuration.prefixes = [], "", ["10.0.0.0/8"]
+        configuration.entries, configuration.block, configuration.choosing, configuration.prefixes = [], "", "", ["10.0.0.0/8"]
         inside, outside = full_class(draw, configuration)
     else:
         kinds = (side_packets, side_packets, side_packets, conversation, session, newcomers)

@@ -8,6 +8,8 @@ POOL = 0xCB007101  # 203.0.113.1
 INSIDE = 0x0A000000  # 10.0.0.0
 HOSTS = tuple(INSIDE + n for n in (2, 3, 4, 5, 6))
 
+SEED = "000102030405060708090a0b0c0d0e0f"
+
 # values in the place of another: of each kind, at their edges
 VALUES = (
     "0", "1", "-1", "119", "120", "4096", "4097", "65535", "65536", "1_000", "1000000000", "1000000001", "0x10", "0b1", "+5",
@@ -15,6 +17,7 @@ VALUES = (
     "1.5", "1e3", "inf", "nan", "true", "false", "1979-05-27", "1979-05-27T07:32:00Z", "07:32:00",
     '""', '"x"', "'x'", '"""x"""', '"\\u0000"', '"\\uD800"', '"\\x"', '"é"', '"203.0.113.1"', '"10.0.0.0/8"', '"10.0.0.2:80"',
     '"udp"', '"tcp"', '"icmp"', '"independent"', '"address"', '"address-port"', '"Address"', '"outbound"', '"both"',
+    '"kept"', '"free"', '"Free"', '"preserved"', '"random"', '"00010203"', f'"{SEED}"', f'"{SEED.upper()}"', f'"{SEED}0"', f'"{SEED[1:]}x"',
     '"0.0.0.0"', '"255.255.255.255"', '"256.0.0.1"', '"1.2.3"', '"1.2.3.4.5"', '"01.2.3.4"', '"1..2.3"', '" 1.2.3.4"', '"1.2.3.4 "',
     '"+1.2.3.4"', '"-1.2.3.4"', '"1.2.3.99999999999999999999"', '"0.0.0.0/0"', '"10.0.0.0/33"', '"10.0.0.0/08"', '"10.0.0.1/8"',
     '"10.0.0.0/"', '"10.0.0.0"', '"10.0.0.2:0"', '"10.0.0.2:65536"', '"10.0.0.2:"', '"10.0.0.2:080"', '"11.0.0.2:80"',
@@ -22,12 +25,13 @@ VALUES = (
     "{", "", "x", '"', "'", '"""', "\0", "\x7f", "# x",
 )
 KEYS = (
-    "pool", "inside", "filter", "refresh", "ring", "quota", "block", "timers", "pair", "redirect", "udp", "tcp-established", "tcp-transitory", "icmp",
-    "host", "external", "protocol", "x", "Pool", "\"pool\"", "'inside'", "\"po\\u006fl\"", "pool.x", "timers.udp", "", "a b", "é", "1", "-",
+    "pool", "inside", "filter", "refresh", "parity", "numbers", "seed", "ring", "quota", "block", "timers", "pair", "redirect",
+    "udp", "tcp-established", "tcp-transitory", "icmp", "host", "external", "protocol", "x", "Pool", "\"pool\"", "'inside'", "\"po\\u006fl\"", "pool.x", "timers.udp", "", "a b", "é", "1", "-",
 )
 LINES = (
     "[timers]", "[[timers]]", "[pair]", "[[pair]]", "[redirect]", "[[redirect]]", "[pool]", "[]", "[[]]", "[x]", "[timers.udp]",
     "[[pair.x]]", "[", "]", "=", "pool", "\0", "\xff", "\r", "# comment", "x = 1", "ring = 1", "quota = 1", "block = 64", "udp = 300",
+    'parity = "free"', 'numbers = "random"', f'seed = "{SEED}"',
 )
 
 
@@ -46,6 +50,8 @@ class Configuration:
         self.pool = [POOL + place for place in range(draw.choice((1, 1, 2, 2, 3, 4, 16)))]
         self.settings = draw.choice(("", 'filter = "independent"', 'filter = "address"', 'filter = "address-port"'))
         self.settings += draw.choice(("", "", '\nrefresh = "outbound"', '\nrefresh = "both"'))
+        self.choosing = draw.choice(("", "", 'parity = "kept"', 'parity = "free"'))
+        self.choosing += draw.choice(("", "", '\nnumbers = "preserved"', f'\nnumbers = "random"\nseed = "{draw.randbytes(16).hex()}"'))
         self.ring = draw.choice(("", "ring = 1", "ring = 2", "ring = 4096"))
         self.quota = draw.choice(("", "", "quota = 1", "quota = 2", "quota = 65535"))
         self.timers = draw.choice(("", "[timers]", "[timers]\nudp = 120\ntcp-established = 7440\ntcp-transitory = 240\nicmp = 60"))
@@ -63,11 +69,10 @@ class Configuration:
     def rules(self):
         return configured.configured(self.text())
 
-    def external_of(self, inside):
-        """The external endpoint of an inside one, as it is guessed: its own number or, in its host's block, the one at its place."""
-        host, number = inside
-        block = self.rules.block_of(host)
-        return self.rules.pair(host), number if block is None else block[number % len(block)]
+    def external_of(self, protocol, inside):
+        """The external endpoint of an inside one, as it is guessed: with its first candidate."""
+        rules, host = self.rules, inside[0]
+        return rules.pair(host), next(iter(rules.choosing.candidates(rules.block_of(host), protocol, inside)))
 
     def pairs(self, draw):
         hosts = draw.sample(HOSTS, draw.choice((0, 0, 1, 3)))
@@ -82,7 +87,7 @@ class Configuration:
 
     def lines(self):
         parts = [f"pool = {quoted(map(text_of, self.pool))}", f"inside = {quoted(self.prefixes)}"]
-        parts += [self.settings, self.ring, self.quota, self.block, self.timers, *self.entries]
+        parts += [self.settings, self.choosing, self.ring, self.quota, self.block, self.timers, *self.entries]
         return "\n".join(part for part in parts if part).split("\n")
 
     def text(self):

@@ -3,10 +3,13 @@
 import re
 import tomllib
 
+from .choosing import Choosing
+
 NUMBER = "(?:0|[1-9][0-9]{0,9})"
 ADDRESS = re.compile(rf"({NUMBER})\.({NUMBER})\.({NUMBER})\.({NUMBER})", re.ASCII)
 PREFIX = re.compile(rf"(.*)/({NUMBER})", re.ASCII | re.DOTALL)
 ENDPOINT = re.compile("(.*):([1-9][0-9]{0,9})", re.ASCII | re.DOTALL)
+SEED = re.compile("[0-9A-Fa-f]{32}")
 MOST_ADDRESSES = MOST_PREFIXES = 16
 MOST_ENTRIES = 256
 MOST_DEPTH = 80
@@ -15,7 +18,7 @@ FIRST_OF_BLOCKS = 1024
 MOST_OF_BLOCKS = 65536 - FIRST_OF_BLOCKS
 LEAST_SECONDS = {"udp": 120, "tcp-established": 7440, "tcp-transitory": 240, "icmp": 60}
 DEFAULT_SECONDS = LEAST_SECONDS | {"udp": 300}
-KEYS = {"pool", "inside", "filter", "refresh", "timers", "ring", "quota", "block", "pair", "redirect"}
+KEYS = {"pool", "inside", "filter", "refresh", "parity", "numbers", "seed", "timers", "ring", "quota", "block", "pair", "redirect"}
 KEYS_OF_ENTRIES = {"pair": {"host", "external"}, "redirect": {"protocol", "inside", "external"}}
 
 
@@ -84,6 +87,23 @@ def field_of(entry, key):
     return entry[key]
 
 
+def word_in(table, key, *words):
+    """One of these words, the first where none is said."""
+    word = text_in(table.get(key, words[0]))
+    want(word in words, "bad-word")
+    return word
+
+
+def choosing_in(table):
+    keeps_parity = word_in(table, "parity", "kept", "free") == "kept"
+    if word_in(table, "numbers", "preserved", "random") == "preserved":
+        want("seed" not in table, "seed-unused")
+        return Choosing(keeps_parity)
+    seed = text_in(field_of(table, "seed"))
+    want(SEED.fullmatch(seed), "bad-seed")
+    return Choosing(keeps_parity, bytes.fromhex(seed))
+
+
 class Configured:
     """Reads a table rule by rule."""
 
@@ -97,10 +117,9 @@ class Configured:
         entries = entries_of(table, "inside", MOST_PREFIXES, is_required=True)
         self.prefixes = [prefix_of(text_in(entry)) for entry in entries]
         want(not any(self.is_inside(address) for address in self.pool), "pool-inside")
-        self.filter = text_in(table.get("filter", "independent"))
-        want(self.filter in ("independent", "address", "address-port"), "bad-word")
-        self.refresh = text_in(table.get("refresh", "outbound"))
-        want(self.refresh in ("outbound", "both"), "bad-word")
+        self.filter = word_in(table, "filter", "independent", "address", "address-port")
+        self.refresh = word_in(table, "refresh", "outbound", "both")
+        self.choosing = choosing_in(table)
         self.timers = self.timers_of(table.get("timers", {}))
         want(1 <= number_in(table.get("ring", 64)) <= 4096, "bad-number")
         self.quota = table.get("quota")

@@ -137,7 +137,7 @@ class Traffic:
         host, to = self.host(), self.remote()
         if self.sent and self.draw.random() < 0.3:
             to = self.draw.choice(self.sent)[2]
-        self.sent.append((protocol, host, self.external_of(host), to))
+        self.sent.append((protocol, host, self.external_of(protocol, host), to))
         return self.of_protocol(protocol, host, to)
 
     def incoming(self):

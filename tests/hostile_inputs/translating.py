@@ -3,7 +3,6 @@ docs/REQUIREMENTS.md and docs/FORMATS.md say what napt chose where they leave a 
 
 import struct
 from collections import Counter
-from itertools import chain
 
 from . import captures, reading
 from .packets import ACK, FIN, ICMP, RST, SYN, TCP, UDP, summed
@@ -90,21 +89,6 @@ class Binding:
 
 def shown(address):
     return ".".join(str(byte) for byte in address.to_bytes(4, "big"))
-
-
-def candidates(block, protocol, number):
-    """The number's class from the number on, wrapping: odd or even, below 1024 or not; all identifiers of echoes are one class. Of
-    a host's block the numbers of the number's parity, from its place on, wrapping, then the others from the next place on."""
-    if block is not None:
-        places = (number + step + 2 * k for step in (0, 1) for k in range(len(block) // 2))
-        return (block[place % len(block)] for place in places)
-    if protocol == ICMP:
-        numbers = range(65536)
-    else:
-        least = (2 - number % 2) if number < 1024 else 1024 + number % 2
-        numbers = range(least, 1024 if number < 1024 else 65536, 2)
-    place = numbers.index(number)
-    return chain(numbers[place:], numbers[:place])
 
 
 # A PACKET'S FIELDS
@@ -212,7 +196,7 @@ class Translator:
         if self.has_quota(address, inside[0]):
             raise Dropped("over-quota")
         taken = {binding.external[1] for binding in self.bindings if (binding.protocol, binding.external[0]) == (protocol, address)}
-        wanted = candidates(self.rules.block_of(inside[0]), protocol, inside[1])
+        wanted = self.rules.choosing.candidates(self.rules.block_of(inside[0]), protocol, inside)
         number = next((number for number in wanted if number not in taken), None)
         if number is None:
             raise Dropped("no-port")

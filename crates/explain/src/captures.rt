@@ -7,8 +7,9 @@ use crate::options::Options;
 use crate::reading::Written;
 use crate::refused;
 use napt_capture::{CaptureFault, Records, Source};
-use napt_commands::{Consumer, Stop};
+use napt_commands::{Consumer, Exit};
 use napt_display::reasons::Splitting;
+use napt_program::Stop;
 use napt_records::{Fault, MergedStreams, SideFault, Stream};
 use napt_sequential::{Arrivals, Input};
 use napt_wire::Side;
@@ -51,7 +52,7 @@ impl Refusing<'_> {
         rt: &R,
         side: Side,
         device: D,
-    ) -> Result<Begun<D>, Stop> {
+    ) -> Result<Begun<D>, Exit> {
         let mut head = Vec::new(rt.alloc());
         let mut reader = match BufReader::with_capacity(rt.alloc(), BUFFERED, device) {
             Ok(reader) => reader,
@@ -75,7 +76,7 @@ impl Refusing<'_> {
         side: Side,
         head: &'a [u8],
         source: &'a mut S,
-    ) -> Result<Opened<'a, S>, Stop>
+    ) -> Result<Opened<'a, S>, Exit>
         requires { S.failed source.old < 2 ^ 64 - 1 }
     {
         match Records::open(rt.alloc(), source) {
@@ -96,14 +97,14 @@ impl Refusing<'_> {
         head: &[u8],
         fault: CaptureFault,
         failed: Option<io::Error>,
-    ) -> Stop {
+    ) -> Exit {
         if let Err(stop) = self.tell_reasons(rt, side, head, fault) {
             return stop;
         }
         if let Some(error) = failed {
             let _ = eprintln!(rt; "  {:<9} {error}", "system");
         }
-        Stop::Told(napt_program::Stop::Run(Fault::Capture(side, fault)))
+        Exit::Told(Stop::Run(Fault::Capture(side, fault)))
     }
 
     fn tell_reasons<R: Eprint + AllocGlobal>(
@@ -112,7 +113,7 @@ impl Refusing<'_> {
         side: Side,
         head: &[u8],
         fault: CaptureFault,
-    ) -> Result<(), Stop> {
+    ) -> Result<(), Exit> {
         let options = self.options;
         let (name, path) = match side {
             Side::Inside => ("inside", options.files.inside.as_ref()),
@@ -162,7 +163,7 @@ impl<'r, 'i, 'o, A: Source, B: Source> Captures<'r, 'i, 'o, A, B> {
         &mut self,
         rt: &R,
         consumer: &mut C,
-    ) -> Result<(), Stop> {
+    ) -> Result<(), Exit> {
         let mut spare = Vec::new(rt.alloc());
         for number in 1..u64::MAX {
             if self.packets.asks_device() {
@@ -184,7 +185,7 @@ impl<'r, 'i, 'o, A: Source, B: Source> Captures<'r, 'i, 'o, A, B> {
     }
 
     /// All packets. A refusal is explained.
-    pub fn all<R: Eprint + AllocGlobal>(&mut self, rt: &R) -> Result<Vec<Input>, Stop> {
+    pub fn all<R: Eprint + AllocGlobal>(&mut self, rt: &R) -> Result<Vec<Input>, Exit> {
         let mut inputs = Vec::new(rt.alloc());
         for number in 1..u64::MAX {
             match self.packets.next(Vec::new(rt.alloc())) {
@@ -216,7 +217,7 @@ impl<'r, 'i, 'o, A: Source, B: Source> Captures<'r, 'i, 'o, A, B> {
         let _ = packets.into_streams();
     }
 
-    fn refuse<R: Eprint + AllocGlobal>(&self, rt: &R, fault: SideFault) -> Stop {
+    fn refuse<R: Eprint + AllocGlobal>(&self, rt: &R, fault: SideFault) -> Exit {
         let head = match fault.side {
             Side::Inside => self.inside_head,
             Side::Outside => self.outside_head,

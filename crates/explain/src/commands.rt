@@ -237,6 +237,11 @@ fn draw<'a>(alloc: Global) -> Result<Command<'a>, AllocError> {
             "SECONDS",
             "Ends the picture this long after the first packet [default: after the last packet]",
         ))?
+        .arg(flag(
+            alloc,
+            "clock",
+            "Has the time of day (UTC) along the axis, in place of seconds since the first packet",
+        ))?
         .arg(value(alloc, "host", "ADDRESS[:PORT]", HOST))
 }
 

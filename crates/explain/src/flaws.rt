@@ -1,7 +1,7 @@
 //! What captures show against themselves.
 
 use crate::options::Form;
-use napt_commands::{Outside, Stop};
+use napt_commands::{Exit, Outside};
 use napt_sequential::Input;
 
 /// What is printed about a capture that ends inside a record.
@@ -25,7 +25,7 @@ pub struct Flaws {
 impl Flaws {
     /// Reports each capture that ends inside a record, whose last packet is left out; on standard error unless people
     /// read standard output. A step back in time is always reported there.
-    pub fn tell<R: Print + Eprint>(self, rt: &R, form: Form<'_>) -> Result<(), Stop> {
+    pub fn tell<R: Print + Eprint>(self, rt: &R, form: Form<'_>) -> Result<(), Exit> {
         self.back.tell(rt, form);
         for (side, cut) in [("inside", self.inside), (self.holds.name(), self.outside)] {
             if cut && form.is_for_people() {

@@ -3,7 +3,8 @@
 ghost use Rattle.std.specs.Prelude.{◌≡◌, ◌-◌, ◌^◌, ◌<◌, OnOk};
 
 use napt_capture::{Sink, Watched, WriteFault, Written};
-use napt_commands::{Stop, tell_unwritten, unexplained};
+use napt_commands::{CountedRun, Exit, Outside, tell_unwritten, tell_warning, unexplained};
+use napt_config::Config;
 use napt_sequential::Input;
 use napt_wire::Side;
 use std::fs::File;
@@ -22,12 +23,20 @@ const END_OF_TIMES: u64 = 4_294_967_296_000_000_000;
 /// The most bytes that are written before a record.
 const MOST_BEFORE: u64 = 4_611_686_018_427_387_904;
 
-/// Writes the capture of the inputs from outside to a file. If that fails, prints the file and the system's reason.
-pub fn write_followed<R: Files + Eprint + AllocGlobal>(
+/// Writes the capture of the inputs from outside to a file, and prints what there is to warn of in their run. If that fails,
+/// prints the file and the system's reason.
+pub fn follow<R: Files + Eprint + AllocGlobal>(
     rt: &R,
     path: &str,
+    outside: Outside,
+    config: &Config,
     inputs: &[Input],
-) -> Result<(), Stop> {
+) -> Result<(), Exit> {
+    let mut run = CountedRun::begin(rt.alloc(), config)?;
+    for input in inputs {
+        run.step(rt.alloc(), input)?;
+    }
+    tell_warning(rt, outside, None, &run.losses);
     let made = File::create(rt, path).and_then(|file| BufWriter::with_capacity(
         rt.alloc(),
         BUFFERED,

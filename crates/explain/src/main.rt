@@ -30,8 +30,8 @@ use crate::setting::explain;
 use clap::Error;
 use clap::error::ErrorKind;
 use napt_attribution::{answer_by_blocks, tell_blocks};
-use napt_commands::Stop;
-use napt_program::{Call, Streams};
+use napt_commands::Exit;
+use napt_program::{Call, Stop, Streams};
 use std::env::Env;
 use std::process::ExitCode;
 use std::rt::Files;
@@ -49,11 +49,11 @@ fn main(rt: HostRuntime) -> ExitCode {
 }
 
 /// Does what the command line asks for, under the name that it begins with.
-fn called(rt: &HostRuntime, streams: Streams) -> Result<(), Stop> {
+fn called(rt: &HostRuntime, streams: Streams) -> Result<(), Exit> {
     let call = Call::of(rt, streams, OWN.name);
     match call.as_called(rt, INSTALLED.name) {
         Ok(call) => explained(rt, streams, call),
-        Err(stop) => Err(Stop::As(stop)),
+        Err(stop) => Err(Exit::As(stop)),
     }
 }
 
@@ -63,13 +63,13 @@ fn explained<R: Env + Files + Input + Print + Eprint + AllocGlobal>(
     rt: &R,
     streams: Streams,
     call: Call,
-) -> Result<(), Stop> {
+) -> Result<(), Exit> {
     let words = Words::of(rt.alloc(), arguments(rt)?)?;
     let manual = call.manual(OWN, INSTALLED);
     if let Some((option, now)) = words.earlier() {
         let name = manual.name;
         let _ = eprintln!(rt; "explain: --{option} is a command now: {name} {now}");
-        return Err(Stop::Told(napt_program::Stop::Usage));
+        return Err(Exit::Told(Stop::Usage));
     }
     let command_line = words.command_line(rt.alloc(), manual)?;
     let matches = match command_line.try_get_matches_from(&words.list) {
@@ -81,33 +81,33 @@ fn explained<R: Env + Files + Input + Print + Eprint + AllocGlobal>(
             let options = options_of(rt, call, command, given)?;
             explained_under(rt, streams, &options)
         }
-        None => Err(Stop::As(napt_program::Stop::Usage)),
+        None => Err(Exit::As(Stop::Usage)),
     }
 }
 
 /// The command line's arguments. One that is not UTF-8 is a usage error.
-fn arguments<R: Env + AllocGlobal>(rt: &R) -> Result<Vec<String>, Stop> {
+fn arguments<R: Env + AllocGlobal>(rt: &R) -> Result<Vec<String>, Exit> {
     match env::args(rt) {
         Ok(args) => Ok(args.collect(rt.alloc())?),
         Err(error) if error.kind() == io::ErrorKind::OutOfMemory => {
-            Err(Stop::As(napt_program::Stop::LineMemory))
+            Err(Exit::As(Stop::LineMemory))
         }
-        Err(_) => Err(Stop::As(napt_program::Stop::Usage)),
+        Err(_) => Err(Exit::As(Stop::Usage)),
     }
 }
 
 /// Prints the message of `clap`: help and version to standard output, a usage error to standard error.
-fn told<R: Print + Eprint + AllocGlobal>(rt: &R, error: &Error) -> Result<(), Stop> {
+fn told<R: Print + Eprint + AllocGlobal>(rt: &R, error: &Error) -> Result<(), Exit> {
     let text = error.to_string(rt.alloc())?;
     match error.kind() {
         ErrorKind::DisplayHelp | ErrorKind::DisplayVersion => {
             rt.print(text)?;
             Ok(())
         }
-        ErrorKind::OutOfMemory => Err(Stop::As(napt_program::Stop::LineMemory)),
+        ErrorKind::OutOfMemory => Err(Exit::As(Stop::LineMemory)),
         _ => {
             let _ = rt.eprint(text);
-            Err(Stop::Told(napt_program::Stop::Usage))
+            Err(Exit::Told(Stop::Usage))
         }
     }
 }
@@ -117,7 +117,7 @@ fn explained_under<R: Files + Input + Print + Eprint + AllocGlobal>(
     rt: &R,
     streams: Streams,
     options: &Options<'_>,
-) -> Result<(), Stop> {
+) -> Result<(), Exit> {
     if !options.pieces.is_empty() {
         return answer(rt, streams, options);
     }
@@ -136,7 +136,7 @@ fn told_without_outside<R: Files + Input + Print + Eprint + AllocGlobal>(
     rt: &R,
     streams: Streams,
     options: &Options<'_>,
-) -> Result<(), Stop> {
+) -> Result<(), Exit> {
     let written = configuration(rt, options)?;
     let is_log = matches!(options.form, Form::Log(_));
     if is_log || written.config.block().is_none() {
@@ -145,7 +145,7 @@ fn told_without_outside<R: Files + Input + Print + Eprint + AllocGlobal>(
             "explain: {command} answers for a run that napt makes: give what came from outside too (--outside), so that it \
 can be seen whether the gateway had the same numbers, or say --as-napt"
         );
-        return Err(Stop::Told(napt_program::Stop::Usage));
+        return Err(Exit::Told(Stop::Usage));
     }
     if options.is_without_captures() {
         let asked = requests_of(rt, options.form)?;
@@ -160,7 +160,7 @@ fn explained_run<R: Files + Input + Print + Eprint + AllocGlobal>(
     streams: Streams,
     options: &Options<'_>,
     written: Option<Written>,
-) -> Result<(), Stop> {
+) -> Result<(), Exit> {
     let (given, files) = read_given(rt, streams, options, written)?;
     explain(rt, streams, options, &given, files)
 }

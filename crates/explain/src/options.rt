@@ -5,10 +5,10 @@ use crate::scene::Part;
 use clap::ArgMatches;
 use napt_account::Party;
 use napt_attribution::{nanoseconds_of, party_of, span_of};
-use napt_commands::{Outside, Stop};
+use napt_commands::{Exit, Outside};
 use napt_lines::Choice;
 use napt_log_text::{Request, Span};
-use napt_program::{Call, Role};
+use napt_program::{Call, Role, Stop};
 use std::alloc::{AllocError, Global};
 
 /// What to explain, and what to print of it.
@@ -18,7 +18,7 @@ pub struct Options<'m> {
     pub files: napt_program::Options,
     /// What the outside capture holds.
     pub outside: Outside,
-    /// What split is called.
+    /// What split is called, beside a program that was called as this one was.
     pub split: &'m str,
     /// The pieces of the log that answers requests, if that is not the log of a run.
     pub pieces: Vec<String>,
@@ -97,10 +97,8 @@ pub enum Form<'m> {
     Requests(&'m str),
     /// The log, into the file at this path or to standard output.
     Log(Option<&'m str>),
-    /// A table with a line for each of several configurations.
-    Plans,
-    /// The same in CSV.
-    PlansInCsv,
+    /// A table with a line for each of several configurations, for people or in CSV.
+    Plans { is_csv: bool },
     /// How many bindings, ports and hosts there were at once.
     Sizes,
     /// The block of each inside host.
@@ -151,7 +149,7 @@ impl<'m> Form<'m> {
     pub fn is_for_people(self) -> bool {
         matches!(
             self,
-            Form::Lines | Form::Plans | Form::Sizes | Form::Differences
+            Form::Lines | Form::Plans { is_csv: false } | Form::Sizes | Form::Differences
         )
     }
 }
@@ -162,21 +160,26 @@ pub fn options_of<'m, R: Eprint + AllocGlobal>(
     call: Call,
     command: &str,
     matches: &'m ArgMatches<'_>,
-) -> Result<Options<'m>, Stop> {
+) -> Result<Options<'m>, Exit> {
     let alloc = rt.alloc();
     let outside = match matches.get_str("replies") {
         Some(_) => Outside::Replies,
         None => Outside::Packets,
     };
+    let only = matches.get_str("only");
+    let host = matches.get_str("host");
     let choice = Choice {
-        only: only_of(rt, matches)?,
-        host: party_at(rt, matches, "host", "--host ")?,
+        only: parsed(rt, "--only ", only, only.map(number_of))?,
+        host: parsed(rt, "--host ", host, host.map(host_of))?,
         dropped: matches.get_flag("dropped"),
     };
     Ok(Options {
         files: files_of(alloc, matches, outside)?,
         outside,
-        split: split_of(call),
+        split: match call.name == INSTALLED.name {
+            true => "napt-split",
+            false => "./split",
+        },
         pieces: paths_of(alloc, matches, "from-log")?,
         others: paths_of(alloc, matches, "other")?,
         form: form_of(rt, command, matches)?,
@@ -186,28 +189,18 @@ pub fn options_of<'m, R: Eprint + AllocGlobal>(
     })
 }
 
-/// What split is called, beside a program that was called so.
-fn split_of(call: Call) -> &'static str {
-    if call.name == INSTALLED.name {
-        "napt-split"
-    } else {
-        "./split"
-    }
-}
-
 /// What a command writes.
 fn form_of<'m, R: Eprint>(
     rt: &R,
     command: &str,
     matches: &'m ArgMatches<'_>,
-) -> Result<Form<'m>, Stop> {
+) -> Result<Form<'m>, Exit> {
     let file = matches.get_str("file").unwrap_or("");
     let flag = matches.get_flag(if command == "plan" { "csv" } else { "json" });
     Ok(match (command, flag) {
         ("who", _) => return asked_of(rt, matches),
         ("log", _) => Form::Log(matches.get_str("to")),
-        ("plan", false) => Form::Plans,
-        ("plan", true) => Form::PlansInCsv,
+        ("plan", is_csv) => Form::Plans { is_csv },
         ("sizes", _) => Form::Sizes,
         ("blocks", _) => Form::Blocks,
         ("draw", _) => Form::Picture(file),
@@ -219,9 +212,11 @@ fn form_of<'m, R: Eprint>(
 }
 
 /// What `who` asks.
-fn asked_of<'m, R: Eprint>(rt: &R, matches: &'m ArgMatches<'_>) -> Result<Form<'m>, Stop> {
-    let at = span_at(rt, matches)?;
-    match party_at(rt, matches, "endpoint", "")? {
+fn asked_of<'m, R: Eprint>(rt: &R, matches: &'m ArgMatches<'_>) -> Result<Form<'m>, Exit> {
+    let at = matches.get_str("at");
+    let at = parsed(rt, "--at ", at, at.map(moment_of))?;
+    let endpoint = matches.get_str("endpoint");
+    match parsed(rt, "", endpoint, endpoint.map(host_of))? {
         Some(party) => Ok(Form::Holders(Request {
             protocol: None,
             party,
@@ -272,71 +267,62 @@ fn file_of(
 }
 
 /// Prints what is wrong with the text of an argument, behind the words for its name, and returns how the program stops.
-fn wrong<R: Eprint>(rt: &R, name: &str, text: &str, why: &str) -> Stop {
+fn wrong<R: Eprint>(rt: &R, name: &str, text: &str, why: &str) -> Exit {
     let _ = eprintln!(rt; "explain: {name}{text}: {why}");
-    Stop::Told(napt_program::Stop::Usage)
+    Exit::Told(Stop::Usage)
 }
 
-fn only_of<R: Eprint>(rt: &R, matches: &ArgMatches<'_>) -> Result<Option<u64>, Stop> {
-    let Some(text) = matches.get_str("only") else {
-        return Ok(None);
-    };
-    match text.parse::<u64>() {
-        Ok(number) if number > 0 => Ok(Some(number)),
-        _ => Err(wrong(rt, "--only ", text, "expected a packet's number, from 1")),
-    }
-}
-
-/// What a host or an endpoint is to be.
-const PARTY: &str = "expected an IPv4 address, as 10.0.0.2, or an endpoint, as 203.0.113.1:5000";
-
-/// The host or endpoint that an argument gives. An invalid one is reported, behind the words for its name.
-fn party_at<R: Eprint>(
+/// The value of an argument, if it is there: what its text was parsed to. Why there is none is reported, behind the words
+/// for its name.
+fn parsed<R: Eprint, T: Drop>(
     rt: &R,
-    matches: &ArgMatches<'_>,
     name: &str,
-    words: &str,
-) -> Result<Option<Party>, Stop> {
-    let Some(text) = matches.get_str(name) else {
-        return Ok(None);
-    };
-    match party_of(text) {
-        Some(party) => Ok(Some(party)),
-        None => Err(wrong(rt, words, text, PARTY)),
+    given: Option<&str>,
+    value: Option<Result<T, &'static str>>,
+) -> Result<Option<T>, Exit> {
+    match value {
+        Some(Ok(value)) => Ok(Some(value)),
+        Some(Err(why)) => Err(wrong(rt, name, given.unwrap_or(""), why)),
+        None => Ok(None),
     }
+}
+
+fn number_of(text: &str) -> Result<u64, &'static str> {
+    match text.parse::<u64>() {
+        Ok(number) if number > 0 => Ok(number),
+        _ => Err("expected a packet's number, from 1"),
+    }
+}
+
+fn host_of(text: &str) -> Result<Party, &'static str> {
+    party_of(text).ok_or(
+        "expected an IPv4 address, as 10.0.0.2, or an endpoint, as 203.0.113.1:5000",
+    )
+}
+
+fn seconds_of(text: &str) -> Result<u64, &'static str> {
+    nanoseconds_of(text).ok_or("expected seconds, as 90 or 1.5")
+}
+
+fn moment_of(text: &str) -> Result<Span, &'static str> {
+    span_of(text).map_err(|no_time| no_time.words(
+        "expected seconds since 1970, as 90 or 1.5, or a date, as 2026-11-26T10:02:07Z",
+    ))
 }
 
 /// The part of the run that is drawn. An invalid time is reported.
-fn part_of<R: Eprint>(rt: &R, matches: &ArgMatches<'_>) -> Result<Part, Stop> {
-    let from = time_of(rt, "--from ", matches.get_str("from"))?;
-    let until = time_of(rt, "--until ", matches.get_str("until"))?;
+fn part_of<R: Eprint>(rt: &R, matches: &ArgMatches<'_>) -> Result<Part, Exit> {
+    let from = matches.get_str("from");
+    let from = parsed(rt, "--from ", from, from.map(seconds_of))?;
+    let until = matches.get_str("until");
+    let until = parsed(rt, "--until ", until, until.map(seconds_of))?;
     if until.is_some_and(|until| until <= from.unwrap_or(0)) {
         return Err(wrong(rt, "--until", "", "expected a time behind that of --from"));
     }
-    Ok(Part { from, until })
-}
-
-/// The time that an option gives, in ns. An invalid one is reported, behind the words for the option.
-fn time_of<R: Eprint>(rt: &R, words: &str, given: Option<&str>) -> Result<Option<u64>, Stop> {
-    let Some(text) = given else {
-        return Ok(None);
-    };
-    match nanoseconds_of(text) {
-        Some(time) => Ok(Some(time)),
-        None => Err(wrong(rt, words, text, "expected seconds, as 90 or 1.5")),
-    }
-}
-
-/// What the time of `--at` is to be.
-const TIME: &str = "expected seconds since 1970, as 90 or 1.5, or a date, as 2026-11-26T10:02:07Z";
-
-/// The time of `--at`. An invalid one is reported.
-fn span_at<R: Eprint>(rt: &R, matches: &ArgMatches<'_>) -> Result<Option<Span>, Stop> {
-    let Some(text) = matches.get_str("at") else {
-        return Ok(None);
-    };
-    match span_of(text) {
-        Ok(span) => Ok(Some(span)),
-        Err(no_time) => Err(wrong(rt, "--at ", text, no_time.words(TIME))),
-    }
+    let is_clock = matches.get_flag("clock");
+    Ok(Part {
+        from,
+        until,
+        is_clock,
+    })
 }

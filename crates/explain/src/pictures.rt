@@ -3,11 +3,10 @@
 use crate::options::Options;
 use crate::pictured_run::PicturedRun;
 use crate::scene::{Shown, scene_of};
-use napt_commands::{Stop, tell_unwritten, tell_warning};
+use napt_commands::{Exit, tell_unwritten, tell_warning};
 use napt_config::Config;
 use napt_display::picture::drawing_of;
 use napt_sequential::Input;
-use std::alloc::{AllocError, Global};
 use std::fs;
 use std::rt::Files;
 
@@ -19,7 +18,7 @@ pub fn draw<R: Files + Eprint + AllocGlobal>(
     options: &Options<'_>,
     config: &Config,
     inputs: &[Input],
-) -> Result<(), Stop> {
+) -> Result<(), Exit> {
     let run = PicturedRun::of(rt.alloc(), config, inputs, options.choice)?;
     tell_warning(rt, options.outside, None, &run.losses);
     run.unmatched.tell(rt);
@@ -30,14 +29,10 @@ pub fn draw<R: Files + Eprint + AllocGlobal>(
         part: options.part,
         host: options.choice.host,
     };
-    let text = drawing(rt.alloc(), shown)?;
+    let scene = scene_of(rt.alloc(), shown)?;
+    let text = drawing_of(rt.alloc(), &scene)?;
     match fs::write(rt, path, text.as_str()) {
         Ok(()) => Ok(()),
         Err(error) => Err(tell_unwritten(rt, "FILE", path, &error)),
     }
-}
-
-fn drawing(alloc: Global, shown: Shown<'_>) -> Result<String, AllocError> {
-    let scene = scene_of(alloc, shown)?;
-    drawing_of(alloc, &scene)
 }

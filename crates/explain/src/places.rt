@@ -2,8 +2,8 @@
 //! `napt`.
 
 use crate::options::Options;
-use napt_commands::{Stop, tell_failed, unwritten};
-use napt_program::{Role, is_same, place_of, unmade};
+use napt_commands::{Exit, tell_failed, unwritten};
+use napt_program::{Role, Stop, is_same, place_of, unmade};
 use std::fs::File;
 use std::rt::Files;
 
@@ -20,7 +20,7 @@ struct Named<'a> {
 }
 
 /// Prints why the file of a role cannot be used, and returns how `napt` would stop.
-pub fn tell_file<R: Files + Eprint>(rt: &R, options: &Options<'_>, role: Role) -> Stop {
+pub fn tell_file<R: Files + Eprint>(rt: &R, options: &Options<'_>, role: Role) -> Exit {
     let (files, option) = (&options.files, options.option_of(role));
     let path = match role {
         Role::Config | Role::Log => None,
@@ -37,17 +37,17 @@ pub fn tell_file<R: Files + Eprint>(rt: &R, options: &Options<'_>, role: Role) -
             tells_output(rt, options, option, path);
         }
     }
-    Stop::Told(napt_program::Stop::File(role))
+    Exit::Told(Stop::File(role))
 }
 
 /// Prints that the standard stream for a role is closed, and returns how `napt` would stop.
-pub fn tell_closed<R: Eprint>(rt: &R, role: Role) -> Stop {
+pub fn tell_closed<R: Eprint>(rt: &R, role: Role) -> Exit {
     let stream = stream_of(role);
     let _ = eprintln!(rt;
         "explain: {stream} is closed, and stands for --{}",
         role.name()
     );
-    Stop::Told(napt_program::Stop::File(role))
+    Exit::Told(Stop::File(role))
 }
 
 /// The standard stream that may stand for a role.
@@ -59,14 +59,14 @@ fn stream_of(role: Role) -> &'static str {
 }
 
 /// Prints that a file is `-` and another has the standard stream, and returns how `napt` would stop. `name` names it.
-pub fn tell_shared<R: Eprint>(rt: &R, name: &str, role: Role) -> Stop {
+pub fn tell_shared<R: Eprint>(rt: &R, name: &str, role: Role) -> Exit {
     let stream = stream_of(role);
     let _ = eprintln!(rt; "explain: {name} -: another file is {stream} too");
-    Stop::Told(napt_program::Stop::File(role))
+    Exit::Told(Stop::File(role))
 }
 
 /// Refuses the file that `explain` is to write, if there is one, where it is read too or cannot be created, and prints why.
-pub fn refuse_written<R: Files + Eprint>(rt: &R, options: &Options<'_>) -> Result<(), Stop> {
+pub fn refuse_written<R: Files + Eprint>(rt: &R, options: &Options<'_>) -> Result<(), Exit> {
     let Some((name, path)) = options.form.written() else {
         return Ok(());
     };
@@ -117,44 +117,44 @@ fn named_again<R: Files>(
     let again = all
         .iter()
         .take_while(|named| named.name != name)
-        .find(|named| match named.path {
-            Some(other) => is_same(place, place_of(rt, other)),
-            None => false,
-        });
+        .find(|named| named
+            .path
+            .is_some_and(|other| is_same(place, place_of(rt, other))));
     again.map(|named| named.name)
 }
 
-/// The files of the options of `napt`, in their order.
+/// The files of the options of `napt` in their order, and the standard streams that are in use for want of one.
 fn all_named<'a>(options: &'a Options<'_>) -> [Named<'a>; 8] {
     let files = &options.files;
     [
-        option_file("--config", files.config.as_ref(), INPUT),
-        option_file("--inside", files.inside.as_ref(), INPUT),
-        stream_file("standard input", INPUT, files.inside.is_none()),
-        option_file(options.outside.option(), files.outside.as_ref(), INPUT),
-        stream_file("standard output", OUTPUT, files.to_outside.is_none()),
-        option_file("--to-outside", files.to_outside.as_ref(), OUTPUT),
-        option_file("--to-inside", files.to_inside.as_ref(), OUTPUT),
-        option_file("--report", files.report.as_ref(), OUTPUT),
+        Named::of("--config", files.config.as_ref(), INPUT),
+        Named::of("--inside", files.inside.as_ref(), INPUT),
+        Named {
+            name: "standard input",
+            path: files.inside.is_none().then_some(INPUT),
+        },
+        Named::of(options.outside.option(), files.outside.as_ref(), INPUT),
+        Named {
+            name: "standard output",
+            path: files.to_outside.is_none().then_some(OUTPUT),
+        },
+        Named::of("--to-outside", files.to_outside.as_ref(), OUTPUT),
+        Named::of("--to-inside", files.to_inside.as_ref(), OUTPUT),
+        Named::of("--report", files.report.as_ref(), OUTPUT),
     ]
+}
+
+impl<'a> Named<'a> {
+    /// What the file of an option is named, `-` as the standard stream that it stands for.
+    fn of(name: &'static str, path: Option<&'a String>, stream: &'a str) -> Named<'a> {
+        Named {
+            name,
+            path: path.map(|path| standing(path, stream)),
+        }
+    }
 }
 
 /// The path of a file, or of the standard stream for `-`.
 fn standing<'a>(path: &'a str, stream: &'a str) -> &'a str {
     if path == "-" { stream } else { path }
-}
-
-fn option_file<'a>(name: &'static str, path: Option<&'a String>, stream: &'a str) -> Named<'a> {
-    Named {
-        name,
-        path: path.map(|path| standing(path, stream)),
-    }
-}
-
-/// A standard stream, if it is in use.
-fn stream_file<'a>(name: &'static str, path: &'a str, stands: bool) -> Named<'a> {
-    Named {
-        name,
-        path: stands.then_some(path),
-    }
 }

@@ -38,11 +38,8 @@ impl Progress {
 
 /// Whether a stream of this process is a terminal, by the name of its file in Linux.
 fn is_terminal<R: Files + AllocGlobal>(rt: &R, stream: &str) -> bool {
-    match fs::read_link(rt, stream) {
-        Ok(path) => match path.to_str() {
-            Some(name) => name.starts_with("/dev/pts/") || name.starts_with("/dev/tty"),
-            None => false,
-        },
-        Err(_) => false,
-    }
+    let Ok(path) = fs::read_link(rt, stream) else {
+        return false;
+    };
+    path.to_str().is_some_and(|name| name.starts_with("/dev/pts/") || name.starts_with("/dev/tty"))
 }

@@ -4,10 +4,10 @@ use crate::options::{Form, Options};
 use crate::places::{refuse_written, tell_closed, tell_file, tell_shared};
 use crate::refused;
 use napt_attribution::{Asked, answer_by_log, requests_at};
-use napt_commands::{Stop, text_at};
+use napt_commands::{Exit, text_at};
 use napt_config::{Config, ConfigFault};
 use napt_display::reasons::inside_prefixes;
-use napt_program::{InputFiles, Role, Streams, closed_stream, open_inputs, refuse_unmade};
+use napt_program::{InputFiles, Role, Stop, Streams, closed_stream, open_inputs, refuse_unmade};
 use std::alloc::{AllocError, Global};
 use std::rt::Files;
 
@@ -32,7 +32,7 @@ pub fn read_given<R: Files + Input + Eprint + AllocGlobal>(
     streams: Streams,
     options: &Options<'_>,
     written: Option<Written>,
-) -> Result<(Given, InputFiles<Box<R::Reader>, R::File>), Stop> {
+) -> Result<(Given, InputFiles<Box<R::Reader>, R::File>), Exit> {
     if let Some(role) = closed_stream(streams, &options.files) {
         return Err(tell_closed(rt, role));
     }
@@ -59,7 +59,7 @@ pub fn answer<R: Files + Input + Print + Eprint + AllocGlobal>(
     rt: &R,
     streams: Streams,
     options: &Options<'_>,
-) -> Result<(), Stop> {
+) -> Result<(), Exit> {
     let has_config = options.files.is_stream(Role::Config);
     refuse_more_input(rt, options, has_config, "--from-log")?;
     let config = match &options.files.config {
@@ -71,7 +71,7 @@ pub fn answer<R: Files + Input + Print + Eprint + AllocGlobal>(
 }
 
 /// Refuses the first option that wants a standard stream which another has, and prints why.
-fn refuse_shared<R: Eprint>(rt: &R, options: &Options<'_>) -> Result<(), Stop> {
+fn refuse_shared<R: Eprint>(rt: &R, options: &Options<'_>) -> Result<(), Exit> {
     if let Some(role) = options.files.standard_again() {
         return Err(tell_shared(rt, options.option_of(role), role));
     }
@@ -90,7 +90,7 @@ fn refuse_more_input<R: Eprint>(
     options: &Options<'_>,
     is_taken: bool,
     name: &str,
-) -> Result<(), Stop> {
+) -> Result<(), Exit> {
     let most = if is_taken { 0 } else { 1 };
     if options.more_from_input() > most {
         return Err(tell_shared(rt, name, Role::Config));
@@ -102,12 +102,12 @@ fn refuse_more_input<R: Eprint>(
 fn explain_file<R: Files + Eprint, T: Drop>(
     rt: &R,
     options: &Options<'_>,
-    opened: Result<T, napt_program::Stop>,
-) -> Result<T, Stop> {
+    opened: Result<T, Stop>,
+) -> Result<T, Exit> {
     match opened {
         Ok(opened) => Ok(opened),
-        Err(napt_program::Stop::File(role)) => Err(tell_file(rt, options, role)),
-        Err(stop) => Err(Stop::As(stop)),
+        Err(Stop::File(role)) => Err(tell_file(rt, options, role)),
+        Err(stop) => Err(Exit::As(stop)),
     }
 }
 
@@ -132,13 +132,13 @@ impl Written {
 pub fn configuration<R: Files + Input + Eprint + AllocGlobal>(
     rt: &R,
     options: &Options<'_>,
-) -> Result<Written, Stop> {
+) -> Result<Written, Exit> {
     if let Some(path) = &options.files.config {
         return written_at(rt, "--config", path);
     }
     match Config::built_in(rt.alloc()) {
         Ok(config) => Ok(Written { config, text: None }),
-        Err(_) => Err(Stop::As(napt_program::Stop::Config(ConfigFault::Memory))),
+        Err(_) => Err(Exit::As(Stop::Config(ConfigFault::Memory))),
     }
 }
 
@@ -146,7 +146,7 @@ pub fn configuration<R: Files + Input + Eprint + AllocGlobal>(
 fn other_configurations<R: Files + Input + Eprint + AllocGlobal>(
     rt: &R,
     options: &Options<'_>,
-) -> Result<Vec<Config>, Stop> {
+) -> Result<Vec<Config>, Exit> {
     let mut others = Vec::new(rt.alloc());
     for path in &options.others {
         others.push(configuration_at(rt, "FILE", path)?)?;
@@ -159,7 +159,7 @@ fn configuration_at<R: Files + Input + Eprint + AllocGlobal>(
     rt: &R,
     name: &str,
     path: &str,
-) -> Result<Config, Stop> {
+) -> Result<Config, Exit> {
     Ok(written_at(rt, name, path)?.config)
 }
 
@@ -168,7 +168,7 @@ fn written_at<R: Files + Input + Eprint + AllocGlobal>(
     rt: &R,
     name: &str,
     path: &str,
-) -> Result<Written, Stop> {
+) -> Result<Written, Exit> {
     let text = text_at(rt, name, path)?;
     let fault = match Config::read(rt.alloc(), &text) {
         Ok(config) => {
@@ -180,14 +180,14 @@ fn written_at<R: Files + Input + Eprint + AllocGlobal>(
         Err(fault) => fault,
     };
     refused::tell_config(rt, path, &text, fault)?;
-    Err(Stop::Told(napt_program::Stop::Config(fault)))
+    Err(Exit::Told(Stop::Config(fault)))
 }
 
 /// The requests of a form, none if it has none. A file that is refused is reported.
 pub fn requests_of<R: Files + Input + Eprint + AllocGlobal>(
     rt: &R,
     form: Form<'_>,
-) -> Result<Vec<Asked>, Stop> {
+) -> Result<Vec<Asked>, Exit> {
     match form {
         Form::Holders(request) => Ok(vec![in rt.alloc(); Asked::of(request)]?),
         Form::Requests(path) => requests_at(rt, path),

@@ -1,7 +1,7 @@
 //! Prints why napt refuses a configuration or a capture.
 
 use napt_capture::CaptureFault;
-use napt_commands::Stop;
+use napt_commands::Exit;
 use napt_config::ConfigFault;
 use napt_display::reasons::{Reason, Splitting, capture_reasons, config_reasons};
 use napt_program::{CaptureFaultName, name_of_config_fault};
@@ -13,7 +13,7 @@ pub fn tell_config<R: Eprint + AllocGlobal>(
     path: &str,
     text: &[u8],
     fault: ConfigFault,
-) -> Result<(), Stop> {
+) -> Result<(), Exit> {
     let name = name_of_config_fault(fault);
     let _ = eprintln!(rt; "the configuration {path} is refused: {name}");
     tell_reasons(rt, config_reasons(rt.alloc(), text, fault))
@@ -26,19 +26,15 @@ pub fn tell_capture<R: Eprint + AllocGlobal>(
     bytes: &[u8],
     fault: CaptureFault,
     splitting: Splitting<'_>,
-) -> Result<(), Stop> {
+) -> Result<(), Exit> {
     let name = CaptureFaultName(fault);
     let _ = eprintln!(rt; "the capture {side} is refused: {name}");
     tell_reasons(rt, capture_reasons(rt.alloc(), bytes, fault, splitting))
 }
 
-fn tell_reasons<R: Eprint>(rt: &R, reasons: Result<Vec<Reason>, AllocError>) -> Result<(), Stop> {
+fn tell_reasons<R: Eprint>(rt: &R, reasons: Result<Vec<Reason>, AllocError>) -> Result<(), Exit> {
     for reason in &reasons? {
-        tell_reason(rt, reason);
+        let _ = eprintln!(rt; "  {:<9} {}", reason.title, reason.text);
     }
     Ok(())
-}
-
-fn tell_reason<R: Eprint>(rt: &R, reason: &Reason) {
-    let _ = eprintln!(rt; "  {:<9} {}", reason.title, reason.text);
 }

@@ -3,9 +3,10 @@
 use crate::pictured_run::{PicturedRun, Turn};
 use jiff::Timestamp;
 use napt_account::{Entry, Party};
+use napt_commands::Seconds;
 use napt_config::{Address, Config};
-use napt_display::picture::{Binding, BindingKind, MOST_BARS, NumberClass, Pass, Scene};
-use napt_lines::{Seconds, has_party};
+use napt_display::picture::{BindingKind, DrawnBinding, MOST_BARS, NumberClass, Pass, Scene};
+use napt_lines::has_party;
 use napt_records::{EndpointText, cause_name, protocol_name};
 use napt_sequential::Input;
 use napt_wire::{Cause, Protocol};
@@ -30,6 +31,8 @@ pub struct Part {
     pub from: Option<u64>,
     /// If absent, until a little after the last packet.
     pub until: Option<u64>,
+    /// Whether its axis tells the time of day.
+    pub is_clock: bool,
 }
 
 impl<'a> Shown<'a> {
@@ -43,10 +46,15 @@ impl<'a> Shown<'a> {
         since.map(|since| self.zero().saturating_add(since))
     }
 
+    /// The first and the last moment of the part shown.
+    fn bounds(self) -> (u64, u64) {
+        let (from, until) = (self.moment(self.part.from), self.moment(self.part.until));
+        (from.unwrap_or(0), until.unwrap_or(u64::MAX))
+    }
+
     /// How many of the chosen packets came in the part shown.
     fn packets(self) -> usize {
-        let from = self.moment(self.part.from).unwrap_or(0);
-        let until = self.moment(self.part.until).unwrap_or(u64::MAX);
+        let (from, until) = self.bounds();
         let turns = self.run.turns.iter();
         turns
             .filter(|turn| from <= turn.clock && turn.clock <= until)
@@ -61,13 +69,9 @@ impl<'a> Shown<'a> {
 
     /// Whether a binding is chosen, and live in the part shown; a redirect always is.
     fn has(self, entry: &Entry) -> bool {
-        let begins = self
-            .moment(self.part.until)
-            .is_none_or(|until| entry.made <= until);
-        let ends = self
-            .moment(self.part.from)
-            .is_none_or(|from| from < end_of(entry));
-        has_party(&entry.binding, self.host) && (entry.binding.fixed || (begins && ends))
+        let (from, until) = self.bounds();
+        let lives = entry.made <= until && from < end_of(entry);
+        has_party(&entry.binding, self.host) && (entry.binding.fixed || lives)
     }
 
     /// Whether few enough bindings are shown for each to have a bar.
@@ -82,6 +86,7 @@ pub fn scene_of(alloc: Global, shown: Shown<'_>) -> Result<Scene, AllocError> {
         head: head_of(alloc, shown)?,
         from: shown.moment(shown.part.from),
         until: shown.moment(shown.part.until),
+        is_clock: shown.part.is_clock,
         lanes: Vec::new(alloc),
         bindings: Vec::new(alloc),
         causes: Vec::new(alloc),
@@ -136,7 +141,7 @@ fn add_lanes(alloc: Global, lanes: &mut Vec<String>, config: &Config) -> Result<
 /// All bindings. Those with a bar also get a label and a title.
 fn add_bindings(
     alloc: Global,
-    bindings: &mut Vec<Binding>,
+    bindings: &mut Vec<DrawnBinding>,
     shown: Shown<'_>,
 ) -> Result<(), AllocError> {
     let has_bars = shown.has_bars();
@@ -152,12 +157,12 @@ fn add_bindings(
 }
 
 /// A binding without label and title; without a lane if it is not chosen.
-fn binding_of(alloc: Global, shown: Shown<'_>, entry: &Entry) -> Binding {
+fn binding_of(alloc: Global, shown: Shown<'_>, entry: &Entry) -> DrawnBinding {
     let lane = match shown.config.pool_index(entry.binding.external.address) {
         Some(lane) if has_party(&entry.binding, shown.host) => lane as usize,
         _ => usize::MAX,
     };
-    Binding {
+    DrawnBinding {
         kind: kind_of(entry),
         lane,
         class: class_of(shown.config, entry),
@@ -182,6 +187,11 @@ fn class_of(config: &Config, entry: &Entry) -> Option<NumberClass> {
             size: u64::from(block.size),
         });
     }
+    if !config.choosing().keeps_parity {
+        let (name, size) = side_of(protocol, number);
+        let owner = 0;
+        return Some(NumberClass { name, owner, size });
+    }
     let (name, size) = match (protocol, number < 1024, number % 2 == 0) {
         (Protocol::Icmp, _, _) => ("icmp", 65_536),
         (Protocol::Tcp, true, true) => ("low even tcp", 511),
@@ -195,6 +205,17 @@ fn class_of(config: &Config, entry: &Entry) -> Option<NumberClass> {
     };
     let owner = 0;
     Some(NumberClass { name, owner, size })
+}
+
+/// The class of a number where parity is free.
+fn side_of(protocol: Protocol, number: u16) -> (&'static str, u64) {
+    match (protocol, number < 1024) {
+        (Protocol::Icmp, _) => ("icmp", 65_536),
+        (Protocol::Tcp, true) => ("low tcp", 1023),
+        (Protocol::Tcp, false) => ("tcp", 64_512),
+        (Protocol::Udp, true) => ("low udp", 1023),
+        (Protocol::Udp, false) => ("udp", 64_512),
+    }
 }
 
 fn block_name(protocol: Protocol) -> &'static str {
@@ -265,18 +286,12 @@ fn add_packets(alloc: Global, scene: &mut Scene, turns: &[Turn]) -> Result<(), A
                 .push(String::from_str(alloc, cause_name(cause))?)?;
         }
     }
-    add_passes(&mut scene.passes, turns, &causes)
-}
-
-/// What each packet did; `causes` has the cause of every drop.
-fn add_passes(passes: &mut Vec<Pass>, turns: &[Turn], causes: &[Cause]) -> Result<(), AllocError> {
-    for turn in turns {
-        passes.push(Pass {
-            clock: turn.clock,
-            out: turn.used.out,
-            into: turn.used.into,
-            dropped: causes.iter().position(|cause| turn.cause == Some(*cause)),
-        })?;
-    }
+    let passes = turns.iter().map(|turn| Pass {
+        clock: turn.clock,
+        out: turn.used.out,
+        into: turn.used.into,
+        dropped: causes.iter().position(|cause| turn.cause == Some(*cause)),
+    });
+    scene.passes = passes.collect(alloc)?;
     Ok(())
 }

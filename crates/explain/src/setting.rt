@@ -2,12 +2,12 @@
 
 use crate::captures::{Begun, Captures, Opened, Refusing};
 use crate::explanation::begin_explanation;
-use crate::following::write_followed;
+use crate::following::follow;
 use crate::options::{Form, Options};
 use crate::pictures::draw;
 use crate::reading::Given;
 use napt_capture::{NoPackets, Source, Watched};
-use napt_commands::{CountedRun, Outside, Stop, take_all, tell_warning};
+use napt_commands::{Exit, Outside, take_all};
 use napt_config::Config;
 use napt_lines::{Against, Replies, ends_of};
 use napt_program::{InputFiles, Streams};
@@ -33,7 +33,7 @@ pub fn explain<R, S: Read + Drop, F: Read + Drop>(
     options: &Options<'_>,
     given: &Given,
     files: InputFiles<S, F>,
-) -> Result<(), Stop>
+) -> Result<(), Exit>
 where
     R: Files + Print + Eprint + AllocGlobal,
 {
@@ -58,39 +58,24 @@ impl<'a> Setting<'a> {
         self,
         rt: &R,
         files: InputFiles<S, F>,
-    ) -> Result<(), Stop> {
+    ) -> Result<(), Exit> {
         let InputFiles { inside, outside } = files;
         let Begun { head, reader } = self.refusing().begin(rt, Side::Inside, inside)?;
         let mut source = Watched::new(head.as_slice().chain(reader));
         let inside = self.refusing().open(rt, Side::Inside, &head, &mut source)?;
         match outside {
-            Some(outside) => self.read_outside(rt, inside, outside),
-            None => self.read_nothing(rt, inside),
+            Some(outside) => {
+                let Begun { head, reader } = self.refusing().begin(rt, Side::Outside, outside)?;
+                let mut source = Watched::new(head.as_slice().chain(reader));
+                let outside = self.refusing().open(rt, Side::Outside, &head, &mut source)?;
+                self.explain_both(rt, inside, outside)
+            }
+            None => {
+                let mut source = NoPackets::new();
+                let outside = self.refusing().open(rt, Side::Outside, &[], &mut source)?;
+                self.explain_both(rt, inside, outside)
+            }
         }
-    }
-
-    /// The same, behind the header of the inside capture.
-    fn read_outside<R: Files + Print + Eprint + AllocGlobal, A: Source, D: Read + Drop>(
-        self,
-        rt: &R,
-        inside: Opened<'_, A>,
-        outside: D,
-    ) -> Result<(), Stop> {
-        let Begun { head, reader } = self.refusing().begin(rt, Side::Outside, outside)?;
-        let mut source = Watched::new(head.as_slice().chain(reader));
-        let outside = self.refusing().open(rt, Side::Outside, &head, &mut source)?;
-        self.explain_both(rt, inside, outside)
-    }
-
-    /// The same without an outside capture.
-    fn read_nothing<R: Files + Print + Eprint + AllocGlobal, A: Source>(
-        self,
-        rt: &R,
-        inside: Opened<'_, A>,
-    ) -> Result<(), Stop> {
-        let mut source = NoPackets::new();
-        let outside = self.refusing().open(rt, Side::Outside, &[], &mut source)?;
-        self.explain_both(rt, inside, outside)
     }
 
     /// Explains the packets of two captures.
@@ -99,7 +84,7 @@ impl<'a> Setting<'a> {
         rt: &R,
         inside: Opened<'_, A>,
         outside: Opened<'_, B>,
-    ) -> Result<(), Stop> {
+    ) -> Result<(), Exit> {
         let mut captures = Captures::of(rt.alloc(), self.refusing(), inside, outside);
         let told = self.explain(rt, &mut captures);
         captures.close();
@@ -111,17 +96,15 @@ impl<'a> Setting<'a> {
         self,
         rt: &R,
         captures: &mut Captures<'_, '_, '_, A, B>,
-    ) -> Result<(), Stop> {
+    ) -> Result<(), Exit> {
         if !self.streams.output {
-            return Err(Stop::NoOutput);
+            return Err(Exit::NoOutput);
         }
         match (self.options.form, self.given.others.first()) {
             (Form::Differences, Some(other)) => self.explain_against(rt, captures, other),
-            (Form::Plans | Form::PlansInCsv, _) => self.explain_plans(rt, captures),
-            (Form::Picture(path), _) => self.draw(rt, captures, path),
-            (Form::Followed(path), _) => self.follow(rt, captures, path),
-            _ if self.options.outside.follows() => self.explain_replies(rt, captures),
-            _ => self.explain_passing(rt, captures),
+            (Form::Plans { is_csv }, _) => self.explain_plans(rt, captures, is_csv),
+            (Form::Picture(path) | Form::Followed(path), _) => self.write(rt, captures, path),
+            _ => self.explain_run(rt, captures),
         }
     }
 
@@ -131,7 +114,7 @@ impl<'a> Setting<'a> {
         rt: &R,
         captures: &mut Captures<'_, '_, '_, A, B>,
         other: &'a Config,
-    ) -> Result<(), Stop> {
+    ) -> Result<(), Exit> {
         let options = self.options;
         let configs = [&self.given.written.config, other];
         let mut against = Against::begin(rt.alloc(), options.choice, configs)?;
@@ -153,7 +136,8 @@ impl<'a> Setting<'a> {
         self,
         rt: &R,
         captures: &mut Captures<'_, '_, '_, A, B>,
-    ) -> Result<(), Stop> {
+        is_csv: bool,
+    ) -> Result<(), Exit> {
         let options = self.options;
         let mut plans = Plans::begin(rt.alloc(), &options.others, &self.given.others)?;
         if options.outside.follows() {
@@ -163,77 +147,46 @@ impl<'a> Setting<'a> {
             captures.hand_over(rt, &mut plans)?;
         }
         captures.flaws().tell(rt, options.form)?;
-        let is_csv = matches!(options.form, Form::PlansInCsv);
         plans.tell(rt, options.outside, is_csv)
     }
 
-    /// Explains the packets as they come.
-    fn explain_passing<R: Files + Print + Eprint + AllocGlobal, A: Source, B: Source>(
+    /// Explains the packets as they come; those of which replies follow the run once all are there.
+    fn explain_run<R: Files + Print + Eprint + AllocGlobal, A: Source, B: Source>(
         self,
         rt: &R,
         captures: &mut Captures<'_, '_, '_, A, B>,
-    ) -> Result<(), Stop> {
+    ) -> Result<(), Exit> {
         let Given { written, asked, .. } = self.given;
-        let mut explanation = begin_explanation(rt, self.options, &written.config, asked, None)?;
-        captures.hand_over(rt, &mut explanation)?;
-        explanation.end(rt, captures.flaws())
-    }
-
-    /// Draws the run, once all packets are there.
-    fn draw<R: Files + Print + Eprint + AllocGlobal, A: Source, B: Source>(
-        self,
-        rt: &R,
-        captures: &mut Captures<'_, '_, '_, A, B>,
-        path: &str,
-    ) -> Result<(), Stop> {
-        let (options, config) = (self.options, &self.given.written.config);
-        let inputs = self.inputs(rt, captures)?;
-        captures.flaws().tell(rt, options.form)?;
-        draw(rt, path, options, config, &inputs)
-    }
-
-    /// Writes the outside capture that replies make, once all packets are there, and prints what there is to warn of.
-    fn follow<R: Files + Print + Eprint + AllocGlobal, A: Source, B: Source>(
-        self,
-        rt: &R,
-        captures: &mut Captures<'_, '_, '_, A, B>,
-        path: &str,
-    ) -> Result<(), Stop> {
-        let inputs = self.inputs(rt, captures)?;
-        captures.flaws().tell(rt, self.options.form)?;
-        let mut run = CountedRun::begin(rt.alloc(), &self.given.written.config)?;
-        for input in &inputs {
-            run.step(rt.alloc(), input)?;
+        let (options, config) = (self.options, &written.config);
+        if !options.outside.follows() {
+            let mut explanation = begin_explanation(rt, options, config, asked, None)?;
+            captures.hand_over(rt, &mut explanation)?;
+            return explanation.end(rt, captures.flaws());
         }
-        tell_warning(rt, self.options.outside, None, &run.losses);
-        write_followed(rt, path, &inputs)
-    }
-
-    /// All packets, as the run gets them.
-    fn inputs<R: Eprint + AllocGlobal, A: Source, B: Source>(
-        self,
-        rt: &R,
-        captures: &mut Captures<'_, '_, '_, A, B>,
-    ) -> Result<Vec<Input>, Stop> {
-        let (outside, config) = (self.options.outside, &self.given.written.config);
-        let inputs = captures.all(rt)?;
-        Ok(outside.inputs_under(rt.alloc(), config, inputs)?)
-    }
-
-    /// Explains packets of which replies follow the run, once all are there.
-    fn explain_replies<R: Files + Print + Eprint + AllocGlobal, A: Source, B: Source>(
-        self,
-        rt: &R,
-        captures: &mut Captures<'_, '_, '_, A, B>,
-    ) -> Result<(), Stop> {
-        let (options, config) = (self.options, &self.given.written.config);
         let mut inputs = captures.all(rt)?;
         let ends = named_ends(rt.alloc(), options, &mut inputs)?;
         let inputs = options.outside.inputs_under(rt.alloc(), config, inputs)?;
         let replies = Replies::of(options.outside, config, &ends);
-        let mut explanation = begin_explanation(rt, options, config, &self.given.asked, replies)?;
+        let mut explanation = begin_explanation(rt, options, config, asked, replies)?;
         take_all(rt, &inputs, &mut explanation)?;
         explanation.end(rt, captures.flaws())
+    }
+
+    /// Writes the picture of the run, or the outside capture that replies make, once all packets are there.
+    fn write<R: Files + Print + Eprint + AllocGlobal, A: Source, B: Source>(
+        self,
+        rt: &R,
+        captures: &mut Captures<'_, '_, '_, A, B>,
+        path: &str,
+    ) -> Result<(), Exit> {
+        let (options, config) = (self.options, &self.given.written.config);
+        let inputs = captures.all(rt)?;
+        let inputs = options.outside.inputs_under(rt.alloc(), config, inputs)?;
+        captures.flaws().tell(rt, options.form)?;
+        match options.form {
+            Form::Picture(_) => draw(rt, path, options, config, &inputs),
+            _ => follow(rt, path, options.outside, config, &inputs),
+        }
     }
 }
 

@@ -1,8 +1,7 @@
 //! What the program does: it reads its words and its configuration, opens the files in a fixed order, and runs over them.
 
 ghost use Rattle.std.specs.Prelude.{◌≡◌, IfErr, OnOk, map, string_bytes};
-ghost use Rattle.napt_program.specs.CommandLine.{files_of, line_of_words};
-ghost use Rattle.napt_program.specs.Command.{IsLineStop, IsRunStop, IsTaken, IsUnderOpenGate};
+ghost use Rattle.napt_program.specs.{CommandLine.{files_of, line_of_words}, Command.{IsLineStop, IsRunStop, IsTaken, IsUnderOpenGate}};
 
 use napt_pool::OpenGate;
 use napt_program::{

@@ -1,34 +1,19 @@
 -- What is told with the inputs of a run, and what it has left, is its log.
-use Rattle.std.proofs.Common.{◌≡◌, ℕ, ◌+◌, ◌≤◌, max, Bool, true, false, ◌&&◌, cond, List, [], ◌∷◌, ◌++◌, length, get_or, map, drop, Option, Some, None, refl, sym, ◌∙◌, ap, subst, arith, append-nil, append_assoc}
-use Rattle.std.specs.Prelude.{filter, not}
-use Rattle.std.specs.List.{fold}
-use Rattle.std.specs.List.Sorted.{IsPermutation}
-use Rattle.std.proofs.lemmas.Bool.{and_parts}
+use Rattle.std.proofs.lemmas.{Grind.common_steps, Bool.Decides.nat_tests}
+use Rattle.std.proofs.Common.{◌≡◌, ℕ, ◌+◌, ◌≤◌, max, Bool, true, false, ◌&&◌, cond, List, [], ◌∷◌, ◌++◌, length, map, drop, Option, Some, None, refl, sym, ◌∙◌, ap, subst, arith, append-nil, append_assoc}
+use Rattle.std.{specs.{Prelude.{filter, not}, List.{fold, Sorted.IsPermutation}}, proofs.lemmas.Bool.and_parts}
 use Rattle.std.proofs.lemmas.List.Sorted.{IsPermutation-refl, IsPermutation-sym, IsPermutation-trans, IsPermutation-cons, IsPermutation-middle, IsPermutation-append_left, IsPermutation-append_right, IsPermutation-filter_both}
-use Rattle.napt_config.specs.Rules.{Rules, KeepsRules, AreTimers, pair_of}
-use Rattle.napt_config.specs.declared.settings.Redirect.{Redirect}
-use Rattle.napt_config.specs.declared.settings.Timers.{Timers}
-use Rattle.napt_binding.specs.Ends.{end_of, is_before}
-use Rattle.napt_binding.proofs.FirstEnds.{ends_are_first, before_sooner}
-use Rattle.napt_rules.specs.declared.Leg.{Leg}
-use Rattle.napt_wire.specs.declared.Way.{Way}
-use Rattle.napt_wire.specs.declared.Way.TheVariants.{Outgoing, Incoming}
-use Rattle.napt_rules.specs.declared.Row.{Row}
+use Rattle.napt_config.specs.{Rules.{Rules, KeepsRules, AreTimers, pair_of}, declared.settings.{Redirect.Redirect, Timers.Timers}}
+use Rattle.napt_binding.{specs.Ends.{end_of, is_before}, proofs.FirstEnds.{ends_are_first, before_sooner}}
+use Rattle.napt_rules.specs.declared.{Leg.Leg, Row.Row}
 use Rattle.napt_rules.specs.Prelude.{Through, Binding, redirected, act, opening, row, Act, Arrival, Course, step, run, last_clock}
-use Rattle.napt_laws.proofs.Grown.{grows, clock_more}
-use Rattle.napt_laws.proofs.Turns.{InTurn}
-use Rattle.napt_account.specs.AllTold.{joined, all_ended, all_refused, origin, ToldIsTheLog}
-use Rattle.napt_account.specs.declared.log.Entry.{Entry}
-use Rattle.napt_account.specs.declared.log.Listed.{Listed}
-use Rattle.napt_account.specs.declared.log.Shortage.{Shortage}
-use Rattle.napt_account.specs.Log.{begun, shares, is_of, counted, through, logged_by, logged, shortage_at, shortages, log_of}
-use Rattle.napt_account.specs.Telling.{numbered, numbered_from, is_open, ends_within, ends_first, placed, in_order_of_end, told_by}
-use Rattle.napt_account.proofs.Books.{fold_joined}
-use Rattle.napt_account.proofs.Leaves.{Opens, act_opens}
-use Rattle.napt_account.proofs.Lists.{filter_agrees, map_joined}
-use Rattle.napt_account.proofs.LoggedRuns.{ended_told, made_told, refused_told, living_is}
-use Rattle.napt_account.proofs.MadeLegs.{drop_joined}
-use Rattle.napt_account.proofs.Retold.{flat_joined, log_is, step_turn}
+use Rattle.napt_wire.specs.declared.Way.{Way, TheVariants.{Outgoing, Incoming}}
+use Rattle.napt_laws.proofs.{Grown.{grows, clock_more}, Turns.InTurn}
+use Rattle.napt_account.specs.{AllTold.{joined, all_ended, all_refused, origin, ToldIsTheLog}, declared.log.{Entry.Entry, Listed.Listed, Shortage.Shortage}}
+use Rattle.napt_account.specs.Log.{begun, counted, through, logged_by, logged, shortage_at, shortages, log_of}
+use Rattle.napt_account.{specs.Telling.{numbered, numbered_from, is_open, ends_within, ends_first, placed, in_order_of_end, told_by}, proofs.Books.fold_joined}
+use Rattle.napt_account.proofs.{Leaves.{Opens, act_opens}, Lists.{filter_agrees, map_joined}, LoggedRuns.{ended_told, made_told, refused_told, living_is}}
+use Rattle.napt_account.proofs.{MadeLegs.drop_joined, Retold.{flat_joined, log_is, step_turn}}
 
 -- LISTS
 
@@ -76,23 +61,12 @@ module _ (now : ℕ) (r : Row) (change : Entry → Entry) (opens : (e : Entry) �
       cond (not (is_before now (through now r change e).end))
       (record { number = n; entry = through now r change e } ∷ ls) ls
       ≡ cond (not (is_before now e.end)) (record { number = n; entry = e } ∷ ls) ls
-  one_changed e n ls = elim (is_of now r e) as (λ v. is_of now r e ≡ v →
-      cond (not (is_before now (cond v (change e) e).end)) (record { number = n; entry = cond v (change e) e } ∷ ls) ls
-      ≡ cond (not (is_before now e.end)) (record { number = n; entry = e } ∷ ls) ls) [
-        | true ↦ λ is.
-            ap (λ v. cond (not v) (record { number = n; entry = change e } ∷ ls) ls) (opens e)
-            ∙ sym (ap (λ v. cond (not v) (record { number = n; entry = e } ∷ ls) ls)
-            (and_parts (is_before now e.end) (shares r e.binding) is).0)
-        | false ↦ λ is. refl
-      ] refl
+  one_changed e n ls = grind (arith, common_steps, nat_tests, and_parts)
 
   changed : (n : ℕ) (es : List Entry) → filter (is_closed now) (numbered_from n (map (through now r change) es))
       ≡ filter (is_closed now) (numbered_from n es)
   changed n [] = refl
-  changed n (e ∷ es) =
-      one_changed e n (filter (is_closed now) (numbered_from (n + 1) (map (through now r change) es)))
-      ∙ ap (λ (ls : List Listed). cond (not (is_before now e.end)) (record { number = n; entry = e } ∷ ls) ls)
-      (changed (n + 1) es)
+  changed n (e ∷ es) = grind (arith, common_steps, nat_tests, one_changed, changed (n + 1) es)
 
 counted_open : (way : Way) (now : ℕ) (end : Option ℕ) → is_before now end ≡ true → (e : Entry) →
     is_before now (counted way now end e).end ≡ true
@@ -101,17 +75,7 @@ counted_open Incoming now end opened e = opened
 
 leg_closed : (timers : Timers) (leg : Leg) (went : Option Through) → Opens timers leg.now went → (es : List Entry) →
     closed leg.now (logged_by timers leg went es) ≡ closed leg.now es
-leg_closed timers leg None opens es = refl
-leg_closed timers leg (Some went) opens es =
-    let end : Option ℕ = end_of timers went.binding in
-    let change : Entry → Entry = counted leg.way leg.now end in
-    let left : (e : Entry) → is_before leg.now (change e).end ≡ true = counted_open leg.way leg.now end opens in
-    elim went.made as (λ v. closed leg.now (cond v (es ++ change (begun timers leg.now went.binding) ∷ [])
-    (map (through leg.now (row went.binding) change) es)) ≡ closed leg.now es) [
-      | true ↦ pushed leg.now 1 es (change (begun timers leg.now went.binding))
-          (left (begun timers leg.now went.binding))
-      | false ↦ changed leg.now (row went.binding) change left 1 es
-    ]
+leg_closed timers leg went h es = grind (arith, common_steps, nat_tests, counted_open, pushed, changed)
 
 module _ (rules : Rules) (t : AreTimers rules.timers) where
   turn_on : (clock : ℕ) (list : List Binding) (acts : List Act) (last : ℕ) (new : List Binding) →
@@ -149,9 +113,7 @@ through_origins : (now : ℕ) (r : Row) (change : Entry → Entry) → ((e : Ent
     (es : List Entry) → map origin_of (map (through now r change) es) ≡ map origin_of es
 through_origins now r change same [] = refl
 through_origins now r change same (e ∷ es) =
-    ap (λ (x : Row × ℕ). x ∷ map origin_of (map (through now r change) es))
-    (elim (is_of now r e) as (λ v. origin_of (cond v (change e) e) ≡ origin_of e) [ true ↦ same e | false ↦ refl ])
-    ∙ ap (λ (xs : List (Row × ℕ)). origin_of e ∷ xs) (through_origins now r change same es)
+    grind (arith, common_steps, nat_tests, through_origins now r change same es)
 
 -- later entries have those of earlier ones, and more behind them
 record Grown (es fs : List Entry) : Type 0 where
@@ -190,10 +152,7 @@ grown_origins : (n : ℕ) (es fs : List Entry) (more : List (Row × ℕ)) → ma
 grown_origins n [] fs more is = refl
 grown_origins n (e ∷ es) [] more is = cc
 grown_origins n (e ∷ es) (f ∷ fs) more is =
-    let head : origin_of f ≡ origin_of e = ap (λ (xs : List (Row × ℕ)). get_or xs 0 (origin_of e)) is in
-    ap (λ (x : Row × ℕ). (n, x) ∷ (map origin (numbered_from (n + 1) es)
-    ++ map origin (drop (length es) (numbered_from (n + 1) fs)))) (sym head)
-    ∙ ap (λ (xs : List (ℕ × (Row × ℕ))). (n, origin_of f) ∷ xs) (grown_origins (n + 1) es fs more (ap (drop 1) is))
+    grind (arith, common_steps, nat_tests, grown_origins (n + 1) es fs more (ap (drop 1) is))
 
 -- ONE MORE INPUT
 

@@ -1,21 +1,14 @@
 -- At each time the log of a whole run names what is live then.
-use Rattle.std.proofs.Common.{◌≡◌, ℕ, suc, ◌+◌, ◌<◌, ◌≤◌, max, List, [], ◌∷◌, ◌++◌, map, length, refl, sym, ◌∙◌, ap, subst, arith}
-use Rattle.std.specs.Prelude.{filter}
+use Rattle.std.{proofs.Common.{◌≡◌, ℕ, suc, ◌+◌, ◌<◌, ◌≤◌, max, List, [], ◌∷◌, ◌++◌, map, length, refl, sym, ◌∙◌, ap, subst, arith}, specs.Prelude.filter}
 use Rattle.std.specs.List.{list_any, fold}
 use Rattle.napt_config.specs.Rules.{Rules, KeepsRules}
-use Rattle.napt_rules.specs.Prelude.{Binding, is_live, opening, Arrival, row, Course, ahead, step, run_from, run, last_clock, OpeningIsSound}
-use Rattle.napt_laws.proofs.Grown.{run_append}
-use Rattle.napt_laws.proofs.Turns.{run_turn}
-use Rattle.napt_account.specs.declared.log.Entry.{Entry}
-use Rattle.napt_binding.specs.Ends.{end_of, is_before}
-use Rattle.napt_binding.proofs.FirstEnds.{ends_are_first}
-use Rattle.napt_account.specs.Log.{begun, logged, log_of, stands_at}
-use Rattle.napt_account.specs.Attribution.{IsBeforeNext, has_ends, LogNamesTheHolders, LogListsTheLiving}
-use Rattle.napt_account.proofs.Retold.{RunRetold, run_retold}
-use Rattle.napt_account.proofs.Lists.{any_seen_of, any_among, filter_seen, filter_agrees, map_twice, each_mapped, each_every}
-use Rattle.napt_account.proofs.Books.{fold_joined}
+use Rattle.napt_rules.specs.Prelude.{Binding, is_live, opening, Arrival, row, Course, ahead, step, run_from, run, last_clock, OpeningIsSound, Apart}
+use Rattle.napt_laws.proofs.{Grown.run_append, Turns.run_turn}
+use Rattle.napt_account.specs.{declared.log.Entry.Entry, Log.{begun, logged, log_of, stands_at}}
+use Rattle.napt_account.{specs.Attribution.{IsBeforeNext, has_ends, LogNamesTheHolders, LogListsTheLiving}, proofs.Retold.{RunRetold, run_retold}}
+use Rattle.napt_account.proofs.{Lists.{any_seen_of, any_among, filter_seen, filter_agrees, map_twice, each_mapped, each_every}, Books.fold_joined}
 use Rattle.napt_account.proofs.Entries.{Tells, hold, hold_of, living, named, apart_differ, tells_later, named_now, told_turn, past_turn}
-use Rattle.napt_rules.specs.Prelude.{Apart}
+use Rattle.napt_binding.{specs.Ends.{end_of, is_before}, proofs.FirstEnds.ends_are_first}
 
 -- what a list begins with
 begins : (rules : Rules) → KeepsRules rules → (list : List Binding) → Apart (map row list) →

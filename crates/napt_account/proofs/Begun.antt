@@ -1,16 +1,9 @@
 -- The entries of the redirects, one more.
 use Rattle.std.proofs.Common.{◌≡◌, ℕ, zero, suc, ◌+◌, ◌<◌, ◌≤◌, false, ◌||◌, List, [], ◌∷◌, ◌++◌, length, map, take, get_or, refl, sym, ◌∙◌, ap, subst, arith}
-use Rattle.std.specs.List.{list_any}
-use Rattle.std.proofs.lemmas.List.{take_more}
-use Rattle.napt_config.specs.Rules.{Rules, pair_of}
-use Rattle.napt_config.specs.declared.settings.Redirect.{Redirect}
-use Rattle.napt_config.specs.declared.settings.Timers.{Timers}
-use Rattle.napt_rules.specs.Prelude.{Binding, Each, redirected, opening, row, AreRowsApart, Apart}
-use Rattle.napt_rules.specs.declared.Row.{Row}
-use Rattle.napt_account.specs.Log.{begun, shares, is_of}
-use Rattle.napt_account.proofs.Lists.{map_joined}
-use Rattle.napt_account.proofs.Entries.{differ_back}
-use Rattle.napt_account.proofs.Moves.{Differ}
+use Rattle.std.{specs.List.list_any, proofs.lemmas.List.take_more}
+use Rattle.napt_config.specs.{Rules.{Rules, pair_of}, declared.settings.{Redirect.Redirect, Timers.Timers}}
+use Rattle.napt_rules.specs.{Prelude.{Binding, Each, redirected, opening, row, AreRowsApart, Apart}, declared.Row.Row}
+use Rattle.napt_account.{specs.Log.{begun, shares, is_of}, proofs.{Lists.map_joined, Entries.differ_back, Moves.Differ}}
 
 take_mapped : {X Y : Type 0} (f : X → Y) (n : ℕ) (xs : List X) → take n (map f xs) ≡ map f (take n xs)
 take_mapped f zero xs = refl

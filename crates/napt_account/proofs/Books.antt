@@ -1,17 +1,12 @@
 -- Where an entry stands among others: the open entry of a row, a change of it, and its use.
+use Rattle.std.proofs.lemmas.{Grind.common_steps, Bool.Decides.nat_tests}
 use Rattle.std.proofs.Common.{◌≡◌, ℕ, zero, suc, Bool, true, false, ◌||◌, cond, List, [], ◌∷◌, ◌++◌, map, set, Some, None, refl, sym, ◌∙◌, ap, arith}
-use Rattle.std.specs.Option.{option_map}
-use Rattle.std.specs.List.{list_any, fold, slice_get}
-use Rattle.std.proofs.lemmas.Option.{same_Some}
+use Rattle.std.{specs.{Option.option_map, List.{list_any, fold, slice_get}}, proofs.lemmas.Option.same_Some}
 use Rattle.napt_wire.specs.declared.Way.{Way}
 use Rattle.napt_sequential.specs.declared.passage.Trace.{Trace}
 use Rattle.napt_rules.specs.declared.Row.{Row}
-use Rattle.napt_account.specs.declared.log.Entry.{Entry}
-use Rattle.napt_account.specs.Log.{is_of, place_of, through}
-use Rattle.napt_account.specs.declared.account.Note.{Note}
-use Rattle.napt_account.specs.declared.account.Use.{Use}
-use Rattle.napt_account.specs.Book.{after_trace, noted, use_at, use_by_trace, uses_told}
-use Rattle.napt_account.specs.Uses.{used}
+use Rattle.napt_account.specs.{declared.{log.Entry.Entry, account.{Note.Note, Use.Use}}, Log.{is_of, place_of, through}}
+use Rattle.napt_account.specs.{Book.{after_trace, noted, use_at, use_by_trace, uses_told}, Uses.used}
 
 -- LISTS
 
@@ -116,10 +111,7 @@ used_there way es i e at note is = ap (λ (n : Note). used way n (Some i)) (is �
 
 pub any_used : (way : Way) (now : ℕ) (w : Row) (es : List Entry) (u : Use) →
     Some u ≡ use_at way es (place_of now w es) → list_any (is_of now w) es ≡ true
-any_used way now w es u is = elim (list_any (is_of now w) es) as (λ v. list_any (is_of now w) es ≡ v → v ≡ true) [
-  | true ↦ λ e. refl
-  | false ↦ λ e. let never : Some u ≡ None = is ∙ ap (use_at way es) (no_place now w es e) in cc
-] refl
+any_used way now w es u is = grind (arith, common_steps, nat_tests, no_place)
 
 pub uses_more : (es : List Entry) (traces : List Trace) (t : Trace) → uses_told es (traces ++ t ∷ [])
     ≡ uses_told es traces ++ use_by_trace (fold after_trace es traces) t ∷ []

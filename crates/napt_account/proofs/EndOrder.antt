@@ -1,24 +1,11 @@
 -- What has ended is taken out, and what is listed is in order of end.
+use Rattle.std.proofs.lemmas.{Grind.common_steps, Bool.Decides.nat_tests}
 use Rattle.std.proofs.Common.{◌≡◌, ◌≢◌, ℕ, zero, suc, ◌+◌, ◌<◌, ◌^◌, ◌⊎◌, inl, inr, Bool, true, false, cond, unwrap_or, List, [], ◌∷◌, ◌++◌, length, map, Option, Some, None, refl, sym, ◌∙◌, ap, subst, arith}
-use Rattle.std.specs.Prelude.{filter, not}
-use Rattle.std.specs.List.{Contains, AllByRecursion, IsDistinct, slice_index_or}
-use Rattle.std.specs.List.Sorted.{IsPermutation, IsSortedByKey}
-use Rattle.std.specs.Map.{lookup, keys_of, values_of}
-use Rattle.std.specs.Option.{option_map}
-use Rattle.std.specs.Ordering.{is_lt}
-use Rattle.std.specs.HashMap.{IsUnique}
-use Rattle.std.proofs.lemmas.Bool.{and_parts, and_from, eq-eqb}
-use Rattle.std.proofs.lemmas.Bool.Decides.{nat_tests}
-use Rattle.std.proofs.lemmas.List.Sorted.{Contains-permutation, IsPermutation-sym}
-use Rattle.std.proofs.lemmas.Map.Keys.{IsDistinct-IsPermutation}
-use Rattle.std.proofs.lemmas.Option.{same_Some}
+use Rattle.std.specs.{Prelude.{filter, not}, List.{Contains, AllByRecursion, IsDistinct, slice_index_or, Sorted.{IsPermutation, IsSortedByKey}}}
+use Rattle.std.{specs.{Map.{lookup, keys_of, values_of}, Ordering.is_lt, HashMap.IsUnique}, proofs.lemmas.Bool.{and_parts, and_from, eq-eqb}}
+use Rattle.std.proofs.lemmas.{List.Sorted.{Contains-permutation, IsPermutation-sym}, Map.Keys.IsDistinct-IsPermutation, Option.same_Some}
 use Rattle.napt_rules.specs.Prelude.{Each}
-use Rattle.napt_account.specs.declared.log.Entry.{Entry}
-use Rattle.napt_account.specs.declared.log.Listed.{Listed}
-use Rattle.napt_account.specs.declared.open_entries.Due.{Due}
-use Rattle.napt_account.specs.declared.open_entries.ExternalKey.{ExternalKey}
-use Rattle.napt_account.specs.declared.open_entries.Open.{Open}
-use Rattle.napt_account.specs.declared.open_entries.OpenEntries.{OpenEntries}
+use Rattle.napt_account.specs.declared.{log.{Entry.Entry, Listed.Listed}, open_entries.{Due.Due, ExternalKey.ExternalKey, Open.Open, OpenEntries.OpenEntries}}
 use Rattle.napt_account.specs.OpenEntries.{external_key, end_key_of, end_key, external_eq, end_cmp, open_at, listed_at, due_of, is_queued, is_at, kept, IsIndexed, IsListed, Shows, InOrder}
 use Rattle.napt_account.specs.Telling.{numbered, is_open, ends_within, ends_first, in_order_of_end}
 use Rattle.napt_account.proofs.InOrder.{Has, Differ, each_has, has_each, has_left, has_parts, has_filter, filter_has, first_then, is_order, has_number, number_has, numbered_differ}
@@ -54,10 +41,7 @@ contains_has (x ∷ xs) l (suc k) lt is = inr (contains_has xs l k (omega (arith
 -- what does not come behind another stands before it
 not_behind : (a b : Option ℕ) (m n : ℕ) (l o : Listed) → l.entry.end ≡ a → o.entry.end ≡ b → l.number ≡ m →
     o.number ≡ n → m ≢ n → is_lt (end_cmp (end_key_of b n) (end_key_of a m)) ≡ false → ends_first l o ≡ true
-not_behind (Some a) (Some b) m n l o p q r s differ h = rw (p, q, r, s) (grind (arith, nat_tests, differ, h))
-not_behind (Some a) None m n l o p q r s differ h = rw (p, q) refl
-not_behind None (Some b) m n l o p q r s differ h = cc
-not_behind None None m n l o p q r s differ h = rw (p, q, r, s) (grind (arith, nat_tests, differ, h))
+not_behind a b m n l o h k g j p q = grind (arith, common_steps, nat_tests)
 
 sorted_order : (xs : List Listed) → IsSortedByKey end_key end_cmp xs → Differ xs → InOrder xs
 sorted_order [] sorted differ = tt
@@ -155,10 +139,8 @@ found_later : (e : ExternalKey × Open) (all es : List (ExternalKey × Open)) �
     Each (λ f. lookup (external_eq f.0) all ≡ Some f.1) es →
     Each (λ f. lookup (external_eq f.0) (e ∷ all) ≡ Some f.1) es
 found_later e all [] apart found = tt
-found_later e all (f ∷ es) apart found = (
-  ap (λ v. cond v (Some e.1) (lookup (external_eq f.0) all)) (external_flip f.0 e.0 ∙ apart.0) ∙ found.0,
-  found_later e all es apart.1 found.1,
-)
+found_later e all (f ∷ es) apart found =
+    grind (arith, common_steps, nat_tests, external_flip, found_later e all es apart.1 found.1)
 
 found_each : (es : List (ExternalKey × Open)) → IsDistinct external_eq (keys_of es) →
     Each (λ f. lookup (external_eq f.0) es ≡ Some f.1) es
@@ -175,11 +157,7 @@ values_apart : (e : ExternalKey × Open) (es : List (ExternalKey × Open)) →
     AllByRecursion (λ k. external_eq e.0 k ≡ false) (keys_of es) →
     AllByRecursion (λ l. share e.1.listed l ≡ false) (map of_open (values_of es))
 values_apart e [] is placed apart = tt
-values_apart e (f ∷ es) is placed apart = (
-  ap (λ (k : ExternalKey). external_eq k (external_key f.1.listed.entry.binding)) (sym is)
-      ∙ (ap (external_eq e.0) (sym placed.0) ∙ apart.0),
-  values_apart e es is placed.1 apart.1,
-)
+values_apart e (f ∷ es) is placed apart = grind (arith, common_steps, nat_tests, values_apart e es is placed.1 apart.1)
 
 kept_apart : (es : List (ExternalKey × Open)) → IsDistinct external_eq (keys_of es) →
     Each (λ f. f.0 ≡ external_key f.1.listed.entry.binding) es → Apart (map of_open (values_of es))
@@ -258,38 +236,18 @@ pub record IsParted (now : ℕ) (first all : OpenEntries) (ended : List Listed) 
 
 pub parted_none : (now : ℕ) (first : OpenEntries) → IsIndexed first → IsParted now first first []
 unfolding IsDistinct
-parted_none now first indexed = record {
-  indexed = indexed;
-  had = λ x l at. at;
-  stays = λ x l at. inl at;
-  gone = λ l h. absurd h;
-  there = λ l h. absurd h;
-  apart = tt;
-}
+parted_none now first indexed = grind (arith, common_steps, nat_tests)
 
 pub parted_same : (now : ℕ) (first old new : OpenEntries) (ended : List Listed) → IsParted now first old ended →
     IsIndexed new → ((x : ExternalKey) → listed_at new x ≡ listed_at old x) → IsParted now first new ended
-parted_same now first old new ended parted indexed same = record {
-  indexed = indexed;
-  had = λ x l at. parted.had x l (sym (same x) ∙ at);
-  stays = λ x l at. elim (parted.stays x l at) [ inl here ↦ inl (same x ∙ here) | inr h ↦ inr h ];
-  gone = λ l h. let g = parted.gone l h in (g.0, same (external_key l.entry.binding) ∙ g.1);
-  there = parted.there;
-  apart = parted.apart;
-}
+parted_same now first old new ended parted indexed same = grind (arith, common_steps, nat_tests)
 
 apart_pushed : (xs : List Listed) (l : Listed) → Apart xs → ((m : Listed) → Has xs m → share m l ≡ false) →
     Apart (xs ++ l ∷ [])
 unfolding IsDistinct
 apart_pushed [] l apart new = (tt, tt)
-apart_pushed (x ∷ xs) l apart new = (
-  each_pushed xs apart.0,
-  apart_pushed xs l apart.1 (λ m h. new m (inr h)),
-) where
-  each_pushed : (ys : List Listed) → AllByRecursion (λ y. share x y ≡ false) ys →
-      AllByRecursion (λ y. share x y ≡ false) (ys ++ l ∷ [])
-  each_pushed [] h = (new x (inl refl), tt)
-  each_pushed (y ∷ ys) h = (h.0, each_pushed ys h.1)
+apart_pushed (x ∷ xs) l apart new =
+    grind (arith, common_steps, nat_tests, apart_pushed xs l apart.1 (λ m h. new m (inr h)))
 
 module _ (now : ℕ) (first old new : OpenEntries) (ended more : List Listed) (parted : IsParted now first old ended)
     (key : ExternalKey) (l : Listed) (at : listed_at old key ≡ Some l) (over : is_open now l ≡ false)
@@ -304,10 +262,7 @@ module _ (now : ℕ) (first old new : OpenEntries) (ended more : List Listed) (p
       [ true ↦ refl | false ↦ none ]
 
   pushed_has : (m : Listed) → Has more m → Has ended m ⊎ (l ≡ m)
-  pushed_has m h = elim (has_parts ended (l ∷ []) m (subst (λ (xs : List Listed). Has xs m) pushed h)) [
-    | inl was ↦ inl was
-    | inr new ↦ elim new [ inl is ↦ inr is | inr never ↦ absurd never ]
-  ]
+  pushed_has m h = grind (arith, common_steps, nat_tests, has_parts)
 
   pub parted_taken : IsParted now first new more
   parted_taken = record {
@@ -373,17 +328,4 @@ module _ (was now most : ℕ) (es : List Entry) (first all : OpenEntries) (shows
 
 pub none_shows : (all : OpenEntries) → ((x : ExternalKey) → open_at all x ≡ None) →
     ((d : Due) → is_queued all d ≡ false) → all.made ≡ 0 → Shows 0 0 [] all
-none_shows all opens queue made =
-    let never : (x : ExternalKey) (l : Listed) → listed_at all x ≡ Some l → ⊥ = λ x l at.
-    let z : None ≡ Some l = sym (ap (option_map of_open) (opens x)) ∙ at in cc in
-    record {
-      indexed = record {
-        placed = λ x o at. let z : None ≡ Some o = sym (opens x) ∙ at in absurd cc;
-        queued = λ d. queue d ∙ ap (λ (o : Option Open). is_at (due_of o) d.at) (sym (opens d.key));
-      };
-      made = made;
-      has = λ l at opened. let z : None ≡ Some l.entry = at.there in absurd cc;
-      there = λ x l at. absurd (never x l at);
-      unended = λ x l at. absurd (never x l at);
-      few = λ x l at. absurd (never x l at);
-    }
+none_shows all opens queue made = grind (arith, common_steps, nat_tests)

@@ -1,19 +1,12 @@
 -- An entry that has ended is final.
-use Rattle.std.proofs.Common.{◌≡◌, ℕ, zero, suc, ◌+◌, ◌≤◌, max, true, false, ◌&&◌, cond, List, [], ◌∷◌, ◌++◌, length, map, Option, Some, None, refl, sym, ◌∙◌, ap, subst, arith}
-use Rattle.std.specs.List.{fold, slice_get}
-use Rattle.std.proofs.lemmas.Option.{same_Some}
-use Rattle.napt_config.specs.Rules.{Rules}
-use Rattle.napt_config.specs.declared.settings.Timers.{Timers}
-use Rattle.napt_binding.specs.Ends.{end_of, is_before}
-use Rattle.napt_binding.proofs.FirstEnds.{before_sooner}
-use Rattle.napt_rules.specs.declared.Leg.{Leg}
-use Rattle.napt_rules.specs.Prelude.{Through, Binding, act, opening, row, Act, Course, ahead, step, run, run_from, last_clock}
-use Rattle.napt_laws.proofs.Grown.{run_append}
-use Rattle.napt_laws.proofs.Turns.{InTurn, run_turn}
-use Rattle.napt_account.specs.declared.log.Entry.{Entry}
-use Rattle.napt_account.specs.Ended.{EndedEntriesStay}
-use Rattle.napt_account.specs.Log.{begun, shares, counted, through, logged_by, logged, log_of}
-use Rattle.napt_account.proofs.Books.{fold_joined}
+use Rattle.std.proofs.lemmas.{Grind.common_steps, Bool.Decides.nat_tests}
+use Rattle.std.proofs.Common.{◌≡◌, ℕ, zero, suc, ◌+◌, ◌≤◌, max, false, List, [], ◌∷◌, ◌++◌, length, map, Option, Some, ◌∙◌, ap, subst, arith}
+use Rattle.std.{specs.List.{fold, slice_get}, proofs.lemmas.Option.same_Some}
+use Rattle.napt_config.specs.{Rules.Rules, declared.settings.Timers.Timers}
+use Rattle.napt_binding.{specs.Ends.is_before, proofs.FirstEnds.before_sooner}
+use Rattle.napt_rules.specs.{declared.Leg.Leg, Prelude.{Through, Binding, act, opening, Act, Course, ahead, step, run, run_from, last_clock}}
+use Rattle.napt_laws.proofs.{Grown.run_append, Turns.{InTurn, run_turn}}
+use Rattle.napt_account.{specs.{declared.log.Entry.Entry, Ended.EndedEntriesStay, Log.{begun, through, logged_by, logged, log_of}}, proofs.Books.fold_joined}
 
 -- LISTS
 
@@ -32,25 +25,13 @@ get_joined (y ∷ xs) ys (suc i) x at = get_joined xs ys i x at
 -- ACTS
 
 ended_later : (now later : ℕ) → now ≤ later → (end : Option ℕ) → is_before now end ≡ false → is_before later end ≡ false
-ended_later now later le end ended = elim (is_before later end) as (λ v. is_before later end ≡ v → v ≡ false) [
-  | true ↦ λ e. sym (before_sooner now later le end e) ∙ ended
-  | false ↦ λ e. refl
-] refl
+ended_later now later le end ended = grind (arith, common_steps, nat_tests, before_sooner)
 
 leg_leaves : (timers : Timers) (leg : Leg) (went : Option Through) (now : ℕ) → now ≤ leg.now → (entries : List Entry)
     (i : ℕ) (e : Entry) → slice_get entries i ≡ Some e → is_before now e.end ≡ false →
     slice_get (logged_by timers leg went entries) i ≡ Some e
-leg_leaves timers leg None now le entries i e at ended = at
-leg_leaves timers leg (Some went) now le entries i e at ended =
-    let change : Entry → Entry = counted leg.way leg.now (end_of timers went.binding) in
-    let new : List Entry = change (begun timers leg.now went.binding) ∷ [] in
-    let same : through leg.now (row went.binding) change e ≡ e =
-    ap (λ v. cond (v && shares (row went.binding) e.binding) (change e) e) (ended_later now leg.now le e.end ended) in
-    elim went.made as (λ v. slice_get (cond v (entries ++ new)
-    (map (through leg.now (row went.binding) change) entries)) i ≡ Some e) [
-      | true ↦ get_joined entries new i e at
-      | false ↦ get_mapped (through leg.now (row went.binding) change) entries i e at ∙ ap Some same
-    ]
+leg_leaves timers leg went now h entries i e k g =
+    grind (arith, common_steps, nat_tests, ended_later, get_joined, get_mapped)
 
 acts_leave : (rules : Rules) (clock : ℕ) (list : List Binding) (acts : List Act) (last : ℕ) (new : List Binding) →
     InTurn rules clock list acts last new → (entries : List Entry) (i : ℕ) (e : Entry) →

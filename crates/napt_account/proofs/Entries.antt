@@ -1,27 +1,15 @@
 -- The open entries are the live bindings, each with its end; an act keeps it so, and does not change the past.
+use Rattle.std.proofs.lemmas.{Grind.common_steps, Bool.Decides.nat_tests}
 use Rattle.std.proofs.Common.{◌≡◌, ℕ, ◌<◌, ◌≤◌, Bool, true, false, ◌&&◌, cond, List, [], ◌∷◌, ◌++◌, map, Option, Some, refl, sym, ◌∙◌, ap, subst, arith, append-nil}
-use Rattle.std.specs.Prelude.{filter, find, nat_le}
-use Rattle.std.specs.List.{fold}
-use Rattle.std.proofs.lemmas.Bool.{and_parts, and_from}
-use Rattle.std.proofs.lemmas.Bool.Decides.{nat_tests}
-use Rattle.std.proofs.lemmas.Option.{same_Some}
-use Rattle.napt_wire.specs.declared.Way.{Way}
-use Rattle.napt_wire.specs.declared.Way.TheVariants.{Outgoing, Incoming}
-use Rattle.napt_config.specs.Rules.{Rules, AreTimers}
-use Rattle.napt_config.specs.declared.settings.Timers.{Timers}
-use Rattle.napt_rules.specs.Prelude.{Through, Binding, Each, change_first, same_protocol, same_endpoint, is_live, with_live_flows, purge, row, act, Act, AreRowsApart, Apart}
-use Rattle.napt_rules.specs.declared.Row.{Row}
-use Rattle.napt_rules.specs.declared.Leg.{Leg}
+use Rattle.std.{specs.{Prelude.{filter, find, nat_le}, List.fold}, proofs.lemmas.{Bool.{and_parts, and_from}, Option.same_Some}}
+use Rattle.napt_wire.specs.declared.Way.{Way, TheVariants.{Outgoing, Incoming}}
+use Rattle.napt_config.specs.{Rules.{Rules, AreTimers}, declared.settings.Timers.Timers}
+use Rattle.napt_rules.specs.Prelude.{Through, Binding, Each, change_first, same_protocol, same_endpoint, is_live, with_live_flows, purge, row, act, Act, Apart}
+use Rattle.napt_rules.{specs.declared.{Row.Row, Leg.Leg}, proofs.{Lists.{each_filter, filter_all}, Life.lived}}
 use Rattle.napt_laws.proofs.Lists.{filter_narrow, find_passes, each_weaker, each_changed, each_pushed, each_kept}
-use Rattle.napt_rules.proofs.Lists.{each_filter, filter_all}
-use Rattle.napt_rules.proofs.Life.{lived}
-use Rattle.napt_laws.proofs.Endpoints.{protocol_is, end_is, same_itself, end_itself}
-use Rattle.napt_laws.proofs.Fresh.{IsFresh, fresh_purged}
-use Rattle.napt_laws.proofs.Turns.{InTurn}
-use Rattle.napt_binding.specs.Ends.{end_of, is_before, EndsAreFirst}
-use Rattle.napt_binding.proofs.FirstEnds.{before_sooner, end_without_dead}
-use Rattle.napt_account.specs.declared.log.Entry.{Entry}
-use Rattle.napt_account.specs.Log.{begun, shares, is_of, counted, through, logged_by, logged, stands_at}
+use Rattle.napt_laws.proofs.{Endpoints.{protocol_is, end_is, same_itself, end_itself}, Fresh.{IsFresh, fresh_purged}, Turns.InTurn}
+use Rattle.napt_binding.{specs.Ends.{end_of, is_before, EndsAreFirst}, proofs.FirstEnds.{before_sooner, end_without_dead}}
+use Rattle.napt_account.specs.{declared.log.Entry.Entry, Log.{begun, shares, is_of, counted, through, logged_by, logged, stands_at}}
 use Rattle.napt_account.proofs.Lists.{filter_seen, filter_agrees, filter_agrees_each, filter_joined, map_joined, map_twice, map_agrees, each_mapped, each_shown}
 use Rattle.napt_account.proofs.Moves.{Differ, of_moves}
 
@@ -63,10 +51,7 @@ pub record Tells (timers : Timers) (now : ℕ) (list : List Binding) (entries : 
 
 pub apart_differ : (rs : List Row) → Apart rs → AllDiffer rs
 apart_differ [] h = tt
-apart_differ (r ∷ rs) h = (
-  each_weaker (AreRowsApart r) (Differ r) (λ x apart. λ p. (apart p).0) rs h.0,
-  apart_differ rs h.1,
-)
+apart_differ (r ∷ rs) h = grind (arith, common_steps, nat_tests, each_weaker, apart_differ rs h.1)
 
 pub differ_kept : (p : Binding → Bool) (xs : List Binding) → AllDiffer (map row xs) → AllDiffer (map row (filter p xs))
 differ_kept p [] h = h
@@ -82,10 +67,7 @@ is_false true h = absurd (h refl)
 is_false false h = refl
 
 pub differ_shares : (a b : Row) → Differ a b → shares a b ≡ false
-differ_shares a b differ = is_false (shares a b) (λ h.
-    let p : (same_protocol a.protocol b.protocol ≡ true) × (same_endpoint a.external b.external ≡ true) =
-    and_parts _ _ h in
-    differ (protocol_is a.protocol b.protocol p.0) (end_is a.external b.external p.1))
+differ_shares a b differ = grind (arith, common_steps, nat_tests, is_false, and_parts, protocol_is, end_is)
 
 pub differ_back : (a b : Row) → Differ a b → shares b a ≡ false
 differ_back a b differ = differ_shares b a (λ p e. differ (sym p) (sym e))
@@ -93,11 +75,7 @@ differ_back a b differ = differ_shares b a (λ p e. differ (sym p) (sym e))
 rows_change : (p : Binding → Bool) (f : Binding → Binding) → ((b : Binding) → row (f b) ≡ row b) →
     (xs : List Binding) → map row (change_first p f xs) ≡ map row xs
 rows_change p f same [] = refl
-rows_change p f same (x ∷ xs) = elim (p x) as (λ v. map row (cond v (f x ∷ xs) (x ∷ change_first p f xs)) ≡ row x
-    ∷ map row xs) [
-      | true ↦ ap (λ (r : Row). r ∷ map row xs) (same x)
-      | false ↦ ap (λ (rs : List Row). row x ∷ rs) (rows_change p f same xs)
-    ]
+rows_change p f same (x ∷ xs) = grind (arith, common_steps, nat_tests, rows_change p f same xs)
 
 pub rows_purge : (timers : Timers) (now : ℕ) (list : List Binding) → map row (purge timers now list)
     ≡ map row (living timers now list)
@@ -147,21 +125,10 @@ module _ (way : Way) (now : ℕ) (r : Row) (end : Option ℕ) (opened : is_befor
 
   -- it has ended by an earlier time as before
   pub changed_before : (past : ℕ) → past ≤ now → (e : Entry) → is_before past (changed e).end ≡ is_before past e.end
-  changed_before past le e = elim (is_of now r e) as (λ v. is_of now r e ≡ v →
-      is_before past (cond v (counted way now end e) e).end ≡ is_before past e.end) [
-        | true ↦ λ h. ap (is_before past) (counted_end way now end e)
-            ∙ (before_sooner past now le end opened
-            ∙ sym (before_sooner past now le e.end (and_parts (is_before now e.end) (shares r e.binding) h).0))
-        | false ↦ λ h. refl
-      ] refl
+  changed_before past le e = grind (arith, common_steps, nat_tests, counted_end, before_sooner, and_parts)
 
   hold_here : (e : Entry) → is_open now e ≡ true → hold (changed e) ≡ hold_changed (hold e)
-  hold_here e h = ap (λ v. hold (cond (v && shares r e.binding) (counted way now end e) e)) h
-      ∙ elim (shares r e.binding) as (λ v. hold (cond v (counted way now end e) e) ≡ cond v (e.binding, end) (hold e)) [
-        | true ↦ ap (λ (b : Row). (b, (counted way now end e).end)) (counted_binding way now end e)
-            ∙ ap (λ (o : Option ℕ). (e.binding, o)) (counted_end way now end e)
-        | false ↦ refl
-      ]
+  hold_here e h = grind (arith, common_steps, nat_tests, counted_binding, counted_end)
 
   holds_here : (es : List Entry) → Each (λ e. is_open now e ≡ true) es → map hold (map changed es)
       ≡ map hold_changed (map hold es)
@@ -184,10 +151,7 @@ module _ (timers : Timers) (p : Binding → Bool) (f : Binding → Binding) (b :
   at_others : (xs : List Binding) → Each (λ x. shares (row b) (row x) ≡ false) xs →
       map at_b (map (hold_of timers) xs) ≡ map (hold_of timers) xs
   at_others [] h = refl
-  at_others (x ∷ xs) h =
-      ap (λ v. cond v (row x, end_of timers (f b)) (hold_of timers x) ∷ map at_b (map (hold_of timers) xs))
-      (ap (λ (r : Row). shares r (row x)) (same b) ∙ h.0)
-      ∙ ap (λ (xs : List (Row × Option ℕ)). hold_of timers x ∷ xs) (at_others xs h.1)
+  at_others (x ∷ xs) h = grind (arith, common_steps, nat_tests, at_others xs h.1)
 
   -- where the rows differ, a change of the end there is the change of the first that passes
   pub change_holds : (xs : List Binding) → AllDiffer (map row xs) → find p xs ≡ Some b →
@@ -218,10 +182,7 @@ module _ (timers : Timers) (t : AreTimers timers) (now : ℕ) where
   alive_holds : (xs : List Binding) → Each (λ b. is_live timers now b ≡ true) xs →
       map (hold_of timers) (map (with_live_flows timers now) xs) ≡ map (hold_of timers) xs
   alive_holds [] h = refl
-  alive_holds (x ∷ xs) h =
-      ap (λ (o : Option ℕ). (row x, o) ∷ map (hold_of timers) (map (with_live_flows timers now) xs))
-      (end_without_dead timers t now x h.0)
-      ∙ ap (λ (hs : List (Row × Option ℕ)). hold_of timers x ∷ hs) (alive_holds xs h.1)
+  alive_holds (x ∷ xs) h = grind (arith, common_steps, nat_tests, end_without_dead, alive_holds xs h.1)
 
   pub purge_holds : (list : List Binding) → map (hold_of timers) (purge timers now list)
       ≡ map (hold_of timers) (living timers now list)
@@ -279,11 +240,7 @@ module _ (ends : EndsAreFirst) (rules : Rules) (t : AreTimers rules.timers) (add
   tells_fresh : (left : List Binding) (entries : List Entry) → Each (λ e. e.made ≤ leg.now) entries →
       Each (IsFresh rules.timers leg.now) left → Holds rules.timers leg.now left entries → AllDiffer (map row left) →
       Tells rules.timers leg.now left entries
-  tells_fresh left entries made fresh holds differ = record {
-    made = made;
-    holds = holds ∙ sym (ap (map (hold_of rules.timers)) (all_live rules.timers t leg.now left fresh));
-    differ = differ;
-  }
+  tells_fresh left entries made fresh holds differ = grind (arith, common_steps, nat_tests, all_live)
 
   pub tells_act : (entries : List Entry) → Tells rules.timers leg.now list entries →
       NowTells entries (act rules address leg list).through (act rules address leg list).list
@@ -370,9 +327,7 @@ module _ (ends : EndsAreFirst) (rules : Rules) (t : AreTimers rules.timers) wher
   pub told_turn : (clock : ℕ) (list : List Binding) (acts : List Act) (last : ℕ) (new : List Binding)
       (entries : List Entry) → InTurn rules clock list acts last new → Tells rules.timers clock list entries →
       Tells rules.timers last new (fold (logged rules.timers) entries acts)
-  told_turn clock list [] last new entries p tells =
-      subst (λ (l : List Binding). Tells rules.timers last l entries) (sym p.1)
-      (tells_later ends rules.timers t clock last p.0 list entries tells)
+  told_turn clock list [] last new entries p tells = grind (arith, common_steps, nat_tests, tells_later)
   told_turn clock list (a ∷ acts) last new entries p tells =
       told_turn a.leg.now (act rules a.address a.leg list).list acts last new (logged rules.timers entries a) p.1
       (subst (λ (went : Option Through). Tells rules.timers a.leg.now (act rules a.address a.leg list).list

@@ -1,13 +1,9 @@
 -- Lists in order of end: two with the same elements are the same.
+use Rattle.std.proofs.lemmas.{Grind.common_steps, Bool.Decides.nat_tests}
 use Rattle.std.proofs.Common.{◌≡◌, ◌≢◌, ℕ, zero, suc, ◌+◌, ◌⊎◌, inl, inr, Bool, true, false, ◌&&◌, ◌||◌, cond, List, [], ◌∷◌, ◌++◌, Option, Some, None, refl, sym, ◌∙◌, ap, subst, arith}
-use Rattle.std.specs.Prelude.{filter, not, nat_lt}
-use Rattle.std.specs.List.{slice_get}
-use Rattle.std.proofs.lemmas.Bool.Decides.{nat_tests}
-use Rattle.std.proofs.lemmas.Option.{same_Some}
+use Rattle.std.{specs.{Prelude.{filter, not, nat_lt}, List.slice_get}, proofs.lemmas.Option.same_Some}
 use Rattle.napt_rules.specs.Prelude.{Each}
-use Rattle.napt_account.specs.declared.log.Entry.{Entry}
-use Rattle.napt_account.specs.declared.log.Listed.{Listed}
-use Rattle.napt_account.specs.OpenEntries.{InOrder}
+use Rattle.napt_account.specs.{declared.log.{Entry.Entry, Listed.Listed}, OpenEntries.InOrder}
 use Rattle.napt_account.specs.Telling.{numbered_from, is_sooner, ends_first, placed, in_order_of_end}
 
 abbrev pub Has : {X : Type 0} → List X → X → Type 0
@@ -57,16 +53,10 @@ abbrev first_by : Option ℕ → Option ℕ → ℕ → ℕ → Bool
 first_by a b m n = is_sooner a b || (not (is_sooner b a) && nat_lt m n)
 
 not_both : (a b : Option ℕ) (m n : ℕ) → first_by a b m n ≡ true → first_by b a n m ≡ true → ⊥
-not_both (Some a) (Some b) m n h g = grind (arith, nat_tests, h, g)
-not_both (Some a) None m n h g = cc
-not_both None (Some b) m n h g = cc
-not_both None None m n h g = grind (arith, nat_tests, h, g)
+not_both a b m n h k = grind (arith, common_steps, nat_tests)
 
 either : (a b : Option ℕ) (m n : ℕ) → m ≢ n → first_by a b m n ≡ false → first_by b a n m ≡ true
-either (Some a) (Some b) m n differ h = grind (arith, nat_tests, h, differ)
-either (Some a) None m n differ h = cc
-either None (Some b) m n differ h = refl
-either None None m n differ h = grind (arith, nat_tests, h, differ)
+either a b m n h k = grind (arith, common_steps, nat_tests)
 
 pub first_then : (a b c : Option ℕ) (l m n : ℕ) → first_by a b l m ≡ true → first_by b c m n ≡ true →
     first_by a c l n ≡ true
@@ -188,10 +178,7 @@ is_order xs ys s differ f g = same_order xs (in_order_of_end ys) s (order_is ys 
 pub has_number : (n : ℕ) (es : List Entry) (i : ℕ) (e : Entry) → slice_get es i ≡ Some e → (m : ℕ) → m ≡ n + i →
     Has (numbered_from n es) (record { number = m; entry = e })
 has_number n [] i e at m is = cc
-has_number n (x ∷ es) zero e at m is = inl (λ k. record {
-  number = (let here : n ≡ m = omega arith in here) k;
-  entry = (same_Some x e at) k;
-})
+has_number n (x ∷ es) zero e at m is = grind (arith, common_steps, nat_tests, same_Some)
 has_number n (x ∷ es) (suc i) e at m is = inr (has_number (n + 1) es i e at m (omega arith))
 
 -- the place of a number from another on

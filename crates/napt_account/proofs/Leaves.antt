@@ -1,25 +1,13 @@
 -- Each leg leaves the binding that it went through an end that is to come.
+use Rattle.std.proofs.lemmas.{Grind.common_steps, Bool.Decides.nat_tests}
 use Rattle.std.proofs.Common.{◌≡◌, ℕ, ◌+◌, ◌≤◌, max, true, List, [], ◌∷◌, ◌++◌, length, Option, Some, None, sym, ◌∙◌, subst, arith}
-use Rattle.napt_wire.specs.declared.Protocol.{Protocol}
-use Rattle.napt_wire.specs.declared.Way.{Way}
-use Rattle.napt_wire.specs.declared.Way.TheVariants.{Outgoing, Incoming}
-use Rattle.napt_config.specs.Rules.{Rules, KeepsRules, AreTimers}
-use Rattle.napt_config.specs.declared.settings.Timers.{Timers}
-use Rattle.napt_binding.specs.Ends.{end_of, is_before, EndsAreFirst}
-use Rattle.napt_binding.proofs.FirstEnds.{ends_are_first}
-use Rattle.napt_rules.specs.declared.Leg.{Leg}
-use Rattle.napt_rules.specs.declared.End.{End}
-use Rattle.napt_rules.specs.declared.End.TheVariants as ends
-use Rattle.napt_rules.specs.Prelude.{Through, Binding, Each, purge, act, Act, Arrival, Course, opening, step}
-use Rattle.napt_laws.proofs.Fresh.{IsFresh, fresh_purged}
-use Rattle.napt_laws.proofs.Lists.{find_passes}
-use Rattle.napt_laws.proofs.Turns.{IsTurn, InTurn}
-use Rattle.napt_laws.proofs.Grown.{step_one}
-use Rattle.napt_sequential.specs.declared.passage.Trace.{Trace}
-use Rattle.napt_sequential.specs.Traces.{passage_by, passage_of, first_of, second_of, traces_from, traces}
-use Rattle.napt_account.specs.OpenEntries.{LeavesOpen}
-use Rattle.napt_account.proofs.Moves.{of_moves}
-use Rattle.napt_account.proofs.Retold.{step_turn}
+use Rattle.napt_wire.specs.declared.{Protocol.Protocol, Way.Way}
+use Rattle.napt_config.specs.{Rules.{Rules, KeepsRules, AreTimers}, declared.settings.Timers.Timers}
+use Rattle.napt_binding.{specs.Ends.{end_of, is_before, EndsAreFirst}, proofs.FirstEnds.ends_are_first}
+use Rattle.napt_rules.specs.{declared.{Leg.Leg, End.End}, Prelude.{Through, Binding, Each, purge, act, Act, Arrival, Course, opening, step}}
+use Rattle.napt_laws.proofs.{Fresh.{IsFresh, fresh_purged}, Lists.find_passes, Turns.{IsTurn, InTurn}, Grown.step_one}
+use Rattle.napt_sequential.specs.{declared.passage.Trace.Trace, Traces.{passage_by, passage_of, first_of, second_of, traces_from, traces}}
+use Rattle.napt_account.{specs.OpenEntries.LeavesOpen, proofs.{Moves.of_moves, Retold.step_turn}}
 
 abbrev pub Leaves : Trace → Type 0
 Leaves trace = LeavesOpen trace.now trace.first × LeavesOpen trace.now trace.second
@@ -30,13 +18,7 @@ Opens timers now (Some went) = is_before now (end_of timers went.binding) ≡ tr
 
 by_leaves : (timers : Timers) (way : Way) (protocol : Option Protocol) (host : ℕ) (end : End) (went : Option Through)
     (now : ℕ) → Opens timers now went → LeavesOpen now (passage_by timers way protocol host end went)
-by_leaves timers Outgoing protocol host end (Some went) now h = h
-by_leaves timers Incoming protocol host end (Some went) now h = h
-by_leaves timers way None host end None now h = tt
-by_leaves timers way (Some p) host (ends.Dropped cause) None now h = tt
-by_leaves timers way (Some p) host (ends.ToOutside packet) None now h = tt
-by_leaves timers way (Some p) host (ends.ToInside packet) None now h = tt
-by_leaves timers way (Some p) host (ends.Onward place packet) None now h = tt
+by_leaves timers way protocol host end went now h = grind (arith, common_steps, nat_tests)
 
 module _ (first : EndsAreFirst) (rules : Rules) (t : AreTimers rules.timers) where
   fresh_open : (now : ℕ) (b : Binding) → IsFresh rules.timers now b → is_before now (end_of rules.timers b) ≡ true
@@ -53,10 +35,7 @@ module _ (first : EndsAreFirst) (rules : Rules) (t : AreTimers rules.timers) whe
 
   turn_leaves : (clock : ℕ) (list : List Binding) (a : Act) → IsTurn rules clock list a → (now : ℕ) → a.leg.now ≡ now →
       LeavesOpen now (passage_of rules.timers a)
-  turn_leaves clock list a turn now same =
-      subst (λ (n : ℕ). LeavesOpen n (passage_of rules.timers a)) same
-      (by_leaves rules.timers a.leg.way _ _ a.end a.through a.leg.now
-      (subst (Opens rules.timers a.leg.now) (sym turn.through) (act_opens a.address a.leg list)))
+  turn_leaves clock list a turn now same = grind (arith, common_steps, nat_tests, by_leaves, act_opens)
 
   acts_leave : (now : ℕ) (list : List Binding) (acts : List Act) (new : List Binding) → length acts ≤ 2 →
       InTurn rules now list acts now new →

@@ -1,24 +1,12 @@
 -- A run with its log as it runs: what it tells of one more input.
-use Rattle.std.proofs.Common.{◌≡◌, ℕ, max, List, [], ◌∷◌, ◌++◌, length, map, append-nil, sym, ◌∙◌, ap, drop, refl}
-use Rattle.std.specs.Prelude.{flat_map, filter}
-use Rattle.std.specs.List.{fold}
+use Rattle.std.proofs.{Common.{arith, ◌≡◌, ℕ, max, List, [], ◌∷◌, ◌++◌, length, map, append-nil, sym, ◌∙◌, ap, drop, refl}, lemmas.Grind.common_steps}
+use Rattle.std.{proofs.lemmas.Bool.Decides.nat_tests, specs.{Prelude.{flat_map, filter}, List.fold}}
 use Rattle.napt_config.specs.Rules.{Rules, KeepsRules}
 use Rattle.napt_rules.specs.Prelude.{opening, Arrival, OpeningIsSound, last_clock}
-use Rattle.napt_sequential.specs.declared.passage.Trace.{Trace}
-use Rattle.napt_sequential.specs.Traces.{traces}
-use Rattle.napt_account.specs.declared.account.Use.{Use}
-use Rattle.napt_account.specs.declared.log.Entry.{Entry}
-use Rattle.napt_account.specs.declared.log.Shortage.{Shortage}
-use Rattle.napt_account.specs.Book.{after_trace, lost_by, use_by_trace, uses_told}
-use Rattle.napt_account.specs.KnownRuns.{inputs_in}
-use Rattle.napt_account.specs.Log.{begun, log_of}
-use Rattle.napt_account.specs.TraceLogs.{entries_after}
-use Rattle.napt_account.specs.Uses.{uses_of}
-use Rattle.napt_account.proofs.Attribution.{retold}
-use Rattle.napt_account.proofs.Books.{fold_joined, uses_more}
-use Rattle.napt_account.proofs.Lists.{map_joined}
-use Rattle.napt_account.proofs.Retold.{flat_joined, log_is}
-use Rattle.napt_account.specs.Telling.{numbered, is_open, ends_within, in_order_of_end, told_by, living_of}
+use Rattle.napt_sequential.specs.{declared.passage.Trace.Trace, Traces.traces}
+use Rattle.napt_account.specs.{declared.log.Entry.Entry, Book.{after_trace, lost_by, use_by_trace, uses_told}, KnownRuns.inputs_in, Log.{begun, log_of}}
+use Rattle.napt_account.{specs.{TraceLogs.entries_after, Uses.uses_of}, proofs.{Attribution.retold, Books.{fold_joined, uses_more}, Lists.map_joined}}
+use Rattle.napt_account.{proofs.Retold.{flat_joined, log_is}, specs.Telling.{numbered, is_open, ends_within, in_order_of_end, told_by, living_of}}
 
 pub ended_told : (rules : Rules) (before : List Arrival) (input : Arrival) → (told_by rules before input).ended
     ≡ in_order_of_end (filter (ends_within (last_clock 0 before) (max (last_clock 0 before) input.clock))
@@ -73,15 +61,8 @@ module _ (rules : Rules) (keeps : KeepsRules rules) (opens : OpeningIsSound) whe
 
     pub shortages_next : (log_of rules before).shortages ++ lost_by trace
         ≡ (log_of rules (before ++ input ∷ [])).shortages
-    shortages_next = ap (λ (xs : List Shortage). xs ++ lost_by trace) (shortages_told before)
-        ∙ (ap (λ (xs : List Shortage). flat_map lost_by (traces rules before) ++ xs) (sym (append-nil (lost_by trace)))
-        ∙ (sym (flat_joined lost_by (traces rules before) (trace ∷ []))
-        ∙ (ap (flat_map lost_by) (sym more) ∙ sym (shortages_told (before ++ input ∷ [])))))
+    shortages_next = grind (arith, common_steps, nat_tests, shortages_told, append-nil, flat_joined)
 
     pub uses_next : uses_of rules (before ++ input ∷ [])
         ≡ uses_of rules before ++ use_by_trace (entries_after rules (traces rules before)) trace ∷ []
-    uses_next = uses_are_told (before ++ input ∷ [])
-        ∙ (ap (uses_told first) more
-        ∙ (uses_more first (traces rules before) trace
-        ∙ ap (λ (us : List Use). us ++ use_by_trace (entries_after rules (traces rules before)) trace ∷ [])
-        (sym (uses_are_told before))))
+    uses_next = grind (arith, common_steps, nat_tests, uses_are_told, uses_more)

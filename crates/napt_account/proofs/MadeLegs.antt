@@ -1,29 +1,15 @@
 -- What the legs of an input make.
+use Rattle.std.proofs.lemmas.{Grind.common_steps, Bool.Decides.nat_tests}
 use Rattle.std.proofs.Common.{◌≡◌, ℕ, zero, suc, ◌+◌, ◌≤◌, ◌⊎◌, inl, inr, true, false, cond, List, [], ◌∷◌, ◌++◌, length, drop, map, Option, Some, refl, sym, ◌∙◌, ap, arith, length-append}
-use Rattle.std.specs.Prelude.{nat_lt}
-use Rattle.std.specs.List.{slice_get, list_any}
-use Rattle.std.proofs.lemmas.Bool.Decides.{nat_tests}
-use Rattle.std.proofs.lemmas.Bool.{and_parts, and_from}
-use Rattle.std.proofs.lemmas.Option.{same_Some}
-use Rattle.napt_wire.specs.declared.Way.{Way}
-use Rattle.napt_wire.specs.declared.Way.TheVariants.{Outgoing, Incoming}
+use Rattle.std.{specs.{Prelude.nat_lt, List.{slice_get, list_any}}, proofs.lemmas.{Bool.{and_parts, and_from}, Option.same_Some}}
+use Rattle.napt_wire.specs.declared.Way.{Way, TheVariants.{Outgoing, Incoming}}
 use Rattle.napt_rules.specs.declared.Row.{Row}
 use Rattle.napt_table.specs.declared.TimedRow.{TimedRow}
 use Rattle.napt_binding.specs.Ends.{is_before}
-use Rattle.napt_sequential.specs.declared.passage.Passage.{Passage}
-use Rattle.napt_sequential.specs.declared.passage.Passage.TheVariants.{Nothing, Out, In, Dropped}
-use Rattle.napt_sequential.specs.declared.passage.Trace.{Trace}
-use Rattle.napt_sequential.proofs.Lists.{get_last}
-use Rattle.napt_account.specs.declared.log.Entry.{Entry}
-use Rattle.napt_account.specs.declared.log.Listed.{Listed}
-use Rattle.napt_account.specs.declared.open_entries.OpenEntries.{OpenEntries}
-use Rattle.napt_account.specs.Book.{made_by, after, after_trace}
-use Rattle.napt_account.specs.Log.{shares, is_of, counted, through}
-use Rattle.napt_account.specs.OpenEntries.{external_key, listed_at, listed_as, IsListed, Shows, LeavesOpen}
-use Rattle.napt_account.specs.Telling.{numbered, numbered_from}
-use Rattle.napt_account.proofs.Begun.{long_mapped}
-use Rattle.napt_account.proofs.Ended.{get_mapped, get_joined}
-use Rattle.napt_account.proofs.Entries.{shares_itself}
+use Rattle.napt_sequential.{specs.declared.passage.{Passage.{Passage, TheVariants.{Nothing, Out, In, Dropped}}, Trace.Trace}, proofs.Lists.get_last}
+use Rattle.napt_account.specs.{declared.{log.{Entry.Entry, Listed.Listed}, open_entries.OpenEntries.OpenEntries}, Book.{made_by, after, after_trace}}
+use Rattle.napt_account.specs.{Log.{is_of, counted, through}, OpenEntries.{external_key, listed_at, listed_as, IsListed, Shows, LeavesOpen}}
+use Rattle.napt_account.{specs.Telling.{numbered, numbered_from}, proofs.{Begun.long_mapped, Ended.{get_mapped, get_joined}, Entries.shares_itself}}
 use Rattle.napt_account.proofs.OpenEntries.{row_only}
 
 abbrev pub timed_of : TimedRow → Passage → TimedRow
@@ -46,23 +32,10 @@ found_is now most all es shows r l at place e there passed =
 -- HOW MANY ENTRIES
 
 pub pass_few : (now : ℕ) (p : Passage) (es : List Entry) → length (after now p es) ≤ length es + 1
-pass_few now Nothing es = omega arith
-pass_few now (Dropped loss) es = omega arith
-pass_few now (In timed) es =
-    let long = long_mapped (through now timed.row (counted Incoming now timed.end)) es in omega (arith, long)
-pass_few now (Out timed) es =
-    let change : Entry → Entry = through now timed.row (counted Outgoing now timed.end) in
-    elim (list_any (is_of now timed.row) es) as (λ v.
-    length (cond v (map change es) (es ++ made_by now timed ∷ [])) ≤ length es + 1) [
-      | true ↦ let long = long_mapped change es in omega (arith, long)
-      | false ↦ let long = length-append es (made_by now timed ∷ []) in omega (arith, long)
-    ]
+pass_few now p es = grind (arith, common_steps, nat_tests, long_mapped, length-append)
 
 pub trace_few : (es : List Entry) (trace : Trace) → length (after_trace es trace) ≤ length es + 2
-trace_few es trace =
-    let first = pass_few trace.now trace.first es in
-    let second = pass_few trace.now trace.second (after trace.now trace.first es) in
-    omega (arith, first, second)
+trace_few es trace = grind (arith, common_steps, nat_tests, pass_few)
 
 pub drop_joined : {X : Type 0} (xs ys : List X) → drop (length xs) (xs ++ ys) ≡ ys
 drop_joined [] ys = refl
@@ -84,22 +57,7 @@ pub record Grows (now : ℕ) (p : Passage) (es : List Entry) : Type 0 where
 
 pub grows : (now : ℕ) (p : Passage) (es : List Entry) → LeavesOpen now p →
     Grows now p es ⊎ (length (after now p es) ≡ length es)
-grows now Nothing es leaves = inr refl
-grows now (Dropped loss) es leaves = inr refl
-grows now (In timed) es leaves = inr (long_mapped (through now timed.row (counted Incoming now timed.end)) es)
-grows now (Out timed) es leaves =
-    let change : Entry → Entry = through now timed.row (counted Outgoing now timed.end) in
-    elim (list_any (is_of now timed.row) es) as (λ v. list_any (is_of now timed.row) es ≡ v →
-    Grows now (Out timed) es ⊎ (length (after now (Out timed) es) ≡ length es)) [
-      | true ↦ λ h. inr (ap (λ v. length (cond v (map change es) (es ++ made_by now timed ∷ []))) h
-          ∙ long_mapped change es)
-      | false ↦ λ h. inl (record {
-        timed = timed;
-        is = refl;
-        entries = ap (λ v. cond v (map change es) (es ++ made_by now timed ∷ [])) h;
-        passed = and_from (is_before now timed.end) (shares timed.row timed.row) leaves (shares_itself timed.row);
-      })
-    ] refl
+grows now p es h = grind (arith, common_steps, nat_tests, long_mapped, and_from, shares_itself)
 
 -- what has an open entry has it after the next leg
 record Later (now : ℕ) (r : Row) (es : List Entry) (place : ℕ) : Type 0 where
@@ -109,18 +67,7 @@ record Later (now : ℕ) (r : Row) (es : List Entry) (place : ℕ) : Type 0 wher
 
 through_passed : (way : Way) (now : ℕ) (w r : Row) (end : Option ℕ) → is_before now end ≡ true → (e : Entry) →
     is_of now r e ≡ true → is_of now r (through now w (counted way now end) e) ≡ true
-through_passed Outgoing now w r end opened e passed =
-    elim (is_of now w e) as (λ v. is_of now r (cond v (counted Outgoing now end e) e) ≡ true) [
-      | true ↦ and_from (is_before now end) (shares r e.binding) opened
-          (and_parts (is_before now e.end) (shares r e.binding) passed).1
-      | false ↦ passed
-    ]
-through_passed Incoming now w r end opened e passed =
-    elim (is_of now w e) as (λ v. is_of now r (cond v (counted Incoming now end e) e) ≡ true) [
-      | true ↦ and_from (is_before now end) (shares r e.binding) opened
-          (and_parts (is_before now e.end) (shares r e.binding) passed).1
-      | false ↦ passed
-    ]
+through_passed way now w r end h e k = grind (arith, common_steps, nat_tests, and_from, and_parts)
 
 later : (now : ℕ) (p : Passage) (es : List Entry) → LeavesOpen now p → (r : Row) (place : ℕ) → Later now r es place →
     Later now r (after now p es) place
@@ -169,10 +116,7 @@ drop_next : (m n : ℕ) (es : List Entry) (e : Entry) → slice_get es n ≡ Som
     drop n (numbered_from m es) ≡ record { number = number; entry = e } ∷ drop next (numbered_from m es)
 drop_next m n [] e at number is next one = cc
 drop_next m zero (x ∷ es) e at number is zero one = absurd (omega (arith, one))
-drop_next m zero (x ∷ es) e at number is (suc zero) one = λ k. record {
-  number = (let same : m ≡ number = omega (arith, is) in same) k;
-  entry = (same_Some x e at) k;
-} ∷ numbered_from (m + 1) es
+drop_next m zero (x ∷ es) e at number is (suc zero) one = grind (arith, common_steps, nat_tests, same_Some)
 drop_next m zero (x ∷ es) e at number is (suc (suc k)) one = absurd (omega (arith, one))
 drop_next m (suc n) (x ∷ es) e at number is zero one = absurd (omega (arith, one))
 drop_next m (suc n) (x ∷ es) e at number is (suc k) one =

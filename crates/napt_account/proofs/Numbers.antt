@@ -1,15 +1,9 @@
 -- Entries of a log in order of number.
+use Rattle.std.proofs.lemmas.{Grind.common_steps, Bool.Decides.nat_tests}
 use Rattle.std.proofs.Common.{◌≡◌, ℕ, zero, suc, ◌+◌, ◌<◌, ◌≤◌, true, false, cond, List, [], ◌∷◌, length, map, get_or, eqb, Some, refl, sym, ◌∙◌, ap, arith}
-use Rattle.std.specs.List.{All, sum_by, slice_get}
-use Rattle.std.specs.List.Sorted.{IsNonDecreasingBy, IsPermutation}
-use Rattle.std.proofs.lemmas.Bool.{eqb-true, eqb-false}
-use Rattle.std.proofs.lemmas.List.Sorted.{All-permutation, IsPermutation-sym, sum_by-IsPermutation}
-use Rattle.std.proofs.lemmas.List.Sums.{sum_by-cons}
-use Rattle.std.proofs.lemmas.Option.{same_Some}
-use Rattle.napt_account.specs.declared.log.Entry.{Entry}
-use Rattle.napt_account.specs.declared.log.Listed.{Listed}
-use Rattle.napt_account.specs.Telling.{numbered, numbered_from}
-use Rattle.napt_account.proofs.InOrder.{IsNumbered}
+use Rattle.std.{specs.List.{All, sum_by, slice_get, Sorted.{IsNonDecreasingBy, IsPermutation}}, proofs.lemmas.Bool.{eqb-true, eqb-false}}
+use Rattle.std.proofs.lemmas.{List.{Sorted.{All-permutation, IsPermutation-sym, sum_by-IsPermutation}, Sums.sum_by-cons}, Option.same_Some}
+use Rattle.napt_account.{specs.{declared.log.{Entry.Entry, Listed.Listed}, Telling.{numbered, numbered_from}}, proofs.InOrder.IsNumbered}
 
 abbrev number : Listed → ℕ
 number listed = listed.number
@@ -43,31 +37,17 @@ none_sum f (x ∷ xs) none =
 
 sum_none : (f : Listed → ℕ) (xs : List Listed) → sum_by f xs ≡ 0 → (k : ℕ) (d : Listed) → k < length xs →
     f (get_or xs k d) ≡ 0
-sum_none f [] sum k d lt = absurd (omega arith)
-sum_none f (x ∷ xs) sum zero d lt = let both = sum_by-cons f x xs in omega (arith, both, sum)
-sum_none f (x ∷ xs) sum (suc k) d lt =
-    let both = sum_by-cons f x xs in
-    sum_none f xs (let rest : sum_by f xs ≡ 0 = omega (arith, both, sum) in rest) k d (omega arith)
+sum_none f xs h k d g = grind (arith, common_steps, nat_tests, sum_by-cons)
 
 other : (n m : ℕ) → (m ≡ n → ⊥) → is_number n m ≡ 0
-other n m differ = elim (eqb m n) as (λ v. eqb m n ≡ v → ◌≡◌ {A = ℕ} (cond v 1 0) 0) [
-  | true ↦ λ e. absurd (differ (eqb-true m n e))
-  | false ↦ λ e. refl
-] refl
+other n m differ = grind (arith, common_steps, nat_tests)
 
 differs : (n m : ℕ) → is_number n m ≡ 0 → m ≡ n → ⊥
-differs n m none same = elim (eqb m n) as (λ v. eqb m n ≡ v → ◌≡◌ {A = ℕ} (cond v 1 0) 0 → ⊥) [
-  | true ↦ λ e h. cc
-  | false ↦ λ e h. eqb-false m n e same
-] refl none
+differs n m none same = grind (arith, common_steps, nat_tests)
 
 same_one : (n : ℕ) (es : List Entry) (x : Listed) (e : Entry) (place : ℕ) → x.number ≡ n + place →
     slice_get (e ∷ es) place ≡ Some x.entry → x.number ≡ n → x ≡ record { number = n; entry = e }
-same_one n es x e zero is there same = λ k. record {
-  number = same k;
-  entry = (sym (same_Some e x.entry there)) k;
-}
-same_one n es x e (suc place) is there same = absurd (omega (arith, is, same))
+same_one n es x e place h k g = grind (arith, common_steps, nat_tests, same_Some)
 
 next_number : (n : ℕ) (e : Entry) (es : List Entry) (l : Listed) (place : ℕ) → l.number ≡ n + place →
     slice_get (e ∷ es) place ≡ Some l.entry → (l.number ≡ n → ⊥) → IsNumbered (n + 1) es l
@@ -76,10 +56,7 @@ next_number n e es l (suc place) is there differ =
     record { place = place; is = omega (arith, is); there = there }
 
 once : (n : ℕ) → is_number n n ≡ 1
-once n = elim (eqb n n) as (λ v. eqb n n ≡ v → ◌≡◌ {A = ℕ} (cond v 1 0) 1) [
-  | true ↦ λ h. refl
-  | false ↦ λ h. absurd (eqb-false n n h refl)
-] refl
+once n = grind (arith, common_steps, nat_tests)
 
 -- what stands in order of number, each number once, is in the order of making
 sorted_is : (n : ℕ) (es : List Entry) (xs : List Listed) → IsNonDecreasingBy number xs → All (IsNumbered n es) xs →

@@ -1,46 +1,25 @@
 -- What is kept of the entries that have not ended: what is put, changed and taken out.
-use Rattle.std.proofs.Common.{◌≡◌, ◌≢◌, ℕ, ◌+◌, ◌<◌, ◌≤◌, inl, inr, true, false, ◌&&◌, cond, List, [], ◌∷◌, ◌++◌, ◌^◌, length, map, set, Option, Some, None, unwrap_or, refl, sym, ◌∙◌, ap, subst, arith, eqb, eqb-true, length-append, length-set}
-use Rattle.std.specs.Prelude.{◌==◌}
-use Rattle.std.specs.List.{slice_get, list_any}
-use Rattle.std.specs.Option.{option_map}
-use Rattle.std.proofs.lemmas.Bool.{and_parts, and_from, cases_lt, eq-eqb, eqb-false}
+use Rattle.std.proofs.lemmas.{Grind.common_steps, Bool.Decides.nat_tests}
+use Rattle.std.proofs.Common.{◌≡◌, ◌≢◌, ℕ, ◌+◌, ◌<◌, ◌≤◌, true, false, ◌&&◌, cond, List, [], ◌∷◌, ◌++◌, ◌^◌, length, map, set, Option, Some, None, unwrap_or, refl, sym, ◌∙◌, ap, subst, arith, eqb, eqb-true, length-append, length-set}
+use Rattle.std.{specs.{Prelude.◌==◌, List.{slice_get, list_any}, Option.option_map}, proofs.lemmas.Bool.{and_parts, and_from, eq-eqb, eqb-false}}
 use Rattle.std.proofs.lemmas.Option.{same_Some, slice_get_within}
 use denote.Enum.Bare.{sameb, same_true}
 use denote.Enum.Declared.{tag_of}
-use Rattle.napt_wire.specs.contracts.Protocol.{the_type}
-use Rattle.napt_wire.specs.declared.Way.{Way}
-use Rattle.napt_wire.specs.declared.Way.TheVariants.{Outgoing, Incoming}
-use Rattle.napt_rules.specs.declared.Row.{Row}
-use Rattle.napt_rules.specs.Prelude.{same_protocol, same_endpoint}
+use Rattle.napt_wire.specs.{contracts.Protocol.the_type, declared.Way.{Way, TheVariants.{Outgoing, Incoming}}}
+use Rattle.napt_rules.specs.{declared.Row.Row, Prelude.same_protocol}
 use Rattle.napt_laws.proofs.Endpoints.{protocol_is, end_is}
 use Rattle.napt_binding.specs.Ends.{is_before}
 use Rattle.napt_table.specs.declared.TimedRow.{TimedRow}
 use Rattle.napt_sequential.proofs.Lists.{get_before, get_last, get_set, get_set_other}
-use Rattle.napt_account.specs.declared.account.Note.{Note}
-use Rattle.napt_account.specs.declared.log.Entry.{Entry}
-use Rattle.napt_account.specs.declared.log.Listed.{Listed}
-use Rattle.napt_account.specs.declared.open_entries.Due.{Due}
-use Rattle.napt_account.specs.declared.open_entries.ExternalKey.{ExternalKey}
-use Rattle.napt_account.specs.declared.open_entries.Open.{Open}
-use Rattle.napt_account.specs.declared.open_entries.OpenEntries.{OpenEntries}
-use Rattle.napt_account.specs.Book.{noted, use_at}
-use Rattle.napt_account.specs.Log.{counted, shares, is_of, place_of, through}
-use Rattle.napt_account.specs.Telling.{is_open}
-use Rattle.napt_account.specs.Uses.{used}
-use Rattle.napt_account.proofs.Books.{change_one, none_at, any_at, first_place, used_there}
-use Rattle.napt_account.proofs.Entries.{shares_itself}
+use Rattle.napt_account.specs.declared.{account.Note.Note, log.{Entry.Entry, Listed.Listed}, open_entries.{Due.Due, ExternalKey.ExternalKey, Open.Open}}
+use Rattle.napt_account.specs.{declared.open_entries.OpenEntries.OpenEntries, Book.{noted, use_at}, Log.{counted, shares, is_of, place_of, through}}
+use Rattle.napt_account.{specs.{Telling.is_open, Uses.used}, proofs.{Books.{change_one, none_at, any_at, first_place, used_there}, Entries.shares_itself}}
 use Rattle.napt_account.specs.OpenEntries.{external_key, external_eq, open_at, listed_at, due_of, due_at, is_queued, is_at, listed_as, IsPlaced, IsIndexed, IsIndexedBut, IsListed, Shows}
 
 -- KEYS
 
 pub external_is : (a b : ExternalKey) → external_eq a b ≡ true → a ≡ b
-external_is a b h =
-    let p = and_parts (eqb a.address b.address) _ h in
-    let q = and_parts (eqb a.number b.number) (sameb the_type a.protocol b.protocol) p.1 in
-    let address : a.address ≡ b.address = eqb-true a.address b.address p.0 in
-    let number : a.number ≡ b.number = eqb-true a.number b.number q.0 in
-    let protocol : a.protocol ≡ b.protocol = same_true the_type tt a.protocol b.protocol q.1 in
-    λ k. record { address = address k; number = number k; protocol = protocol k }
+external_is a b h = grind (arith, common_steps, nat_tests, and_parts)
 
 pub external_itself : (a : ExternalKey) → external_eq a a ≡ true
 external_itself a = and_from (eqb a.address a.address) _ (eq-eqb a.address a.address refl)
@@ -48,26 +27,12 @@ external_itself a = and_from (eqb a.address a.address) _ (eq-eqb a.address a.add
     (eq-eqb (tag_of the_type a.protocol) (tag_of the_type a.protocol) refl))
 
 pub external_flip : (a b : ExternalKey) → external_eq a b ≡ external_eq b a
-external_flip a b = elim (external_eq a b) as (λ v. external_eq a b ≡ v → v ≡ external_eq b a) [
-  | true ↦ λ e. sym (ap (external_eq b) (external_is a b e) ∙ external_itself b)
-  | false ↦ λ e. elim (external_eq b a) as (λ v. external_eq b a ≡ v → false ≡ v) [
-    | true ↦ λ g.
-        let never : true ≡ false = sym (external_itself a)
-        ∙ (ap (external_eq a) (sym (external_is b a g)) ∙ e) in cc
-    | false ↦ λ g. refl
-  ] refl
-] refl
+external_flip a b = grind (arith, common_steps, nat_tests, external_is, external_itself)
 
 -- ENTRIES
 
 pub same_place : (es : List Entry) (l m : Listed) → IsListed es l → IsListed es m → l.number ≡ m.number → l ≡ m
-same_place es l m a b same =
-    let n : l.number ≡ a.place + 1 = a.number in
-    let o : m.number ≡ b.place + 1 = b.number in
-    let place : a.place ≡ b.place = omega (arith, n, o, same) in
-    let entry : l.entry ≡ m.entry =
-    same_Some l.entry m.entry (sym a.there ∙ (ap (slice_get es) place ∙ b.there)) in
-    λ k. record { number = same k; entry = entry k }
+same_place es l m a b same = grind (arith, common_steps, nat_tests, same_Some)
 
 -- WHAT IS AT AN ENDPOINT
 
@@ -88,15 +53,7 @@ under all indexed x l at =
     (indexed.placed x o.0 o.1).0 ∙ ap (λ (m : Listed). external_key m.entry.binding) o.2
 
 pub indexed_but : (all : OpenEntries) → IsIndexed all → (x : ExternalKey) → IsIndexedBut x (due_at all x) all
-indexed_but all indexed x = record {
-  placed = indexed.placed;
-  queued = λ d. indexed.queued d
-      ∙ elim (external_eq x d.key) as (λ v. external_eq x d.key ≡ v → is_at (due_at all d.key) d.at
-      ≡ is_at (cond v (due_at all x) (due_at all d.key)) d.at) [
-        | true ↦ λ e. ap (λ (y : ExternalKey). is_at (due_at all y) d.at) (sym (external_is x d.key e))
-        | false ↦ λ e. refl
-      ] refl;
-}
+indexed_but all indexed x = grind (arith, common_steps, nat_tests, external_is)
 
 pub queued_at : (all : OpenEntries) (x : ExternalKey) (was : Option ℕ) → IsIndexedBut x was all → (d : Due) →
     external_eq x d.key ≡ true → is_queued all d ≡ is_at was d.at
@@ -109,18 +66,7 @@ module _ (old new : OpenEntries) (x : ExternalKey) (was : Option ℕ) (indexed :
     (queue : (d : Due) → is_queued new d ≡ cond (external_eq x d.key) (is_at (due_of next) d.at) (is_queued old d))
     (its : (o : Open) → next ≡ Some o → IsPlaced x o) where
   pub moved : IsIndexed new
-  moved = record {
-    placed = λ y o at. elim (external_eq x y) as (λ v. external_eq x y ≡ v → cond v next (open_at old y) ≡ Some o →
-        IsPlaced y o) [
-          | true ↦ λ e h. subst (λ (z : ExternalKey). IsPlaced z o) (external_is x y e) (its o h)
-          | false ↦ λ e h. indexed.placed y o h
-        ] refl (sym (opens y) ∙ at);
-    queued = λ d. queue d ∙ (elim (external_eq x d.key) as (λ v. external_eq x d.key ≡ v →
-        cond v (is_at (due_of next) d.at) (is_queued old d) ≡ is_at (due_of (cond v next (open_at old d.key))) d.at) [
-          | true ↦ λ e. refl
-          | false ↦ λ e. indexed.queued d ∙ ap (λ v. is_at (cond v was (due_at old d.key)) d.at) e
-        ] refl ∙ ap (λ (o : Option Open). is_at (due_of o) d.at) (sym (opens d.key)));
-  }
+  moved = grind (arith, common_steps, nat_tests, external_is)
 
 -- ONE IS WRITTEN: at its endpoint, where no other was
 
@@ -146,12 +92,7 @@ module _ (now most : ℕ) (old new : OpenEntries) (es fs : List Entry) (shows : 
   at_key : (P : ExternalKey → Listed → Type 0) → P key l →
       ((x : ExternalKey) (m : Listed) → external_eq key x ≡ false → listed_at old x ≡ Some m → P x m) →
       (x : ExternalKey) (m : Listed) → listed_at new x ≡ Some m → P x m
-  at_key P one rest x m at = elim (external_eq key x) as (λ v. external_eq key x ≡ v →
-      cond v (Some l) (listed_at old x) ≡ Some m → P x m) [
-        | true ↦ λ e h. subst (λ (y : ExternalKey). P y m) (external_is key x e)
-            (subst (P key) (same_Some l m h) one)
-        | false ↦ λ e h. rest x m e h
-      ] refl (sym (entries x) ∙ at)
+  at_key P one rest x m at = grind (arith, common_steps, nat_tests, external_is, same_Some)
 
   pub written : (more : ℕ) → most ≤ more → l.entry.sent ≤ more → l.entry.received ≤ more → Shows now more fs new
   written more le sent received = record {
@@ -187,34 +128,13 @@ module _ (now most : ℕ) (old new : OpenEntries) (es : List Entry) (shows : Sho
   one = record { number = old.made + 1; entry = e }
 
   put_less : (x : ExternalKey) (m : Listed) → listed_at old x ≡ Some m → m.number ≢ old.made + 1
-  put_less x m at same =
-      let there : IsListed es m = shows.there x m at in
-      let number : m.number ≡ there.place + 1 = there.number in
-      let within : there.place < length es = slice_get_within es there.place m.entry there.there in
-      let made : old.made ≡ length es = shows.made in
-      absurd (omega (arith, same, number, within, made))
+  put_less x m at same = grind (arith, common_steps, nat_tests, slice_get_within)
 
   put_stays : (m : Listed) → IsListed es m → IsListed (es ++ e ∷ []) m
-  put_stays m at = record {
-    place = at.place;
-    number = at.number;
-    there = get_before es e at.place (slice_get_within es at.place m.entry at.there) ∙ at.there;
-  }
+  put_stays m at = grind (arith, common_steps, nat_tests, get_before, slice_get_within)
 
   put_was : (m : Listed) → m.number ≢ old.made + 1 → IsListed (es ++ e ∷ []) m → IsListed es m
-  put_was m differs at =
-      let within : at.place < length (es ++ e ∷ []) = slice_get_within (es ++ e ∷ []) at.place m.entry at.there in
-      let long : length (es ++ e ∷ []) ≡ length es + 1 = length-append es (e ∷ []) in
-      let number : m.number ≡ at.place + 1 = at.number in
-      let made : old.made ≡ length es = shows.made in
-      elim (cases_lt at.place (length es)) [
-        | inl lt ↦ record {
-          place = at.place;
-          number = at.number;
-          there = sym (get_before es e at.place lt) ∙ at.there;
-        }
-        | inr ge ↦ absurd (differs (omega (arith, within, long, number, made, ge)))
-      ]
+  put_was m differs at = grind (arith, common_steps, nat_tests, slice_get_within, length-append, get_before)
 
   put_here : (m : Listed) → listed_at old (external_key e.binding) ≡ Some m → m.number ≡ old.made + 1
   put_here m at =
@@ -307,11 +227,7 @@ shares_key a b same = ap (λ (k : ExternalKey). same_protocol k.protocol b.proto
     && ((k.address == b.external.address) && (k.number == b.external.number))) same ∙ shares_itself b
 
 key_shares : (a b : Row) → shares a b ≡ true → external_key a ≡ external_key b
-key_shares a b h =
-    let p = and_parts (same_protocol a.protocol b.protocol) (same_endpoint a.external b.external) h in
-    let external : a.external ≡ b.external = end_is a.external b.external p.1 in
-    let protocol : a.protocol ≡ b.protocol = protocol_is a.protocol b.protocol p.0 in
-    λ k. record { address = (external k).address; number = (external k).number; protocol = protocol k }
+key_shares a b h = grind (arith, common_steps, nat_tests, and_parts, end_is, protocol_is)
 
 module _ (now most : ℕ) (all : OpenEntries) (es : List Entry) (shows : Shows now most es all) (r : Row) where
   its_entry : (i : ℕ) (e : Entry) → slice_get es i ≡ Some e → is_of now r e ≡ true →
@@ -332,17 +248,10 @@ module _ (now most : ℕ) (all : OpenEntries) (es : List Entry) (shows : Shows n
 
     module _ (place : ℕ) (number : place + 1 ≡ l.number) where
       pub row_there : slice_get es place ≡ Some l.entry
-      row_there =
-          let there : IsListed es l = shows.there (external_key r) l at in
-          let n : l.number ≡ there.place + 1 = there.number in
-          let same : there.place ≡ place = omega (arith, n, number) in
-          ap (slice_get es) (sym same) ∙ there.there
+      row_there = grind (arith, common_steps, nat_tests)
 
       pub row_only : (j : ℕ) (f : Entry) → slice_get es j ≡ Some f → is_of now r f ≡ true → j ≡ place
-      row_only j f there passed =
-          let same : l ≡ listed_as j f = same_Some l (listed_as j f) (sym at ∙ its_entry j f there passed) in
-          let n : l.number ≡ j + 1 = ap (λ (m : Listed). m.number) same in
-          omega (arith, n, number)
+      row_only j f there passed = grind (arith, common_steps, nat_tests, same_Some, its_entry)
 
       pub row_place : place_of now r es ≡ Some place
       row_place = first_place now r es place l.entry row_there row_of row_only
@@ -422,25 +331,9 @@ module _ (way : Way) (now most : ℕ) (old : OpenEntries) (es : List Entry) (sho
 
 pub shows_more : (now most more : ℕ) → most ≤ more → (es : List Entry) (all : OpenEntries) → Shows now most es all →
     Shows now more es all
-shows_more now most more le es all shows = record {
-  indexed = shows.indexed;
-  made = shows.made;
-  has = shows.has;
-  there = shows.there;
-  unended = shows.unended;
-  few = λ x l at. let f = shows.few x l at in (omega (arith, f.0, le), omega (arith, f.1, le));
-}
+shows_more now most more le es all shows = grind (arith, common_steps, nat_tests, there)
 
 -- where no open entry has its endpoint, nothing is there
 pub row_free : (now most : ℕ) (all : OpenEntries) (es : List Entry) → Shows now most es all → (r : Row) →
     list_any (is_of now r) es ≡ false → open_at all (external_key r) ≡ None
-row_free now most all es shows r none = elim (open_at all (external_key r)) as (λ (v : Option Open).
-    open_at all (external_key r) ≡ v → v ≡ None) [
-      | None ↦ λ h. refl
-      | Some o ↦ λ h.
-          let at : listed_at all (external_key r) ≡ Some o.listed = open_listed all (external_key r) o h in
-          let there : IsListed es o.listed = shows.there (external_key r) o.listed at in
-          let never : false ≡ true = sym none ∙ any_at (is_of now r) es there.place o.listed.entry there.there
-          (row_of now most all es shows r o.listed at) in
-          absurd cc
-    ] refl
+row_free now most all es shows r none = grind (arith, common_steps, nat_tests, open_listed, there, any_at, row_of)

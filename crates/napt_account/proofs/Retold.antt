@@ -1,43 +1,25 @@
 -- The traces of a run tell what its acts did: the same entries, uses and shortages.
+use Rattle.std.proofs.lemmas.{Grind.common_steps, Bool.Decides.nat_tests}
 use Rattle.std.proofs.Common.{◌≡◌, ℕ, zero, suc, ◌+◌, ◌≤◌, max, Bool, true, false, ◌&&◌, ◌||◌, cond, List, [], ◌∷◌, ◌++◌, length, map, Option, Some, None, refl, sym, ◌∙◌, ap, subst, arith, append-nil, append_assoc}
-use Rattle.std.specs.Prelude.{filter, find, flat_map}
-use Rattle.std.specs.Option.{option_map, option_or}
-use Rattle.std.specs.List.{list_any, fold, slice_get}
-use Rattle.std.proofs.lemmas.Bool.{and_from}
+use Rattle.std.{specs.{Prelude.{filter, find, flat_map}, Option.{option_map, option_or}, List.{list_any, fold, slice_get}}, proofs.lemmas.Bool.and_from}
 use Rattle.std.proofs.lemmas.Option.{same_Some}
-use Rattle.napt_wire.specs.declared.Protocol.{Protocol}
-use Rattle.napt_wire.specs.declared.Way.{Way}
-use Rattle.napt_wire.specs.declared.Way.TheVariants.{Outgoing, Incoming}
-use Rattle.napt_wire.specs.declared.Cause.{Cause}
-use Rattle.napt_wire.specs.Fields.{source, kind}
-use Rattle.napt_config.specs.Rules.{Rules, AreTimers}
-use Rattle.napt_config.specs.declared.settings.Timers.{Timers}
-use Rattle.napt_rules.specs.Prelude.{Through, Binding, Each, purge, opening, row, act, Arrival, Act, Course, step, run_from}
-use Rattle.napt_rules.specs.declared.Row.{Row}
-use Rattle.napt_rules.specs.declared.Leg.{Leg}
-use Rattle.napt_rules.specs.declared.End.{End}
-use Rattle.napt_rules.specs.declared.End.TheVariants.{ToOutside, ToInside, Onward, Dropped}
+use Rattle.napt_wire.specs.{declared.{Protocol.Protocol, Way.{Way, TheVariants.{Outgoing, Incoming}}, Cause.Cause}, Fields.{source, kind}}
+use Rattle.napt_config.specs.{Rules.{Rules, AreTimers}, declared.settings.Timers.Timers}
+use Rattle.napt_rules.specs.{Prelude.{Through, Binding, Each, purge, opening, row, act, Arrival, Act, Course, step, run_from}, declared.{Row.Row, Leg.Leg}}
+use Rattle.napt_rules.specs.declared.End.{End, TheVariants.{ToOutside, ToInside, Onward, Dropped}}
 use Rattle.napt_table.specs.TimedRows.{timed}
 use Rattle.napt_translate.specs.Carried.{carried_by}
-use Rattle.napt_laws.proofs.Grown.{step_one}
-use Rattle.napt_laws.proofs.Through.{dropped_go_through_none}
-use Rattle.napt_laws.proofs.Turns.{IsTurn, InTurn, run_turn}
+use Rattle.napt_laws.proofs.{Grown.step_one, Through.dropped_go_through_none, Turns.{IsTurn, InTurn, run_turn}}
 use Rattle.napt_binding.specs.Ends.{end_of, EndsAreFirst}
-use Rattle.napt_sequential.specs.declared.passage.Passage.{Passage}
-use Rattle.napt_sequential.specs.declared.passage.Trace.{Trace}
+use Rattle.napt_sequential.specs.declared.passage.{Passage.Passage, Trace.Trace}
 use Rattle.napt_sequential.specs.Traces.{gone_through, lost_by, passage_by, passage_of, first_of, second_of, trace_of, traces_from}
-use Rattle.napt_account.specs.declared.account.Note.{Note}
-use Rattle.napt_account.specs.declared.account.Note.TheVariants as notes
-use Rattle.napt_account.specs.declared.account.Use.{Use}
-use Rattle.napt_account.specs.declared.log.Entry.{Entry}
-use Rattle.napt_account.specs.declared.log.Shortage.{Shortage}
-use Rattle.napt_account.specs.Book as books
+use Rattle.napt_account.specs.declared.{account.{Note.Note, Use.Use}, log.{Entry.Entry, Shortage.Shortage}}
 use Rattle.napt_account.specs.Log.{begun, shares, is_of, counted, place_of, through, logged_by, logged, shortage_by, shortage_at, shortages, entries_of, log_of}
-use Rattle.napt_account.specs.Uses.{no_use, used, first_note, use_by, both_uses, use_of, uses_from}
-use Rattle.napt_account.proofs.Books.{fold_joined, no_place, any_at}
+use Rattle.napt_account.{specs.Uses.{no_use, used, first_note, use_by, both_uses, use_of, uses_from}, proofs.Books.{fold_joined, no_place, any_at}}
 use Rattle.napt_account.proofs.Entries.{hold, hold_of, binding_of, is_open, AllDiffer, Tells, own_differ, differ_back, shares_itself, purge_holds, tells_later, told_turn}
-use Rattle.napt_account.proofs.Lists.{map_twice}
-use Rattle.napt_account.proofs.Moves.{Differ, of_moves}
+use Rattle.napt_account.proofs.{Lists.map_twice, Moves.{Differ, of_moves}}
+use Rattle.napt_account.specs.declared.account.Note.TheVariants as notes
+use Rattle.napt_account.specs.Book as books
 
 -- THE OPEN ENTRY OF A BINDING
 
@@ -129,11 +111,7 @@ none_open now r (e ∷ es) h = elim (is_open now e) as (λ v.
 idle : (now : ℕ) (entries : List Entry) (carried : Option Protocol) (host : ℕ) (end : End) →
     (books.after now (lost_by carried host end) entries ≡ entries)
     × (books.use_told now (lost_by carried host end) entries ≡ no_use)
-idle now entries None host end = (refl, refl)
-idle now entries (Some p) host (Dropped cause) = (refl, refl)
-idle now entries (Some p) host (ToOutside packet) = (refl, refl)
-idle now entries (Some p) host (ToInside packet) = (refl, refl)
-idle now entries (Some p) host (Onward place packet) = (refl, refl)
+idle now entries carried host end = grind (arith, common_steps, nat_tests)
 
 module _ (timers : Timers) (now : ℕ) (b : Binding) (entries : List Entry) where
   -- a passage through it says these entries, and this use
@@ -144,32 +122,12 @@ module _ (timers : Timers) (now : ℕ) (b : Binding) (entries : List Entry) wher
   says_found : (s : Stands now (row b) entries) (way : Way) →
       Says way (map (through now (row b) (counted way now (end_of timers b))) entries)
       (cond b.row.fixed notes.Redirect notes.Found) (place_of now (row b) entries)
-  says_found s way =
-      let noted : books.noted (slice_get entries s.place) ≡ cond b.row.fixed notes.Redirect notes.Found =
-      ap books.noted s.there ∙ ap (λ (r : Row). cond r.fixed notes.Redirect notes.Found) s.same in
-      let here : (w : Way) → used w (books.noted (slice_get entries s.place)) (Some s.place)
-      ≡ used w (cond b.row.fixed notes.Redirect notes.Found) (place_of now (row b) entries) =
-      λ w. ap (λ (n : Note). used w n (Some s.place)) noted
-      ∙ ap (used w (cond b.row.fixed notes.Redirect notes.Found)) (sym s.is) in
-      elim way as (λ w. Says w (map (through now (row b) (counted w now (end_of timers b))) entries)
-      (cond b.row.fixed notes.Redirect notes.Found) (place_of now (row b) entries)) [
-        | Outgoing ↦ (
-          ap (λ v. cond v (map (through now (row b) (counted Outgoing now (end_of timers b))) entries)
-              (entries ++ books.made_by now (timed timers b) ∷ []))
-              (any_at (is_of now (row b)) entries s.place s.entry s.there s.opened),
-          ap (books.out_at entries) s.is ∙ here Outgoing,
-        )
-        | Incoming ↦ (refl, ap (books.in_at entries) s.is ∙ here Incoming)
-      ]
+  says_found s way = grind (arith, common_steps, nat_tests, any_at)
 
   says_made : list_any (is_of now (row b)) entries ≡ false →
       Says Outgoing (entries ++ counted Outgoing now (end_of timers b) (begun timers now b) ∷ []) notes.Made
       (Some (length entries))
-  says_made none = (
-    ap (λ v. cond v (map (through now (row b) (counted Outgoing now (end_of timers b))) entries)
-        (entries ++ books.made_by now (timed timers b) ∷ [])) none,
-    ap (books.out_at entries) (no_place now (row b) entries none),
-  )
+  says_made none = grind (arith, common_steps, nat_tests, no_place)
 
 module _ (ends : EndsAreFirst) (rules : Rules) (t : AreTimers rules.timers) (address : ℕ) (leg : Leg)
     (list : List Binding) (entries : List Entry) (tells : Tells rules.timers leg.now list entries)
@@ -189,11 +147,7 @@ module _ (ends : EndsAreFirst) (rules : Rules) (t : AreTimers rules.timers) (add
       ∙ map_twice (λ (h : Row × Option ℕ). h.0) (hold_of rules.timers) own)
 
   found_stands : (p : Binding → Bool) (b : Binding) → find p own ≡ Some b → Stands leg.now (row b) entries
-  found_stands p b is =
-      let at = found_at p own b is in
-      stands leg.now (row b) entries
-      (subst AllDiffer (sym rows_are) (own_differ ends rules t address leg list tells.differ)) at.0
-      (ap (λ (rs : List Row). slice_get rs at.0) rows_are ∙ at.1)
+  found_stands p b is = grind (arith, common_steps, nat_tests, found_at, stands, rows_are, own_differ)
 
   retold_act : Retells (act rules address leg list).through (act rules address leg list).list
   retold_act = of_moves rules t address leg list Retells (idle leg.now entries carried host end)
@@ -238,16 +192,7 @@ lost_act : (timers : Timers) (leg : Leg) (went : Option Through) (end : End) →
     ((cause : Cause) → end ≡ Dropped cause → went ≡ None) →
     books.lost leg.now (passage_by timers leg.way (carried_by (kind leg.packet)) (source leg.packet).address end went)
     ≡ shortage_at leg end
-lost_act timers leg went (Dropped cause) dropped =
-    let carried : Option Protocol = carried_by (kind leg.packet) in
-    ap (λ (o : Option Through). books.lost leg.now (passage_by timers leg.way carried (source leg.packet).address
-    (Dropped cause) o)) (dropped cause refl) ∙ lost_as leg carried cause
-lost_act timers leg went (ToOutside packet) dropped = let host : ℕ = (source leg.packet).address in
-    not_lost timers leg.now host leg.way _ _ (sent_out timers leg.now host packet) went
-lost_act timers leg went (ToInside packet) dropped = let host : ℕ = (source leg.packet).address in
-    not_lost timers leg.now host leg.way _ _ (sent_in timers leg.now host packet) went
-lost_act timers leg went (Onward place packet) dropped = let host : ℕ = (source leg.packet).address in
-    not_lost timers leg.now host leg.way _ _ (sent_on timers leg.now host place packet) went
+lost_act timers leg went end h = grind (arith, common_steps, nat_tests, lost_as, not_lost, sent_out, sent_in, sent_on)
 
 pub flat_joined : {X Y : Type 0} (f : X → List Y) (xs ys : List X)
     → flat_map f (xs ++ ys) ≡ flat_map f xs ++ flat_map f ys
@@ -258,10 +203,7 @@ flat_joined f (x ∷ xs) ys = ap (λ (l : List _). f x ++ l) (flat_joined f xs y
 -- THE LEGS OF AN INPUT
 
 note_first : (n : Note) → first_note n notes.Nothing ≡ n
-note_first notes.Nothing = refl
-note_first notes.Made = refl
-note_first notes.Found = refl
-note_first notes.Redirect = refl
+note_first n = grind (arith, common_steps, nat_tests)
 
 or_none : (o : Option ℕ) → option_or o None ≡ o
 or_none None = refl
@@ -305,27 +247,11 @@ module _ (ends : EndsAreFirst) (rules : Rules) (t : AreTimers rules.timers) wher
 
   one_retold : (now : ℕ) (entries : List Entry) (a : Act) → ToldAt now entries a →
       IsRetold rules entries (a ∷ []) (trace_by now (a ∷ []))
-  one_retold now entries a told = record {
-    entries_are = told.0;
-    use_is = ap (λ (u : Use). both_uses u no_use) told.1;
-    shortages_are = ap (λ (xs : List Shortage). xs ++ []) told.2;
-  }
+  one_retold now entries a told = grind (arith, common_steps, nat_tests)
 
   two_retold : (now : ℕ) (entries : List Entry) (a b : Act) → ToldAt now entries a →
       ToldAt now (logged rules.timers entries a) b → IsRetold rules entries (a ∷ b ∷ []) (trace_by now (a ∷ b ∷ []))
-  two_retold now entries a b told next = record {
-    entries_are = ap (books.after now (passage_of rules.timers b)) told.0 ∙ next.0;
-    use_is =
-        let u : Use = use_by entries a.leg a.through in
-        let second : Use = use_by (logged rules.timers entries a) b.leg b.through in
-        ap (λ (x : Use). both_uses x (books.use_told now (passage_of rules.timers b)
-        (books.after now (passage_of rules.timers a) entries))) told.1
-        ∙ (ap (λ (es : List Entry). both_uses u (books.use_told now (passage_of rules.timers b) es)) told.0
-        ∙ (ap (both_uses u) next.1 ∙ ap (both_uses u) (sym (use_alone second))));
-    shortages_are = ap (λ (xs : List Shortage). xs ++ books.lost now (passage_of rules.timers b)) told.2
-        ∙ ap (λ (xs : List Shortage). shortage_at a.leg a.end ++ xs)
-        (next.2 ∙ sym (append-nil (shortage_at b.leg b.end)));
-  }
+  two_retold now entries a b told next = grind (arith, common_steps, nat_tests, use_alone, append-nil)
 
   acts_retold : (now : ℕ) (list : List Binding) (acts : List Act) (new : List Binding) → length acts ≤ 2 →
       InTurn rules now list acts now new → (entries : List Entry) → Tells rules.timers now list entries →
@@ -349,12 +275,7 @@ module _ (ends : EndsAreFirst) (rules : Rules) (t : AreTimers rules.timers) wher
   pub step_turn : (number now : ℕ) (input : Arrival) → input.clock ≤ now → (list : List Binding) →
       (let course : Course = step rules number now input list in
       InTurn rules now list course.acts now course.list)
-  step_turn number now input le list =
-      let course : Course = step rules number now input list in
-      let latest : max now input.clock ≡ now = omega arith in
-      subst (λ (acts : List Act). InTurn rules now list acts now course.list) (append-nil course.acts)
-      (subst (λ (last : ℕ). InTurn rules now list ((step rules number last input list).acts ++ []) last
-      (step rules number last input list).list) latest (run_turn rules number now (input ∷ []) list))
+  step_turn number now input le list = grind (arith, common_steps, nat_tests, append-nil, run_turn)
 
   -- ALL INPUTS
 

@@ -1,25 +1,14 @@
 -- The log by the traces of a run's inputs is the log of the run.
-use Rattle.std.proofs.Common.{◌≡◌, ℕ, ◌+◌, max, List, [], ◌∷◌, ◌++◌, length, map, drop, refl, sym, ◌∙◌, ap, arith}
-use Rattle.std.specs.Prelude.{filter}
+use Rattle.std.proofs.lemmas.{Grind.common_steps, Bool.Decides.nat_tests}
+use Rattle.std.{proofs.Common.{◌≡◌, ℕ, ◌+◌, max, List, [], ◌∷◌, ◌++◌, length, map, drop, refl, sym, ◌∙◌, ap, arith}, specs.Prelude.filter}
 use Rattle.napt_config.specs.Rules.{Rules, KeepsRules, pair_of}
 use Rattle.napt_rules.specs.Prelude.{Arrival, Binding, OpeningIsSound, last_clock, opening, redirected, step}
-use Rattle.napt_sequential.specs.Traces.{traces, traces_from}
-use Rattle.napt_sequential.specs.declared.passage.Trace.{Trace}
-use Rattle.napt_sequential.proofs.Passed.{traces_grow}
-use Rattle.napt_account.specs.declared.log.Entry.{Entry}
-use Rattle.napt_account.specs.declared.log.Listed.{Listed}
-use Rattle.napt_account.specs.declared.log.Shortage.{Shortage}
-use Rattle.napt_account.specs.Book.{after_trace}
-use Rattle.napt_account.specs.KnownLogs.{traces_in}
-use Rattle.napt_account.specs.Log.{begun, log_of}
-use Rattle.napt_account.specs.Telling.{Told, ends_within, in_order_of_end, is_open, numbered, told_by}
+use Rattle.napt_sequential.{specs.{Traces.{traces, traces_from}, declared.passage.Trace.Trace}, proofs.Passed.traces_grow}
+use Rattle.napt_account.specs.{declared.log.{Entry.Entry, Listed.Listed, Shortage.Shortage}, Book.after_trace, KnownLogs.traces_in, Log.{begun, log_of}}
+use Rattle.napt_account.specs.Telling.{Told, ends_within, in_order_of_end, numbered, told_by}
 use Rattle.napt_account.specs.TraceLogs.{entries_after, time_after, told_with, IsNext, TracesTellTheLog, TracesHaveTheLiving, TracesCome}
-use Rattle.napt_account.proofs.Begun.{long_mapped}
-use Rattle.napt_account.proofs.Books.{fold_joined}
-use Rattle.napt_account.proofs.Leaves.{Leaves, last_leaves}
-use Rattle.napt_account.proofs.Lists.{map_joined}
-use Rattle.napt_account.proofs.LoggedRuns.{ended_told, made_told, refused_told, living_is, entries_told, entries_next, shortages_next}
-use Rattle.napt_account.proofs.MadeLegs.{drop_joined}
+use Rattle.napt_account.proofs.{Begun.long_mapped, Books.fold_joined, Leaves.last_leaves, Lists.map_joined}
+use Rattle.napt_account.proofs.{LoggedRuns.{ended_told, made_told, refused_told, living_is, entries_told, entries_next, shortages_next}, MadeLegs.drop_joined}
 
 -- LISTS
 
@@ -83,11 +72,7 @@ module _ (rules : Rules) (before : List Arrival) (input : Arrival) (trace : Trac
     }
 
   pub comes : KeepsRules rules → IsNext (traces rules before) trace
-  comes keeps =
-      let leaves : Leaves trace = last_leaves rules keeps before input trace more in
-      let was : time_after 0 (traces rules before) ≡ last_clock 0 before = times_are rules before in
-      let now : trace.now ≡ max (last_clock 0 before) input.clock = time_is in
-      record { later = omega arith; first = leaves.0; second = leaves.1 }
+  comes keeps = grind (arith, common_steps, nat_tests, last_leaves, times_are, time_is)
 
 pub traces_tell : OpeningIsSound → TracesTellTheLog
 traces_tell opens rules keeps before input trace more = tells rules before input trace more keeps opens
@@ -96,11 +81,7 @@ pub traces_come : TracesCome
 traces_come rules keeps before input trace more = comes rules before input trace more keeps
 
 pub have_living : OpeningIsSound → TracesHaveTheLiving
-have_living opens rules keeps inputs =
-    ap (λ (es : List Entry). in_order_of_end (filter (is_open (time_after 0 (traces rules inputs))) (numbered es)))
-    (sym (entries_told rules keeps opens inputs))
-    ∙ (ap (λ (now : ℕ). in_order_of_end (filter (is_open now) (numbered (log_of rules inputs).entries)))
-    (times_are rules inputs) ∙ sym (living_is rules inputs))
+have_living opens rules keeps inputs = grind (arith, common_steps, nat_tests, entries_told, times_are, living_is)
 
 pub told_as : (rules : Rules) (before : List Trace) (trace : Trace) (ended made : List Listed)
     (refused : List Shortage) → (let told : Told = told_with rules before trace in

@@ -1,13 +1,8 @@
 -- What is told with the inputs of a run, and what it has left, is its log.
-use Rattle.std.specs.Prelude.{◌≡◌, ℕ, List, [], ◌∷◌, ◌++◌, map}
-use Rattle.std.specs.List.Sorted.{IsPermutation}
+use Rattle.std.specs.{Prelude.{◌≡◌, ℕ, List, [], ◌∷◌, ◌++◌, map}, List.Sorted.IsPermutation}
 use Rattle.napt_config.specs.Rules.{Rules, KeepsRules}
-use Rattle.napt_rules.specs.Prelude.{Arrival}
-use Rattle.napt_rules.specs.declared.Row.{Row}
-use Rattle.napt_account.specs.declared.log.Listed.{Listed}
-use Rattle.napt_account.specs.declared.log.Shortage.{Shortage}
-use Rattle.napt_account.specs.Log.{log_of}
-use Rattle.napt_account.specs.Telling.{numbered, told_by, living_of}
+use Rattle.napt_rules.specs.{Prelude.Arrival, declared.Row.Row}
+use Rattle.napt_account.specs.{declared.log.{Listed.Listed, Shortage.Shortage}, Log.log_of, Telling.{numbered, told_by, living_of}}
 
 -- what each of the inputs gives, by all before it, joined
 abbrev pub joined : {X : Type 0} → (List Arrival → Arrival → List X) → List Arrival → List Arrival → List X

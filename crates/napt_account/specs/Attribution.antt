@@ -1,14 +1,9 @@
 -- The log of a whole run names exactly who had an external endpoint at a time.
-use Rattle.std.specs.Prelude.{◌≡◌, ℕ, ◌<◌, ◌≤◌, ◌&&◌, Bool, List, [], ◌∷◌, ◌++◌, map, filter}
-use Rattle.std.specs.List.{list_any}
-use Rattle.napt_wire.specs.declared.Protocol.{Protocol}
-use Rattle.napt_wire.specs.declared.Endpoint.{Endpoint}
-use Rattle.napt_config.specs.Rules.{Rules, KeepsRules}
-use Rattle.napt_config.specs.declared.settings.Timers.{Timers}
-use Rattle.napt_rules.specs.Prelude.{Binding, same_protocol, same_endpoint, is_live, opening, Arrival, row, run, last_clock}
-use Rattle.napt_rules.specs.declared.Row.{Row}
-use Rattle.napt_account.specs.declared.log.Entry.{Entry}
-use Rattle.napt_account.specs.Log.{log_of, stands_at}
+use Rattle.std.specs.{Prelude.{◌≡◌, ℕ, ◌<◌, ◌≤◌, ◌&&◌, Bool, List, [], ◌∷◌, ◌++◌, map, filter}, List.list_any}
+use Rattle.napt_wire.specs.declared.{Protocol.Protocol, Endpoint.Endpoint}
+use Rattle.napt_config.specs.{Rules.{Rules, KeepsRules}, declared.settings.Timers.Timers}
+use Rattle.napt_rules.specs.{Prelude.{Binding, same_protocol, same_endpoint, is_live, opening, Arrival, row, run, last_clock}, declared.Row.Row}
+use Rattle.napt_account.specs.{declared.log.Entry.Entry, Log.{log_of, stands_at}}
 
 -- a time before the next input, where there is one
 abbrev pub IsBeforeNext : ℕ → List Arrival → Type 0

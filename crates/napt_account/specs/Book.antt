@@ -1,22 +1,13 @@
 -- How entries change passage by passage, and what each packet did: it changes the open entry of its binding, or begins
 -- one if there is none.
-use Rattle.std.specs.Prelude.{ℕ, cond, length, List, [], ◌∷◌, ◌++◌, map, Option, Some, None, unwrap_or}
-use Rattle.std.specs.List.{list_any, slice_get}
-use Rattle.std.specs.Option.{option_map}
-use Rattle.napt_wire.specs.declared.Way.{Way}
-use Rattle.napt_wire.specs.declared.Way.TheVariants.{Outgoing, Incoming}
+use Rattle.std.specs.{Prelude.{ℕ, cond, length, List, [], ◌∷◌, ◌++◌, map, Option, Some, None, unwrap_or}, List.{list_any, slice_get}, Option.option_map}
+use Rattle.napt_wire.specs.declared.Way.{Way, TheVariants.{Outgoing, Incoming}}
 use Rattle.napt_rules.specs.declared.Row.{Row}
 use Rattle.napt_table.specs.declared.TimedRow.{TimedRow}
-use Rattle.napt_sequential.specs.declared.passage.Passage.{Passage}
-use Rattle.napt_sequential.specs.declared.passage.Passage.TheVariants.{Nothing, Out, In, Dropped}
-use Rattle.napt_sequential.specs.declared.passage.Trace.{Trace}
-use Rattle.napt_account.specs.declared.log.Entry.{Entry}
-use Rattle.napt_account.specs.declared.log.Shortage.{Shortage}
-use Rattle.napt_account.specs.declared.account.Note.{Note}
+use Rattle.napt_sequential.specs.declared.passage.{Passage.{Passage, TheVariants.{Nothing, Out, In, Dropped}}, Trace.Trace}
+use Rattle.napt_account.specs.declared.{log.{Entry.Entry, Shortage.Shortage}, account.{Note.Note, Use.Use}}
+use Rattle.napt_account.specs.{Log.{is_shortage, is_of, counted, place_of, through}, Uses.{no_use, used, both_uses}}
 use Rattle.napt_account.specs.declared.account.Note.TheVariants as notes
-use Rattle.napt_account.specs.declared.account.Use.{Use}
-use Rattle.napt_account.specs.Log.{is_shortage, is_of, counted, place_of, through}
-use Rattle.napt_account.specs.Uses.{no_use, used, both_uses}
 
 -- ENTRIES
 

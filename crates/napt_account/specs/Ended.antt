@@ -1,11 +1,9 @@
 -- An entry that has ended is final.
-use Rattle.std.specs.Prelude.{◌≡◌, ℕ, max, false, List, ◌∷◌, ◌++◌, Some}
-use Rattle.std.specs.List.{slice_get}
+use Rattle.std.specs.{Prelude.{◌≡◌, ℕ, max, false, List, ◌∷◌, ◌++◌, Some}, List.slice_get}
 use Rattle.napt_config.specs.Rules.{Rules}
 use Rattle.napt_rules.specs.Prelude.{Arrival, last_clock}
 use Rattle.napt_binding.specs.Ends.{is_before}
-use Rattle.napt_account.specs.declared.log.Entry.{Entry}
-use Rattle.napt_account.specs.Log.{log_of}
+use Rattle.napt_account.specs.{declared.log.Entry.Entry, Log.log_of}
 
 -- an entry whose end is not after the time of the next input is at its place in the log of each longer run
 abbrev pub EndedEntriesStay : Type 0

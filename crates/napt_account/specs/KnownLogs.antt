@@ -2,9 +2,7 @@
 use Rattle.std.specs.Prelude.{◌≡◌, ℕ, ◌+◌, ◌*◌, ◌≤◌, Bool, List, length, map}
 use Rattle.napt_config.specs.Rules.{Rules}
 use Rattle.napt_sequential.specs.declared.passage.Trace.{Trace}
-use Rattle.napt_account.specs.declared.open_entries.OpenEntries.{OpenEntries}
-use Rattle.napt_account.specs.OpenEntries.{Shows}
-use Rattle.napt_account.specs.TraceLogs.{entries_after, time_after}
+use Rattle.napt_account.specs.{declared.open_entries.OpenEntries.OpenEntries, OpenEntries.Shows, TraceLogs.{entries_after, time_after}}
 
 pub record KnownTraces : Type 0 where
   pub rules : Rules

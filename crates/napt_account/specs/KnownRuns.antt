@@ -2,15 +2,9 @@
 use Rattle.std.specs.Prelude.{◌≡◌, ℕ, ◌^◌, ◌≤◌, Bool, false, List, [], ◌∷◌, ◌++◌, length, map}
 use Rattle.napt_config.specs.Rules.{Rules, KeepsRules}
 use Rattle.napt_rules.specs.Prelude.{opening, Arrival, run}
-use Rattle.napt_sequential.specs.SequentialRuns.{StandsAfter}
-use Rattle.napt_sequential.specs.Traces.{traces}
-use Rattle.napt_sequential.specs.declared.fault.RunFault.{RunFault}
+use Rattle.napt_sequential.specs.{SequentialRuns.StandsAfter, Traces.traces, declared.{fault.RunFault.RunFault, sequential_run.SequentialRun.SequentialRun}}
 use Rattle.napt_sequential.specs.declared.fault.RunFault.TheVariants as reasons
-use Rattle.napt_sequential.specs.declared.sequential_run.SequentialRun.{SequentialRun}
-use Rattle.napt_account.specs.declared.known_run.LoggedStep.{LoggedStep}
-use Rattle.napt_account.specs.KnownLogs.{KnownTraces}
-use Rattle.napt_account.specs.Telling.{Told, told_by}
-use Rattle.napt_account.specs.Uses.{uses_of}
+use Rattle.napt_account.specs.{declared.known_run.LoggedStep.LoggedStep, KnownLogs.KnownTraces, Telling.{Told, told_by}, Uses.uses_of}
 
 pub record KnownState : Type 0 where
   pub rules : Rules

@@ -3,25 +3,15 @@
 --
 -- RFC 6888, section 4: it can be found out afterwards who had which external endpoint at a time. RFC 8158: that a host
 -- has its quota, and that a pool has no port left, are events of their own.
-use Rattle.std.specs.Prelude.{ℕ, suc, ◌+◌, nat_le, Bool, true, false, ◌&&◌, cond, List, [], ◌∷◌, ◌++◌, map, flat_map, Option, Some, None}
-use Rattle.std.specs.List.{fold}
+use Rattle.std.specs.{Prelude.{ℕ, suc, ◌+◌, nat_le, Bool, true, false, ◌&&◌, cond, List, [], ◌∷◌, ◌++◌, map, flat_map, Option, Some, None}, List.fold}
 use Rattle.std.specs.Option.{option_map}
-use Rattle.napt_wire.specs.declared.Protocol.{Protocol}
-use Rattle.napt_wire.specs.declared.Way.{Way}
-use Rattle.napt_wire.specs.declared.Way.TheVariants.{Outgoing, Incoming}
-use Rattle.napt_wire.specs.declared.Cause.{Cause}
-use Rattle.napt_wire.specs.declared.Cause.TheVariants.{OverQuota, NoPort}
+use Rattle.napt_wire.specs.declared.{Protocol.Protocol, Way.{Way, TheVariants.{Outgoing, Incoming}}, Cause.{Cause, TheVariants.{OverQuota, NoPort}}}
 use Rattle.napt_wire.specs.Fields.{source, kind}
-use Rattle.napt_config.specs.Rules.{Rules}
-use Rattle.napt_config.specs.declared.settings.Timers.{Timers}
-use Rattle.napt_rules.specs.Prelude.{Through, Binding, same_protocol, same_endpoint, opening, Arrival, row, Act, run}
-use Rattle.napt_rules.specs.declared.Row.{Row}
-use Rattle.napt_translate.specs.Carried.{carried_by}
-use Rattle.napt_rules.specs.declared.Leg.{Leg}
-use Rattle.napt_rules.specs.declared.End.{End}
+use Rattle.napt_config.specs.{Rules.Rules, declared.settings.Timers.Timers}
+use Rattle.napt_rules.specs.{Prelude.{Through, Binding, same_protocol, same_endpoint, opening, Arrival, row, Act, run}, declared.{Row.Row, Leg.Leg, End.End}}
 use Rattle.napt_rules.specs.declared.End.TheVariants.{ToOutside, ToInside, Onward, Dropped}
-use Rattle.napt_account.specs.declared.log.Entry.{Entry}
-use Rattle.napt_account.specs.declared.log.Shortage.{Shortage}
+use Rattle.napt_translate.specs.Carried.{carried_by}
+use Rattle.napt_account.specs.declared.log.{Entry.Entry, Shortage.Shortage}
 use Rattle.napt_binding.specs.Ends.{end_of, is_before}
 
 -- ENTRIES

@@ -1,28 +1,17 @@
 -- The entries that have not ended, as they are kept while a run goes on: found by their endpoints, and queued by the
 -- times at which they are looked at.
 use Rattle.std.specs.Prelude.{◌≡◌, ℕ, ◌+◌, ◌^◌, ◌<◌, ◌≤◌, ◌==◌, nat_le, Bool, true, false, ◌&&◌, cond, List, [], ◌∷◌, length, map, filter, Option, Some, None, unwrap_or}
-use Rattle.std.specs.List.{slice_get}
-use Rattle.std.specs.Option.{option_map}
-use Rattle.std.specs.Ordering.{ordering_then, nat_cmp, bool_cmp}
-use Rattle.std.specs.declared.cmp.Ordering.{Ordering}
+use Rattle.std.specs.{List.slice_get, Option.option_map, Ordering.{ordering_then, nat_cmp, bool_cmp}, declared.cmp.Ordering.Ordering}
 use Rattle.std.specs.BTreeSet as sorted
 use Rattle.std.specs.HashMap as hash
 use denote.Enum.Bare.{sameb}
 use Rattle.napt_wire.specs.contracts.Protocol.{the_type}
 use Rattle.napt_wire.specs.contracts.ProtocolOrd.TheImpl as protocols
-use Rattle.napt_rules.specs.Prelude.{Each}
-use Rattle.napt_rules.specs.declared.Row.{Row}
+use Rattle.napt_rules.specs.{Prelude.Each, declared.Row.Row}
 use Rattle.napt_binding.specs.Ends.{is_before}
-use Rattle.napt_sequential.specs.declared.passage.Passage.{Passage}
-use Rattle.napt_sequential.specs.declared.passage.Passage.TheVariants.{Nothing, Out, In, Dropped}
-use Rattle.napt_account.specs.declared.log.Entry.{Entry}
-use Rattle.napt_account.specs.declared.log.Listed.{Listed}
-use Rattle.napt_account.specs.declared.open_entries.Due.{Due}
-use Rattle.napt_account.specs.declared.open_entries.EndKey.{EndKey}
-use Rattle.napt_account.specs.declared.open_entries.ExternalKey.{ExternalKey}
-use Rattle.napt_account.specs.declared.open_entries.Open.{Open}
-use Rattle.napt_account.specs.declared.open_entries.OpenEntries.{OpenEntries}
-use Rattle.napt_account.specs.Telling.{ends_first, is_open}
+use Rattle.napt_sequential.specs.declared.passage.Passage.{Passage, TheVariants.{Nothing, Out, In, Dropped}}
+use Rattle.napt_account.specs.declared.{log.{Entry.Entry, Listed.Listed}, open_entries.{Due.Due, EndKey.EndKey, ExternalKey.ExternalKey, Open.Open}}
+use Rattle.napt_account.specs.{declared.open_entries.OpenEntries.OpenEntries, Telling.{ends_first, is_open}}
 
 -- KEYS
 

@@ -1,19 +1,11 @@
 -- The log by the traces of a run's inputs alone, without the inputs.
-use Rattle.std.specs.Prelude.{◌≡◌, ℕ, ◌+◌, ◌≤◌, ◌<◌, ◌^◌, List, [], ◌∷◌, ◌++◌, length, map, drop, filter}
-use Rattle.std.specs.List.{fold}
+use Rattle.std.specs.{Prelude.{◌≡◌, ℕ, ◌+◌, ◌≤◌, ◌<◌, ◌^◌, List, [], ◌∷◌, ◌++◌, length, map, drop, filter}, List.fold}
 use Rattle.napt_config.specs.Rules.{Rules, KeepsRules}
 use Rattle.napt_rules.specs.Prelude.{Arrival, opening}
-use Rattle.napt_sequential.specs.Traces.{traces}
-use Rattle.napt_sequential.specs.declared.fault.RunFault.{RunFault}
+use Rattle.napt_sequential.specs.{Traces.traces, declared.{fault.RunFault.RunFault, passage.Trace.Trace}}
 use Rattle.napt_sequential.specs.declared.fault.RunFault.TheVariants as reasons
-use Rattle.napt_sequential.specs.declared.passage.Trace.{Trace}
-use Rattle.napt_account.specs.declared.log.Entry.{Entry}
-use Rattle.napt_account.specs.declared.log.Listed.{Listed}
-use Rattle.napt_account.specs.declared.known_log.LoggedTrace.{LoggedTrace}
-use Rattle.napt_account.specs.Book.{after_trace, lost_by}
-use Rattle.napt_account.specs.Log.{begun}
-use Rattle.napt_account.specs.OpenEntries.{LeavesOpen}
-use Rattle.napt_account.specs.Telling.{Told, ends_within, in_order_of_end, is_open, living_of, numbered, told_by}
+use Rattle.napt_account.specs.{declared.{log.{Entry.Entry, Listed.Listed}, known_log.LoggedTrace.LoggedTrace}, Book.{after_trace, lost_by}, Log.begun}
+use Rattle.napt_account.specs.{OpenEntries.LeavesOpen, Telling.{Told, ends_within, in_order_of_end, is_open, living_of, numbered, told_by}}
 
 -- the entries after some traces; the redirects are there before the first
 abbrev pub entries_after : Rules → List Trace → List Entry

@@ -1,17 +1,10 @@
 -- What each input of a run did to the bindings, act by act, and which entries of the log are theirs.
-use Rattle.std.specs.Prelude.{ℕ, ◌+◌, max, cond, length, List, [], ◌∷◌, map, Option, Some, None}
-use Rattle.std.specs.Option.{option_or}
-use Rattle.std.specs.List.{fold}
-use Rattle.napt_wire.specs.declared.Way.{Way}
-use Rattle.napt_wire.specs.declared.Way.TheVariants.{Outgoing, Incoming}
+use Rattle.std.specs.{Prelude.{ℕ, ◌+◌, max, cond, length, List, [], ◌∷◌, map, Option, Some, None}, Option.option_or, List.fold}
+use Rattle.napt_wire.specs.declared.Way.{Way, TheVariants.{Outgoing, Incoming}}
 use Rattle.napt_config.specs.Rules.{Rules}
-use Rattle.napt_rules.specs.Prelude.{Through, Binding, opening, Arrival, row, Act, Course, step}
-use Rattle.napt_rules.specs.declared.Leg.{Leg}
-use Rattle.napt_account.specs.declared.log.Entry.{Entry}
-use Rattle.napt_account.specs.declared.account.Note.{Note}
+use Rattle.napt_rules.specs.{Prelude.{Through, Binding, opening, Arrival, row, Act, Course, step}, declared.Leg.Leg}
+use Rattle.napt_account.specs.{declared.{log.Entry.Entry, account.{Note.Note, Use.Use}}, Log.{begun, logged, place_of}}
 use Rattle.napt_account.specs.declared.account.Note.TheVariants as notes
-use Rattle.napt_account.specs.declared.account.Use.{Use}
-use Rattle.napt_account.specs.Log.{begun, logged, place_of}
 
 -- none was used
 abbrev pub no_use : Use

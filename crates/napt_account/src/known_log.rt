@@ -1,8 +1,7 @@
 //! The log of a run, by what the legs of its inputs did, of which contracts see the traces that it took.
 
 ghost use Rattle.std.specs.Prelude.{◌≡◌, ◌+◌, ◌^◌, ◌<◌, ◌≤◌, ◌++◌, [], ◌∷◌, length, OnOk, IfErr, IfOk, true, false};
-ghost use Rattle.napt_account.specs.Book.{use_by_trace};
-ghost use Rattle.napt_account.specs.OpenEntries.{LeavesOpen};
+ghost use Rattle.napt_account.specs.{Book.use_by_trace, OpenEntries.LeavesOpen};
 ghost use Rattle.napt_account.specs.TraceLogs.{IsOfTraces, TracesCome, TracesHaveTheLiving, TracesTellTheLog, entries_after, living_with, told_in, told_with};
 
 use crate::account::Use;

@@ -2,8 +2,7 @@
 
 ghost use Rattle.std.specs.Prelude.{◌≡◌, ◌↔◌, ◌+◌, ◌^◌, ◌≤◌, ◌++◌, [], ◌∷◌, length, OnOk, Err, IfErr, IfOk, false};
 ghost use Rattle.napt_rules.specs.Sequential as model;
-ghost use Rattle.napt_account.specs.Telling.{living_of};
-ghost use Rattle.napt_account.specs.KnownRuns.{IsOfInputs, TellsLast};
+ghost use Rattle.napt_account.specs.{Telling.living_of, KnownRuns.{IsOfInputs, TellsLast}};
 
 use crate::account::Use;
 use crate::known_log::{KnownLog, traces_tell_the_log};

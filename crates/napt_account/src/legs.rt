@@ -1,14 +1,9 @@
 //! What the legs of an input did, as the log has to tell it.
 
-ghost use Rattle.std.specs.Prelude.{◌≡◌, ◌+◌, ◌<◌, ◌^◌, ◌++◌, ℕ, [], ◌∷◌, List, true, false, length, drop, Some, OnOk, IfOk};
-ghost use Rattle.std.specs.List.{slice_get};
+ghost use Rattle.std.specs.{Prelude.{◌≡◌, ◌+◌, ◌<◌, ◌^◌, ◌++◌, ℕ, [], ◌∷◌, List, true, false, length, drop, Some, OnOk, IfOk}, List.slice_get};
 ghost use Rattle.napt_account.specs.Book as books;
-ghost use Rattle.napt_account.specs.Log.{is_of};
-ghost use Rattle.napt_account.specs.OpenEntries.{Shows, LeavesOpen};
-ghost use Rattle.napt_account.specs.Telling.{numbered};
-ghost use Rattle.napt_account.specs.declared.log.Entry.{Entry as Logged};
+ghost use Rattle.napt_account.specs.{Log.is_of, OpenEntries.{Shows, LeavesOpen, listed_as}, Telling.numbered, declared.log.Entry.Entry as Logged};
 ghost use Rattle.napt_table.specs.declared.TimedRow.{TimedRow};
-ghost use Rattle.napt_account.specs.OpenEntries.{listed_as};
 
 use crate::account::Use;
 use crate::log::{Listed, Shortage, is_shortage};

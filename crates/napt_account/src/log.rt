@@ -1,15 +1,10 @@
 //! The log of a run: who had which external endpoint, from when and until when (RFC 6888, section 4).
 
-ghost use Rattle.std.specs.Prelude.{◌≡◌, ◌+◌, ◌<◌, ◌^◌, List, map, IfOk};
-ghost use Rattle.std.specs.List.Sorted.{IsPermutation};
+ghost use Rattle.std.specs.{Prelude.{◌≡◌, ◌+◌, ◌<◌, ◌^◌, List, map, IfOk}, List.Sorted.IsPermutation};
 ghost use Rattle.napt_config.specs.Rules.{pair_of};
 ghost use Rattle.napt_rules.specs.Prelude.{redirected, row};
-ghost use Rattle.napt_account.specs.Log.{is_shortage};
-ghost use Rattle.napt_account.specs.Attribution.{LogNamesTheHolders, LogListsTheLiving};
-ghost use Rattle.napt_account.specs.Ended.{EndedEntriesStay};
-ghost use Rattle.napt_account.specs.AllTold.{ToldIsTheLog};
-ghost use Rattle.napt_account.specs.Telling.{numbered};
-ghost use Rattle.napt_account.specs.declared.log.Entry.{Entry as Logged};
+ghost use Rattle.napt_account.specs.{Log.is_shortage, Attribution.{LogNamesTheHolders, LogListsTheLiving}, Ended.EndedEntriesStay, AllTold.ToldIsTheLog};
+ghost use Rattle.napt_account.specs.{Telling.numbered, declared.log.Entry.Entry as Logged};
 ghost use Rattle.napt_binding.specs.Ends.{EndsAreFirst, is_before};
 
 use napt_config::{Config, Redirect};

@@ -1,14 +1,12 @@
 //! The entries of the log whose bindings have not ended.
 
 ghost use Rattle.std.specs.Prelude.{◌≡◌, ◌+◌, ◌<◌, ◌≤◌, ◌^◌, ◌++◌, ◌&&◌, ◌||◌, not, ℕ, [], ◌∷◌, List, true, false, cond, length, map, set, filter, Some, None, Ok, OnOk, IfOk, IfSome, IfNone, unwrap_or};
-ghost use Rattle.std.specs.List.Sorted.{IsPermutation, IsSortedByKey};
-ghost use Rattle.std.specs.Option.{is_some};
+ghost use Rattle.std.specs.{List.Sorted.{IsPermutation, IsSortedByKey}, Option.is_some};
 ghost use Rattle.napt_rules.specs.Prelude.{Each, opening};
 ghost use Rattle.napt_binding.specs.Ends.{is_before};
 ghost use Rattle.napt_account.specs.Book as books;
-ghost use Rattle.napt_account.specs.Log.{begun, counted, place_of, through};
+ghost use Rattle.napt_account.specs.{Log.{begun, counted, place_of, through}, Telling.{numbered, ends_within, in_order_of_end, is_open}};
 ghost use Rattle.napt_account.specs.OpenEntries as keys;
-ghost use Rattle.napt_account.specs.Telling.{numbered, ends_within, in_order_of_end, is_open};
 
 use crate::account::{Note, Use};
 use crate::log::{Entry, Listed, is_before, redirected};

@@ -1,8 +1,10 @@
 //! The blocks of numbers of a configuration's inside hosts (RFC 7422), in CSV.
 
-use napt_commands::{Page, Stop};
+ghost use Rattle.std.specs.Prelude.{◌≤◌, IfSome};
+
+use napt_commands::{Exit, Page};
 use napt_config::{Address, Config};
-use napt_program::Streams;
+use napt_program::{Stop, Streams};
 use std::alloc::AllocError;
 use std::fmt::Write;
 
@@ -20,13 +22,13 @@ pub fn tell_blocks<R: Print + Eprint + AllocGlobal>(
     rt: &R,
     streams: Streams,
     config: &Config,
-) -> Result<(), Stop> {
+) -> Result<(), Exit> {
     let Some(size) = config.block() else {
         let _ = eprintln!(rt; "explain: the configuration has no `block`");
-        return Err(Stop::Told(napt_program::Stop::Usage));
+        return Err(Exit::Told(Stop::Usage));
     };
     if !streams.output {
-        return Err(Stop::NoOutput);
+        return Err(Exit::NoOutput);
     }
     let mut page = Page::new(rt.alloc());
     page.text.push_str(HEADER)?;
@@ -52,7 +54,9 @@ fn add_block(text: &mut String, config: &Config, host: u32) -> Result<(), AllocE
 }
 
 /// The first and the last number of a host's block.
-pub fn numbers_of(config: &Config, host: u32) -> Option<(u16, u16)> {
+pub fn numbers_of(config: &Config, host: u32) -> Option<(u16, u16)>
+    ensures { IfSome result (λ numbers. numbers.0 ≤ numbers.1) }
+{
     let block = config.block_of(host)?;
     let last = block.first.saturating_add(block.size.saturating_sub(1));
     Some((block.first, last))

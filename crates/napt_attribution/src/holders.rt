@@ -4,7 +4,7 @@ use crate::requests::Asked;
 use crate::wanted::Wanted;
 use crate::who::{Basis, Known, tell_answers};
 use napt_account::{Listed, in_order_of_making};
-use napt_commands::{Ending, Passing, Stop};
+use napt_commands::{Ending, Exit};
 use std::alloc::{AllocError, Global};
 
 /// What a run says to requests so far: of the bindings that ended, those that are asked about.
@@ -26,13 +26,8 @@ impl<'a> Holders<'a> {
         })
     }
 
-    /// Takes what a packet did.
-    pub fn take(&mut self, passing: Passing<'_>) -> Result<(), AllocError> {
-        self.keep(&passing.step.ended)
-    }
-
-    /// Keeps those that are asked about.
-    fn keep(&mut self, entries: &[Listed]) -> Result<(), AllocError> {
+    /// Takes bindings that ended, and keeps those that are asked about.
+    pub fn take(&mut self, entries: &[Listed]) -> Result<(), AllocError> {
         for listed in entries {
             if self.wanted.has(listed.entry.binding.external) {
                 self.ended.push(*listed)?;
@@ -42,8 +37,8 @@ impl<'a> Holders<'a> {
     }
 
     /// Prints the answers, once the run has ended. Fails with `Nobody` if a request has none.
-    pub fn tell<R: Print + AllocGlobal>(mut self, rt: &R, ending: &Ending<'_>) -> Result<(), Stop> {
-        self.keep(&ending.living)?;
+    pub fn tell<R: Print + AllocGlobal>(mut self, rt: &R, ending: &Ending<'_>) -> Result<(), Exit> {
+        self.take(&ending.living)?;
         let entries = in_order_of_making(rt.alloc(), self.ended)?;
         let known = Known {
             entries: &entries,

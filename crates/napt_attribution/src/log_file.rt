@@ -3,7 +3,7 @@
 
 use crate::blocks::tell_needless;
 use napt_account::Listed;
-use napt_commands::{Passing, Stop, tell_unwritten};
+use napt_commands::{Exit, Passing, tell_unwritten};
 use napt_config::Config;
 use napt_log_text::{add_living, add_opening, add_told};
 use std::fs::{self, File};
@@ -43,7 +43,7 @@ pub fn begin_log<'a, R: Files + Print + Eprint + AllocGlobal>(
     is_held: bool,
     config: &Config,
     opening: &[Listed],
-) -> Result<LogFile<'a, R::File>, Stop> {
+) -> Result<LogFile<'a, R::File>, Exit> {
     let place = match path {
         None => Place::Output,
         Some(path) if is_held => Place::Path(path),
@@ -62,14 +62,14 @@ pub fn begin_log<'a, R: Files + Print + Eprint + AllocGlobal>(
     Ok(log)
 }
 
-impl<'a, W: Write> LogFile<'a, W> {
+impl<'a, W: Write + Drop> LogFile<'a, W> {
     /// Takes what a packet did.
     pub fn take<R: Files + Print + Eprint>(
         &mut self,
         rt: &R,
         config: &Config,
         passing: Passing<'_>,
-    ) -> Result<(), Stop> {
+    ) -> Result<(), Exit> {
         add_told(config, passing.step, &mut self.text)?;
         self.turn(rt)
     }
@@ -77,23 +77,24 @@ impl<'a, W: Write> LogFile<'a, W> {
     /// Writes the rows of the bindings that live at the end, and all that is not written yet, and says if the log is not
     /// needed.
     pub fn finish<R: Files + Print + Eprint>(
-        &mut self,
+        self,
         rt: &R,
         config: &Config,
         living: &[Listed],
-    ) -> Result<(), Stop> {
+    ) -> Result<(), Exit> {
+        let mut log = self;
         for part in living.chunks(LIVING) {
-            add_living(config, part, &mut self.text)?;
-            self.turn(rt)?;
+            add_living(config, part, &mut log.text)?;
+            log.turn(rt)?;
         }
-        self.is_held = false;
-        self.settle(rt)?;
+        log.is_held = false;
+        log.settle(rt)?;
         tell_needless(rt, config);
         Ok(())
     }
 
     /// Writes the rows if there are enough of them.
-    fn turn<R: Files + Print + Eprint>(&mut self, rt: &R) -> Result<(), Stop> {
+    fn turn<R: Files + Print + Eprint>(&mut self, rt: &R) -> Result<(), Exit> {
         if self.text.len() < BUFFERED {
             return Ok(());
         }
@@ -101,7 +102,7 @@ impl<'a, W: Write> LogFile<'a, W> {
     }
 
     /// Writes the rows and forgets them. If that fails, prints the file and the system's reason.
-    pub fn settle<R: Files + Print + Eprint>(&mut self, rt: &R) -> Result<(), Stop> {
+    pub fn settle<R: Files + Print + Eprint>(&mut self, rt: &R) -> Result<(), Exit> {
         if self.is_held {
             return Ok(());
         }
@@ -109,7 +110,7 @@ impl<'a, W: Write> LogFile<'a, W> {
         self.text.clear();
         match (written, &self.place) {
             (Ok(()), _) => Ok(()),
-            (Err(error), Place::Output) => Err(Stop::Output(error)),
+            (Err(error), Place::Output) => Err(Exit::Output(error)),
             (Err(error), Place::Path(path) | Place::File(path, _)) => {
                 Err(tell_unwritten(rt, "--to", path, &error))
             }

@@ -7,7 +7,7 @@ use napt_account::Party;
 use napt_commands::Page;
 use napt_config::{Address, Config, Redirect};
 use napt_log_text::Request;
-use napt_records::{EndpointText, protocol_name};
+use napt_records::protocol_name;
 use napt_wire::{Endpoint, Protocol};
 use std::alloc::AllocError;
 use std::fmt::Write;
@@ -15,36 +15,23 @@ use std::fmt::Write;
 /// Appends a line for each host whose block a request is in. If there is no run, appends one for each redirect too, or
 /// that nobody ever has the endpoint. Returns whether somebody has it.
 pub fn add_owners(asked: &Asked, known: Known<'_>, page: &mut Page) -> Result<bool, AllocError> {
-    let Some(config) = known.config else {
-        return Ok(false);
-    };
-    let Some(size) = config.block() else {
+    let Some((config, size)) = known.config.and_then(|it| Some((it, it.block()?))) else {
         return Ok(false);
     };
     let text = &mut page.text;
     let is_alone = known.basis == Basis::Blocks;
     let has_redirect = is_alone && add_redirects(asked, config, text)?;
     let has_host = match asked.endpoint() {
-        Some(endpoint) => add_host_of(asked, config, endpoint, text)?,
+        Some(Endpoint { address, number }) => match config.host_of(address, number) {
+            Some(host) => add_host(asked, config, host, text)?,
+            None => false,
+        },
         None => add_hosts_of(asked, config, size, text)?,
     };
     if is_alone && !has_redirect && !has_host {
         add_nobody(asked, config, text)?;
     }
     Ok(has_redirect || has_host)
-}
-
-/// Appends the line of the host whose block an endpoint is in, if there is one.
-fn add_host_of(
-    asked: &Asked,
-    config: &Config,
-    endpoint: Endpoint,
-    text: &mut String,
-) -> Result<bool, AllocError> {
-    let Some(host) = config.host_of(endpoint.address, endpoint.number) else {
-        return Ok(false);
-    };
-    add_host(asked, config, host, text)
 }
 
 /// Appends the lines of all hosts with a block of an address.
@@ -96,42 +83,32 @@ fn add_redirects(asked: &Asked, config: &Config, text: &mut String) -> Result<bo
 
 /// Whether a request names the external endpoint of a redirect.
 fn is_asked(request: &Request, config: &Config, redirect: &Redirect) -> bool {
-    let Request {
-        protocol,
-        party,
-        ..
-    } = *request;
+    let party = request.party;
     config.pair(redirect.address) == party.address
-        && party
-            .number
-            .is_none_or(|number| number == redirect.external)
-        && protocol.is_none_or(|protocol| protocol == protocol_of(redirect))
+        && party.number.is_none_or(|it| it == redirect.external)
+        && request
+            .protocol
+            .is_none_or(|it| it == protocol_of(redirect))
 }
 
 fn protocol_of(redirect: &Redirect) -> Protocol {
-    if redirect.tcp {
-        Protocol::Tcp
-    } else {
-        Protocol::Udp
+    match redirect.tcp {
+        true => Protocol::Tcp,
+        false => Protocol::Udp,
     }
 }
 
 /// Appends a redirect, as the line of its binding in a run has it.
 fn add_redirect(config: &Config, redirect: &Redirect, text: &mut String) -> Result<(), AllocError> {
-    let inside = Endpoint {
-        address: redirect.address,
-        number: redirect.port,
-    };
-    let external = Endpoint {
-        address: config.pair(redirect.address),
-        number: redirect.external,
-    };
+    let protocol = protocol_name(protocol_of(redirect));
+    let (inside, external) = (
+        Address(redirect.address),
+        Address(config.pair(redirect.address)),
+    );
+    let (port, number) = (redirect.port, redirect.external);
     writeln!(
         text,
-        "{} {} at {} always, a redirect",
-        protocol_name(protocol_of(redirect)),
-        EndpointText(inside),
-        EndpointText(external)
+        "{protocol} {inside}:{port} at {external}:{number} always, a redirect"
     )
 }
 

@@ -2,9 +2,10 @@
 
 use crate::spans::{NoTime, span_of};
 use napt_account::Party;
-use napt_commands::{Stop, text_at};
+use napt_commands::{Exit, text_at};
 use napt_config::Address;
 use napt_log_text::Request;
+use napt_program::Stop;
 use napt_records::protocol_name;
 use napt_wire::{Endpoint, Protocol};
 use std::rt::Files;
@@ -54,7 +55,7 @@ impl Asked {
 pub fn requests_at<R: Files + Input + Eprint + AllocGlobal>(
     rt: &R,
     path: &str,
-) -> Result<Vec<Asked>, Stop> {
+) -> Result<Vec<Asked>, Exit> {
     let text = text_at(rt, "--requests", path)?;
     let lines = match str::from_utf8(&text) {
         Ok(lines) => lines,
@@ -82,9 +83,9 @@ pub fn requests_at<R: Files + Input + Eprint + AllocGlobal>(
 }
 
 /// Prints which line of a file is no request, and why, and returns how the program stops.
-fn tell_wrong<R: Eprint>(rt: &R, path: &str, line: u64, why: &str) -> Stop {
+fn tell_wrong<R: Eprint>(rt: &R, path: &str, line: u64, why: &str) -> Exit {
     let _ = eprintln!(rt; "explain: --requests {path}: line {line}: {why}");
-    Stop::Told(napt_program::Stop::Usage)
+    Exit::Told(Stop::Usage)
 }
 
 /// The number of the line that a byte of a text is in.

@@ -1,15 +1,16 @@
 //! A log that `log` wrote, read again. docs/FORMATS.md describes the order of its rows; `napt_log_text` reads each.
 
 use napt_account::Entry;
-use napt_commands::{Stop, opened};
+use napt_commands::{Exit, opened};
 use napt_config::{Address, Config};
 use napt_log_text::{SavedFault, SavedField, SavedLog, SavedRow};
 use napt_records::EndpointText;
 use napt_rules::Row;
+use napt_wire::Endpoint;
 use std::alloc::{AllocFailed, Global};
-use std::io;
 use std::io::{BufReader, ErrorKind, Read};
 use std::rt::Files;
+use std::{fmt, io};
 
 /// What a saved log says of bindings.
 #[derive(Drop)]
@@ -55,7 +56,7 @@ pub fn read_saved<R: Files + Input + Eprint + AllocGlobal>(
     rt: &R,
     paths: &[String],
     config: Option<&Config>,
-) -> Result<Saved, Stop> {
+) -> Result<Saved, Exit> {
     let mut saved = Saved {
         entries: Vec::new(rt.alloc()),
         first: u64::MAX,
@@ -87,7 +88,7 @@ impl Piece<'_, '_> {
         self,
         rt: &R,
         saved: &mut Saved,
-    ) -> Result<(), Stop> {
+    ) -> Result<(), Exit> {
         let path = self.path;
         let device = opened(rt, "--from-log", path)?;
         match self.add_to(saved, rt.alloc(), device) {
@@ -108,13 +109,10 @@ impl Piece<'_, '_> {
             Ok(reader) => Ok(SavedLog::piece(alloc, reader)),
             Err(error) => Err(SavedFault::Unread(error)),
         };
-        let mut log = match opened {
-            Ok(log) => log,
-            Err(fault) => return Err(Refused {
-                row: 1,
-                fault: Fault::Saved(fault),
-            }),
-        };
+        let mut log = opened.map_err(|fault| Refused {
+            row: 1,
+            fault: Fault::Saved(fault),
+        })?;
         let first = if self.is_first { 2 } else { 1 };
         for row in first..u64::MAX {
             let taken = match log.next() {
@@ -140,47 +138,48 @@ impl Piece<'_, '_> {
 
     /// Whether a binding, no redirect, is outside of its host's block in the configuration.
     fn is_elsewhere(self, binding: &Row) -> bool {
-        let Some(config) = self.config else {
-            return false;
-        };
-        let external = binding.external;
-        config.block().is_some()
-            && !binding.fixed
-            && config.host_of(external.address, external.number) != Some(binding.inside.address)
+        let Endpoint { address, number } = binding.external;
+        let config = self
+            .config
+            .filter(|it| it.block().is_some() && !binding.fixed);
+        config.is_some_and(|it| it.host_of(address, number) != Some(binding.inside.address))
     }
 }
 
 /// Prints why a log is refused or its last row left out. Of the former it returns how the program stops.
-fn tell_refused<R: Eprint>(rt: &R, path: &str, refused: &Refused) -> Result<(), Stop> {
-    let row = refused.row;
-    let why = match &refused.fault {
-        Fault::Saved(SavedFault::Unread(error)) => match error.kind() {
-            ErrorKind::OutOfMemory => return Err(Stop::As(napt_program::MEMORY)),
-            ErrorKind::InvalidData => "expected text in UTF-8",
-            _ => {
-                let _ = eprintln!(rt; "explain: --from-log {path}: row {row}: {error}");
-                return Err(Stop::Log);
+fn tell_refused<R: Eprint>(rt: &R, path: &str, refused: &Refused) -> Result<(), Exit> {
+    let Refused { row, fault } = refused;
+    if let Fault::Saved(SavedFault::Unread(error)) = fault
+        && error.kind() == ErrorKind::OutOfMemory
+    {
+        return Err(Exit::As(napt_program::MEMORY));
+    }
+    let _ = eprintln!(rt; "explain: --from-log {path}: row {row}: {fault}");
+    match fault {
+        Fault::Saved(SavedFault::Torn) => Ok(()),
+        _ => Err(Exit::Log),
+    }
+}
+
+impl fmt::Display for Fault {
+    fn fmt<W: fmt::Write>(&self, f: &mut fmt::Formatter<W>) -> fmt::Result {
+        match self {
+            Fault::Saved(SavedFault::Unread(error)) if error.kind() == ErrorKind::InvalidData => {
+                f.write_str("expected text in UTF-8")
             }
-        },
-        Fault::Saved(SavedFault::Wrong(why)) => *why,
-        Fault::Saved(SavedFault::Torn) => {
-            let _ = eprintln!(rt;
-                "explain: --from-log {path}: row {row}: it breaks off, and is left out"
-            );
-            return Ok(());
+            Fault::Saved(SavedFault::Unread(error)) => write!(f, "{error}"),
+            Fault::Saved(SavedFault::Wrong(why)) => f.write_str(why),
+            Fault::Saved(SavedFault::Torn) => f.write_str("it breaks off, and is left out"),
+            Fault::Elsewhere(binding) => {
+                let (host, external) = (Address(binding.inside.address), binding.external);
+                let external = EndpointText(external);
+                write!(
+                    f,
+                    "{host} has other numbers in the configuration than {external}: this is the log of another"
+                )
+            }
         }
-        Fault::Elsewhere(binding) => {
-            let (host, external) = (Address(binding.inside.address), binding.external);
-            let _ = eprintln!(rt;
-                "explain: --from-log {path}: row {row}: {host} has other numbers in the configuration than {}: \
-this is the log of another",
-                EndpointText(external)
-            );
-            return Err(Stop::Log);
-        }
-    };
-    let _ = eprintln!(rt; "explain: --from-log {path}: row {row}: {why}");
-    Err(Stop::Log)
+    }
 }
 
 const NO_TIME: &str = "observationTimeNanoseconds: expected a number";
@@ -192,26 +191,22 @@ impl Saved {
     fn take(&mut self, row: &SavedRow) -> Result<Option<Row>, Fault> {
         match row.event {
             SavedField::Number(8) => {
-                let binding = binding_of(row)?;
+                let binding = row.binding().map_err(wrong)?;
                 self.make(row, binding)?;
-                Ok(Some(binding))
+                return Ok(Some(binding));
             }
             SavedField::Number(9) => {
-                let binding = binding_of(row)?;
+                let binding = row.binding().map_err(wrong)?;
                 let at = self.time_of(row.time)?;
                 self.end(row.number, binding, u128::from(at))?;
-                Ok(None)
             }
             SavedField::Number(12 | 13) => {
                 self.time_of(row.time)?;
-                Ok(None)
             }
-            SavedField::Empty => {
-                self.live_on(row, binding_of(row)?)?;
-                Ok(None)
-            }
-            _ => Err(wrong("natEvent: expected 8, 9, 12, 13 or nothing")),
+            SavedField::Empty => self.live_on(row, row.binding().map_err(wrong)?)?,
+            _ => return Err(wrong("natEvent: expected 8, 9, 12, 13 or nothing")),
         }
+        Ok(None)
     }
 
     /// The time of an event, which is no earlier than those above.
@@ -284,17 +279,8 @@ impl Saved {
         };
         let place = usize::try_from(number.checked_sub(1)?).ok()?;
         let entry = self.entries.get_mut(place)?;
-        if entry.binding == binding {
-            Some(entry)
-        } else {
-            None
-        }
+        (entry.binding == binding).then_some(entry)
     }
-}
-
-/// The binding of a row.
-fn binding_of(row: &SavedRow) -> Result<Row, Fault> {
-    row.binding().map_err(wrong)
 }
 
 /// The fault of a row that is none of a log: what was expected.

@@ -1,5 +1,7 @@
 //! Times as users write them. Each stands for its whole last digit: for every moment that begins with its digits.
 
+ghost use Rattle.std.specs.Prelude.{◌≡◌, ◌+◌, IfSome};
+
 use jiff::Timestamp;
 use napt_log_text::Span;
 
@@ -79,7 +81,9 @@ fn span_of_date(text: &str) -> Option<Span> {
 }
 
 /// The span from a moment on that is a unit long.
-fn span_from(first: u128, unit: u64) -> Option<Span> {
+fn span_from(first: u128, unit: u64) -> Option<Span>
+    ensures { IfSome result (λ span. (span.first ≡ first) × (span.until ≡ first + unit)) }
+{
     Some(Span {
         first,
         until: first.checked_add(u128::from(unit))?,
@@ -88,11 +92,7 @@ fn span_from(first: u128, unit: u64) -> Option<Span> {
 
 /// The ns of the last of so many decimals of a second.
 fn unit_of(decimals: usize) -> Option<u64> {
-    let mut unit = 1u64;
-    for _ in 0..DECIMALS.checked_sub(decimals)? {
-        unit = unit.checked_mul(10)?;
-    }
-    Some(unit)
+    10u64.checked_pow(DECIMALS.checked_sub(decimals)? as u32)
 }
 
 /// How many digits the time of day of a date has.

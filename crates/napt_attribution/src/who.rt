@@ -5,9 +5,9 @@ use crate::owners::{add_owners, add_party};
 use crate::requests::Asked;
 use crate::saved::{Saved, read_saved};
 use napt_account::Entry;
-use napt_commands::{Page, Sorted, Stop};
+use napt_commands::{Exit, Page, Sorted};
 use napt_config::Config;
-use napt_log_text::{Moment, Request, Span, add_holder, add_mark, add_nobody};
+use napt_log_text::{Moment, Request, add_holder, add_mark, add_nobody};
 use napt_program::Streams;
 use napt_records::protocol_name;
 use std::alloc::AllocError;
@@ -40,14 +40,13 @@ pub enum Basis {
 }
 
 impl Known<'_> {
-    /// Whether the log is over before the time that a request asks about, or begins behind it.
-    fn is_beside(self, request: &Request) -> bool {
-        match (self.basis, request.at) {
-            (Basis::Log(first), Some(Span { first: from, until })) => {
-                until <= u128::from(first) || u128::from(self.last) < from
-            }
-            _ => false,
-        }
+    /// When the log begins and ends, if it is over before the time that a request asks about, or begins behind it.
+    fn beside(self, request: &Request) -> Option<(u128, u128)> {
+        let (Basis::Log(first), Some(span)) = (self.basis, request.at) else {
+            return None;
+        };
+        let (first, last) = (u128::from(first), u128::from(self.last));
+        (span.until <= first || last < span.first).then_some((first, last))
     }
 }
 
@@ -57,9 +56,9 @@ pub fn answer_by_blocks<R: Print + AllocGlobal>(
     streams: Streams,
     asked: &[Asked],
     config: &Config,
-) -> Result<(), Stop> {
+) -> Result<(), Exit> {
     if !streams.output {
-        return Err(Stop::NoOutput);
+        return Err(Exit::NoOutput);
     }
     let known = Known {
         entries: &[],
@@ -79,14 +78,14 @@ pub fn answer_by_log<R: Files + Input + Print + Eprint + AllocGlobal>(
     asked: &[Asked],
     pieces: &[String],
     config: Option<&Config>,
-) -> Result<(), Stop> {
+) -> Result<(), Exit> {
     let Saved {
         entries,
         first,
         last,
     } = read_saved(rt, pieces, config)?;
     if !streams.output {
-        return Err(Stop::NoOutput);
+        return Err(Exit::NoOutput);
     }
     let known = Known {
         entries: &entries,
@@ -104,7 +103,7 @@ pub fn tell_answers<R: Print + AllocGlobal>(
     rt: &R,
     asked: &[Asked],
     known: Known<'_>,
-) -> Result<(), Stop> {
+) -> Result<(), Exit> {
     let sorted = match asked.len() {
         0 | 1 => None,
         _ => Some(Sorted::of(Vec::from_slice(rt.alloc(), known.entries)?)?),
@@ -124,7 +123,7 @@ pub fn tell_answers<R: Print + AllocGlobal>(
     if is_answered {
         Ok(())
     } else {
-        Err(Stop::Nobody)
+        Err(Exit::Nobody)
     }
 }
 
@@ -134,7 +133,7 @@ fn tell_answer<R: Print + AllocGlobal>(
     asked: &Asked,
     known: Known<'_>,
     page: &mut Page,
-) -> Result<bool, Stop> {
+) -> Result<bool, Exit> {
     let is_owned = add_owners(asked, known, page)?;
     page.turn(rt)?;
     if known.basis == Basis::Blocks {
@@ -149,39 +148,33 @@ fn tell_answer<R: Print + AllocGlobal>(
     if !holders.is_empty() {
         return Ok(true);
     }
-    if known.is_beside(&asked.request) {
-        add_beside(asked, known, &mut page.text)?;
-        return Ok(is_owned);
-    }
-    let nearest = asked.request.nearest_among(known.entries);
     mark(asked, &mut page.text)?;
-    add_nobody(
-        &asked.request,
-        &nearest,
-        known.config,
-        known.last,
-        &mut page.text,
-    )?;
+    let (request, text) = (&asked.request, &mut page.text);
+    if let Some(times) = known.beside(request) {
+        add_beside(request, times, text)?;
+    } else {
+        let nearest = request.nearest_among(known.entries);
+        add_nobody(request, &nearest, known.config, known.last, text)?;
+    }
     page.turn(rt)?;
     Ok(is_owned)
 }
 
-/// Appends the line that says that the log is not of the time that a request asks about.
-fn add_beside(asked: &Asked, known: Known<'_>, text: &mut String) -> Result<(), AllocError> {
-    mark(asked, text)?;
+/// Ends the line that says that the log is not of the time that a request asks about.
+fn add_beside(
+    request: &Request,
+    (first, last): (u128, u128),
+    text: &mut String,
+) -> Result<(), AllocError> {
     text.push_str("nobody is known at ")?;
-    if let Some(protocol) = asked.request.protocol {
+    if let Some(protocol) = request.protocol {
         write!(text, "{} ", protocol_name(protocol))?;
     }
-    add_party(asked.request.party, text)?;
-    let first = match known.basis {
-        Basis::Log(first) => first,
-        _ => 0,
-    };
+    add_party(request.party, text)?;
     text.push_str(" then: the log begins at ")?;
-    Moment(u128::from(first)).add_to(text)?;
+    Moment(first).add_to(text)?;
     text.push_str(", ends at ")?;
-    Moment(u128::from(known.last)).add_to(text)?;
+    Moment(last).add_to(text)?;
     text.push_str("\n")
 }
 

@@ -1,16 +1,10 @@
 -- Flows of which no two are of one remote.
+use Rattle.std.proofs.lemmas.{Grind.common_steps, Bool.Decides.nat_tests}
 use Rattle.std.proofs.Common.{◌≡◌, ℕ, zero, suc, ◌+◌, ◌<◌, Bool, true, false, ◌||◌, cond, List, [], ◌∷◌, ◌++◌, length, take, set, get_or, Option, Some, None, refl, sym, ◌∙◌, ap, arith, filter}
-use Rattle.std.specs.List.{list_any}
-use Rattle.std.proofs.lemmas.Bool.{or_parts, true≢false}
-use Rattle.napt_rules.specs.Prelude.{is_tcp, same_endpoint, is_live_flow, live_flows, is_flow_of, Endpoint, Protocol, Timers}
-use Rattle.napt_rules.specs.declared.Flow.{Flow}
-use Rattle.napt_binding.specs.declared.flows.many.Many.{Many}
-use Rattle.napt_binding.specs.Many.{place_at, IsMany}
-use Rattle.napt_binding.specs.Slots.{somes, Stands, AreDistinct}
-use Rattle.std.proofs.lemmas.List.Folds.{list_any_at}
-use Rattle.napt_binding.proofs.Lists.{any_last}
-use Rattle.napt_binding.proofs.Manys.{endpoint_is, endpoint_same, no_place}
-use Rattle.napt_binding.proofs.Slots.{any_none, somes_pushed}
+use Rattle.std.{specs.List.list_any, proofs.lemmas.{Bool.{or_parts, true≢false}, List.Folds.list_any_at}}
+use Rattle.napt_rules.specs.{Prelude.{same_endpoint, live_flows, is_flow_of, Endpoint, Protocol, Timers}, declared.Flow.Flow}
+use Rattle.napt_binding.{specs.{declared.flows.many.Many.Many, Many.{place_at, IsMany}, Slots.{somes, Stands, AreDistinct}}, proofs.Lists.any_last}
+use Rattle.napt_binding.proofs.{Manys.{endpoint_is, endpoint_same, no_place}, Slots.{any_none, somes_pushed}}
 
 other_way : (f g : Flow) → is_flow_of f.remote g ≡ false → is_flow_of g.remote f ≡ false
 other_way f g h = elim (is_flow_of g.remote f) as (λ v. is_flow_of g.remote f ≡ v → v ≡ false) [
@@ -29,10 +23,8 @@ none_kept t p (f ∷ flows) h =
 
 pub distinct_kept : (p : Flow → Bool) (flows : List Flow) → AreDistinct flows → AreDistinct (filter p flows)
 distinct_kept p [] d = tt
-distinct_kept p (f ∷ flows) d = elim (p f) as (λ v. AreDistinct (cond v (f ∷ filter p flows) (filter p flows))) [
-  | true ↦ (none_kept (is_flow_of f.remote) p flows d.0, distinct_kept p flows d.1)
-  | false ↦ distinct_kept p flows d.1
-]
+distinct_kept p (f ∷ flows) d =
+    grind (arith, common_steps, nat_tests, none_kept, distinct_kept p flows d.1, distinct_kept p flows d.1)
 
 same_any : (remote : Endpoint) (flows : List Flow) (i : ℕ) (d flow : Flow) → flow.remote ≡ (get_or flows i d).remote →
     list_any (is_flow_of remote) (set flows i flow) ≡ list_any (is_flow_of remote) flows
@@ -95,9 +87,7 @@ not_in_slots_before many i flow is here = any_none (is_flow_of flow.remote) (tak
 pub somes_more : (slots : List (Option Flow)) (i : ℕ) (flow : Flow) → Stands slots i flow → somes (take (suc i) slots)
     ≡ somes (take i slots) ++ flow ∷ []
 somes_more [] i flow h = cc
-somes_more (o ∷ slots) zero flow h =
-    let s : o ≡ Some flow = Rattle.std.proofs.lemmas.Option.same_Some o (Some flow) h in
-    ap (λ (x : Option Flow). somes (x ∷ [])) s
+somes_more (o ∷ slots) zero flow h = grind (arith, common_steps, nat_tests)
 somes_more (None ∷ slots) (suc i) flow h = somes_more slots i flow h
 somes_more (Some f ∷ slots) (suc i) flow h = ap (λ (l : List Flow). f ∷ l) (somes_more slots i flow h)
 
@@ -112,11 +102,7 @@ somes_no_more (Some f ∷ slots) (suc i) none = ap (λ (l : List Flow). f ∷ l)
 
 pub distinct_live : (timers : Timers) (now : ℕ) (protocol : Protocol) (flows : List Flow) → AreDistinct flows →
     AreDistinct (live_flows timers now protocol flows)
-distinct_live timers now protocol flows d =
-    elim (is_tcp protocol) as (λ v. AreDistinct (cond v (filter (is_live_flow timers now) flows) flows)) [
-      | true ↦ distinct_kept (is_live_flow timers now) flows d
-      | false ↦ d
-    ]
+distinct_live timers now protocol flows d = grind (arith, common_steps, nat_tests, distinct_kept)
 
 -- ONE MORE OF A LIST OF FLOWS
 

@@ -1,10 +1,8 @@
 -- A binding lives before its end, and no longer.
+use Rattle.std.proofs.lemmas.Grind.{common_steps}
 use Rattle.std.proofs.Common.{◌≡◌, ℕ, ◌+◌, ◌<◌, ◌≤◌, ◌++◌, length, take, get_or, max, Bool, true, false, ◌||◌, cond, List, [], ◌∷◌, Option, Some, None, refl, sym, ◌∙◌, ap, arith, nat_lt, nat_le}
-use Rattle.std.specs.List.{list_any}
-use Rattle.std.proofs.lemmas.Bool.Decides.{nat_tests}
-use Rattle.std.proofs.lemmas.List.{take_more}
-use Rattle.napt_rules.specs.declared.Marks.{Marks}
-use Rattle.napt_rules.specs.declared.Flow.{Flow}
+use Rattle.std.{specs.List.list_any, proofs.lemmas.{Bool.Decides.nat_tests, List.take_more}}
+use Rattle.napt_rules.specs.declared.{Marks.Marks, Flow.Flow}
 use Rattle.napt_rules.specs.Prelude.{Binding, is_established, idle, is_recent, is_live_flow, is_live_by, is_live, with_live_flows, Protocol, Icmp, Tcp, Udp, AreTimers, Timers}
 use Rattle.napt_rules.proofs.Life.{lived, live_same}
 use Rattle.napt_binding.specs.Ends.{end_after, last_end, end_by, end_of, is_before, EndsAreFirst}
@@ -24,10 +22,7 @@ pub flows_before : (timers : Timers) → AreTimers timers → (now : ℕ) (flows
     list_any (is_live_flow timers now) flows ≡ nat_lt now (last_end timers flows)
 flows_before timers t now [] = grind (arith, nat_tests)
 flows_before timers t now (flow ∷ flows) =
-    ap (λ v. v || list_any (is_live_flow timers now) flows)
-    (recent_before now flow.last (idle timers flow.marks) (idle_some timers t flow.marks))
-    ∙ (ap (λ v. nat_lt now (end_after flow.last (idle timers flow.marks)) || v) (flows_before timers t now flows)
-    ∙ either_before now (end_after flow.last (idle timers flow.marks)) (last_end timers flows))
+    grind (arith, common_steps, nat_tests, recent_before, idle_some, either_before, flows_before timers t now flows)
 
 by_before : (protocol : Protocol) (timers : Timers) → AreTimers timers → (now : ℕ) (binding : Binding) →
     is_live_by protocol timers now binding ≡ nat_lt now (end_by protocol timers binding)
@@ -101,6 +96,3 @@ pub max_before : (a b : ℕ) (p q l : ℕ → Bool) (end : ℕ) → ((t : ℕ) �
 max_before a b p q l end is_a is_b is_l is_end =
     same_before (max a b) end (λ t. sym (either_before t a b)
     ∙ (ap (λ v. v || nat_lt t b) (sym (is_a t)) ∙ (ap (λ v. p t || v) (sym (is_b t)) ∙ (sym (is_l t) ∙ is_end t))))
-
-pub never_before : (t : ℕ) → false ≡ nat_lt t 0
-never_before t = grind (arith, nat_tests)

@@ -1,9 +1,7 @@
 -- Words on lists against one another.
+use Rattle.std.proofs.lemmas.Grind.{common_steps}
 use Rattle.std.proofs.Common.{◌≡◌, ℕ, Bool, true, false, ◌&&◌, ◌||◌, cond, List, [], ◌∷◌, ◌++◌, map, Some, None, refl, sym, ◌∙◌, ap, arith, zero, suc, ◌<◌, length, get_or, set, ltb, filter, position, is_some}
-use Rattle.std.specs.List.{position_or_len, list_any}
-use Rattle.std.proofs.lemmas.Bool.{or_parts}
-use Rattle.std.proofs.lemmas.Bool.Decides.{nat_tests}
-use Rattle.std.proofs.lemmas.List.Quantifiers.{position-Some}
+use Rattle.std.{specs.List.{position_or_len, list_any}, proofs.lemmas.{Bool.{or_parts, Decides.nat_tests}, List.Quantifiers.position-Some}}
 use Rattle.napt_rules.specs.Prelude.{change_first}
 
 -- A CHANGE BY PLACE
@@ -79,11 +77,7 @@ module _ {X : Type 0} (p t : X → Bool) (f : X → X) (same : (x : X) → t (f 
     -- one that is kept is put where the first was, and is seen as a change of it
     pub set_seen : (xs : List X) (i : ℕ) (d y : X) → position (λ x. p x && t x) xs ≡ Some i → p y ≡ true →
         f y ≡ h (f (get_or xs i d)) → map f (filter p (set xs i y)) ≡ change_first t h (map f (filter p xs))
-    set_seen xs i d y e kept changed =
-        let q : (i < length xs) × ((p (get_or xs i d) && t (get_or xs i d)) ≡ true)
-        × ((k : ℕ) → k < i → (p (get_or xs k d) && t (get_or xs k d)) ≡ false) =
-        position-Some (λ x. p x && t x) xs i d e in
-        set_seen_here xs i d y q.0 q.1 q.2 kept changed
+    set_seen xs i d y e kept changed = grind (arith, common_steps, nat_tests, position-Some, set_seen_here)
 
 pub filter_pushed : {X : Type 0} (p : X → Bool) (xs : List X) (y : X) → p y ≡ true → filter p (xs ++ y ∷ [])
     ≡ filter p xs ++ y ∷ []

@@ -1,26 +1,16 @@
 -- Many flows, when one begins, changes or goes.
+use Rattle.std.proofs.lemmas.{Grind.common_steps, Bool.Decides.nat_tests}
 use Rattle.std.proofs.Common.{◌≡◌, ◌≢◌, ℕ, ◌+◌, ◌-◌, ◌≤◌, ◌⊎◌, inl, inr, true, false, cond, List, [], ◌∷◌, ◌++◌, length, set, get_or, Option, Some, None, slice_get, refl, sym, ◌∙◌, ap, arith, eqb, eqb-true}
-use Rattle.std.specs.List.{list_any}
-use Rattle.std.specs.HashMap.{hash_map_len}
-use Rattle.std.proofs.lemmas.Bool.{eq-eqb, and_from, and_parts, true≢false}
-use Rattle.std.proofs.lemmas.Option.{same_Some, get_or_from_slice_get}
-use Rattle.std.proofs.lemmas.List.Sums.{sum_by-set, sum_by_push}
-use Rattle.napt_rules.specs.declared.Flow.{Flow}
-use Rattle.napt_binding.specs.declared.flows.many.Many.{Many}
-use Rattle.napt_rules.specs.Prelude.{same_endpoint, is_flow_of, Endpoint}
-use Rattle.napt_binding.specs.Counts.{count_at}
-use Rattle.napt_binding.specs.Many.{place_at, IsMany}
-use Rattle.napt_binding.specs.Slots.{somes, Stands, of_address, count_of}
+use Rattle.std.{specs.{List.list_any, HashMap.hash_map_len}, proofs.lemmas.Bool.{eq-eqb, and_from, and_parts, true≢false}}
+use Rattle.std.proofs.lemmas.{Option.{same_Some, get_or_from_slice_get}, List.Sums.{sum_by-set, sum_by_push}}
+use Rattle.napt_rules.specs.{declared.Flow.Flow, Prelude.{same_endpoint, is_flow_of, Endpoint}}
+use Rattle.napt_binding.specs.{declared.flows.many.Many.Many, Counts.count_at, Many.{place_at, IsMany}, Slots.{somes, Stands, of_address, count_of}}
 use Rattle.napt_binding.proofs.Slots.{one_more, as_many_set, one_fewer, stands_within, stands_set, stands_there, stands_elsewhere, stands_pushed, stands_last, stands_still, any_stands, any_none}
 
 -- ENDPOINTS
 
 pub endpoint_is : (a b : Endpoint) → same_endpoint a b ≡ true → a ≡ b
-endpoint_is a b h =
-    let p = and_parts (eqb a.address b.address) (eqb a.number b.number) h in
-    let m : a.address ≡ b.address = eqb-true _ _ p.0 in
-    let n : a.number ≡ b.number = eqb-true _ _ p.1 in
-    λ k. record { address = m k; number = n k }
+endpoint_is a b h = grind (arith, common_steps, nat_tests, and_parts)
 
 pub endpoint_same : (a b : Endpoint) → a ≡ b → same_endpoint a b ≡ true
 endpoint_same a b e =
@@ -30,11 +20,7 @@ endpoint_same a b e =
 
 -- which of two a remote is
 either : (a b : Endpoint) → ((a ≡ b) × (same_endpoint a b ≡ true)) ⊎ ((a ≢ b) × (same_endpoint a b ≡ false))
-either a b = elim (same_endpoint a b) as (λ v. same_endpoint a b ≡ v →
-    ((a ≡ b) × (v ≡ true)) ⊎ ((a ≢ b) × (v ≡ false))) [
-      | true ↦ λ e. inl (endpoint_is a b e, refl)
-      | false ↦ λ e. inr ((λ q. true≢false (sym (endpoint_same a b q) ∙ e)), refl)
-    ] refl
+either a b = grind (arith, common_steps, nat_tests, endpoint_is, endpoint_same)
 
 -- FOUND OR NOT
 
@@ -53,11 +39,7 @@ place_of_is many remote i flow is h stands =
 
 pub not_found : (many : Many) (remote : Endpoint) → IsMany many → place_at many remote ≡ None →
     list_any (is_flow_of remote) (somes many.slots.slots) ≡ false
-not_found many remote is h = any_none (is_flow_of remote) many.slots.slots (λ i flow stands.
-    elim (either flow.remote remote) as (λ r. same_endpoint flow.remote remote ≡ false) [
-      | inl p ↦ let z : None ≡ Some i = sym h ∙ (ap (place_at many) (sym p.0) ∙ is.found i flow stands) in cc
-      | inr p ↦ p.1
-    ])
+not_found many remote is h = grind (arith, common_steps, nat_tests, any_none, either)
 
 pub has_found : (many : Many) (remote : Endpoint) (i : ℕ) → IsMany many → place_at many remote ≡ Some i →
     list_any (is_flow_of remote) (somes many.slots.slots) ≡ true
@@ -78,45 +60,21 @@ pub same_many : (old new : Many) → IsMany old → new.slots.slots ≡ old.slot
     ((e : Endpoint) → place_at new e ≡ place_at old e) →
     ((a : ℕ) → count_at new.addresses a ≡ count_at old.addresses a) →
     hash_map_len new.places ≡ hash_map_len old.places → IsMany new
-same_many old new is slots places counts many = record {
-  stands = λ e i h. let s = is.stands e i (sym (places e) ∙ h) in
-      (s.0, ap (λ (l : List (Option Flow)). slice_get l i) slots ∙ s.1, s.2);
-  found = λ i f h. places f.remote ∙ is.found i f (ap (λ (l : List (Option Flow)). slice_get l i) (sym slots) ∙ h);
-  counted = λ a. counts a ∙ (is.counted a ∙ ap (λ (l : List (Option Flow)). count_of l a) (sym slots));
-  as_many = many ∙ (is.as_many ∙ ap (λ (l : List (Option Flow)). length (somes l)) (sym slots));
-}
+same_many old new is slots places counts many = grind (arith, common_steps, nat_tests)
 
 put_stands : (slots : List (Option Flow)) (old : Endpoint → Option ℕ) (flow : Flow) (e : Endpoint) (i : ℕ) →
     ((e : Endpoint) (i : ℕ) → old e ≡ Some i → (f : Flow) × Stands slots i f × (f.remote ≡ e)) →
     cond (same_endpoint flow.remote e) (Some (length slots)) (old e) ≡ Some i →
     (f : Flow) × Stands (slots ++ Some flow ∷ []) i f × (f.remote ≡ e)
-put_stands slots old flow e i is h = elim (either flow.remote e) as (λ r.
-    (f : Flow) × Stands (slots ++ Some flow ∷ []) i f × (f.remote ≡ e)) [
-      | inl p ↦
-          let at : length slots ≡ i =
-          same_Some (length slots) i (sym (ap (λ v. cond v (Some (length slots)) (old e)) p.1)
-          ∙ h) in
-          (flow, ap (slice_get (slots ++ Some flow ∷ [])) (sym at) ∙ stands_last slots flow, p.0)
-      | inr p ↦
-          let s = is e i (sym (ap (λ v. cond v (Some (length slots)) (old e)) p.1) ∙ h) in
-          (s.0, stands_still slots (Some flow) i s.0 s.1, s.2)
-    ]
+put_stands slots old flow e i is h =
+    grind (arith, common_steps, nat_tests, either, same_Some, stands_last, stands_still)
 
 put_found : (slots : List (Option Flow)) (old : Endpoint → Option ℕ) (flow : Flow) → old flow.remote ≡ None →
     ((i : ℕ) (f : Flow) → Stands slots i f → old f.remote ≡ Some i) →
     (i : ℕ) (f : Flow) → Stands (slots ++ Some flow ∷ []) i f → cond (same_endpoint flow.remote f.remote)
     (Some (length slots)) (old f.remote) ≡ Some i
-put_found slots old flow absent found i f h = elim (stands_pushed slots (Some flow) i f h) as (λ r.
-    cond (same_endpoint flow.remote f.remote) (Some (length slots)) (old f.remote) ≡ Some i) [
-      | inl p ↦ ap (λ v. cond v (Some (length slots)) (old f.remote)) (endpoint_same flow.remote f.remote
-          (ap (λ (x : Flow). x.remote) (same_Some flow f p.1))) ∙ ap (λ (n : ℕ). Some n) (sym p.0)
-      | inr p ↦ elim (either flow.remote f.remote) as (λ r. cond (same_endpoint flow.remote f.remote)
-          (Some (length slots))
-          (old f.remote) ≡ Some i) [
-            | inl q ↦ let z : None ≡ Some i = sym absent ∙ (ap old q.0 ∙ found i f p) in cc
-            | inr q ↦ ap (λ v. cond v (Some (length slots)) (old f.remote)) q.1 ∙ found i f p
-          ]
-    ]
+put_found slots old flow absent found i f h =
+    grind (arith, common_steps, nat_tests, stands_pushed, endpoint_same, same_Some, either)
 
 pub put_many : (old new : Many) (flow : Flow) → IsMany old → place_at old flow.remote ≡ None → new.slots.slots
     ≡ old.slots.slots ++ Some flow ∷ [] →
@@ -251,8 +209,4 @@ few_counted many address is =
 
 pub found_is : (many : Many) (remote : Endpoint) → IsMany many → Rattle.std.specs.Prelude.is_some (place_at many remote)
     ≡ list_any (is_flow_of remote) (somes many.slots.slots)
-found_is many remote is = elim (place_at many remote) as (λ o. place_at many remote ≡ o →
-    Rattle.std.specs.Prelude.is_some o ≡ list_any (is_flow_of remote) (somes many.slots.slots)) [
-      | None ↦ λ e. sym (not_found many remote is e)
-      | Some i ↦ λ e. sym (has_found many remote i is e)
-    ] refl
+found_is many remote is = grind (arith, common_steps, nat_tests, not_found, has_found)

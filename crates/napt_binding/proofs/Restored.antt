@@ -1,16 +1,10 @@
 -- Flows that are put as if never used, and then get their last use, the one that was used first going first.
-use Rattle.std.proofs.Common.{◌≡◌, ◌≢◌, ℕ, zero, suc, ◌+◌, ◌<◌, ◌≤◌, inl, inr, false, ◌||◌, List, [], ◌∷◌, length, map, get_or, set, Option, Some, slice_get, refl, sym, ◌∙◌, ap, arith, subst}
-use Rattle.std.specs.List.{list_any}
-use Rattle.std.proofs.Math.ListN.{length-set}
-use Rattle.std.proofs.lemmas.Bool.{cases_eq}
-use Rattle.std.proofs.lemmas.List.{get_or_default}
-use Rattle.std.proofs.lemmas.List.Elements.{All-nil, All-cons}
+use Rattle.std.proofs.lemmas.{Grind.common_steps, Bool.Decides.nat_tests}
+use Rattle.std.proofs.Common.{◌≡◌, ◌≢◌, ℕ, zero, suc, ◌+◌, ◌<◌, ◌≤◌, inl, inr, false, ◌||◌, List, [], ◌∷◌, length, map, get_or, set, Option, Some, slice_get, refl, ◌∙◌, ap, arith, subst}
+use Rattle.std.{specs.List.list_any, proofs.{Math.ListN.length-set, lemmas.{Bool.cases_eq, List.{get_or_default, Elements.{All-nil, All-cons}}}}}
 use Rattle.std.proofs.lemmas.Option.{same_Some}
-use Rattle.napt_rules.specs.declared.Flow.{Flow}
-use Rattle.napt_rules.specs.Prelude.{is_flow_of, Endpoint}
-use Rattle.napt_binding.specs.Slots.{somes, Stands, NoneUsedAfter, AreByLastUse}
-use Rattle.napt_binding.proofs.Slots.{stands_there, stands_elsewhere}
-use Rattle.napt_binding.proofs.Used.{used_set}
+use Rattle.napt_rules.specs.{declared.Flow.Flow, Prelude.{is_flow_of, Endpoint}}
+use Rattle.napt_binding.{specs.Slots.{somes, Stands, NoneUsedAfter, AreByLastUse}, proofs.{Slots.{stands_there, stands_elsewhere}, Used.used_set}}
 
 -- what stands past the end of a list of flows
 abbrev pub nothing : Flow
@@ -29,10 +23,6 @@ unused flow = record { remote = flow.remote; marks = flow.marks; last = 0 }
 
 abbrev pub as_unused : Flow → Option Flow
 as_unused flow = Some (unused flow)
-
-pub somes_unused : (flows : List Flow) → somes (map as_unused flows) ≡ map unused flows
-somes_unused [] = refl
-somes_unused (f ∷ flows) = ap (λ (l : List Flow). unused f ∷ l) (somes_unused flows)
 
 pub any_unused : (remote : Endpoint) (flows : List Flow) →
     list_any (is_flow_of remote) (somes (map as_unused flows)) ≡ list_any (is_flow_of remote) flows
@@ -75,12 +65,7 @@ module _ (flows : List Flow) (slots : List (Option Flow)) (place : ℕ) (flow : 
     (at : slice_get flows place ≡ Some flow) (are : AreAlike flows slots) where
   here : (i : ℕ) (f : Flow) → i ≡ place → slice_get flows i ≡ Some f → (flow ≡ f)
       × Stands (set slots place (Some flow)) i f
-  here i f e h =
-      let G : ℕ → Type 0 = λ k. slice_get flows k ≡ Some f in
-      let same : flow ≡ f = same_Some flow f (sym at ∙ subst G e h) in
-      let was = are.alike place flow at in
-      let S : ℕ → Type 0 = λ k. Stands (set slots place (Some flow)) k f in
-      (same, subst S (sym e) (stands_there slots place was.0 flow was.1 ∙ ap (λ (x : Flow). Some (Some x)) same))
+  here i f e h = grind (arith, common_steps, nat_tests, same_Some, stands_there)
 
   pub alike_set : AreAlike flows (set slots place (Some flow))
   alike_set = record {

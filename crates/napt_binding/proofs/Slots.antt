@@ -1,13 +1,9 @@
 -- What stands in slots, when one is filled or emptied.
+use Rattle.std.proofs.lemmas.Grind.{common_steps}
 use Rattle.std.proofs.Common.{◌≡◌, ◌≢◌, ℕ, zero, suc, ◌+◌, ◌<◌, ◌⊎◌, inl, inr, Bool, true, false, ◌||◌, cond, List, [], ◌∷◌, ◌++◌, length, set, Option, Some, None, nat_lt, refl, sym, ◌∙◌, ap, arith, filter, ◌==◌}
-use Rattle.std.specs.List.{list_any}
-use Rattle.std.proofs.lemmas.Bool.Decides.{nat_tests}
-use Rattle.std.proofs.lemmas.Option.{same_Some}
-use Rattle.std.proofs.lemmas.List.{length_push}
-use Rattle.std.proofs.lemmas.List.Sums.{sum_by-cons}
-use Rattle.napt_rules.specs.declared.Flow.{Flow}
-use Rattle.napt_rules.specs.Prelude.{change_first}
-use Rattle.napt_binding.specs.Slots.{somes, Stands, of_address, count_of}
+use Rattle.std.{specs.List.list_any, proofs.lemmas.{Bool.Decides.nat_tests, Option.same_Some, List.{length_push, Sums.sum_by-cons}}}
+use Rattle.napt_rules.specs.{declared.Flow.Flow, Prelude.change_first}
+use Rattle.napt_binding.specs.Slots.{somes, Stands, count_of}
 
 module _ {X : Type 0} where
   pub stands_within : (slots : List (Option X)) (i : ℕ) (x : X) → Stands slots i x → i < length slots
@@ -22,12 +18,7 @@ module _ {X : Type 0} where
   stands_set (z ∷ slots) zero o zero y h = inl (refl, same_Some o (Some y) h)
   stands_set (z ∷ slots) zero o (suc k) y h = inr ((λ e. absurd (omega (arith, e))), h)
   stands_set (z ∷ slots) (suc i) o zero y h = inr ((λ e. absurd (omega (arith, e))), h)
-  stands_set (z ∷ slots) (suc i) o (suc k) y h =
-      elim (stands_set slots i o k y h) as (λ r. ((suc k ≡ suc i) × (o ≡ Some y)) ⊎ ((suc k ≢ suc i)
-      × Stands slots k y)) [
-        | inl p ↦ inl (ap suc p.0, p.1)
-        | inr p ↦ inr ((λ e. p.0 (omega (arith, e))), p.1)
-      ]
+  stands_set (z ∷ slots) (suc i) o (suc k) y h = grind (arith, common_steps, nat_tests, stands_set slots i o k y h)
 
   pub stands_there : (slots : List (Option X)) (i : ℕ) (x y : X) → Stands slots i x → Stands (set slots i (Some y)) i y
   stands_there [] i x y h = cc
@@ -55,11 +46,7 @@ module _ {X : Type 0} where
   stands_pushed [] o zero y h = inl (refl, same_Some o (Some y) h)
   stands_pushed [] o (suc k) y h = cc
   stands_pushed (z ∷ slots) o zero y h = inr h
-  stands_pushed (z ∷ slots) o (suc k) y h =
-      elim (stands_pushed slots o k y h) as (λ r. ((suc k ≡ suc (length slots)) × (o ≡ Some y)) ⊎ Stands slots k y) [
-        | inl p ↦ inl (ap suc p.0, p.1)
-        | inr p ↦ inr p
-      ]
+  stands_pushed (z ∷ slots) o (suc k) y h = grind (arith, common_steps, nat_tests, stands_pushed slots o k y h)
 
   pub stands_last : (slots : List (Option X)) (y : X) → Stands (slots ++ Some y ∷ []) (length slots) y
   stands_last [] y = refl
@@ -164,17 +151,6 @@ pub any_of_address : (address : ℕ) (slots : List (Option Flow)) → list_any (
     (somes slots) ≡ nat_lt 0 (count_of slots address)
 any_of_address address [] = refl
 any_of_address address (None ∷ slots) =
-    let more : count_of (None ∷ slots) address ≡ 0 + count_of slots address =
-    sum_by-cons (of_address address) None slots in
-    let same : count_of (None ∷ slots) address ≡ count_of slots address = omega arith in
-    any_of_address address slots ∙ ap (nat_lt 0) (sym same)
+    grind (arith, common_steps, nat_tests, sum_by-cons, any_of_address address slots)
 any_of_address address (Some f ∷ slots) =
-    let more : count_of (Some f ∷ slots) address ≡ of_address address (Some f) + count_of slots address =
-    sum_by-cons (of_address address) (Some f) slots in
-    elim (f.remote.address == address) as (λ v. count_of (Some f ∷ slots) address ≡ cond {A = ℕ} v 1 0
-    + count_of slots address → (v || list_any (λ flow. flow.remote.address == address) (somes slots))
-    ≡ nat_lt 0 (count_of (Some f ∷ slots) address)) [
-      | true ↦ λ e. grind (arith, nat_tests, e)
-      | false ↦ λ e. let same : count_of (Some f ∷ slots) address ≡ count_of slots address = omega (arith, e) in
-          any_of_address address slots ∙ ap (nat_lt 0) (sym same)
-    ] more
+    grind (arith, common_steps, nat_tests, sum_by-cons, any_of_address address slots)

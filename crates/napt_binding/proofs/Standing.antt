@@ -1,15 +1,12 @@
 -- The flows of a binding that stand, when a packet goes out, and its bindings that live.
-use Rattle.std.proofs.Common.{◌≡◌, ℕ, Bool, true, false, ◌&&◌, cond, List, [], ◌∷◌, ◌++◌, get_or, set, slice_get, Option, Some, refl, sym, ◌∙◌, ap, arith, eqb, filter, position}
-use Rattle.std.specs.List.{list_any}
-use Rattle.std.proofs.lemmas.Bool.{and_from, or_parts, eq-eqb}
-use Rattle.std.proofs.lemmas.Option.{same_Some}
-use Rattle.std.proofs.lemmas.List.Quantifiers.{position-Some}
+use Rattle.std.proofs.lemmas.{Grind.common_steps, Bool.Decides.nat_tests}
+use Rattle.std.proofs.Common.{◌≡◌, ℕ, Bool, true, false, cond, List, [], ◌∷◌, ◌++◌, get_or, set, Option, Some, refl, sym, ◌∙◌, ap, arith, eqb, filter, position}
+use Rattle.std.{specs.List.list_any, proofs.lemmas.{Bool.{and_from, or_parts, eq-eqb}, Option.same_Some, List.Quantifiers.position-Some}}
 use Rattle.napt_rules.specs.declared.Flow.{Flow}
 use Rattle.napt_rules.specs.Prelude.{change_first, no_marks, is_live_flow, live_flows, is_flow_of, used, with_flow, Protocol, Icmp, Tcp, Udp, Outgoing, Incoming, Endpoint, Flags, AreTimers, Timers}
-use Rattle.napt_binding.specs.Standing.{is_standing, standing_flow_of}
-use Rattle.napt_binding.proofs.Lists.{any_at, any_seen, set_seen, change_pushed, filter_pushed, map_same, any_set, any_pushed}
 use Rattle.napt_rules.proofs.Life.{used_live, flows_all, flows_kept}
-use Rattle.napt_binding.specs.Slots.{somes, Stands}
+use Rattle.napt_binding.specs.Standing.{is_standing, standing_flow_of}
+use Rattle.napt_binding.{proofs.Lists.{any_at, any_seen, set_seen, change_pushed, filter_pushed, map_same, any_set, any_pushed}, specs.Slots.{somes, Stands}}
 use Rattle.napt_binding.proofs.Slots.{any_stands, any_none, kept_set, stands_there}
 
 filter_true : {X : Type 0} (p : X → Bool) → ((x : X) → p x ≡ true) → (xs : List X) → filter p xs ≡ xs
@@ -121,15 +118,7 @@ module _ (timers : Timers) (good : AreTimers timers) (now : ℕ) (protocol : Pro
   pub none_stands : (slots : List (Option Flow)) (i : ℕ) (flow : Flow) → Stands slots i flow →
       is_standing timers now protocol flow ≡ false → ((k : ℕ) (y : Flow) → Stands slots k y → is_flow_of remote y
       ≡ true → k ≡ i) → list_any (standing_flow_of timers now protocol remote) (somes slots) ≡ false
-  none_stands slots i flow here dead one = any_none (standing_flow_of timers now protocol remote) slots (λ k y h.
-      elim (is_flow_of remote y) as (λ v. is_flow_of remote y ≡ v → (is_standing timers now protocol y && v) ≡ false) [
-        | true ↦ λ e.
-            let at : k ≡ i = one k y h e in
-            let same : flow ≡ y =
-            same_Some flow y (same_Some (Some flow) (Some y) (sym here ∙ (ap (slice_get slots) (sym at) ∙ h))) in
-            ap (λ (f : Flow). is_standing timers now protocol f && true) (sym same) ∙ ap (λ v. v && true) dead
-        | false ↦ λ e. grind arith
-      ] refl)
+  none_stands slots i flow here dead one = grind (arith, common_steps, nat_tests, any_none, same_Some)
 
   pub none_at_all : (flows : List Flow) → list_any (is_flow_of remote) flows ≡ false →
       list_any (standing_flow_of timers now protocol remote) flows ≡ false

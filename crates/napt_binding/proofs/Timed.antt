@@ -1,22 +1,13 @@
 -- Rows of flows by last use.
+use Rattle.std.proofs.lemmas.Grind.{common_steps}
 use Rattle.std.proofs.Common.{◌≡◌, ◌≢◌, ℕ, zero, suc, ◌+◌, ◌-◌, ◌<◌, ◌≤◌, ◌⊎◌, inl, inr, Bool, true, false, ◌||◌, cond, List, [], ◌∷◌, ◌++◌, length, get_or, Option, Some, None, nat_lt, refl, sym, ◌∙◌, ap, arith, eqb, subst, is_some, IfSome, IfNone}
-use Rattle.std.specs.List.{list_any}
-use Rattle.std.proofs.lemmas.Bool.{cases_eq, cases_lt, true≢false}
-use Rattle.std.proofs.lemmas.Bool.Decides.{nat_tests}
-use Rattle.std.proofs.lemmas.List.{get_or_past, get_or_read, length_push}
-use Rattle.std.proofs.lemmas.Option.{same_Some, none-some, get_or_from_slice_get}
-use Rattle.napt_collections.specs.declared.links.Links.{Links}
-use Rattle.napt_collections.specs.Links.{no_links, next, prev}
+use Rattle.std.{specs.List.list_any, proofs.lemmas.{Bool.{cases_eq, cases_lt, true≢false, Decides.nat_tests}, List.{get_or_past, get_or_read, length_push}}}
+use Rattle.std.{proofs.lemmas.Option.{same_Some, none-some, get_or_from_slice_get}, specs.Option.option_map}
+use Rattle.napt_collections.specs.{declared.links.Links.Links, Links.{no_links, next, prev}}
 use Rattle.napt_collections.proofs.Linked.{on_same, on_other, lowered, raised, row_out, less_out, row_in, less_in, under_in, over_in}
-use Rattle.napt_rules.specs.declared.Flow.{Flow}
-use Rattle.napt_rules.specs.Prelude.{is_established, is_recent, is_live_flow, Timers}
-use Rattle.napt_rules.proofs.Lists.{any_weaker}
-use Rattle.napt_rules.proofs.Life.{lived_flow}
-use Rattle.std.specs.Option.{option_map}
+use Rattle.napt_rules.{specs.{declared.Flow.Flow, Prelude.{is_established, is_recent, is_live_flow, Timers}}, proofs.{Lists.any_weaker, Life.lived_flow}}
 use Rattle.napt_binding.specs.Slots.{somes, Stands, NoneUsedAfter, row_of, EachOf, IsFirstUsed, IsLatest, is_recent_time}
-use Rattle.napt_binding.specs.Timed.{flow_in, is_linked, most_links, AreTimed}
-use Rattle.napt_binding.proofs.Slots.{any_stands, any_none}
-use Rattle.napt_binding.proofs.Used.{none_used}
+use Rattle.napt_binding.{specs.Timed.{flow_in, is_linked, most_links, AreTimed}, proofs.{Slots.{any_stands, any_none}, Used.none_used}}
 
 -- NODES
 
@@ -34,19 +25,7 @@ end_node flows x lt = grind (arith, nat_tests, lt)
 
 module _ (flows : List (Option Flow)) (links : List Links) (are : AreTimed flows links) where
   linked_within : (x : ℕ) → is_linked flows x ≡ true → x < length links
-  linked_within x l =
-      let many : length links ≡ length flows + 3 = are.lengths in
-      elim (cases_lt x (length links)) [
-        | inl lt ↦ lt
-        | inr ge ↦
-            let past : flow_in flows (x - 3) ≡ None = get_or_past flows (x - 3) None (omega (arith, ge, many)) in
-            let none : is_some (flow_in flows (x - 3)) ≡ false = ap is_some past in
-            absurd (grind (arith, nat_tests, l, none, ge, many))
-      ]
-
-  pub before_within : (i : ℕ) (f : Flow) → flow_in flows i ≡ Some f → prev links (i + 3) < length links
-  before_within i f h = linked_within (prev links (i + 3))
-      (are.row.back (i + 3) (node_of flows i f h) (λ e. absurd (omega (arith, e)))).0
+  linked_within x l = grind (arith, common_steps, nat_tests, get_or_past, is_some)
 
   pub after_within : (i : ℕ) (f : Flow) → flow_in flows i ≡ Some f → next links (i + 3) < length links
   after_within i f h = linked_within (next links (i + 3))
@@ -276,11 +255,7 @@ module _ (flows : List (Option Flow)) (links : List Links) (are : AreTimed flows
   more_prev x = ap (λ (l : Links). l.before) (more_links links x)
 
   pub longer_within : (row : ℕ) → row < 2 → prev longer (row + 1) < length longer
-  longer_within row low =
-      let within = end_within flows links are row low in
-      let more = length_push links no_links in
-      let same = more_prev (row + 1) in
-      omega (arith, within, more, same)
+  longer_within row low = grind (arith, common_steps, nat_tests, end_within, more, length_push, more_prev)
 
   module _ (new_links : List Links) (flow : Flow) (late : NoneUsedAfter (somes flows) flow.last)
       (as_many : length new_links ≡ length flows + 4) (fits : length new_links ≤ most_links)
@@ -313,12 +288,7 @@ in_stands slots i f h = get_or_from_slice_get slots i (Some f) None h
 
 slot_of : (flows : List (Option Flow)) (x : ℕ) → is_linked flows x ≡ true → 3 ≤ x → (f : Flow)
     × (flow_in flows (x - 3) ≡ Some f)
-slot_of flows x l ge = elim (flow_in flows (x - 3)) as (λ o. flow_in flows (x - 3) ≡ o → (f : Flow)
-    × (flow_in flows (x - 3) ≡ Some f)) [
-      | None ↦ λ e. let none : is_some (flow_in flows (x - 3)) ≡ false = ap is_some e in
-          absurd (grind (arith, nat_tests, l, none, ge))
-      | Some f ↦ λ e. (f, e)
-    ] refl
+slot_of flows x l ge = grind (arith, common_steps, nat_tests, is_some)
 
 module _ (flows : List (Option Flow)) (links : List Links) (are : AreTimed flows links) where
   -- what is between the ends of a row is of the row
@@ -460,37 +430,17 @@ module _ (timers : Timers) (now : ℕ) (slots : List (Option Flow)) where
 
   pub one_live : (row : ℕ) (latest : Option ℕ) → IsLatest row slots latest →
       is_recent_time now (timer timers row) latest ≡ true → list_any (is_live_flow timers now) (somes slots) ≡ true
-  one_live row None is live = absurd (true≢false (sym live))
-  one_live row (Some time) is live =
-      let l = is.0 in
-      any_stands (is_live_flow timers now) slots l.0 l.1 l.2 (live_in timers now row l.1 l.3
-      ∙ (ap (λ (t : ℕ). is_recent now t (timer timers row)) l.4 ∙ live))
+  one_live row latest h k = grind (arith, common_steps, nat_tests, any_stands, live_in)
 
   none_live : (row : ℕ) (latest : Option ℕ) → IsLatest row slots latest →
       is_recent_time now (timer timers row) latest ≡ false → EachOf row slots (λ f. is_live_flow timers now f ≡ false)
-  none_live row None is dead i f s r = absurd (is i f s r)
-  none_live row (Some time) is dead i f s r =
-      let le = is.1 i f s r in
-      let earlier : is_recent now f.last (timer timers row) ≡ false = grind (arith, nat_tests, le, dead) in
-      live_in timers now row f r ∙ earlier
+  none_live row latest h k g j p q = grind (arith, common_steps, nat_tests, live_in)
 
   pub live_is : (established others : Option ℕ) → IsLatest 0 slots established → IsLatest 1 slots others →
       list_any (is_live_flow timers now) (somes slots) ≡ (is_recent_time now timers.established established
       || is_recent_time now timers.transitory others)
   live_is established others is_e is_o =
-      let e : Bool = is_recent_time now timers.established established in
-      let o : Bool = is_recent_time now timers.transitory others in
-      let live : Bool = list_any (is_live_flow timers now) (somes slots) in
-      elim e as (λ v. e ≡ v → live ≡ (v || o)) [
-        | true ↦ λ h. one_live 0 established is_e h
-        | false ↦ λ h. elim o as (λ w. o ≡ w → live ≡ w) [
-          | true ↦ λ k. one_live 1 others is_o k
-          | false ↦ λ k. any_none (is_live_flow timers now) slots (λ i f s. elim (either_row f) [
-            | inl r ↦ none_live 0 established is_e h i f s r
-            | inr r ↦ none_live 1 others is_o k i f s r
-          ])
-        ] refl
-      ] refl
+      grind (arith, common_steps, nat_tests, one_live, any_none, either_row, none_live)
 
 or_true : (a b : Bool) → b ≡ true → (a || b) ≡ true
 or_true true b h = refl

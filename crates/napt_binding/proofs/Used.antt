@@ -1,9 +1,7 @@
 -- No flow was last used after a time.
 use Rattle.std.proofs.Common.{◌≡◌, ℕ, zero, suc, ◌≤◌, true, false, cond, List, [], ◌∷◌, set, Option, Some, None, subst, All, filter, slice_index_or}
-use Rattle.std.proofs.lemmas.List.Elements.{All-cons, All-head, All-tail, All-filter}
-use Rattle.std.proofs.lemmas.Option.{same_Some}
-use Rattle.napt_rules.specs.declared.Flow.{Flow}
-use Rattle.napt_rules.specs.Prelude.{is_live_flow, is_tcp, live_flows, Protocol, Timers}
+use Rattle.std.proofs.lemmas.{List.Elements.{All-cons, All-head, All-tail, All-filter}, Option.same_Some}
+use Rattle.napt_rules.specs.{declared.Flow.Flow, Prelude.{is_live_flow, is_tcp, live_flows, Protocol, Timers}}
 use Rattle.napt_binding.specs.Slots.{somes, NoneUsedAfter}
 
 -- one is put in a slot

@@ -1,6 +1,5 @@
 -- Counts by address.
-use Rattle.std.specs.Prelude.{◌≡◌, ℕ, nat_eq, unwrap_or, None}
-use Rattle.std.specs.HashMap.{get, spare}
+use Rattle.std.specs.{Prelude.{◌≡◌, ℕ, nat_eq, unwrap_or, None}, HashMap.{get, spare}}
 use Rattle.napt_binding.specs.declared.addresses.Addresses.{Addresses}
 
 -- an address without an entry has none

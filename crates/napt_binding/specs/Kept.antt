@@ -1,15 +1,9 @@
 -- How the flows of a binding are kept: one as it is, few in a list, many behind maps.
-use Rattle.std.specs.Prelude.{ℕ, ◌≤◌, nat_le, Bool, true, false, not, ◌&&◌, List, [], ◌∷◌, length}
-use Rattle.std.specs.List.{list_any}
+use Rattle.std.specs.{Prelude.{ℕ, ◌≤◌, nat_le, Bool, true, false, not, ◌&&◌, List, [], ◌∷◌, length}, List.list_any}
 use Rattle.napt_config.specs.declared.settings.Timers.{Timers}
-use Rattle.napt_rules.specs.declared.Flow.{Flow}
-use Rattle.napt_binding.specs.declared.flows.Kept.{Kept}
-use Rattle.napt_binding.specs.declared.flows.Kept.TheVariants.{Empty, One, Few, Many}
-use Rattle.napt_binding.specs.Slots.{somes, AreDistinct}
-use Rattle.napt_binding.specs.Many.{IsMany}
-use Rattle.napt_rules.specs.declared.Sent.{Sent}
-use Rattle.napt_binding.specs.Standing.{standing_flow_of}
-use Rattle.napt_binding.specs.Sent.{standing_at}
+use Rattle.napt_rules.specs.declared.{Flow.Flow, Sent.Sent}
+use Rattle.napt_binding.specs.{declared.flows.Kept.{Kept, TheVariants.{Empty, One, Few, Many}}, Slots.{somes, AreDistinct}, Many.IsMany}
+use Rattle.napt_binding.specs.{Standing.standing_flow_of, Sent.standing_at}
 
 -- so many are kept in a list at most
 abbrev pub few : ℕ

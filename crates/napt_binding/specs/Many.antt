@@ -1,12 +1,8 @@
 -- How many flows are kept: in slots, of which a map finds that of a remote endpoint.
-use Rattle.std.specs.Prelude.{◌≡◌, ℕ, ◌+◌, ◌*◌, ◌/◌, ◌<◌, nat_lt, max, Bool, ◌&&◌, List, length, Option, Some}
-use Rattle.std.specs.HashMap.{get, hash_map_len, spare}
+use Rattle.std.specs.{Prelude.{◌≡◌, ℕ, ◌+◌, ◌*◌, ◌/◌, ◌<◌, nat_lt, max, Bool, ◌&&◌, List, length, Option, Some}, HashMap.{get, hash_map_len, spare}}
 use Rattle.napt_wire.specs.declared.Endpoint.{Endpoint}
 use Rattle.napt_rules.specs.declared.Flow.{Flow}
-use Rattle.napt_binding.specs.Lists.{pair_eq}
-use Rattle.napt_binding.specs.Counts.{count_at, room_of}
-use Rattle.napt_binding.specs.Slots.{somes, Stands, count_of}
-use Rattle.napt_binding.specs.declared.flows.many.Many.{Many}
+use Rattle.napt_binding.specs.{Lists.pair_eq, Counts.{count_at, room_of}, Slots.{somes, Stands, count_of}, declared.flows.many.Many.Many}
 
 -- the place of the remote's flow
 abbrev pub place_at : Many → Endpoint → Option ℕ

@@ -1,8 +1,6 @@
 -- The flows of a binding, when a packet goes out through it.
 use Rattle.std.specs.Prelude.{List}
-use Rattle.napt_rules.specs.declared.Flow.{Flow}
-use Rattle.napt_rules.specs.declared.Sent.{Sent}
-use Rattle.napt_rules.specs.Prelude.{change_first, no_marks, live_flows, is_flow_of, used, with_flow, Outgoing, Timers}
+use Rattle.napt_rules.specs.{declared.{Flow.Flow, Sent.Sent}, Prelude.{change_first, no_marks, live_flows, is_flow_of, used, with_flow, Outgoing, Timers}}
 
 -- the flow that begins with the packet
 abbrev pub begun_by : Sent → Flow

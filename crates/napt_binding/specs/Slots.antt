@@ -1,9 +1,7 @@
 -- Flows in slots, in the order in which they began; a flow that goes leaves its slot empty.
-use Rattle.std.specs.Prelude.{◌≡◌, ℕ, ◌==◌, ◌≤◌, Bool, false, cond, List, [], ◌∷◌, All, Contains, slice_get, sum_by, Option, Some, None}
-use Rattle.std.specs.List.{list_any}
+use Rattle.std.specs.{Prelude.{◌≡◌, ℕ, ◌==◌, ◌≤◌, Bool, false, cond, List, [], ◌∷◌, All, Contains, slice_get, sum_by, Option, Some, None}, List.list_any}
 use Rattle.std.specs.List.Sorted.{IsNonDecreasingBy}
-use Rattle.napt_rules.specs.declared.Flow.{Flow}
-use Rattle.napt_rules.specs.Prelude.{is_established, is_recent, is_flow_of}
+use Rattle.napt_rules.specs.{declared.Flow.Flow, Prelude.{is_established, is_recent, is_flow_of}}
 
 -- what stands in the slots
 abbrev pub somes : {X : Type 0} → List (Option X) → List X

@@ -1,7 +1,6 @@
 -- Which flows of a binding count.
 use Rattle.std.specs.Prelude.{ℕ, Bool, not, ◌||◌, ◌&&◌}
-use Rattle.napt_rules.specs.declared.Flow.{Flow}
-use Rattle.napt_rules.specs.Prelude.{is_tcp, is_live_flow, is_flow_of, Protocol, Timers, Endpoint}
+use Rattle.napt_rules.specs.{declared.Flow.Flow, Prelude.{is_tcp, is_live_flow, is_flow_of, Protocol, Timers, Endpoint}}
 
 -- one of TCP that lives, or one of another protocol
 abbrev pub is_standing : Timers → ℕ → Protocol → Flow → Bool

@@ -1,12 +1,9 @@
 -- How slots are kept: with their flows linked in rows by last use.
 use Rattle.std.specs.Prelude.{◌≡◌, ℕ, ◌+◌, ◌-◌, ◌<◌, ◌≤◌, nat_lt, Bool, ◌||◌, min, List, length, slice_index_or, Option, Some, None, is_some}
 use Rattle.std.specs.Vec.{vec_len, vec_capacity}
-use Rattle.napt_collections.specs.declared.links.Links.{Links}
-use Rattle.napt_collections.specs.Links.{next, prev, IsRow}
+use Rattle.napt_collections.specs.{declared.links.Links.Links, Links.{next, prev, IsRow}}
 use Rattle.napt_rules.specs.declared.Flow.{Flow}
-use Rattle.napt_binding.specs.Slots.{row_of}
-use Rattle.napt_binding.specs.SlotsShown.{Shown}
-use Rattle.napt_binding.specs.declared.flows.slots.Slots.TheInside.{Inside}
+use Rattle.napt_binding.specs.{Slots.row_of, SlotsShown.Shown, declared.flows.slots.Slots.TheInside.Inside}
 
 -- links have 32 bits
 abbrev pub most_links : ℕ

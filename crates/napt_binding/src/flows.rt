@@ -2,16 +2,12 @@
 //!
 //! No call looks at more than a few of them, except to drop dead ones and to give up their slots.
 
-ghost use Rattle.std.specs.Prelude.{◌≡◌, ◌==◌, ◌≤◌, ◌<◌, ◌^◌, ◌||◌, ℕ, Bool, true, false, filter, OnOk, OnErr, IfOk, [], ◌∷◌};
-ghost use Rattle.std.specs.List.{list_any};
-ghost use Rattle.napt_binding.specs.Ends.{last_end};
+ghost use Rattle.std.specs.{Prelude.{◌≡◌, ◌==◌, ◌≤◌, ◌<◌, ◌^◌, ◌||◌, ℕ, Bool, true, false, filter, OnOk, OnErr, IfOk, [], ◌∷◌}, List.list_any};
+ghost use Rattle.napt_binding.specs.{Ends.last_end, Kept.{flows_of, IsKept}, Slots.{AreDistinct, NoneUsedAfter, somes}, Many.IsMany};
 ghost use Rattle.napt_rules.specs.Life as life;
-ghost use Rattle.napt_binding.specs.Kept.{flows_of, IsKept};
 ghost use Rattle.napt_binding.specs.Kept as storage;
 ghost use Rattle.napt_rules.specs.Prelude.{change_first};
 ghost use Rattle.napt_binding.specs.Sent as packets;
-ghost use Rattle.napt_binding.specs.Slots.{AreDistinct, NoneUsedAfter, somes};
-ghost use Rattle.napt_binding.specs.Many.{IsMany};
 ghost use Rattle.napt_rules.specs.Traffic as traffic;
 
 mod few;

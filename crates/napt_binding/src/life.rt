@@ -1,10 +1,8 @@
 //! How long bindings and flows live (RFC 4787, REQ-5; RFC 5382, REQ-5).
 
-ghost use Rattle.std.specs.Prelude.{◌≡◌, ◌≤◌, ◌<◌, ◌+◌, ◌*◌, ◌^◌, ℕ, true, false, filter};
-ghost use Rattle.std.specs.List.{list_any};
+ghost use Rattle.std.specs.{Prelude.{◌≡◌, ◌≤◌, ◌<◌, ◌+◌, ◌*◌, ◌^◌, ℕ, true, false, filter}, List.list_any};
 ghost use Rattle.napt_rules.specs.Life as life;
-ghost use Rattle.napt_binding.specs.Standing.{is_standing};
-ghost use Rattle.napt_binding.specs.Ends.{least_timer, end_after, end_of};
+ghost use Rattle.napt_binding.specs.{Standing.is_standing, Ends.{least_timer, end_after, end_of}};
 ghost use Rattle.napt_rules.specs.Marks as marks;
 
 use crate::Binding;

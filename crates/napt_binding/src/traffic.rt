@@ -6,8 +6,7 @@ ghost use Rattle.napt_rules.specs.Life as life;
 ghost use Rattle.napt_rules.specs.Marks as marks;
 ghost use Rattle.napt_rules.specs.Steps as steps;
 ghost use Rattle.napt_rules.specs.Traffic as traffic;
-ghost use Rattle.napt_binding.specs.Entering.{left_by, entered};
-ghost use Rattle.napt_binding.specs.Slots.{NoneUsedAfter};
+ghost use Rattle.napt_binding.specs.{Entering.{left_by, entered}, Slots.NoneUsedAfter};
 
 use crate::Binding;
 use crate::idle_timers::IdleTimers;

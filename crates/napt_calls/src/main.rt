@@ -1,14 +1,12 @@
 //! Calls of the libraries, for the bench and for tests from outside.
 //!
 //! `napt_calls HOW [CONFIG]`: `copy`, `merged`, `plain`, `workers` and `slow` do a part of a run over the capture that standard input
-//! holds ([`runs`]). `napt_calls full [udp] [tcp] [echo] [apart]` fills the classes of external numbers of a table ([`full`]).
-//! `napt_calls refused CALL` makes a call that may be refused memory or a thread ([`refused`]). `napt_calls play` makes the calls
-//! that the lines of standard input say ([`play`]).
+//! holds ([`runs`]). `napt_calls refused CALL` makes a call that may be refused memory or a thread ([`refused`]). `napt_calls play`
+//! makes the calls that the lines of standard input say ([`play`]).
 //!
 //! Statuses: 0 done, 1 wrong, 2 usage, 3 configuration, 4 capture, 5 memory, 6 files and writing; those of `refused` are its own.
 #![tactic(auto)]
 
-mod full;
 mod play;
 mod refused;
 mod runs;
@@ -50,7 +48,6 @@ fn main(rt: HostRuntime) -> ExitCode {
     };
     let done = match words.get(1).map(String::as_str) {
         Some("refused") => return refused::told(&rt, words.get(2)),
-        Some("full") => full::filled(&rt, &words),
         Some("play") => play::played(&rt),
         _ => runs::measured(&rt, &words),
     };

@@ -9,21 +9,20 @@
 //! [`logs`] logs runs.
 
 mod captures;
+mod line;
 mod logs;
 mod merging;
 mod packets;
 mod settings;
 mod table;
 mod translators;
-mod words;
 
+use self::line::Line;
 use self::translators::Translators;
-use self::words::Words;
 use crate::Stop;
 use napt_config::Config;
 use napt_table::Table;
 use napt_wire::Packet;
-use std::alloc::Global;
 use std::io::{BufRead, BufReader};
 
 /// What the calls are made on.
@@ -48,39 +47,36 @@ pub(crate) fn played<R: Input + Print + AllocGlobal>(rt: &R) -> Result<(), Stop>
         config: None,
         inputs: Vec::new(alloc),
     };
-    for line in reader.lines(alloc) {
-        let line = line.map_err(|_| Stop::File)?;
-        player.play(rt, alloc, line.as_str())?;
+    for text in reader.lines(alloc) {
+        let text = text.map_err(|_| Stop::File)?;
+        player.play(&mut Line::of(rt, alloc, text.as_str()))?;
     }
     Ok(())
 }
 
 impl Player {
     /// Makes the call that a line says, and tells its answer.
-    fn play<R: Print>(&mut self, rt: &R, alloc: Global, line: &str) -> Result<(), Stop> {
-        let mut words = Words::of(line);
-        let call = words.word()?;
+    fn play<R: Print>(&mut self, line: &mut Line<'_, R>) -> Result<(), Stop> {
+        let call = line.word()?;
         match call {
-            "read" => self.packet = packets::read(rt, alloc, &mut words)?,
-            "table" => self.table = Some(table::begun(rt, alloc, &mut words)?),
-            "translators" => self.translators = Some(translators::begun(rt, alloc, &mut words)?),
-            "fix_check" | "fix_check_udp" => packets::tell_check(rt, call, &mut words)?,
-            "read_capture" => captures::tell_read(rt, alloc, &mut words)?,
-            "write_capture" => captures::tell_written(rt, alloc, &mut words)?,
-            "merge" => merging::tell_merged(rt, alloc, &mut words)?,
-            "streams" => merging::tell_read(rt, alloc, &mut words)?,
-            "stream" => merging::tell_alone(rt, alloc, &mut words)?,
-            "translate" | "route" | "onward" | "rows" => self.translated(
-                rt, alloc, call, &mut words,
-            )?,
-            "settings" | "built_in" | "copy" => self.configure(rt, alloc, call, &mut words)?,
+            "read" => self.packet = packets::read(line)?,
+            "table" => self.table = Some(table::begun(line)?),
+            "translators" => self.translators = Some(translators::begun(line)?),
+            "fix_check" | "fix_check_udp" => packets::tell_check(line, call)?,
+            "read_capture" => captures::tell_read(line)?,
+            "write_capture" => captures::tell_written(line)?,
+            "merge" => merging::tell_merged(line)?,
+            "streams" => merging::tell_read(line)?,
+            "stream" => merging::tell_alone(line)?,
+            "translate" | "route" | "onward" | "rows" => self.translated(line, call)?,
+            "settings" | "built_in" | "copy" => self.configure(line, call)?,
             "input" => {
-                let input = logs::input(rt, alloc, &mut words)?;
+                let input = logs::input(line)?;
                 self.inputs.push(input).map_err(|_| Stop::Call)?
             }
             "logged" => {
                 let config = self.config.as_ref().ok_or(Stop::Usage)?;
-                logs::tell(rt, alloc, config, &self.inputs)?
+                logs::tell_log(line, config, &self.inputs)?
             }
             "bytes"
             | "local_end"
@@ -89,55 +85,43 @@ impl Player {
             | "set_destination"
             | "revert_inner" => {
                 let packet = self.packet.as_mut().ok_or(Stop::Usage)?;
-                packets::answer(rt, packet, call, &mut words)?
+                packets::answer(line, packet, call)?
             }
-            "outbound" | "inbound" | "by_external" | "by_inside" | "bindings" => {
+            "outbound" | "inbound" | "by_external" | "by_inside" | "bindings" | "count" => {
                 let table = self.table.as_mut().ok_or(Stop::Usage)?;
-                table::answer(rt, alloc, table, call, &mut words)?
+                table::answer(line, table, call)?
             }
             _ => {
                 let config = self.config.as_ref().ok_or(Stop::Usage)?;
-                settings::answer(rt, config, call, &mut words)?
+                settings::answer(line, config, call)?
             }
         }
         Ok(())
     }
 
     /// Makes another configuration the current one, without inputs.
-    fn configure<R: Print>(
-        &mut self,
-        rt: &R,
-        alloc: Global,
-        call: &str,
-        words: &mut Words<'_>,
-    ) -> Result<(), Stop> {
+    fn configure<R: Print>(&mut self, line: &mut Line<'_, R>, call: &str) -> Result<(), Stop> {
         self.inputs.clear();
         self.config = match call {
-            "settings" => settings::read(rt, alloc, words)?,
-            "copy" => settings::made(rt, alloc, self.config.as_ref())?,
-            _ => settings::made(rt, alloc, None)?,
+            "settings" => settings::read(line)?,
+            "copy" => settings::made(line, self.config.as_ref())?,
+            _ => settings::made(line, None)?,
         };
         Ok(())
     }
 
     /// A call on the current translators.
-    fn translated<R: Print>(
-        &mut self,
-        rt: &R,
-        alloc: Global,
-        call: &str,
-        words: &mut Words<'_>,
-    ) -> Result<(), Stop> {
+    fn translated<R: Print>(&mut self, line: &mut Line<'_, R>, call: &str) -> Result<(), Stop> {
         let translators = self.translators.as_mut().ok_or(Stop::Usage)?;
         if call == "rows" {
-            return translators.tell_rows(rt, alloc, words);
+            return translators.tell_rows(line);
         }
         let packet = self.packet.take().ok_or(Stop::Usage)?;
         match call {
-            "route" => translators.tell_route(rt, &packet, words)?,
-            "onward" => translators.tell_onward(rt, &packet)?,
+            "route" => translators.tell_route(line, &packet)?,
+            "onward" => translators.tell_onward(line, &packet)?,
             _ => {
-                self.packet = translators.translate(rt, alloc, packet, words)?;
+                self.packet = translators.translate(line, packet)?;
                 return Ok(());
             }
         }

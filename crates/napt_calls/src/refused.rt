@@ -19,16 +19,15 @@ mod streams;
 mod table;
 
 use self::table::Kind;
+use std::alloc::AllocError;
 use std::process::ExitCode;
 use std::rt::Files;
 use std::sync::Wait;
 use std::thread::Threads;
 
-/// How a call ended.
+/// Why a call did not answer what it answers with ample memory.
 #[derive(Clone, Copy)]
 pub(crate) enum End {
-    /// It answered what it answers with ample memory.
-    Done,
     /// Memory was refused to it, and nothing is left or changed.
     Memory,
     /// A thread was refused to it, and nothing is left or changed.
@@ -47,7 +46,6 @@ impl End {
     /// The line and the status.
     fn told(self) -> (&'static str, u8) {
         match self {
-            End::Done => ("done", 0),
             End::Memory => ("memory", 5),
             End::NoThread => ("no-thread", 5),
             End::Before => ("before", 3),
@@ -58,12 +56,21 @@ impl End {
     }
 }
 
+impl From<AllocError> for End {
+    fn from(_refused: AllocError) -> End {
+        End::Before
+    }
+}
+
 /// Makes the call that the word says, writes the line that tells its end, and answers the status.
 pub(crate) fn told<R: Files + Print + AllocGlobal + Threads + Wait + Copy + Send + 'static>(
     rt: &R,
     call: Option<&String>,
 ) -> ExitCode {
-    let (line, status) = ended(rt, call).told();
+    let (line, status) = match ended(rt, call) {
+        Ok(()) => ("done", 0),
+        Err(end) => end.told(),
+    };
     match println!(rt; "{line}") {
         Ok(()) => ExitCode::from(status),
         Err(_) => ExitCode::from(6),
@@ -74,7 +81,7 @@ pub(crate) fn told<R: Files + Print + AllocGlobal + Threads + Wait + Copy + Send
 fn ended<R: Files + AllocGlobal + Threads + Wait + Copy + Send + 'static>(
     rt: &R,
     call: Option<&String>,
-) -> End {
+) -> Result<(), End> {
     let alloc = rt.alloc();
     match call.map(String::as_str) {
         Some("pool") => pool::ended(rt),
@@ -90,6 +97,6 @@ fn ended<R: Files + AllocGlobal + Threads + Wait + Copy + Send + 'static>(
         Some("bindings") => table::ended(alloc, Kind::Bindings),
         Some("flows") => table::ended(alloc, Kind::Flows),
         Some("ends") => table::ended(alloc, Kind::Ends),
-        _ => End::Usage,
+        _ => Err(End::Usage),
     }
 }

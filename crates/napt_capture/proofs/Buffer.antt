@@ -1,8 +1,6 @@
 -- A part of a buffer, and what is read behind it.
 use Rattle.std.proofs.Common.{◌≡◌, ℕ, ◌+◌, ◌-◌, ◌≤◌, List, ◌++◌, length, take, drop, slice_range, Option, None, Some, sym, ap, ◌∙◌, arith, append_assoc, length-take-le, drop-drop}
-use Rattle.std.specs.Io.KnownBytes.{Consumes, Keeps, prepend_known}
-use Rattle.std.proofs.lemmas.List.{drop-take}
-use Rattle.std.proofs.lemmas.Slice.{between_from_start}
+use Rattle.std.{specs.Io.KnownBytes.{Consumes, Keeps, prepend_known}, proofs.lemmas.{List.drop-take, Slice.between_from_start}}
 use lib.Seq.{take-append-le, take-append-add}
 use borrow.Rule.Slice.PartMut.{put_mid, post_of}
 

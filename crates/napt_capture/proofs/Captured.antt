@@ -1,7 +1,8 @@
 -- What a text begins with, and what it holds.
-use Rattle.std.proofs.Common.{◌≡◌, ℕ, zero, suc, ◌+◌, ◌-◌, ◌<◌, ◌≤◌, inl, inr, Bool, true, false, List, [], ◌∷◌, length, take, drop, Option, Some, None, Result, Ok, Err, refl, sym, ◌∙◌, ap, arith, length-drop, length-take-le, nat_lt, ◌==◌, ◌&&◌, ◌||◌}
+use Rattle.std.proofs.lemmas.{Grind.common_steps, Bool.Decides.nat_tests}
+use Rattle.std.proofs.Common.{◌≡◌, ℕ, zero, suc, ◌+◌, ◌-◌, ◌<◌, ◌≤◌, inl, inr, Bool, true, false, List, [], ◌∷◌, length, take, drop, Option, Result, Ok, Err, refl, sym, ◌∙◌, ap, arith, length-drop, length-take-le, nat_lt}
 use Rattle.std.proofs.lemmas.Bool.{cases_Bool, cases_lt, lt-ltb, le-ltb}
-use Rattle.napt_capture.specs.Prelude.{LARGEST_RECORD, CaptureFault, TooLarge, Next, Whole, End, Spelling, long_number, short_number, spelling_of, units_per_second, Entry, Held, announced, asked_first, asked_records, captured, captured_by, captured_of, entry_in, fraction_of, held, held_by, next_by, next_in, number_behind, size_in, spelling_by, spelling_in}
+use Rattle.napt_capture.specs.Prelude.{LARGEST_RECORD, CaptureFault, TooLarge, Next, Whole, End, Spelling, spelling_of, units_per_second, Entry, Held, announced, asked_first, asked_records, captured, captured_by, captured_of, entry_in, fraction_of, held, held_by, next_by, next_in, number_behind, size_in, spelling_by, spelling_in}
 use Rattle.byteorder.specs.Endian.{big_number}
 
 -- THE HEADER OF A RECORD
@@ -13,23 +14,11 @@ size_good s number header less few =
 
 announced_any : (s : Spelling) (n m : ℕ) (header : List ℕ) → announced (size_in s n header)
     ≡ announced (size_in s m header)
-announced_any s n m header = elim (cases_Bool (nat_lt (fraction_of s header) (units_per_second s))) [
-  | inl less ↦ elim (cases_Bool (nat_lt LARGEST_RECORD (captured_of s header))) [
-    | inl long ↦ rw (less, long) refl
-    | inr few ↦ rw (less, few) refl
-  ]
-  | inr more ↦ rw more refl
-]
+announced_any s n m header = grind (arith, common_steps, nat_tests, cases_Bool)
 
 -- the largest record is announced at most
 size_few : (s : Spelling) (n : ℕ) (header : List ℕ) → announced (size_in s n header) ≤ LARGEST_RECORD
-size_few s n header = elim (cases_Bool (nat_lt (fraction_of s header) (units_per_second s))) [
-  | inl less ↦ elim (cases_lt LARGEST_RECORD (captured_of s header)) [
-    | inl long ↦ rw (less, lt-ltb LARGEST_RECORD (captured_of s header) long) (omega arith)
-    | inr few ↦ rw (less, le-ltb LARGEST_RECORD (captured_of s header) few) few
-  ]
-  | inr more ↦ rw more (omega arith)
-]
+size_few s n header = grind (arith, common_steps, nat_tests, cases_Bool, le-ltb)
 
 -- WHAT A TEXT BEGINS WITH
 
@@ -71,14 +60,7 @@ asked_least s text = elim (cases_lt (length text) 16) [
 ]
 
 pub asked_most : (s : Spelling) (text : List ℕ) → asked_first s text ≤ 262160
-asked_most s text = elim (cases_lt (length text) 16) [
-  | inl short ↦ omega (arith, asked_short s text short)
-  | inr long ↦ omega (
-    arith,
-    asked_long s 0 text (size_in s 0 (take 16 text)) long refl,
-    size_few s 0 (take 16 text),
-  )
-]
+asked_most s text = grind (arith, common_steps, nat_tests, asked_short, asked_long, size_few)
 
 -- the cases
 pub data FirstOf (s : Spelling) (n : ℕ) (text : List ℕ) : Type 0 where
@@ -113,20 +95,8 @@ record IsWhole (s : Spelling) (n : ℕ) (text : List ℕ) (entry : Entry) : Type
 
 whole_of : (s : Spelling) (n : ℕ) (text : List ℕ) (entry : Entry) → FirstOf s n text →
     next_in s n text ≡ Ok (Whole entry) → IsWhole s n text entry
-whole_of s n text entry (is_short short) is = let never = sym (next_short s n text short) ∙ is in absurd cc
-whole_of s n text entry (is_bad fault long size_is) is =
-    let never = sym (next_fault s n text fault long size_is) ∙ is in absurd cc
-whole_of s n text entry (is_cut size long size_is short) is =
-    let never = sym (next_cut s n text size long size_is short) ∙ is in absurd cc
-whole_of s n text entry (is_whole size size_is whole) is =
-    let both = sym (next_whole s n text size size_is whole) ∙ is in
-    let same : entry_in s size text ≡ entry = cc in
-    let long : length entry.bytes ≡ size = ap (λ (e : Entry). length e.bytes)
-    (sym same) ∙ entry_size s text size whole in
-    record {
-      within = omega (arith, long, whole);
-      asked = omega (arith, long, asked_long s n text (Ok size) (omega (arith, whole)) size_is);
-    }
+whole_of s n text entry h k =
+    grind (arith, common_steps, nat_tests, next_short, next_fault, next_cut, next_whole, entry_size, asked_long)
 
 pub next_within_text : (s : Spelling) (n : ℕ) (text : List ℕ) (entry : Entry) → next_in s n text ≡ Ok (Whole entry) →
     16 + length entry.bytes ≤ length text
@@ -196,33 +166,16 @@ records_within s n zero (byte ∷ text) =
 -- NONE IS TOO LARGE
 
 size_never : (s : Spelling) (n : ℕ) (header : List ℕ) → size_in s n header ≡ Err TooLarge → ⊥
-size_never s n header is = elim (cases_Bool (nat_lt (fraction_of s header) (units_per_second s))) [
-  | inl less ↦ elim (cases_Bool (nat_lt LARGEST_RECORD (captured_of s header))) [
-    | inl long ↦ let never = rw (less, long) at is in cc
-    | inr few ↦ let never = rw (less, few) at is in cc
-  ]
-  | inr more ↦ let never = rw more at is in cc
-]
+size_never s n header is = grind (arith, common_steps, nat_tests, cases_Bool)
 
 next_never : (s : Spelling) (n : ℕ) (text : List ℕ) → FirstOf s n text → next_in s n text ≡ Err TooLarge → ⊥
-next_never s n text (is_short short) is = let never = sym (next_short s n text short) ∙ is in cc
-next_never s n text (is_bad fault long size) is =
-    let both = sym (next_fault s n text fault long size) ∙ is in
-    let same : fault ≡ TooLarge = cc in
-    size_never s n (take 16 text) (size ∙ ap (λ f. Err f) same)
-next_never s n text (is_cut size long size_is short) is =
-    let never = sym (next_cut s n text size long size_is short) ∙ is in cc
-next_never s n text (is_whole size size_is whole) is =
-    let never = sym (next_whole s n text size size_is whole) ∙ is in cc
+next_never s n text h k =
+    grind (arith, common_steps, nat_tests, next_short, next_fault, size_never, next_cut, next_whole)
 
 held_by_never : (s : Spelling) (n : ℕ) (text : List ℕ) (others : ℕ → Held) (next : Result Next CaptureFault) →
     next_in s n text ≡ next → ((skipped : ℕ) → (others skipped).end ≡ Err TooLarge → ⊥)
     → (held_by next others).end ≡ Err TooLarge → ⊥
-held_by_never s n text others (Ok (Whole entry)) next more is = more (15 + length entry.bytes) is
-held_by_never s n text others (Ok (End cut)) next more is = cc
-held_by_never s n text others (Err fault) next more is =
-    let same : fault ≡ TooLarge = cc in
-    next_never s n text (first_of s n text) (next ∙ ap (λ f. Err f) same)
+held_by_never s n text others next h k g = grind (arith, common_steps, nat_tests, next_never)
 
 held_never : (s : Spelling) (n skipped : ℕ) (text : List ℕ) → (held s n skipped text).end ≡ Err TooLarge → ⊥
 unfolding held
@@ -233,16 +186,7 @@ held_never s n zero (byte ∷ text) is =
     (λ skipped. held_never s (number_behind n) skipped text) is
 
 spelling_by_never : (header : List ℕ) (o : Option Spelling) → spelling_by header o ≡ Err TooLarge → ⊥
-spelling_by_never header None is = cc
-spelling_by_never header (Some s) is =
-    elim (cases_Bool (short_number s (drop 4 header) == 2 && short_number s (drop 6 header) == 4)) [
-      | inl good ↦
-          elim (cases_Bool (long_number s (drop 20 header) == 101 || long_number s (drop 20 header) == 228)) [
-            | inl link ↦ let never = rw (good, link) at is in cc
-            | inr link ↦ let never = rw (good, link) at is in cc
-          ]
-      | inr bad ↦ let never = rw bad at is in cc
-    ]
+spelling_by_never header o h = grind (arith, common_steps, nat_tests, cases_Bool)
 
 spelling_never : (header : List ℕ) → spelling_in header ≡ Err TooLarge → ⊥
 spelling_never header is = elim (cases_Bool (nat_lt (length header) 24)) [

@@ -1,34 +1,17 @@
 -- The steps of reading over known bytes.
-use Rattle.std.proofs.Common.{◌≡◌, ℕ, ◌+◌, ◌<◌, ◌≤◌, min, inl, inr, List, [], ◌++◌, length, take, drop, Option, Some, None, Result, Ok, Err, refl, sym, ◌∙◌, ap, arith, take_all, length-take-le, length-append, append-nil, take_at, drop_at, drop_of_length-le, IfSome}
+use Rattle.std.proofs.lemmas.{Grind.common_steps, Bool.Decides.nat_tests}
+use Rattle.std.proofs.Common.{◌≡◌, ℕ, ◌+◌, ◌<◌, ◌≤◌, min, List, [], ◌++◌, length, take, drop, Option, Some, None, Result, Ok, Err, arith, take_all, length-take-le, length-append, append-nil, take_at, drop_at, drop_of_length-le, IfSome}
 use Rattle.std.specs.Io.KnownBytes.{Consumes, IsAtEnd}
-use Rattle.std.proofs.lemmas.Bool.{cases_lt}
-use Rattle.napt_capture.specs.Prelude.{CaptureFault, NoHeader, BadMagic, BadVersion, BadLink, BadFraction, TooLong, TooLarge, Read, Memory, Gives, Says}
+use Rattle.napt_capture.specs.Prelude.{CaptureFault, Gives, Says}
 
 -- unless the device or memory failed
 pub Says-fact : {T : Type 0} (result : Result T CaptureFault) {P : Type 0} → P → Says result P
-Says-fact (Ok value) p = p
-Says-fact (Err NoHeader) p = p
-Says-fact (Err BadMagic) p = p
-Says-fact (Err BadVersion) p = p
-Says-fact (Err BadLink) p = p
-Says-fact (Err (BadFraction _)) p = p
-Says-fact (Err (TooLong _)) p = p
-Says-fact (Err TooLarge) p = p
-Says-fact (Err Read) p = tt
-Says-fact (Err Memory) p = tt
+Says-fact result h = grind (arith, common_steps, nat_tests)
 
 -- the same of another answer with the same fault
 pub Says-err : (T U : Type 0) (fault : CaptureFault) {P Q : Type 0} → (P → Q) → Says {T = T} (Err fault) P →
     Says {T = U} (Err fault) Q
-Says-err T U NoHeader f p = f p
-Says-err T U BadMagic f p = f p
-Says-err T U BadVersion f p = f p
-Says-err T U BadLink f p = f p
-Says-err T U (BadFraction _) f p = f p
-Says-err T U (TooLong _) f p = f p
-Says-err T U TooLarge f p = f p
-Says-err T U Read f p = tt
-Says-err T U Memory f p = tt
+Says-err T U fault h k = grind (arith, common_steps, nat_tests)
 
 pub Says-map : {T : Type 0} (result : Result T CaptureFault) {P Q : Type 0} → (P → Q) → Says result P → Says result Q
 Says-map (Ok value) f p = f p
@@ -69,29 +52,18 @@ pub record Fills (filled : ℕ) (buffer bytes left : List ℕ) : Type 0 where
 fills : (filled : ℕ) (buffer bytes left : List ℕ) → filled ≤ length buffer → bytes ≡ take filled buffer ++ left →
     (filled < length buffer → left ≡ []) → Fills filled buffer bytes left
 fills filled buffer bytes left within consumed at_end =
-    let size = length-take-le filled buffer within in
-    elim (cases_lt filled (length buffer)) [
-      | inl short ↦
-          let none = at_end short in
-          let all : bytes ≡ take filled buffer = consumed ∙ ap (λ l. take filled buffer ++ l) none
-          ∙ append-nil (take filled buffer) in
-          let long : length bytes ≡ filled = ap length all ∙ size in
-          record {
-            front = sym all ∙ sym (take_all (length buffer) bytes (omega (arith, long, short)));
-            left_is = none ∙ sym
-                (drop_of_length-le bytes (let few : length bytes ≤ length buffer = omega (arith, long, short) in few));
-            size = omega (arith, long, short);
-          }
-      | inr full ↦
-          let whole = take_all filled buffer full in
-          let split : bytes ≡ buffer ++ left = consumed ∙ ap (λ l. l ++ left) whole in
-          let long : length bytes ≡ length buffer + length left = ap length split ∙ length-append buffer left in
-          record {
-            front = whole ∙ sym (ap (take (length buffer)) split ∙ take_at buffer left (length buffer) refl);
-            left_is = sym (ap (drop (length buffer)) split ∙ drop_at buffer left (length buffer) refl);
-            size = omega (arith, long, within, full);
-          }
-    ]
+    grind (
+      arith,
+      common_steps,
+      nat_tests,
+      length-take-le,
+      append-nil,
+      take_all,
+      drop_of_length-le,
+      length-append,
+      take_at,
+      drop_at,
+    )
 
 pub filled_by : (old new : Option (List ℕ)) (filled : ℕ) (buffer : List ℕ) → filled ≤ length buffer →
     Consumes old new (take filled buffer) → (filled < length buffer → IsAtEnd new)
@@ -109,8 +81,4 @@ pub record FillsAll (buffer bytes left : List ℕ) : Type 0 where
 
 pub fills_all : (filled : ℕ) (buffer bytes left : List ℕ) → length buffer ≤ filled → Fills filled buffer bytes left →
     FillsAll buffer bytes left
-fills_all filled buffer bytes left full p = record {
-  front = sym p.front ∙ take_all filled buffer full;
-  left_is = p.left_is;
-  long = omega (arith, p.size, full);
-}
+fills_all filled buffer bytes left full p = grind (arith, common_steps, nat_tests, take_all)

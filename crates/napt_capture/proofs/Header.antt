@@ -1,8 +1,8 @@
 -- The record that is next, from what two reads filled.
+use Rattle.std.proofs.lemmas.{Grind.common_steps, Bool.Decides.nat_tests}
 use Rattle.std.proofs.Common.{◌≡◌, ℕ, ◌+◌, ◌-◌, ◌<◌, ◌≤◌, List, length, take, drop, Result, Ok, Err, true, refl, sym, ◌∙◌, ap, arith, length-drop, length-take, drop-drop, drop_of_length-le, nat_lt, lt-ltb, le-ltb}
 use Rattle.napt_capture.specs.Prelude.{MOST_ASKED, CaptureFault, NoHeader, TooLarge, Whole, End, Fields, Spelling, asked_first, entry_in, next_in, size_in, spelling_in, HasFields, ReadsNext, next_within}
-use Rattle.napt_capture.proofs.Captured.{asked_least, asked_long, asked_short, next_cut, next_fault, next_short, next_whole}
-use Rattle.napt_capture.proofs.Filled.{Fills, fills_all}
+use Rattle.napt_capture.proofs.{Captured.{asked_least, asked_long, asked_short, next_cut, next_fault, next_short, next_whole}, Filled.{Fills, fills_all}}
 
 large_is : (s : Spelling) (asked n : ℕ) (text : List ℕ) → MOST_ASKED < asked + asked_first s text →
     next_within s asked n text ≡ Err TooLarge
@@ -15,32 +15,14 @@ few_is s asked n text few = rw (le-ltb MOST_ASKED (asked + asked_first s text) f
 -- nothing may be asked for
 pub next_none : (s : Spelling) (asked n : ℕ) (text : List ℕ) → asked ≤ MOST_ASKED → MOST_ASKED < asked + 16 →
     ReadsNext s asked n (Err TooLarge) text text
-next_none s asked n text room large = record {
-  is = large_is s asked n text (omega (arith, large, asked_least s text));
-  taken = 0;
-  left_is = refl;
-  within = omega arith;
-  room = omega (arith, room);
-  takes = sym (rw (lt-ltb MOST_ASKED (asked + 16) large) refl);
-}
+next_none s asked n text room large = grind (arith, common_steps, nat_tests, large_is, asked_least)
 
 -- the header ends early
 pub next_early : (s : Spelling) (asked n filled : ℕ) (buffer text left : List ℕ) → length buffer ≡ 16 → filled < 16 →
     asked + 16 ≤ MOST_ASKED → Fills filled buffer text left
     → ReadsNext s asked n (Ok (End (nat_lt 0 filled))) text left
 next_early s asked n filled buffer text left size early room p =
-    let short : length text < 16 = omega (arith, p.size, size, early) in
-    let same : filled ≡ length text = omega (arith, p.size, size, early) in
-    let asks = asked_short s text short in
-    record {
-      is = few_is s asked n text (omega (arith, asks, room)) ∙ next_short s n text short
-          ∙ ap (λ k. Ok (End (nat_lt 0 k))) (sym same);
-      taken = 16;
-      left_is = p.left_is ∙ ap (λ k. drop k text) size;
-      within = omega (arith, asks);
-      room = room;
-      takes = drop_of_length-le text (let few : length text ≤ 16 = omega (arith, short) in few);
-    }
+    grind (arith, common_steps, nat_tests, asked_short, few_is, next_short, drop_of_length-le)
 
 -- the header was read
 pub record HeaderRead (header text left : List ℕ) : Type 0 where
@@ -50,45 +32,21 @@ pub record HeaderRead (header text left : List ℕ) : Type 0 where
 
 pub header_read : (filled : ℕ) (header text left : List ℕ) → length header ≡ 16 → 16 ≤ filled →
     Fills filled header text left → HeaderRead header text left
-header_read filled header text left size full p =
-    let all = fills_all filled header text left (omega (arith, size, full)) p in
-    record {
-      header_is = ap (λ k. take k text) (sym size) ∙ all.front;
-      left_is = all.left_is ∙ ap (λ k. drop k text) size;
-      long = omega (arith, all.long, size);
-    }
+header_read filled header text left size full p = grind (arith, common_steps, nat_tests, fills_all)
 
 -- and has a fault
 pub next_bad : (s : Spelling) (asked n : ℕ) (header text left : List ℕ) (fault : CaptureFault) →
     asked + 16 ≤ MOST_ASKED → HeaderRead header text left → size_in s n header ≡ Err fault
     → ReadsNext s asked n (Err fault) text left
 next_bad s asked n header text left fault room p bad =
-    let is = ap (size_in s n) p.header_is ∙ bad in
-    let asks = asked_long s n text (Err fault) p.long is in
-    record {
-      is = few_is s asked n text (omega (arith, asks, room)) ∙ next_fault s n text fault p.long is;
-      taken = 16;
-      left_is = p.left_is;
-      within = omega (arith, asks);
-      room = room;
-      takes = sym (rw (le-ltb MOST_ASKED (asked + 16) room) refl);
-    }
+    grind (arith, common_steps, nat_tests, asked_long, few_is, next_fault, le-ltb)
 
 -- and announces too much
 pub next_large : (s : Spelling) (asked n : ℕ) (header text left : List ℕ) (f : Fields) →
     asked + 16 ≤ MOST_ASKED → MOST_ASKED < asked + (16 + f.captured) → HeaderRead header text left
     → HasFields s n header f → ReadsNext s asked n (Err TooLarge) text left
 next_large s asked n header text left f room large p fields =
-    let is = ap (size_in s n) p.header_is ∙ fields.size in
-    let asks = asked_long s n text (Ok f.captured) p.long is in
-    record {
-      is = large_is s asked n text (omega (arith, asks, large));
-      taken = 16;
-      left_is = p.left_is;
-      within = omega (arith, asks);
-      room = room;
-      takes = sym (rw (le-ltb MOST_ASKED (asked + 16) room) refl);
-    }
+    grind (arith, common_steps, nat_tests, asked_long, large_is, le-ltb)
 
 -- the bytes end early
 pub next_part : (s : Spelling) (asked n filled : ℕ) (header buffer text mid left : List ℕ) (f : Fields) →

@@ -1,17 +1,11 @@
 -- Texts that are written one behind the other.
+use Rattle.std.proofs.lemmas.{Grind.common_steps, Bool.Decides.nat_tests}
 use Rattle.std.proofs.Common.{◌≡◌, ℕ, zero, suc, nat_eq, false, rules, ◌+◌, ◌*◌, ◌^◌, ◌<◌, ◌≤◌, List, [], ◌∷◌, ◌++◌, length, take, drop, get_or, All, Option, Result, Ok, Err, OnOk, IfErr, refl, sym, ap, ◌∙◌, subst, arith, length-append, length-drop, length-take-le, take_all, append_assoc, append-nil, take-append-drop}
-use lib.Seq.{take-add}
-use Rattle.std.specs.Io.{WritesAtMost}
-use Rattle.std.specs.Io.KnownBytes.{WriteAppends}
-use Rattle.std.specs.Result.{result_unwrap_or}
-use Rattle.napt_capture.specs.Prelude.{failed_writes, DeviceFault, WriteFault, Entry, IsWritable, entry_of_packet, file_header, record_header, record_text, text, Puts, PutsAll, PutsFront}
-use Rattle.std.proofs.Math.Seq.{take-append-add}
-use Rattle.std.proofs.lemmas.List.{take-append-le, take_more}
-use Rattle.std.proofs.lemmas.List.Elements.{All-head, All-tail}
-use Rattle.std.proofs.lemmas.List.Concat.{flat_map-append}
-use Rattle.std.specs.List.{flat_map}
-use Rattle.std.specs.Io.KnownBytes.{Appends, Keeps}
+use Rattle.std.{specs.{Io.{WritesAtMost, KnownBytes.{WriteAppends, Appends, Keeps}}, Result.result_unwrap_or}, proofs.Math.Seq.take-append-add}
+use Rattle.std.{proofs.lemmas.List.{take-append-le, take_more, Elements.{All-head, All-tail}, Concat.flat_map-append}, specs.List.flat_map}
 use Rattle.std.proofs.KnownBytes.{Appends-trans, Appends-kept}
+use lib.Seq.{take-add}
+use Rattle.napt_capture.specs.Prelude.{failed_writes, DeviceFault, WriteFault, Entry, IsWritable, entry_of_packet, file_header, record_header, record_text, text, Puts, PutsAll, PutsFront}
 
 -- the first was written whole, and then the second
 pub PutsAll-append : {before mid written : ℕ} {old now new : Option (List ℕ)} (xs ys : List ℕ)
@@ -96,12 +90,7 @@ PutsFront-fault {old} {new} {fault} xs p =
 -- a fault behind the whole text
 pub PutsAll-fault : (old now new : Option (List ℕ)) {written : ℕ} (xs : List ℕ) (n : ℕ)
     → PutsAll 0 old now xs written → Keeps now new → n ≡ written → (n ≤ length xs) × Appends old new (take n xs)
-PutsAll-fault old now new xs n p kept is =
-    let all : n ≡ length xs = omega (arith, p.counted, is) in (
-      omega arith,
-      subst (Appends old new) (sym (take_all n xs (omega arith)))
-          (Appends-kept old now new xs p.appended kept),
-    )
+PutsAll-fault old now new xs n p kept is = grind (arith, common_steps, nat_tests, take_all)
 
 -- what follows a flush that comes behind the whole text
 pub flushed_ok : (old now new : Option (List ℕ)) {written : ℕ} (r : Result (Unit {0}) WriteFault) (xs : List ℕ)
@@ -151,11 +140,7 @@ text_of_first i rs = file_header ++ flat_map record_text (take i rs)
 pub text_of_first-more : (i : ℕ) (rs : List Entry) (r : Entry) → i < length rs → r ≡ get_or rs i r
     → text_of_first i rs ++ record_text r ≡ text_of_first (i + 1) rs
 text_of_first-more i rs r within is =
-    append_assoc file_header (flat_map record_text (take i rs)) (record_text r)
-    ∙ ap (λ l. file_header ++ l)
-    (sym (ap (flat_map record_text) (take_more rs i r within ∙ ap (λ e. take i rs ++ e ∷ []) (sym is))
-    ∙ flat_map-append record_text (take i rs) (r ∷ []) ∙ ap (λ l. flat_map record_text (take i rs) ++ l)
-    (append-nil (record_text r))))
+    grind (arith, common_steps, nat_tests, append_assoc, take_more, flat_map-append, append-nil)
 
 -- and the rest of the text
 pub text-split : (i : ℕ) (rs : List Entry) → text rs ≡ text_of_first i rs ++ flat_map record_text (drop i rs)

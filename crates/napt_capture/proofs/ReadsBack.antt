@@ -1,11 +1,10 @@
 -- What is written holds the records that were written.
+use Rattle.std.proofs.lemmas.{Grind.common_steps, Bool.Decides.nat_tests}
 use Rattle.std.proofs.Common.{◌≡◌, ℕ, ◌+◌, ◌/◌, ◌%◌, List, [], ◌∷◌, ◌++◌, length, take, drop, map, All, Ok, false, ap, ◌∙◌, arith, refl, append_assoc, length-append, take_at, drop_at, drop_of_length-le, sym, ◌≤◌, le-ltb}
-use Rattle.std.specs.List.{flat_map}
-use Rattle.std.proofs.lemmas.List.Elements.{All-head, All-tail}
+use Rattle.std.{specs.List.flat_map, proofs.lemmas.List.Elements.{All-head, All-tail}}
 use Rattle.byteorder.specs.Numbers.{little_number-reads_back}
 use Rattle.napt_capture.specs.Prelude.{Little, Nanosecond, Spelling, Whole, Entry, Held, asked_first, asked_of, asked_records, captured, captured_by, captured_of, contents_by, entry_in, fraction_of, held, next_in, number_behind, original_of, read_whole, size_in, spelling_in, time_of, long_number, IsWritable, as_written, file_header, record_header, record_text, text, MOST_ASKED}
-use Rattle.napt_capture.proofs.Whole.{asked_all, asked_is}
-use Rattle.napt_capture.proofs.Captured.{held_record, next_whole, size_good, with_first}
+use Rattle.napt_capture.proofs.{Whole.{asked_all, asked_is}, Captured.{held_record, next_whole, size_good, with_first}}
 
 -- nanoseconds in little-endian order
 abbrev pub written_spelling : Spelling
@@ -106,14 +105,7 @@ captured_text rs h =
 asked-written : (rs : List Entry) → asked_records (map as_written rs) ≡ length (flat_map record_text rs)
 unfolding record_text
 asked-written [] = refl
-asked-written (r ∷ rs) =
-    omega (
-      arith,
-      asked-written rs,
-      length-append (record_header r ++ r.bytes) (flat_map record_text rs),
-      length-append (record_header r) r.bytes,
-      length-record_header r,
-    )
+asked-written (r ∷ rs) = grind (arith, common_steps, nat_tests, length-append, length-record_header, asked-written rs)
 
 pub read_text : (rs : List Entry) → All IsWritable rs → length (text rs) ≤ 68719476720 → read_whole (text rs)
     ≡ Ok (record { records = map as_written rs; cut = false })

@@ -1,7 +1,8 @@
 -- A capture that is read whole: how far reading has come, and what it comes to.
-use Rattle.std.proofs.Common.{◌≡◌, ℕ, ◌+◌, ◌^◌, ◌<◌, ◌≤◌, min, inl, inr, Bool, true, List, [], ◌∷◌, ◌++◌, length, take, drop, Option, None, Some, Result, Ok, Err, refl, sym, ◌∙◌, ap, subst, arith, append-nil, append_assoc, length-append, length-drop, drop-drop, IfSome, nat_lt}
+use Rattle.std.proofs.lemmas.{Grind.common_steps, Bool.Decides.nat_tests}
+use Rattle.std.proofs.Common.{◌≡◌, ℕ, ◌+◌, ◌^◌, ◌<◌, ◌≤◌, min, inl, inr, Bool, true, List, [], ◌∷◌, ◌++◌, length, take, drop, Option, Result, Ok, Err, refl, sym, ◌∙◌, ap, subst, arith, append-nil, append_assoc, length-append, length-drop, drop-drop, IfSome, nat_lt}
 use Rattle.std.proofs.lemmas.Bool.{cases_lt, lt-ltb, le-ltb}
-use Rattle.napt_capture.specs.Prelude.{MOST_ASKED, CaptureFault, NoHeader, BadMagic, BadVersion, BadLink, BadFraction, TooLong, TooLarge, Read, Memory, Next, Whole, End, Spelling, Entry, Contents, Held, asked_by, asked_first, asked_of, asked_records, captured, captured_by, contents_by, entry_in, held, next_in, number_behind, read_whole, spelling_in, Gives, IsForRecords, Leaves, ReadsNext, ReadsWhole, Says, StopsBehind, TakesAtMost, TakesMemory, next_within}
+use Rattle.napt_capture.specs.Prelude.{MOST_ASKED, CaptureFault, TooLarge, Memory, Next, Whole, End, Spelling, Entry, Contents, Held, asked_by, asked_first, asked_of, asked_records, captured, captured_by, contents_by, entry_in, held, next_in, number_behind, read_whole, spelling_in, Gives, IsForRecords, Leaves, ReadsNext, ReadsWhole, Says, StopsBehind, TakesAtMost, TakesMemory, next_within}
 use Rattle.napt_capture.proofs.Filled.{Gives-both, Gives-map, Says-err}
 use Rattle.napt_capture.proofs.Captured.{FirstOf, asked_least, asked_most, first_of, held_end, held_fault, held_record, is_bad, is_cut, is_short, is_whole, next_asked, next_cut, next_fault, next_short, next_whole, records_within}
 
@@ -63,11 +64,7 @@ pub record Progress (s : Spelling) (records : List Entry) (asked : ℕ) (bytes l
 
 pub Progress-start : (s : Spelling) (bytes left : List ℕ) → spelling_in (take 24 bytes) ≡ Ok s → left ≡ drop 24 bytes →
     Progress s [] 24 bytes left
-Progress-start s bytes left is left_is = record {
-  spelled = is;
-  left_is = left_is;
-  held_is = ap (held s 1 0) (sym left_is);
-}
+Progress-start s bytes left is left_is = grind (arith, common_steps, nat_tests)
 
 -- where it is not too large
 within_is : (s : Spelling) (asked n : ℕ) (text : List ℕ) (result : Result Next CaptureFault) →
@@ -178,13 +175,7 @@ read_last : (s : Spelling) (records : List Entry) (asked : ℕ) (bytes text : Li
     → held s (length records + 1) 0 text ≡ record { records = []; end = end }
     → read_whole bytes ≡ contents_by records end
 read_last s records asked bytes text end counted p few none =
-    let n = length records + 1 in
-    let asks : asked_of bytes ≡ asked + asked_first s text =
-    asked_from s records asked bytes text p ∙ asked_last s text records (held s n 0 text).records asked bytes
-    (ap (λ (h : Held). h.records) none) counted p.left_is in
-    let holds = captured_is s bytes p.spelled ∙ p.held_is ∙ ap (joined records) none in
-    rw (le-ltb MOST_ASKED (asked_of bytes) (omega (arith, asks, few)))
-    (ap (λ (h : Held). contents_by h.records h.end) holds ∙ ap (λ l. contents_by l end) (append-nil records))
+    grind (arith, common_steps, nat_tests, asked_from, asked_last, captured_is, le-ltb, append-nil)
 
 read_large : (s : Spelling) (records : List Entry) (asked : ℕ) (bytes text : List ℕ) →
     asked ≡ 24 + asked_records records → Progress s records asked bytes text
@@ -314,29 +305,9 @@ pub for_records : (s : Spelling) (records : List Entry) (asked : ℕ) (first now
     Gives first now (Progress s records asked) → (fault : CaptureFault) →
     ((let r : Result Next CaptureFault = Err fault in TakesMemory r) →
     IfSome now (λ bytes. 16 ≤ length bytes)) → IsForRecords first fault
-for_records s records asked None now many progress Memory long = tt
-for_records s records asked (Some bytes) None many progress Memory long = absurd progress
-for_records s records asked (Some bytes) (Some left) many progress Memory long =
-    let more : 16 ≤ length left = long tt in
-    omega (arith, many, more, ap (λ (l : List ℕ). length l) progress.left_is, length-drop asked bytes)
-for_records s records asked first now many progress NoHeader long = tt
-for_records s records asked first now many progress BadMagic long = tt
-for_records s records asked first now many progress BadVersion long = tt
-for_records s records asked first now many progress BadLink long = tt
-for_records s records asked first now many progress (BadFraction n) long = tt
-for_records s records asked first now many progress (TooLong n) long = tt
-for_records s records asked first now many progress TooLarge long = tt
-for_records s records asked first now many progress Read long = tt
+for_records s records asked first now h k fault g = grind (arith, common_steps, nat_tests, length-drop)
 
 -- and none is taken for the header of the file
 pub header_refused : (known : Option (List ℕ)) (fault : CaptureFault) →
     ((let r : Result Spelling CaptureFault = Err fault in r ≡ Err Memory) → ⊥) → IsForRecords known fault
-header_refused known Memory never = absurd (never refl)
-header_refused known NoHeader never = tt
-header_refused known BadMagic never = tt
-header_refused known BadVersion never = tt
-header_refused known BadLink never = tt
-header_refused known (BadFraction n) never = tt
-header_refused known (TooLong n) never = tt
-header_refused known TooLarge never = tt
-header_refused known Read never = tt
+header_refused known fault h = grind (arith, common_steps, nat_tests)

@@ -1,8 +1,6 @@
 -- What contracts see of devices in place of those that nobody gave.
 use Rattle.std.specs.Prelude.{ℕ, Bool, List, drop}
-use Rattle.napt_capture.specs.Text.{file_header}
-use Rattle.napt_capture.specs.declared.absent.NoPackets.{NoPackets}
-use Rattle.napt_capture.specs.declared.absent.Nowhere.{Nowhere}
+use Rattle.napt_capture.specs.{Text.file_header, declared.absent.{NoPackets.NoPackets, Nowhere.Nowhere}}
 
 -- the bytes that reads of the capture will give
 abbrev pub bytes_left : NoPackets → List ℕ

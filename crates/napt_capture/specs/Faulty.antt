@@ -1,9 +1,6 @@
 -- What contracts see of a device one of whose calls goes wrong.
 use Rattle.std.specs.Prelude.{◌≡◌, ℕ, ◌-◌, ◌==◌, List, Option, Some, None, Result, Ok, OnOk, if◌then◌else◌}
-use Rattle.napt_capture.specs.declared.faulty.Faulty.{Faulty}
-use Rattle.napt_capture.specs.declared.faulty.Plan.{Plan}
-use Rattle.napt_capture.specs.declared.faulty.Trouble.{Trouble}
-use Rattle.napt_capture.specs.declared.faulty.Trouble.TheVariants.{Fails, TakesNone}
+use Rattle.napt_capture.specs.declared.faulty.{Faulty.Faulty, Plan.Plan, Trouble.{Trouble, TheVariants.{Fails, TakesNone}}}
 
 -- the device itself
 abbrev pub device_of : {D : Type 0} → Faulty D → D

@@ -10,17 +10,9 @@ pub use Rattle.napt_capture.specs.Watched.{failed_of, device_of}
 pub use Rattle.napt_capture.specs.Reading.{Gives, IsForRecords, Leaves, ReadsNext, ReadsWhole, Says, StopsBehind, TakesAtMost, TakesMemory, next_within, HasFields, StopsBy}
 pub use Rattle.napt_capture.specs.Records.{Asks, KeepsLeft, Tells, is_end, left_of, rest_of}
 pub use Rattle.napt_capture.specs.Writing.{Puts, PutsAll, PutsFront}
-pub use Rattle.napt_capture.specs.declared.TheConstants.{MOST_ASKED, LARGEST_RECORD}
-pub use Rattle.napt_capture.specs.declared.device.DeviceFault.{DeviceFault}
-pub use Rattle.napt_capture.specs.declared.device.Sink.{Ghosts}
+pub use Rattle.napt_capture.specs.declared.{TheConstants.{MOST_ASKED, LARGEST_RECORD}, device.{DeviceFault.DeviceFault, Sink.Ghosts}}
 pub use Rattle.napt_capture.specs.declared.fault.CaptureFault.{CaptureFault}
 pub use Rattle.napt_capture.specs.declared.fault.CaptureFault.TheVariants.{NoHeader, BadMagic, BadVersion, BadLink, BadFraction, TooLong, TooLarge, Read, Memory}
-pub use Rattle.napt_capture.specs.declared.fault.WriteFault.{WriteFault}
-pub use Rattle.napt_capture.specs.declared.reading.Fields.{Fields}
-pub use Rattle.napt_capture.specs.declared.reading.Next.{Next}
-pub use Rattle.napt_capture.specs.declared.reading.Next.TheVariants.{Whole, End}
-pub use Rattle.napt_capture.specs.declared.records.Records.{Records}
-pub use Rattle.napt_capture.specs.declared.spelling.Order.TheVariants.{Little}
-pub use Rattle.napt_capture.specs.declared.spelling.Spelling.{Spelling}
-pub use Rattle.napt_capture.specs.declared.spelling.Unit.TheVariants.{Nanosecond}
+pub use Rattle.napt_capture.specs.declared.{fault.WriteFault.WriteFault, reading.{Fields.Fields, Next.{Next, TheVariants.{Whole, End}}}}
+pub use Rattle.napt_capture.specs.declared.{records.Records.Records, spelling.{Order.TheVariants.Little, Spelling.Spelling, Unit.TheVariants.Nanosecond}}
 pub use Rattle.napt_capture.specs.declared.watched.Watched.{Watched}

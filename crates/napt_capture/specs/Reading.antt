@@ -1,14 +1,8 @@
 -- What the steps of reading a capture do, over the bytes left in the source before and after.
 use Rattle.std.specs.Prelude.{ℕ, ◌+◌, ◌*◌, ◌^◌, ◌<◌, ◌≤◌, ◌≡◌, ◌⊎◌, ⊤, nat_lt, if◌then◌else◌, min, List, [], ◌++◌, length, take, drop, Option, Some, None, IfSome, Result, Ok, Err}
-use Rattle.napt_capture.specs.declared.TheConstants.{LARGEST_RECORD, MOST_ASKED}
-use Rattle.napt_capture.specs.declared.fault.CaptureFault.{CaptureFault}
-use Rattle.napt_capture.specs.declared.fault.CaptureFault.TheVariants.{TooLarge, Read, Memory}
-use Rattle.napt_capture.specs.declared.reading.Next.{Next}
-use Rattle.napt_capture.specs.declared.reading.Next.TheVariants.{Whole, End}
-use Rattle.napt_capture.specs.declared.reading.Fields.{Fields}
-use Rattle.napt_capture.specs.declared.spelling.Spelling.{Spelling}
-use Rattle.napt_capture.specs.Contents.{Contents, Entry}
-use Rattle.napt_capture.specs.Text.{IsWritable}
+use Rattle.napt_capture.specs.declared.{TheConstants.{LARGEST_RECORD, MOST_ASKED}, fault.CaptureFault.{CaptureFault, TheVariants.{TooLarge, Read, Memory}}}
+use Rattle.napt_capture.specs.declared.{reading.{Next.{Next, TheVariants.{Whole, End}}, Fields.Fields}, spelling.Spelling.Spelling}
+use Rattle.napt_capture.specs.{Contents.{Contents, Entry}, Text.IsWritable}
 use Rattle.napt_capture.specs.Capture.{asked_first, asked_of, asked_records, captured, next_in, original_of, read_whole, size_in, spelling_in, time_of}
 
 -- unless the device or memory failed

@@ -1,10 +1,7 @@
 -- The four spellings of a capture file (pcap-savefile(5), "magic number").
 use Rattle.std.specs.Prelude.{ℕ, List, Option, Some, None, ◌==◌, if◌then◌else◌}
 use Rattle.byteorder.specs.Endian.{big_number, little_number}
-use Rattle.napt_capture.specs.declared.spelling.Order.{Order}
-use Rattle.napt_capture.specs.declared.spelling.Order.TheVariants.{Little, Big}
-use Rattle.napt_capture.specs.declared.spelling.Unit.{Unit as TimeUnit}
-use Rattle.napt_capture.specs.declared.spelling.Unit.TheVariants.{Microsecond, Nanosecond}
+use Rattle.napt_capture.specs.declared.spelling.{Order.{Order, TheVariants.{Little, Big}}, Unit.{Unit as TimeUnit, TheVariants.{Microsecond, Nanosecond}}}
 use Rattle.napt_capture.specs.declared.spelling.Spelling.{Spelling}
 
 -- what the first four bytes show, read as a number with its highest byte first

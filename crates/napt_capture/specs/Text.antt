@@ -1,9 +1,7 @@
 -- The text of a capture that is written: times in nanoseconds, numbers in little-endian order.
-use Rattle.std.specs.Prelude.{ℕ, ◌*◌, ◌/◌, ◌%◌, ◌<◌, ◌≤◌, ◌^◌, List, ◌++◌, length}
-use Rattle.std.specs.List.{flat_map}
+use Rattle.std.specs.{Prelude.{ℕ, ◌*◌, ◌/◌, ◌%◌, ◌<◌, ◌≤◌, ◌^◌, List, ◌++◌, length}, List.flat_map}
 use Rattle.byteorder.specs.Endian.{little_bytes}
-use Rattle.napt_capture.specs.declared.TheConstants.{LARGEST_RECORD}
-use Rattle.napt_capture.specs.Contents.{Entry}
+use Rattle.napt_capture.specs.{declared.TheConstants.LARGEST_RECORD, Contents.Entry}
 
 -- magic of nanoseconds, version 2.4, zone 0, significant figures 0, snapshot length, link type 101 (raw IP)
 unfoldable pub file_header : List ℕ

@@ -1,6 +1,5 @@
 -- What a writer does that puts a text behind what it wrote before.
-use Rattle.std.specs.Prelude.{ℕ, ◌+◌, ◌≤◌, ◌≡◌, List, length, take, Option, Result, Ok, Err}
-use Rattle.std.specs.Io.KnownBytes.{Appends}
+use Rattle.std.specs.{Prelude.{ℕ, ◌+◌, ◌≤◌, ◌≡◌, List, length, take, Option, Result, Ok, Err}, Io.KnownBytes.Appends}
 use Rattle.napt_capture.specs.declared.fault.WriteFault.{WriteFault}
 
 -- A writer whose bytes were old, and are new, took all of this text when so many bytes were written, and so

@@ -1,7 +1,6 @@
 //! The devices that captures are read from and written to. They behave like std's readers and writers, and
 //! count their failed calls in a number that contracts see.
-ghost use Rattle.std.specs.Prelude.{◌≡◌, ℕ, ◌+◌, ◌-◌, ◌^◌, ◌<◌, List, Option, IfOk, OnOk, OnErr};
-ghost use Rattle.std.specs.Io.{ReadsAtMost, WritesAtMost};
+ghost use Rattle.std.specs.{Prelude.{◌≡◌, ℕ, ◌+◌, ◌-◌, ◌^◌, ◌<◌, List, Option, IfOk, OnOk, OnErr}, Io.{ReadsAtMost, WritesAtMost}};
 ghost use Rattle.std.specs.Io.KnownBytes.{Keeps, ReadConsumes, WriteAppends};
 ghost use Rattle.napt_capture.specs.Device.{failed_calls, failed_writes};
 

@@ -1,12 +1,8 @@
 //! Laws of capture texts, for the crates above.
 ghost use Rattle.std.specs.Prelude.{◌≡◌, ◌≢◌, ◌+◌, ◌≤◌, List, [], ◌∷◌, ℕ, length, drop, map, All, Bool, Ok, Err, false};
-ghost use Rattle.napt_capture.specs.declared.fault.CaptureFault.{CaptureFault};
-ghost use Rattle.napt_capture.specs.declared.fault.CaptureFault.TheVariants.{TooLarge};
-ghost use Rattle.napt_capture.specs.declared.spelling.Spelling.{Spelling};
-ghost use Rattle.napt_capture.specs.declared.reading.Next.TheVariants.{Whole, End};
-ghost use Rattle.napt_capture.specs.Contents.{Entry};
-ghost use Rattle.napt_capture.specs.Capture.{captured, contents_by, held, next_in, number_behind, read_whole};
-ghost use Rattle.napt_capture.specs.Text.{IsWritable, as_written, text};
+ghost use Rattle.napt_capture.specs.declared.{fault.CaptureFault.{CaptureFault, TheVariants.TooLarge}, spelling.Spelling.Spelling};
+ghost use Rattle.napt_capture.specs.{declared.reading.Next.TheVariants.{Whole, End}, Contents.Entry};
+ghost use Rattle.napt_capture.specs.{Capture.{captured, contents_by, held, next_in, number_behind, read_whole}, Text.{IsWritable, as_written, text}};
 
 /// What a text behind the header of its file holds is what it begins with, and what follows that holds.
 pub fn records_follow()

@@ -1,9 +1,7 @@
 //! Reading a capture.
 ghost use Rattle.std.specs.Prelude.{◌≡◌, ◌≢◌, ◌+◌, ◌-◌, ◌*◌, ◌^◌, ◌<◌, ◌≤◌, ℕ, All, length, take, drop, IfOk, IfErr, IfSome, Err};
 ghost use Rattle.std.specs.Io.KnownBytes.{Consumes, IsAtEnd};
-ghost use Rattle.napt_capture.specs.Device.{failed_calls};
-ghost use Rattle.napt_capture.specs.Capture.{failed_reads, size_in, spelling_in};
-ghost use Rattle.napt_capture.specs.Text.{IsWritable};
+ghost use Rattle.napt_capture.specs.{Device.failed_calls, Capture.{failed_reads, size_in, spelling_in}, Text.IsWritable};
 ghost use Rattle.napt_capture.specs.Reading.{Gives, HasFields, IsForRecords, IsWithin, IsWritableNext, ReadsNext, ReadsWhole, Says, TakesMemory};
 
 use crate::contents::{Capture, Record};

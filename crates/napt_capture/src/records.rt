@@ -1,6 +1,5 @@
 //! Reading a capture record after record, as it comes.
-ghost use Rattle.std.specs.Prelude.{◌≡◌, IfOk};
-ghost use Rattle.std.specs.Option.{ForSome};
+ghost use Rattle.std.specs.{Prelude.{◌≡◌, IfOk}, Option.ForSome};
 ghost use Rattle.napt_capture.specs.Reading.{StandsWhole};
 
 use crate::ahead::Ahead;

@@ -1,9 +1,6 @@
 //! Writing a capture, or any text.
-ghost use Rattle.std.specs.Prelude.{◌≡◌, ◌+◌, ◌-◌, ◌^◌, ◌<◌, ◌≤◌, length, take, All, OnOk, IfErr};
-ghost use Rattle.std.specs.Io.KnownBytes.{Appends};
-ghost use Rattle.napt_capture.specs.Device.{failed_calls};
-ghost use Rattle.napt_capture.specs.Text.{IsWritable, record_text, text};
-ghost use Rattle.napt_capture.specs.Writing.{Puts};
+ghost use Rattle.std.specs.{Prelude.{◌≡◌, ◌+◌, ◌-◌, ◌^◌, ◌<◌, ◌≤◌, length, take, All, OnOk, IfErr}, Io.KnownBytes.Appends};
+ghost use Rattle.napt_capture.specs.{Device.failed_calls, Text.{IsWritable, record_text, text}, Writing.Puts};
 
 use crate::contents::Record;
 use crate::device::Sink;

@@ -1,8 +1,6 @@
 //! How far a text is written.
-ghost use Rattle.std.specs.Prelude.{◌≡◌, ◌+◌, ◌-◌, ◌^◌, ◌<◌, length, OnOk, IfErr};
-ghost use Rattle.std.specs.Io.KnownBytes.{Keeps};
-ghost use Rattle.napt_capture.specs.Device.{failed_calls};
-ghost use Rattle.napt_capture.specs.Text.{IsWritable, entry_of_packet, file_header, record_header as header_of, record_text};
+ghost use Rattle.std.specs.{Prelude.{◌≡◌, ◌+◌, ◌-◌, ◌^◌, ◌<◌, length, OnOk, IfErr}, Io.KnownBytes.Keeps};
+ghost use Rattle.napt_capture.specs.{Device.failed_calls, Text.{IsWritable, entry_of_packet, file_header, record_header as header_of, record_text}};
 ghost use Rattle.napt_capture.specs.Writing.{Puts};
 
 use crate::device::Sink;

@@ -1,7 +1,7 @@
 -- Rows of nodes, and what leaves one a row.
-use Rattle.std.proofs.Common.{◌≡◌, ◌≢◌, ℕ, ◌+◌, ◌-◌, ◌<◌, ◌≤◌, ◌⊎◌, inl, inr, Bool, true, false, cond, nat_lt, refl, sym, ◌∙◌, ap, arith, eqb, eqb-true, subst}
-use Rattle.std.proofs.lemmas.Bool.{eq-eqb, cases_eq, cases_lt, true≢false}
-use Rattle.std.proofs.lemmas.Bool.Decides.{nat_tests}
+use Rattle.std.proofs.lemmas.Grind.{common_steps}
+use Rattle.std.proofs.Common.{◌≡◌, ◌≢◌, ℕ, ◌+◌, ◌-◌, ◌<◌, ◌≤◌, ◌⊎◌, inl, inr, Bool, true, false, cond, nat_lt, refl, sym, ◌∙◌, ap, arith, eqb, subst}
+use Rattle.std.proofs.lemmas.Bool.{eq-eqb, cases_eq, true≢false, Decides.nat_tests}
 use Rattle.napt_collections.specs.Links.{IsRow}
 
 -- TESTS
@@ -10,10 +10,7 @@ pub on_same : {X : Type 0} (x y : ℕ) (a b : X) → x ≡ y → cond (eqb x y) 
 on_same x y a b e = ap (λ v. cond v a b) (eq-eqb x y e)
 
 pub on_other : {X : Type 0} (x y : ℕ) (a b : X) → x ≢ y → cond (eqb x y) a b ≡ b
-on_other x y a b n = elim (eqb x y) as (λ v. eqb x y ≡ v → cond v a b ≡ b) [
-  | true ↦ λ t. absurd (n (eqb-true x y t))
-  | false ↦ λ t. refl
-] refl
+on_other x y a b n = grind (arith, common_steps, nat_tests)
 
 -- ranks above that of p go down
 abbrev pub lowered : (ℕ → ℕ) → ℕ → ℕ → ℕ
@@ -35,10 +32,7 @@ module _ (first last : ℕ) (linked after : ℕ → Bool) (next prev new_next ne
       (nexts : (x : ℕ) → new_next x ≡ cond (eqb x (prev p)) (next p) (next x))
       (prevs : (x : ℕ) → new_prev x ≡ cond (eqb x (next p)) (prev p) (prev x)) where
     was : (x : ℕ) → after x ≡ true → (x ≢ p) × (linked x ≡ true)
-    was x h = elim (cases_eq x p) [
-      | inl e ↦ absurd (true≢false (sym h ∙ (stay x ∙ on_same x p false (linked x) e)))
-      | inr ne ↦ (ne, sym (stay x ∙ on_other x p false (linked x) ne) ∙ h)
-    ]
+    was x h = grind (arith, common_steps, nat_tests, on_same, on_other)
 
     still : (x : ℕ) → x ≢ p → linked x ≡ true → after x ≡ true
     still x ne l = stay x ∙ (on_other x p false (linked x) ne ∙ l)
@@ -46,13 +40,7 @@ module _ (first last : ℕ) (linked after : ℕ → Bool) (next prev new_next ne
     -- it is below p or above it
     pub side : (x : ℕ) → after x ≡ true → ((rank x < rank p) × (low x ≡ rank x))
         ⊎ ((rank p < rank x) × (low x + 1 ≡ rank x))
-    side x h = elim (cases_lt (rank p) (rank x)) [
-      | inl lt ↦ inr (lt, grind (arith, nat_tests, lt))
-      | inr ge ↦
-          let w = was x h in
-          let ne : rank x ≢ rank p = λ e. w.0 (is.apart x p w.1 here e) in
-          inl (omega (arith, ne), grind (arith, nat_tests, ge))
-    ]
+    side x h = grind (arith, common_steps, nat_tests, was)
 
     up : (linked (next p) ≡ true) × (rank (next p) ≡ rank p + 1)
     up = is.onward p here not_last
@@ -150,12 +138,7 @@ module _ (first last : ℕ) (linked after : ℕ → Bool) (next prev new_next ne
     -- it is below p or not
     pub side_in : (x : ℕ) → linked x ≡ true → ((rank x < rank p) × (up_in x ≡ rank x))
         ⊎ ((rank p ≤ rank x) × (up_in x ≡ rank x + 1))
-    side_in x l =
-        let r = on_other x n (rank p) (cond (nat_lt (rank x) (rank p)) (rank x) (rank x + 1)) (not_n x l) in
-        elim (cases_lt (rank x) (rank p)) [
-          | inl lt ↦ inl (lt, r ∙ grind (arith, nat_tests, lt))
-          | inr ge ↦ inr (ge, r ∙ grind (arith, nat_tests, ge))
-        ]
+    side_in x l = grind (arith, common_steps, nat_tests, on_other, not_n)
 
     down_in : (linked (prev p) ≡ true) × (rank (prev p) + 1 ≡ rank p)
     down_in = is.back p at not_first
@@ -210,19 +193,7 @@ module _ (first last : ℕ) (linked after : ℕ → Bool) (next prev new_next ne
         ]
 
     apart_in : (x y : ℕ) → after x ≡ true → after y ≡ true → up_in x ≡ up_in y → x ≡ y
-    apart_in x y hx hy e = elim (cases_eq x n) [
-      | inl ex ↦ elim (cases_eq y n) [
-        | inl ey ↦ ex ∙ sym ey
-        | inr ny ↦ absurd (grind (arith, nat_tests, side_in y (was_in y ny hy), rank_n x ex, e))
-      ]
-      | inr nx ↦ elim (cases_eq y n) [
-        | inl ey ↦ absurd (grind (arith, nat_tests, side_in x (was_in x nx hx), rank_n y ey, e))
-        | inr ny ↦
-            let lx = was_in x nx hx in
-            let ly = was_in y ny hy in
-            is.apart x y lx ly (grind (arith, nat_tests, side_in x lx, side_in y ly, e))
-      ]
-    ]
+    apart_in x y hx hy e = grind (arith, common_steps, nat_tests, side_in, was_in, rank_n)
 
     bounds_in : (x : ℕ) → after x ≡ true → (up_in first ≤ up_in x) × (up_in x ≤ up_in last)
     bounds_in x h =
@@ -242,15 +213,7 @@ module _ (first last : ℕ) (linked after : ℕ → Bool) (next prev new_next ne
         ]
 
     pub row_in : IsRow first last after new_next new_prev up_in
-    row_in = record {
-      first_linked = still_in first is.first_linked;
-      last_linked = still_in last is.last_linked;
-      lowest = λ x h. (bounds_in x h).0;
-      highest = λ x h. (bounds_in x h).1;
-      onward = onward_in;
-      back = back_in;
-      apart = apart_in;
-    }
+    row_in = grind (arith, common_steps, nat_tests, still_in, bounds_in, onward_in, back_in, apart_in)
 
     -- the order of the others stays, and n is between them
     pub less_in : (x y : ℕ) → linked x ≡ true → linked y ≡ true → rank x < rank y → up_in x < up_in y

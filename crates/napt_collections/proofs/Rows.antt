@@ -1,14 +1,8 @@
 -- Words in a row.
-use Rattle.std.proofs.Common.{◌≡◌, ◌≢◌, ℕ, ◌+◌, ◌-◌, ◌*◌, ◌/◌, ◌%◌, ◌^◌, ◌<◌, ◌≤◌, true, false, List, length, get_or, set, Some, None, refl, sym, ◌∙◌, ap, arith, eqb, ltb, eqb-true, w64, replicate, zero, suc}
-use Rattle.std.specs.Prelude.{◌==◌}
-use Rattle.std.specs.Int.{bit_at, trailing_ones}
-use Rattle.std.proofs.lemmas.Bool.{eq-eqb, true≢false}
-use Rattle.std.proofs.lemmas.Bool.Decides.{nat_tests}
-use Rattle.std.proofs.lemmas.Grind.{common_steps}
-use Rattle.std.proofs.lemmas.List.{length-replicate}
+use Rattle.std.proofs.Common.{◌≡◌, ◌≢◌, ℕ, ◌+◌, ◌-◌, ◌*◌, ◌/◌, ◌%◌, ◌^◌, ◌<◌, ◌≤◌, true, false, List, length, get_or, set, Some, None, refl, sym, ◌∙◌, ap, arith, ltb, eqb-true, w64, replicate}
+use Rattle.std.{specs.{Prelude.◌==◌, Int.{bit_at, trailing_ones}}, proofs.lemmas.{Bool.Decides.nat_tests, Grind.common_steps, List.length-replicate}}
 use Rattle.std.proofs.lemmas.Nat.Bits.{bit_at-zero, bit_at_ones, bit_at-trailing_ones}
-use Rattle.napt_collections.specs.Sets.{has_bit, has, IsFirstAbsent, IsMarked, full_word}
-use Rattle.napt_collections.proofs.Words.{is_set, is_clear}
+use Rattle.napt_collections.{specs.Sets.{has_bit, has, IsFirstAbsent, IsMarked, full_word}, proofs.Words.{is_set, is_clear}}
 
 pub same_default : (words : List ℕ) (i c d : ℕ) → i < length words → get_or words i c ≡ get_or words i d
 same_default words i c d lt = grind (arith, common_steps)
@@ -16,37 +10,18 @@ same_default words i c d lt = grind (arith, common_steps)
 -- a number of the set that is of this word
 pub word_bit : (words : List ℕ) (i d j : ℕ) → i < length words → 64 * i ≤ j → j < 64 * i + 64 → has words j
     ≡ has_bit (get_or words i d) (j - 64 * i)
-word_bit words i d j lt low high =
-    let q : j / 64 ≡ i = omega arith in
-    let r : j % 64 ≡ j - 64 * i = omega arith in
-    ap (λ (n : ℕ). has_bit (get_or words n 0) (j % 64)) q
-    ∙ (ap (λ (n : ℕ). has_bit (get_or words i 0) n) r
-    ∙ ap (λ (w : ℕ). has_bit w (j - 64 * i)) (same_default words i 0 d lt))
+word_bit words i d j lt low high = grind (arith, common_steps, nat_tests, same_default)
 
 module _ (words : List ℕ) (i d lo from : ℕ) (lt : i < length words) (within : from ≤ 64 * i + lo) (before : (j : ℕ) →
     from ≤ j → j < 64 * i + lo → has words j ≡ true) where
   -- the first clear bit of a word, after which none was clear
   pub first_here : (k : ℕ) → IsFirstAbsent (has_bit (get_or words i d)) lo 64 (Some k) → IsFirstAbsent (has words)
       from (64 * length words) (Some (64 * i + k))
-  first_here k h =
-      let e : 64 * i + k - 64 * i ≡ k = omega arith in (
-        omega arith,
-        omega arith,
-        word_bit words i d (64 * i + k) lt (omega arith) (omega arith) ∙ (ap (has_bit (get_or words i d)) e ∙ h.2),
-        λ j le less. elim (ltb j (64 * i + lo)) as (λ v. ltb j (64 * i + lo) ≡ v → has words j ≡ true) [
-          | true ↦ λ t. before j le (grind (arith, nat_tests))
-          | false ↦ λ t. let past : 64 * i + lo ≤ j = grind (arith, nat_tests) in word_bit words i d j lt (omega arith)
-              (omega arith) ∙ h.3 (j - 64 * i) (omega arith) (omega arith)
-        ] refl,
-      )
+  first_here k h = grind (arith, common_steps, nat_tests, word_bit)
 
   pub none_here : IsFirstAbsent (has_bit (get_or words i d)) lo 64 None → (j : ℕ) → from ≤ j → j < 64 * (i + 1) →
       has words j ≡ true
-  none_here h j le less = elim (ltb j (64 * i + lo)) as (λ v. ltb j (64 * i + lo) ≡ v → has words j ≡ true) [
-    | true ↦ λ t. before j le (grind (arith, nat_tests))
-    | false ↦ λ t. let past : 64 * i + lo ≤ j = grind (arith, nat_tests) in word_bit words i d j lt (omega arith)
-        (omega arith) ∙ h (j - 64 * i) (omega arith) (omega arith)
-  ] refl
+  none_here h j le less = grind (arith, common_steps, nat_tests, word_bit)
 
 -- FULL WORDS
 
@@ -66,13 +41,7 @@ module _ (words full : List ℕ) (m : IsMarked words full) where
       in_full_word (j / 64) (omega arith) (all (j / 64) (omega arith) (omega arith)) j (omega arith) (omega arith)
 
   pub not_full : (i d : ℕ) → i < 1024 → has full i ≡ false → get_or words i d < 2 ^ 64 → get_or words i d + 1 < 2 ^ 64
-  not_full i d lt h small =
-      let e : get_or words i 0 ≡ get_or words i d = same_default words i 0 d (omega (arith, m.many)) in
-      elim (eqb (get_or words i d) full_word) as (λ v. eqb (get_or words i d) full_word ≡ v → get_or words i d + 1
-      < 2 ^ 64) [
-        | true ↦ λ t. absurd (true≢false (sym (m.marks i lt ∙ (ap (λ (w : ℕ). w == full_word) e ∙ t)) ∙ h))
-        | false ↦ λ t. grind (arith, nat_tests)
-      ] refl
+  not_full i d lt h small = grind (arith, common_steps, nat_tests, same_default)
 
   -- the first clear bit of a word that is not full
   pub first_open : (i d : ℕ) → i < 1024 → has full i ≡ false → get_or words i d < 2 ^ 64 →
@@ -88,41 +57,8 @@ module _ (words full : List ℕ) (m : IsMarked words full) where
 pub marked : (words full : List ℕ) (place w f d : ℕ) → place < 1024 → IsMarked words full → has_bit f (place % 64)
     ≡ (w == full_word) → ((i : ℕ) → i < 64 → i ≢ place % 64 → has_bit f i ≡ has_bit (get_or full (place / 64) d) i) →
     IsMarked (set words place w) (set full (place / 64) f)
-marked words full place w f d lt m here others = record {
-  many = grind (arith, common_steps, m.many);
-  few = grind (arith, common_steps, m.few);
-  marks = λ i within. elim (eqb i place) as (λ v. eqb i place ≡ v → has (set full (place / 64) f) i
-      ≡ (get_or (set words place w) i 0 == full_word)) [
-        | true ↦ λ t.
-            let e : i ≡ place = eqb-true i place t in
-            let a : get_or (set words place w) place 0 ≡ w = grind (arith, common_steps, m.many) in
-            let b : get_or (set full (place / 64) f) (place / 64) 0 ≡ f = grind (arith, common_steps, m.few) in
-            ap (has (set full (place / 64) f)) e ∙ (ap (λ (x : ℕ). has_bit x (place % 64)) b
-            ∙ (here ∙ (sym (ap (λ (x : ℕ). x == full_word) a)
-            ∙ sym (ap (λ (n : ℕ). get_or (set words place w) n 0 == full_word) e))))
-        | false ↦ λ t.
-            let differs : i ≢ place = λ e. true≢false (sym (eq-eqb i place e) ∙ t) in
-            let a : get_or (set words place w) i 0 ≡ get_or words i 0 = grind (arith, common_steps) in
-            elim (eqb (i / 64) (place / 64)) as (λ v. eqb (i / 64) (place / 64) ≡ v → has (set full (place / 64) f) i
-            ≡ (get_or (set words place w) i 0 == full_word)) [
-              | true ↦ λ s.
-                  let q : i / 64 ≡ place / 64 = eqb-true (i / 64) (place / 64) s in
-                  let b : get_or (set full (place / 64) f) (place / 64) 0 ≡ f = grind (arith, common_steps, m.few) in
-                  let n : i % 64 ≢ place % 64 = λ r. differs (omega arith) in
-                  ap (λ (x : ℕ). has_bit (get_or (set full (place / 64) f) x 0) (i % 64)) q
-                  ∙ (ap (λ (x : ℕ). has_bit x (i % 64)) b
-                  ∙ (others (i % 64) (omega arith) n
-                  ∙ (ap (λ (x : ℕ). has_bit x (i % 64)) (same_default full (place / 64) d 0 (omega (arith, m.few)))
-                  ∙ ap (λ (x : ℕ). has_bit (get_or full x 0) (i % 64)) (sym q)
-                  ∙ (m.marks i within ∙ sym (ap (λ (x : ℕ). x == full_word) a)))))
-              | false ↦ λ s.
-                  let n : i / 64 ≢ place / 64 = λ q. true≢false (sym (eq-eqb (i / 64) (place / 64) q) ∙ s) in
-                  let b : get_or (set full (place / 64) f) (i / 64) 0 ≡ get_or full (i / 64) 0 =
-                  grind (arith, common_steps) in
-                  ap (λ (x : ℕ). has_bit x (i % 64)) b ∙ (m.marks i within ∙ sym (ap (λ (x : ℕ). x == full_word) a))
-            ] refl
-      ] refl;
-}
+marked words full place w f d lt m here others =
+    grind (arith, common_steps, nat_tests, same_default)
 
 -- NONE
 
@@ -130,9 +66,7 @@ pub empty_has : (n : ℕ) → has_bit 0 n ≡ false
 empty_has n = is_clear 0 n (bit_at-zero n)
 
 zero_at : (n i : ℕ) → get_or {A = ℕ} (replicate n 0) i 0 ≡ 0
-zero_at zero i = refl
-zero_at (suc n) zero = refl
-zero_at (suc n) (suc i) = zero_at n i
+zero_at n i = grind (arith, common_steps, nat_tests)
 
 pub empty_has_none : (n : ℕ) (j : ℕ) → has (replicate n 0) j ≡ false
 empty_has_none n j = ap (λ (w : ℕ). has_bit w (j % 64)) (zero_at n (j / 64)) ∙ empty_has (j % 64)

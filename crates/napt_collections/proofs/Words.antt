@@ -1,12 +1,8 @@
 -- Bits of one word, and the first clear one.
-use Rattle.std.proofs.Common.{◌≡◌, ◌≢◌, ℕ, ◌+◌, ◌-◌, ◌*◌, ◌%◌, ◌^◌, ◌<◌, ◌≤◌, max, Bool, true, false, cond, refl, sym, ◌∙◌, ap, w64, arith, zero, eqb, eqb-true}
-use Rattle.std.specs.Prelude.{◌==◌}
-use Rattle.std.specs.Int.{bit_at, trailing_ones}
-use Rattle.std.specs.Int.RustNames.{bit_or}
-use Rattle.std.proofs.lemmas.Bool.Decides.{nat_tests}
-use Rattle.std.proofs.lemmas.Nat.{one_shl, or_lt}
-use Rattle.std.proofs.lemmas.Nat.Bits.{bit_at_or, bit_at_ones, bit_at_ones_above, bit_at-lt, bit_at-trailing_ones}
-use Rattle.std.proofs.lemmas.Bool.{true≢false}
+use Rattle.std.proofs.lemmas.Grind.{common_steps}
+use Rattle.std.proofs.Common.{◌≡◌, ◌≢◌, ℕ, ◌+◌, ◌-◌, ◌*◌, ◌%◌, ◌^◌, ◌<◌, ◌≤◌, max, true, false, refl, sym, ◌∙◌, ap, w64, arith, eqb, eqb-true}
+use Rattle.std.{specs.{Prelude.◌==◌, Int.{bit_at, trailing_ones, RustNames.bit_or}}, proofs.lemmas.{Bool.Decides.nat_tests, Nat.{one_shl, or_lt}}}
+use Rattle.std.proofs.lemmas.{Nat.Bits.{bit_at_or, bit_at_ones, bit_at_ones_above, bit_at-lt, bit_at-trailing_ones}, Bool.true≢false}
 use Rattle.napt_collections.specs.Sets.{has_bit, full_word}
 
 pub is_set : (word i : ℕ) → bit_at word i ≡ 1 → has_bit word i ≡ true
@@ -36,17 +32,10 @@ module _ (word from : ℕ) (within : from < 64) where
   filled_is i = ap (λ (n : ℕ). bit_at (bit_or word n) i) low_is ∙ bit_at_or word (2 ^ from - 1) i
 
   pub filled_below : (i : ℕ) → i < from → bit_at (filled word from) i ≡ 1
-  filled_below i lt =
-      let e : bit_at (2 ^ from - 1) i ≡ 1 = bit_at_ones from i lt in
-      let b : bit_at word i < 2 = bit_at-lt word i in
-      let f : bit_at (filled word from) i ≡ max (bit_at word i) (bit_at (2 ^ from - 1) i) = filled_is i in
-      omega arith
+  filled_below i lt = grind (arith, common_steps, nat_tests, bit_at_ones, bit_at-lt, filled_is)
 
   pub filled_from : (i : ℕ) → from ≤ i → bit_at (filled word from) i ≡ bit_at word i
-  filled_from i le =
-      let e : bit_at (2 ^ from - 1) i ≡ 0 = bit_at_ones_above from i le in
-      let f : bit_at (filled word from) i ≡ max (bit_at word i) (bit_at (2 ^ from - 1) i) = filled_is i in
-      omega arith
+  filled_from i le = grind (arith, common_steps, nat_tests, bit_at_ones_above, filled_is)
 
   -- where all bits are set, those from `from` on were
   pub all_set : filled word from ≡ 2 ^ 64 - 1 → (j : ℕ) → from ≤ j → j < 64 → has_bit word j ≡ true

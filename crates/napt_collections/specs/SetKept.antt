@@ -1,6 +1,5 @@
 -- What a set keeps.
-use Rattle.napt_collections.specs.Sets.{IsMarked}
-use Rattle.napt_collections.specs.declared.bits.Bits.TheInside.{Inside}
+use Rattle.napt_collections.specs.{Sets.IsMarked, declared.bits.Bits.TheInside.Inside}
 
 abbrev pub IsKept : Inside → Type 0
 IsKept bits = IsMarked bits.words.items bits.full.items

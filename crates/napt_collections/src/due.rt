@@ -1,7 +1,6 @@
 //! The queue.
 
-ghost use Rattle.std.specs.Prelude.{◌≡◌, ◌+◌, ◌-◌, ◌<◌, ◌≤◌, [], ◌∷◌, All, Contains, IfOk, IfSome, IfNone, OnOk, OnErr};
-ghost use Rattle.std.specs.List.Sorted.{IsPermutation};
+ghost use Rattle.std.specs.{Prelude.{◌≡◌, ◌+◌, ◌-◌, ◌<◌, ◌≤◌, [], ◌∷◌, All, Contains, IfOk, IfSome, IfNone, OnOk, OnErr}, List.Sorted.IsPermutation};
 
 use std::alloc::{AllocError, Global};
 use std::cmp::Reverse;

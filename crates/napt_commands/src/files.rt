@@ -1,8 +1,8 @@
 //! Files that commands read beside captures, or write, and why one cannot be used.
 
-use crate::stop::Stop;
+use crate::exit::Exit;
 use either::Either;
-use napt_program::{MOST_BYTES, Role, config_text, open_config};
+use napt_program::{MOST_BYTES, Role, Stop, config_text, open_config};
 use std::fs::File;
 use std::io::Read;
 use std::rt::Files;
@@ -14,20 +14,20 @@ pub fn tell_failed<R: Eprint>(rt: &R, name: &str, path: &str, error: &io::Error)
 }
 
 /// Prints that the file that `explain` writes fails, with the system's reason, and returns how the program stops.
-pub fn tell_unwritten<R: Eprint>(rt: &R, name: &str, path: &str, error: &io::Error) -> Stop {
+pub fn tell_unwritten<R: Eprint>(rt: &R, name: &str, path: &str, error: &io::Error) -> Exit {
     tell_failed(rt, name, path, error);
     unwritten()
 }
 
 /// The same where the system gives no reason.
-pub fn unexplained<R: Eprint>(rt: &R, name: &str, path: &str) -> Stop {
+pub fn unexplained<R: Eprint>(rt: &R, name: &str, path: &str) -> Exit {
     let _ = eprintln!(rt; "explain: {name} {path}: it cannot be written whole");
     unwritten()
 }
 
 /// How the program stops if a file cannot be written: as for an output of `napt`.
-pub fn unwritten() -> Stop {
-    Stop::Told(napt_program::Stop::File(Role::Report))
+pub fn unwritten() -> Exit {
+    Exit::Told(Stop::File(Role::Report))
 }
 
 /// Opens a file for reading, or standard input for `-`; `name` names it. Prints why if it cannot be opened.
@@ -35,7 +35,7 @@ pub fn opened<R: Files + Input + Eprint>(
     rt: &R,
     name: &str,
     path: &str,
-) -> Result<Either<R::Reader, R::File>, Stop> {
+) -> Result<Either<R::Reader, R::File>, Exit> {
     match open_config(rt, path) {
         Ok(device) => Ok(device),
         Err(stop) => Err(tell_unread(rt, name, path, stop)),
@@ -47,7 +47,7 @@ pub fn text_at<R: Files + Input + Eprint + AllocGlobal>(
     rt: &R,
     name: &str,
     path: &str,
-) -> Result<Vec<u8>, Stop> {
+) -> Result<Vec<u8>, Exit> {
     match config_text(rt.alloc(), opened(rt, name, path)?) {
         Ok(text) => Ok(text),
         Err(stop) => Err(tell_unread(rt, name, path, stop)),
@@ -55,14 +55,9 @@ pub fn text_at<R: Files + Input + Eprint + AllocGlobal>(
 }
 
 /// Prints why a file cannot be used (it is missing, cannot be read, or is too long), and returns how `napt` would stop.
-fn tell_unread<R: Files + Eprint>(
-    rt: &R,
-    name: &str,
-    path: &str,
-    stop: napt_program::Stop,
-) -> Stop {
-    if !matches!(stop, napt_program::Stop::File(_)) {
-        return Stop::As(stop);
+fn tell_unread<R: Files + Eprint>(rt: &R, name: &str, path: &str, stop: Stop) -> Exit {
+    if !matches!(stop, Stop::File(_)) {
+        return Exit::As(stop);
     }
     match failure_of_reading(rt, path) {
         Some(error) => tell_failed(rt, name, path, &error),
@@ -72,7 +67,7 @@ fn tell_unread<R: Files + Eprint>(
             );
         }
     }
-    Stop::Told(stop)
+    Exit::Told(stop)
 }
 
 /// Why a file or folder is missing or unreadable, if it is. Pipes are not tried: reading one might block.

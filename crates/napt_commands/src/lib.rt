@@ -3,22 +3,24 @@
 #![tactic(auto)]
 
 mod counted_run;
+mod exit;
 mod files;
 mod losses;
 mod outside;
 mod page;
 mod passed;
 mod plain_run;
+mod seconds;
 mod sorted;
-mod stop;
 mod warning;
 
 pub use crate::counted_run::CountedRun;
+pub use crate::exit::Exit;
 pub use crate::files::{opened, tell_failed, tell_unwritten, text_at, unexplained, unwritten};
 pub use crate::losses::{Losses, Origin, destination_of, source_of};
 pub use crate::outside::{Outside, copied};
 pub use crate::page::Page;
 pub use crate::passed::{Consumer, Ending, Passing, take_all};
+pub use crate::seconds::Seconds;
 pub use crate::sorted::Sorted;
-pub use crate::stop::Stop;
 pub use crate::warning::{begin_warning, tell_warning};

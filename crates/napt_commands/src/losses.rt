@@ -44,20 +44,16 @@ impl Losses {
                 self.no_binding = self.no_binding.saturating_add(1);
             }
             Outcome::Dropped(Cause::NotOurs) => self.not_ours = self.not_ours.saturating_add(1),
-            Outcome::Dropped(Cause::Spoofed) => self.add_spoofed(Origin::of(config, &input.bytes)),
-            _ => {}
-        }
-    }
-
-    fn add_spoofed(&mut self, origin: Origin) {
-        match origin {
-            Origin::Inside => self.from_inside = self.from_inside.saturating_add(1),
-            Origin::Pool(place) => {
-                if let Some(many) = self.from_pool.get_mut(place as usize) {
-                    *many = many.saturating_add(1);
+            Outcome::Dropped(Cause::Spoofed) => match Origin::of(config, &input.bytes) {
+                Origin::Inside => self.from_inside = self.from_inside.saturating_add(1),
+                Origin::Pool(place) => {
+                    if let Some(many) = self.from_pool.get_mut(place as usize) {
+                        *many = many.saturating_add(1);
+                    }
                 }
-            }
-            Origin::Remote => {}
+                Origin::Remote => {}
+            },
+            _ => {}
         }
     }
 
@@ -74,7 +70,10 @@ impl Losses {
     }
 
     /// Whether more than a fifth, and more than one, found no binding.
-    pub fn is_fifth_unbound(&self) -> bool {
+    pub fn is_fifth_unbound(&self) -> bool
+        ensures { (result ≡ true)
+            ↔ ((self.now.all / 5 < self.now.no_binding) × (1 < self.now.no_binding)) }
+    {
         self.no_binding > self.all / 5 && self.no_binding > 1
     }
 

@@ -1,6 +1,6 @@
 //! Buffers lines for standard output.
 
-use crate::stop::Stop;
+use crate::exit::Exit;
 use std::alloc::Global;
 
 /// How many bytes are collected before they are written.
@@ -20,7 +20,7 @@ impl Page {
     }
 
     /// Writes the lines if there are enough of them.
-    pub fn turn<R: Print>(&mut self, rt: &R) -> Result<(), Stop> {
+    pub fn turn<R: Print>(&mut self, rt: &R) -> Result<(), Exit> {
         if self.text.len() < BUFFERED {
             return Ok(());
         }
@@ -28,7 +28,7 @@ impl Page {
     }
 
     /// Writes the lines.
-    pub fn end<R: Print>(&mut self, rt: &R) -> Result<(), Stop> {
+    pub fn end<R: Print>(&mut self, rt: &R) -> Result<(), Exit> {
         if self.text.is_empty() {
             return Ok(());
         }

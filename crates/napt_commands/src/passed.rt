@@ -1,6 +1,6 @@
 //! A packet of a run as it comes by, and how a run ends.
 
-use crate::stop::Stop;
+use crate::exit::Exit;
 use napt_account::{Listed, LoggedStep};
 use napt_config::Config;
 use napt_rules::Row;
@@ -34,14 +34,16 @@ pub struct Ending<'a> {
 /// Takes the packets of the captures, one after another, and keeps none.
 pub trait Consumer<R> {
     /// Takes the next packet, by its number, from 1.
-    fn take(&mut self, rt: &R, number: u64, input: &Input) -> Result<(), Stop>;
+    fn take(&mut self, rt: &R, number: u64, input: &Input) -> Result<(), Exit>;
 
     /// Writes what was told so far, before a wait for more packets or the words of a fault.
-    fn settle(&mut self, rt: &R) -> Result<(), Stop>;
+    fn settle(&mut self, _rt: &R) -> Result<(), Exit> {
+        Ok(())
+    }
 }
 
 /// Hands packets that are kept to a consumer, one after another.
-pub fn take_all<R, C: Consumer<R>>(rt: &R, inputs: &[Input], consumer: &mut C) -> Result<(), Stop> {
+pub fn take_all<R, C: Consumer<R>>(rt: &R, inputs: &[Input], consumer: &mut C) -> Result<(), Exit> {
     let mut number = 0u64;
     for input in inputs {
         number = number.saturating_add(1);

@@ -1,10 +1,7 @@
 -- `address_of` reads dotted decimals, and nothing else.
 use Rattle.std.proofs.lemmas.Grind.{common_steps}
 use Rattle.std.proofs.Common.{◌≡◌, ℕ, ◌^◌, ◌<◌, List, [], ◌∷◌, Option, Some, None, refl, sym, subst, ◌∙◌, append-nil, lit≤, arith, option_and_then}
-use Rattle.std.specs.Int.{w32, from_be_bytes}
-use Rattle.std.specs.Net.Grammar.{IsDotted}
-use Rattle.std.specs.Net.Reader.{read_ipv4}
-use Rattle.std.proofs.NetLemmas.Ipv4.{read_ipv4_complete, read_ipv4_sound}
+use Rattle.std.{specs.{Int.{w32, from_be_bytes}, Net.{Grammar.IsDotted, Reader.read_ipv4}}, proofs.NetLemmas.Ipv4.{read_ipv4_complete, read_ipv4_sound}}
 use Rattle.napt_config.specs.Text.{address_of, whole_address}
 
 pub address_of-dotted : (text octets : List ℕ) → IsDotted text octets → address_of text

@@ -1,7 +1,6 @@
 -- Entries of a list, beside the items that they stand for.
 use Rattle.std.proofs.Common.{◌≡◌, List, [], ◌∷◌, length, refl, arith}
-use Rattle.toml.specs.declared.value.Value.{Value}
-use Rattle.toml.specs.View.{items_view}
+use Rattle.toml.specs.{declared.value.Value.Value, View.items_view}
 use Rattle.napt_config.specs.Configured.{item_count}
 
 pub items_are_counted : (vs : List Value) → item_count (items_view vs) ≡ length vs

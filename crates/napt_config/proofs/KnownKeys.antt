@@ -1,9 +1,7 @@
 -- Keys of a map, beside the members that it stands for.
-use Rattle.std.proofs.Common.{◌≡◌, ℕ, Bool, List, [], ◌∷◌, map, Bor, String, Global, string_bytes, refl, bytes_eq}
-use Rattle.std.specs.List.{list_any, list_all}
+use Rattle.std.{proofs.Common.{◌≡◌, ℕ, Bool, List, [], ◌∷◌, map, Bor, String, Global, string_bytes, refl, bytes_eq}, specs.List.{list_any, list_all}}
 use Rattle.std.specs.Map.{keys_of}
-use Rattle.toml.specs.declared.value.Value.{Value}
-use Rattle.toml.specs.View.{members_view}
+use Rattle.toml.specs.{declared.value.Value.Value, View.members_view}
 use Rattle.napt_config.specs.Configured.{only_keys}
 
 abbrev pub texts : List (Bor (List ℕ)) → List (List ℕ)

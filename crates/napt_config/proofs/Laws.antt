@@ -1,23 +1,14 @@
 -- What a table configures keeps the rules of a configuration.
 use Rattle.std.proofs.lemmas.Grind.{common_steps}
 use Rattle.std.proofs.Common.{◌≡◌, ℕ, ◌+◌, ◌-◌, ◌%◌, ◌^◌, ◌<◌, ◌≤◌, ◌==◌, Bool, true, false, not, List, [], ◌∷◌, ◌++◌, length, get_or, Option, Some, None, Ok, nat_lt, nat_le, nat_cmp, is_some, refl, sym, ap, subst, ◌∙◌, ltb-true, leb-true, eqb-true, length-append, arith, All, IfSome, ok_or, codes}
-use Rattle.std.specs.BTreeMap.{insert_entry}
-use Rattle.std.specs.List.{list_any, before_first, after_first}
-use Rattle.std.specs.List.Sorted.{IsStrictlySortedBy}
-use Rattle.std.specs.Map.{keys_of, values_of}
-use Rattle.std.proofs.lemmas.Bool.{not-true}
-use Rattle.std.proofs.lemmas.List.Elements.{All-push, All-nil}
-use Rattle.std.proofs.lemmas.List.Folds.{list_any_at}
-use Rattle.std.proofs.lemmas.Map.Views.{All-keys-insert_entry, All-values-insert_entry}
+use Rattle.std.specs.{BTreeMap.insert_entry, List.{list_any, before_first, after_first, Sorted.IsStrictlySortedBy}, Map.{keys_of, values_of}}
+use Rattle.std.proofs.lemmas.{Bool.not-true, List.{Elements.{All-push, All-nil}, Folds.list_any_at}, Map.Views.{All-keys-insert_entry, All-values-insert_entry}}
 use Rattle.std.proofs.lemmas.Option.{cond_some, option_and_then_some}
 use Rattle.toml.specs.Data.{Data, Items, Members, get_member}
-use Rattle.napt_config.specs.Prelude.{BadAddress, BadPrefix, BadNumber, DoubleAddress, Missing, PrefixesOverlap, BlockTooLarge, PairWithBlock, NotInside, NotInPool, DoublePair, TimerTooShort, UnknownKey, Timers, Network, IsNetwork, have_address, are_apart, address_of, network_of, network_at, number_of, is_slash, Rules, has, paired_with, paired, block_in, have_room, IsTimer, AreTimers, IsInside, IsQuota, IsBlock, AreBlocks, ArePairs, KeepsRules, item_count, short_list, text_in, number_in, table_in, list_up_to, between, with_address, pool_in, with_prefix, prefixes_in, inside_in, filter_in, refresh_in, timer_at, timers_at, timers_in, default_timers, ring_at, ring_in, quota_at, quota_in, block_size_at, block_size, block_size_in, address_in, with_pair, pairs_at, pairs_in, redirects_in, required, optional, configured, knows_all_keys}
+use Rattle.napt_config.specs.Prelude.{BadAddress, BadPrefix, BadNumber, DoubleAddress, Missing, PrefixesOverlap, BlockTooLarge, PairWithBlock, NotInside, NotInPool, DoublePair, TimerTooShort, UnknownKey, Timers, Network, IsNetwork, have_address, are_apart, address_of, network_of, network_at, number_of, is_slash, Rules, has, paired_with, paired, block_in, have_room, IsTimer, AreTimers, IsInside, IsQuota, IsBlock, AreBlocks, ArePairs, KeepsRules, item_count, short_list, text_in, number_in, table_in, list_up_to, between, with_address, pool_in, with_prefix, prefixes_in, inside_in, filter_in, refresh_in, choosing_in, timer_at, timers_at, timers_in, default_timers, ring_at, ring_in, quota_at, quota_in, block_size_at, block_size, block_size_in, address_in, with_pair, pairs_at, pairs_in, redirects_in, required, optional, configured, knows_all_keys}
 use Rattle.napt_config.proofs.Addresses.{address_of-bound}
-use Rattle.napt_config.proofs.Chains.{list_up_to-counts, reads, holds, ok_or_ok, optional_reads, optional-absent, each_keeps, each_adds}
-use Rattle.napt_config.proofs.Indices.{block_in-is}
-use Rattle.napt_config.proofs.Numbers.{number_of-range, between-range}
-use Rattle.napt_config.proofs.PairEntries.{Pairs, sorted_inserted, one_more}
-use Rattle.napt_config.proofs.Pools.{AreDistinct, AreDistinct-push}
+use Rattle.napt_config.proofs.{Chains.{list_up_to-counts, reads, holds, ok_or_ok, optional_reads, optional-absent, each_keeps, each_adds}, Indices.block_in-is}
+use Rattle.napt_config.proofs.{Numbers.{number_of-range, between-range}, PairEntries.{Pairs, sorted_inserted, one_more}, Pools.{AreDistinct, AreDistinct-push}}
 use Rattle.napt_config.proofs.RedirectEntries.{redirects_in-keeps}
 
 -- ---- texts
@@ -405,18 +396,20 @@ configured-keeps table rules is =
     reads (inside_in pool table) _ rules rest₁ λ inside inside_is rest₂.
     reads (filter_in table) _ rules rest₂ λ filter _ rest₃.
     reads (refresh_in table) _ rules rest₃ λ refresh _ rest₄.
-    reads (timers_in table) _ rules rest₄ λ timers timers_is rest₅.
-    reads (ring_in table) _ rules rest₅ λ ring ring_is rest₆.
-    reads (quota_in table) _ rules rest₆ λ quota quota_is rest₇.
-    reads (block_size_in pool inside table) _ rules rest₇ λ block block_is rest₈.
-    reads (pairs_in pool inside table) _ rules rest₈ λ pairs pairs_is rest₉.
+    reads (choosing_in table) _ rules rest₄ λ choosing _ rest₅.
+    reads (timers_in table) _ rules rest₅ λ timers timers_is rest₆.
+    reads (ring_in table) _ rules rest₆ λ ring ring_is rest₇.
+    reads (quota_in table) _ rules rest₇ λ quota quota_is rest₈.
+    reads (block_size_in pool inside table) _ rules rest₈ λ block block_is rest₉.
+    reads (pairs_in pool inside table) _ rules rest₉ λ pairs pairs_is rest₁₀.
     reads (redirects_in inside (paired block inside pool pairs) (block_in block inside (length pool)) table) _ rules
-    rest₉ λ redirects redirects_are last.
+    rest₁₀ λ redirects redirects_are last.
     let made : Rules = record {
       pool = pool;
       inside = inside;
       filter = filter;
       refresh = refresh;
+      choosing = choosing;
       timers = timers;
       ring = ring;
       quota = quota;

@@ -1,13 +1,8 @@
 -- Decimal numbers in texts.
 use Rattle.std.proofs.lemmas.Grind.{common_steps}
 use Rattle.std.proofs.Common.{◌≡◌, ℕ, ◌^◌, ◌<◌, ◌≤◌, true, ℤ, pos, negsuc, Some, List, [], ◌∷◌, length, get_or, None, Err, nat_lt, refl, subst, leb-true, inl, inr, arith, rules}
-use Rattle.std.proofs.lemmas.Bool.{cases_lt, and_parts}
-use Rattle.std.proofs.lemmas.Option.{cond_some}
-use Rattle.std.proofs.lemmas.Bool.Decides.{nat_tests}
-use Rattle.std.proofs.lemmas.Str.Parse.{IsNumeralModel, numerals_by_value, parse_digits}
-use Rattle.std.specs.Char.{is_ascii_digit}
-use Rattle.std.specs.List.{list_all}
-use Rattle.std.specs.Str.Parse.{ParsesUnsigned, digits_value}
+use Rattle.std.proofs.lemmas.{Bool.{cases_lt, and_parts, Decides.nat_tests}, Option.cond_some, Str.Parse.{IsNumeralModel, numerals_by_value, parse_digits}}
+use Rattle.std.specs.{Char.is_ascii_digit, List.list_all, Str.Parse.{ParsesUnsigned, digits_value}}
 use Rattle.napt_config.specs.Prelude.{number_of, is_number, between}
 
 -- digits, as `parse` means them

@@ -1,12 +1,7 @@
 -- Pairs by ascending host, and one more among them.
 use Rattle.std.proofs.Common.{◌≡◌, ℕ, ◌+◌, false, cond, List, [], ◌∷◌, length, is_some, Ordering, Less, Equal, Greater, nat_cmp, refl, ap, ◌∙◌, arith, Some}
-use Rattle.std.specs.BTreeMap.{insert_entry, is_at}
-use Rattle.std.specs.Cmp.{nat_cmp_total}
-use Rattle.std.specs.List.{AllByRecursion}
-use Rattle.std.specs.List.Sorted.{IsStrictlySortedBy}
-use Rattle.std.specs.Map.{keys_of, lookup}
-use Rattle.std.specs.Ordering.{is_eq, match_ordering, ordering_reverse}
-use Rattle.std.proofs.lemmas.List.Elements.{All-from_recursion, recursion_from_All}
+use Rattle.std.specs.{BTreeMap.{insert_entry, is_at}, Cmp.nat_cmp_total, List.{AllByRecursion, Sorted.IsStrictlySortedBy}, Map.{keys_of, lookup}}
+use Rattle.std.{specs.Ordering.{is_eq, match_ordering, ordering_reverse}, proofs.lemmas.List.Elements.{All-from_recursion, recursion_from_All}}
 use Rattle.std.proofs.lemmas.Map.Views.{All-keys-insert_entry}
 
 abbrev pub Pairs : Type 0

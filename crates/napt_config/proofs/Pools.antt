@@ -1,13 +1,7 @@
 -- Addresses in a pool, and their places.
 use Rattle.std.proofs.Common.{◌≡◌, ℕ, suc, ◌+◌, ◌%◌, ◌<◌, ◌≤◌, ◌||◌, Bool, true, false, cond, not, List, [], ◌∷◌, ◌++◌, length, get_or, IsSome, IfSome, Option, Some, None, nat_cmp, ◌==◌, refl, sym, ◌∙◌, eq-eqb, lt-ltb, arith, inl, inr, length-append, position, unwrap_or, All}
-use Rattle.std.specs.BTreeMap.{is_at}
-use Rattle.std.specs.Map.{values_of}
-use Rattle.std.specs.List.{list_any, position_or_len}
-use Rattle.std.proofs.lemmas.Bool.{cases_lt, false≢true}
-use Rattle.std.proofs.lemmas.List.Folds.{list_any_at}
-use Rattle.std.proofs.Math.Seq.{get_or-append_seam}
-use Rattle.std.proofs.lemmas.List.{get_or_append_left}
-use Rattle.std.proofs.lemmas.Map.Views.{IfSome-lookup_from_All}
+use Rattle.std.{specs.{BTreeMap.is_at, Map.values_of, List.{list_any, position_or_len}}, proofs.lemmas.{Bool.{cases_lt, false≢true}, List.Folds.list_any_at}}
+use Rattle.std.proofs.{Math.Seq.get_or-append_seam, lemmas.{List.get_or_append_left, Map.Views.IfSome-lookup_from_All}}
 use Rattle.napt_config.specs.Prelude.{Network, index_of, has, paired, paired_with}
 
 first_or_later : (b later : Bool) (n m : ℕ) → (b || later) ≡ true → (later ≡ true → n < m) → cond (not b) (1 + n) 0

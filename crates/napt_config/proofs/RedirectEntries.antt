@@ -1,11 +1,8 @@
 -- Redirects that are read keep their rules.
 use Rattle.std.proofs.lemmas.Grind.{common_steps}
 use Rattle.std.proofs.Common.{◌≡◌, ℕ, ◌+◌, ◌<◌, ◌≤◌, true, false, not, List, [], ◌∷◌, ◌++◌, length, Option, Some, Ok, refl, sym, ap, subst, ◌∙◌, length-append, arith, All, codes}
-use Rattle.std.specs.List.{before_first, after_first}
-use Rattle.std.proofs.lemmas.Bool.{not-true, or_parts, or_from}
-use Rattle.std.proofs.lemmas.List.Elements.{All-push, All-nil}
-use Rattle.std.proofs.lemmas.List.Folds.{list_any-append}
-use Rattle.std.proofs.lemmas.Option.{option_and_then_some}
+use Rattle.std.{specs.List.{before_first, after_first}, proofs.lemmas.{Bool.{not-true, or_parts, or_from}, List.Elements.{All-push, All-nil}}}
+use Rattle.std.proofs.lemmas.{List.Folds.list_any-append, Option.option_and_then_some}
 use Rattle.toml.specs.Data.{Data, Members}
 use Rattle.napt_config.specs.Prelude.{NotInside, RedirectInBlock, DoubleRedirect, Redirect, Block, Network, Socket, have_address, address_of, number_of, socket_of, socket_at, is_colon, IsRedirect, may_redirect, is_double, AreSingle, table_in, list_up_to, is_tcp_in, transport_address_in, port_in, redirect_in, have_double, with_redirect, redirects_at, redirects_in}
 use Rattle.napt_config.proofs.Chains.{list_up_to-counts, reads, holds, ok_or_ok, optional_reads, each_keeps, each_adds}

@@ -1,25 +1,14 @@
 -- What is spelled is read back, and what is read is spelled so.
 use Rattle.std.proofs.lemmas.Grind.{common_steps}
 use Rattle.std.proofs.Common.{◌≡◌, ℕ, zero, suc, ◌+◌, ◌-◌, ◌%◌, ◌^◌, ◌<◌, ◌≤◌, ◌==◌, ◌&&◌, ◌||◌, Bool, true, false, cond, not, List, [], ◌∷◌, ◌++◌, length, get_or, take, drop, Option, Some, None, nat_lt, nat_le, decimal, refl, sym, ap, ◌∙◌, inl, inr, le-leb, le-ltb, lt-ltb, ltb-true, leb-true, eq-eqb, eqb-true, ne_eqb, append_assoc, take-append-drop, arith, ok_or, option_and_then}
-use Rattle.std.specs.Char.{is_ascii_digit}
-use Rattle.std.specs.Int.{w32, to_be_bytes}
-use Rattle.std.specs.List.{list_all, list_any, position_or_len, before_first, after_first}
-use Rattle.std.specs.Net.Grammar.{IsDotted}
-use Rattle.std.specs.Net.Text.{dotted_text}
-use Rattle.std.specs.Str.Parse.{digits_value}
-use Rattle.std.proofs.lemmas.Bool.{cases_lt, and_parts, and_from, and_left, and_right, both_ways, not-true, not-false, not_from_false}
-use Rattle.std.proofs.lemmas.Bool.Decides.{nat_tests}
-use Rattle.std.proofs.lemmas.Fmt.{decimal_is_IsNumeral, decimal_digit, first_decimal, decimal-digits_value, digits_decimal}
-use Rattle.std.proofs.lemmas.List.{drop_all, drop_more}
-use Rattle.std.proofs.lemmas.List.Folds.{list_any-append}
-use Rattle.std.proofs.lemmas.List.Sums.{prefix_len_stops}
-use Rattle.std.proofs.Math.Seq.{take-append_seam, drop-append-add}
-use Rattle.std.proofs.lemmas.Nat.{from_be_bytes-to_be_bytes_4, be_bytes_4}
-use Rattle.std.proofs.lemmas.Option.{cond_some, option_and_then_some}
-use Rattle.std.proofs.lemmas.Option.{none-some}
+use Rattle.std.specs.{Char.is_ascii_digit, Int.{w32, to_be_bytes}, List.{list_all, list_any, position_or_len, before_first, after_first}, Net.Grammar.IsDotted}
+use Rattle.std.specs.{Net.Text.dotted_text, Str.Parse.digits_value}
+use Rattle.std.proofs.lemmas.Bool.{cases_lt, and_parts, and_from, and_left, and_right, both_ways, not-true, not-false, not_from_false, Decides.nat_tests}
+use Rattle.std.proofs.lemmas.{Fmt.{decimal_is_IsNumeral, decimal_digit, first_decimal, decimal-digits_value, digits_decimal}, List.{drop_all, drop_more}}
+use Rattle.std.proofs.{lemmas.List.{Folds.list_any-append, Sums.prefix_len_stops}, Math.Seq.{take-append_seam, drop-append-add}}
+use Rattle.std.proofs.lemmas.{Nat.{from_be_bytes-to_be_bytes_4, be_bytes_4}, Option.{cond_some, option_and_then_some, none-some}}
 use Rattle.napt_config.specs.Prelude.{ConfigFault, Network, IsNetwork, Socket, IsSocket, address_of, address_text, is_number, number_of, is_slash, is_colon, network_at, network_of, network_text, socket_at, socket_of, socket_text, IsReadBack}
-use Rattle.napt_config.proofs.Addresses.{address_of-dotted, dotted-address_of}
-use Rattle.napt_config.proofs.Numbers.{digits_model, number_of-nothing}
+use Rattle.napt_config.proofs.{Addresses.{address_of-dotted, dotted-address_of}, Numbers.{digits_model, number_of-nothing}}
 
 -- ---- addresses
 

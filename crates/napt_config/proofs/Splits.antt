@@ -1,10 +1,7 @@
 -- Texts without a separator.
-use Rattle.std.proofs.lemmas.Grind.{common_steps}
-use Rattle.std.proofs.Common.{◌≡◌, ℕ, ◌+◌, Bool, List, [], length, Option, Some, None, refl, arith, option_and_then}
-use Rattle.std.specs.List.{position_or_len, after_first}
-use Rattle.std.proofs.lemmas.List.{drop_all}
-use Rattle.napt_config.specs.Text.{is_slash, is_colon, network_of, socket_of}
-use Rattle.napt_config.proofs.Numbers.{number_of-nothing}
+use Rattle.std.proofs.{lemmas.Grind.common_steps, Common.{◌≡◌, ℕ, ◌+◌, Bool, List, [], length, Option, Some, None, refl, arith, option_and_then}}
+use Rattle.std.{specs.List.{position_or_len, after_first}, proofs.lemmas.List.drop_all}
+use Rattle.napt_config.{specs.Text.{is_slash, is_colon, network_of, socket_of}, proofs.Numbers.number_of-nothing}
 
 nothing_after : (p : ℕ → Bool) (text : List ℕ) → position_or_len p text ≡ length text → after_first p text ≡ []
 nothing_after p text none = drop_all (position_or_len p text + 1) text (omega arith)

@@ -1,26 +1,16 @@
 -- What the table of a configuration's text configures: its rules, or the fault of the first rule of a
 -- configuration that it breaks. Each function below reads from top to bottom, a rule a line.
-use Rattle.std.specs.Prelude.{ℕ, ◌+◌, ◌%◌, ◌==◌, ◌++◌, ◌&&◌, Bool, true, false, not, ℤ, pos, negsuc, List, [], ◌∷◌, codes, length, bytes_eq, if◌then◌else◌, nat_lt, nat_le, Option, Some, None, ok_or, is_some, Result, Ok}
-use Rattle.std.specs.List.{list_any}
-use Rattle.std.specs.Option.{option_map_or}
-use Rattle.std.specs.Ordering.{nat_cmp}
-use Rattle.std.specs.BTreeMap.{insert_entry}
-use Rattle.std.specs.Str.{is_utf8}
+use Rattle.std.specs.Prelude.{ℕ, ◌+◌, ◌%◌, ◌==◌, ◌++◌, ◌&&◌, Bool, true, false, not, ℤ, pos, negsuc, List, [], ◌∷◌, codes, length, bytes_eq, if◌then◌else◌, nat_lt, nat_le, Option, Some, None, ok_or, option_map, is_some, Result, Ok}
+use Rattle.std.specs.{List.list_any, Option.option_map_or, Result.result_ok, Ordering.nat_cmp, BTreeMap.insert_entry, Str.is_utf8}
 use Rattle.toml.specs.Data.{Data, Items, no_items, item, Members, no_members, member, get_member, as_str, as_integer, as_array, as_table}
 use Rattle.toml.specs.Parse.{parse_document}
-use Rattle.napt_config.specs.Network.{Network, Socket, have_address, are_apart, private_networks}
-use Rattle.napt_config.specs.Text.{address_of, network_of, socket_of}
-use Rattle.napt_config.specs.Fault.{◌>>=◌, ◌>>◌, must}
-use Rattle.napt_config.specs.Rules.{Rules, has, paired_with, paired, block_in, may_redirect, have_room, is_double}
-use Rattle.napt_config.specs.declared.settings.Filter.{Filter}
-use Rattle.napt_config.specs.declared.settings.Filter.TheVariants.{Independent, Address, AddressPort}
-use Rattle.napt_config.specs.declared.settings.Refresh.{Refresh}
-use Rattle.napt_config.specs.declared.settings.Refresh.TheVariants.{Outbound, Both}
-use Rattle.napt_config.specs.declared.settings.Timers.{Timers}
-use Rattle.napt_config.specs.declared.settings.Redirect.{Redirect}
-use Rattle.napt_config.specs.declared.settings.Block.{Block}
-use Rattle.napt_config.specs.declared.fault.ConfigFault.{ConfigFault}
-use Rattle.napt_config.specs.declared.fault.ConfigFault.TheVariants.{NotToml, UnknownKey, Missing, BadShape, TooMany, BadAddress, BadPrefix, BadNumber, BadWord, DoubleAddress, PoolInside, PrefixesOverlap, BlockTooLarge, PairWithBlock, DoublePair, NotInPool, NotInside, RedirectInBlock, DoubleRedirect, TimerTooShort}
+use Rattle.hex.specs.Hex.{decode_sized}
+use Rattle.napt_config.specs.{Network.{Network, Socket, have_address, are_apart, private_networks}, Text.{address_of, network_of, socket_of}}
+use Rattle.napt_config.specs.{Fault.{◌>>=◌, ◌>>◌, must}, Rules.{Rules, has, paired_with, paired, block_in, may_redirect, have_room, is_double}}
+use Rattle.napt_config.specs.declared.settings.{Filter.{Filter, TheVariants.{Independent, Address, AddressPort}}, Refresh.Refresh}
+use Rattle.napt_config.specs.declared.settings.{Refresh.TheVariants.{Outbound, Both}, Choosing.Choosing, Seed.Seed, Timers.Timers, Redirect.Redirect}
+use Rattle.napt_config.specs.declared.{settings.Block.Block, fault.ConfigFault.ConfigFault}
+use Rattle.napt_config.specs.declared.fault.ConfigFault.TheVariants.{NotToml, UnknownKey, Missing, BadShape, TooMany, BadAddress, BadPrefix, BadNumber, BadWord, BadSeed, SeedUnused, DoubleAddress, PoolInside, PrefixesOverlap, BlockTooLarge, PairWithBlock, DoublePair, NotInPool, NotInside, RedirectInBlock, DoubleRedirect, TimerTooShort}
 
 -- ---- keys
 
@@ -39,8 +29,9 @@ only_keys_in_each names no_items = true
 only_keys_in_each names (item entry rest) = only_keys_in names entry && only_keys_in_each names rest
 
 abbrev pub top_keys : List (List ℕ)
-top_keys = codes "pool" ∷ codes "inside" ∷ codes "filter" ∷ codes "refresh" ∷ codes "timers" ∷ codes "ring"
-    ∷ codes "quota" ∷ codes "block" ∷ codes "pair" ∷ codes "redirect" ∷ []
+top_keys = codes "pool" ∷ codes "inside" ∷ codes "filter" ∷ codes "refresh" ∷ codes "parity"
+    ∷ codes "numbers" ∷ codes "seed" ∷ codes "timers" ∷ codes "ring" ∷ codes "quota" ∷ codes "block" ∷ codes "pair"
+    ∷ codes "redirect" ∷ []
 
 abbrev pub timer_keys : List (List ℕ)
 timer_keys = codes "udp" ∷ codes "tcp-established" ∷ codes "tcp-transitory" ∷ codes "icmp" ∷ []
@@ -200,6 +191,64 @@ refresh_at value = do
 
 unfoldable pub refresh_in : Members → Result Refresh ConfigFault
 refresh_in table = optional (codes "refresh") Outbound refresh_at table
+
+-- ---- parity, numbers and seed
+
+abbrev pub keeps_parity_of : List ℕ → Option Bool
+keeps_parity_of word =
+    if bytes_eq word (codes "kept") then Some true
+    else (if bytes_eq word (codes "free") then Some false else None)
+
+unfoldable pub keeps_parity_at : Data → Result Bool ConfigFault
+keeps_parity_at value = do
+  word ← text_in value
+  ok_or (keeps_parity_of word) BadWord
+
+unfoldable pub keeps_parity_in : Members → Result Bool ConfigFault
+keeps_parity_in table = optional (codes "parity") true keeps_parity_at table
+
+abbrev pub is_random_of : List ℕ → Option Bool
+is_random_of word =
+    if bytes_eq word (codes "random") then Some true
+    else (if bytes_eq word (codes "preserved") then Some false else None)
+
+unfoldable pub is_random_at : Data → Result Bool ConfigFault
+is_random_at value = do
+  word ← text_in value
+  ok_or (is_random_of word) BadWord
+
+unfoldable pub is_random_in : Members → Result Bool ConfigFault
+is_random_in table = optional (codes "numbers") false is_random_at table
+
+-- the 16 bytes that 32 hexadecimal digits are
+abbrev pub seed_of : List ℕ → Option Seed
+seed_of text = option_map (λ bytes. record { bytes = bytes }) (result_ok (decode_sized text 16))
+
+unfoldable pub seed_at : Data → Result (Option Seed) ConfigFault
+seed_at value = do
+  text ← text_in value
+  seed ← ok_or (seed_of text) BadSeed
+  Ok (Some seed)
+
+-- random numbers want a seed, and others have none
+unfoldable pub seed_in : Bool → Members → Result (Option Seed) ConfigFault
+seed_in true table = do
+  value ← required (codes "seed") table
+  seed_at value
+seed_in false table = do
+  must (not (is_some (get_member (codes "seed") table))) SeedUnused
+  Ok None
+
+unfoldable pub choosing_in : Members → Result Choosing ConfigFault
+choosing_in table = do
+  keeps_parity ← keeps_parity_in table
+  is_random ← is_random_in table
+  seed ← seed_in is_random table
+  Ok (record { keeps_parity = keeps_parity; seed = seed })
+
+-- that of a configuration which says nothing of it
+abbrev pub default_choosing : Choosing
+default_choosing = record { keeps_parity = true; seed = None }
 
 -- ---- timers
 
@@ -376,6 +425,7 @@ configured table = do
   inside ← inside_in pool table
   filter ← filter_in table
   refresh ← refresh_in table
+  choosing ← choosing_in table
   timers ← timers_in table
   ring ← ring_in table
   quota ← quota_in table
@@ -387,6 +437,7 @@ configured table = do
     inside = inside;
     filter = filter;
     refresh = refresh;
+    choosing = choosing;
     timers = timers;
     ring = ring;
     quota =
@@ -421,6 +472,7 @@ built_in = record {
   inside = private_networks;
   filter = Independent;
   refresh = Outbound;
+  choosing = default_choosing;
   timers = default_timers;
   ring = 64;
   quota = None;

@@ -1,7 +1,6 @@
 -- Readings that end at the first broken rule.
 use Rattle.std.specs.Prelude.{◌≡◌, ◌≢◌, Bool, if◌then◌else◌, Result, Ok, Err}
-use Rattle.napt_config.specs.declared.fault.ConfigFault.{ConfigFault}
-use Rattle.napt_config.specs.declared.fault.ConfigFault.TheVariants.{Memory}
+use Rattle.napt_config.specs.declared.fault.ConfigFault.{ConfigFault, TheVariants.Memory}
 
 -- what follows is read where nothing was broken so far
 infixl 10 ◌>>=◌

@@ -1,5 +1,5 @@
 -- What a prefix and a transport address are.
-use Rattle.std.specs.Prelude.{◌≡◌, ℕ, ◌+◌, ◌-◌, ◌/◌, ◌%◌, ◌^◌, ◌<◌, ◌≤◌, ◌==◌, Bool, true, not, ◌&&◌, ◌||◌, if◌then◌else◌, nat_lt, List, [], ◌∷◌, Option, Some, None, option_map}
+use Rattle.std.specs.Prelude.{◌≡◌, ℕ, ◌+◌, ◌-◌, ◌/◌, ◌%◌, ◌^◌, ◌<◌, ◌≤◌, ◌==◌, Bool, true, not, ◌&&◌, ◌||◌, if◌then◌else◌, nat_lt, nat_le, List, [], ◌∷◌, Option, Some, None, option_map}
 use Rattle.std.specs.List.{list_any}
 
 -- the addresses whose first `bits` bits are those of `address` (RFC 4632, section 3.1)
@@ -29,6 +29,18 @@ network_size network = 2 ^ (32 - network.bits)
 abbrev pub host_count : List Network → ℕ
 host_count [] = 0
 host_count (network ∷ networks) = network_size network + host_count networks
+
+-- whether all of a network's addresses are the other's too
+abbrev pub is_in : Network → Network → Bool
+is_in network other = nat_le other.bits network.bits && has_address other network.address
+
+-- how many addresses are in one of the networks or in several, if `all` are those and others before them: the sum over
+-- those that are no part of another, of equal ones over the last
+abbrev pub address_count : List Network → List Network → ℕ
+address_count all [] = 0
+address_count all (network ∷ networks) =
+    (if list_any (λ other. is_in network other && not (is_in other network)) all || list_any (is_in network) networks
+    then 0 else network_size network) + address_count all networks
 
 -- whether both have an address: then one contains the other
 abbrev pub do_meet : Network → Network → Bool

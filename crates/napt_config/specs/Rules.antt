@@ -1,17 +1,8 @@
 -- What a configuration says, and the rules that each one keeps.
 use Rattle.std.specs.Prelude.{◌≡◌, ℕ, ◌+◌, ◌-◌, ◌*◌, ◌/◌, ◌%◌, ◌^◌, ◌<◌, ◌≤◌, ◌==◌, Bool, true, false, ◌&&◌, ◌||◌, if◌then◌else◌, nat_lt, nat_le, List, [], ◌∷◌, All, length, slice_index, position, Option, Some, None, option_map, option_and_then, unwrap_or, IfSome}
-use Rattle.std.specs.Bool.{beq}
-use Rattle.std.specs.List.{list_any}
-use Rattle.std.specs.List.Sorted.{IsStrictlySortedBy}
-use Rattle.std.specs.Map.{keys_of, values_of, lookup}
-use Rattle.std.specs.Ordering.{nat_cmp}
-use Rattle.std.specs.BTreeMap.{is_at}
-use Rattle.napt_config.specs.Network.{Network, IsNetwork, have_address, host_count, are_apart, index_of, address_at}
-use Rattle.napt_config.specs.declared.settings.Filter.{Filter}
-use Rattle.napt_config.specs.declared.settings.Refresh.{Refresh}
-use Rattle.napt_config.specs.declared.settings.Timers.{Timers}
-use Rattle.napt_config.specs.declared.settings.Redirect.{Redirect}
-use Rattle.napt_config.specs.declared.settings.Block.{Block}
+use Rattle.std.specs.{Bool.beq, List.{list_any, Sorted.IsStrictlySortedBy}, Map.{keys_of, values_of, lookup}, Ordering.nat_cmp, BTreeMap.is_at}
+use Rattle.napt_config.specs.{Network.{Network, IsNetwork, have_address, host_count, are_apart, index_of, address_at}, declared.settings.Filter.Filter}
+use Rattle.napt_config.specs.declared.settings.{Refresh.Refresh, Choosing.Choosing, Timers.Timers, Redirect.Redirect, Block.Block}
 
 -- what a configuration says; the block is how many numbers each inside host has, the pairs are hosts with their
 -- external addresses, by ascending host, and the redirects are in the order of its text
@@ -20,6 +11,7 @@ pub record Rules : Type 0 where
   pub inside : List Network
   pub filter : Filter
   pub refresh : Refresh
+  pub choosing : Choosing
   pub timers : Timers
   pub ring : ℕ
   pub quota : Option ℕ

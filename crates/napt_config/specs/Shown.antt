@@ -1,6 +1,5 @@
 -- What a `Config` shows.
-use Rattle.napt_config.specs.Rules.{Rules}
-use Rattle.napt_config.specs.declared.config.Config.TheInside.{Inside}
+use Rattle.napt_config.specs.{Rules.Rules, declared.config.Config.TheInside.Inside}
 
 -- the fields, as lists and numbers
 abbrev pub shown : Inside → Rules
@@ -9,6 +8,7 @@ shown config = record {
   inside = config.inside.items;
   filter = config.filter;
   refresh = config.refresh;
+  choosing = config.choosing;
   timers = config.timers;
   ring = config.ring;
   quota = config.quota;

@@ -1,13 +1,8 @@
 -- How addresses, prefixes and transport addresses are written, and what a text reads as.
 use Rattle.std.specs.Prelude.{◌≡◌, ℕ, ◌-◌, ◌%◌, ◌^◌, ◌==◌, Bool, ◌&&◌, not, if◌then◌else◌, List, [], ◌∷◌, ◌++◌, length, slice_index, codes, decimal, nat_lt, nat_le, Option, Some, None, option_and_then, Result, Ok, IfOk, IfErr}
-use Rattle.std.specs.Int.{w32, to_be_bytes, from_be_bytes}
-use Rattle.std.specs.Char.{is_ascii_digit}
-use Rattle.std.specs.List.{before_first, after_first, list_all}
-use Rattle.std.specs.Str.Parse.{digits_value}
-use Rattle.std.specs.Net.Reader.{read_ipv4}
-use Rattle.std.specs.Net.Text.{ipv4_text}
-use Rattle.napt_config.specs.Network.{Network, Socket}
-use Rattle.napt_config.specs.declared.fault.ConfigFault.{ConfigFault}
+use Rattle.std.specs.{Int.{w32, to_be_bytes, from_be_bytes}, Char.is_ascii_digit, List.{before_first, after_first, list_all}, Str.Parse.digits_value}
+use Rattle.std.specs.Net.{Reader.read_ipv4, Text.ipv4_text}
+use Rattle.napt_config.specs.{Network.{Network, Socket}, declared.fault.ConfigFault.ConfigFault}
 
 -- the address's four bytes in decimal, the highest first, with dots between them
 unfoldable pub address_text : ℕ → List ℕ

@@ -1,7 +1,6 @@
 //! Addresses.
 ghost use Rattle.std.specs.Prelude.{◌<◌, ◌^◌, Some};
-ghost use Rattle.napt_config.specs.Text.{address_text, IsReadBack};
-ghost use Rattle.napt_config.specs.declared.fault.ConfigFault.TheVariants.{BadAddress};
+ghost use Rattle.napt_config.specs.{Text.{address_text, IsReadBack}, declared.fault.ConfigFault.TheVariants.BadAddress};
 
 use crate::{ConfigFault, text};
 use std::fmt;

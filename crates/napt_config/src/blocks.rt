@@ -1,6 +1,5 @@
 //! Port blocks: the external numbers that each inside host has for itself (RFC 7422, section 2).
-ghost use Rattle.std.specs.Prelude.{◌≡◌, ◌≤◌, ◌*◌, ◌^◌, IfSome, length};
-ghost use Rattle.std.specs.List.{list_any};
+ghost use Rattle.std.specs.{Prelude.{◌≡◌, ◌≤◌, ◌*◌, ◌^◌, IfSome, length}, List.list_any};
 ghost use Rattle.napt_config.specs.Network.{host_count, do_meet, are_apart, index_of, address_at};
 ghost use Rattle.napt_config.specs.Rules.{has_number, block_in, may_redirect, have_room, host_at, IsBlock};
 

@@ -1,15 +1,11 @@
 //! The configuration.
-ghost use Rattle.std.specs.Prelude.{◌≡◌, ◌==◌, false, Err, IfOk, IsSome, ok_or, position};
-ghost use Rattle.std.specs.Str.{is_utf8};
-ghost use Rattle.toml.specs.Parse.{parse_document};
-ghost use Rattle.toml.specs.View.{table_view};
-ghost use Rattle.napt_config.specs.Fault.{Gives, TellsFirst};
-ghost use Rattle.napt_config.specs.Configured.{document_of, read_first};
-ghost use Rattle.napt_config.specs.declared.fault.ConfigFault.TheVariants.{NotToml};
+ghost use Rattle.std.specs.{Prelude.{◌≡◌, ◌==◌, false, Err, IfOk, IsSome, ok_or, position}, Str.is_utf8};
+ghost use Rattle.toml.specs.{Parse.parse_document, View.table_view};
+ghost use Rattle.napt_config.specs.{Fault.{Gives, TellsFirst}, Configured.{document_of, read_first}, declared.fault.ConfigFault.TheVariants.NotToml};
 
 use crate::{
-    Block, ConfigFault, Filter, Prefix, Redirect, Refresh, Timers, blocks, keys, pairing, reading,
-    redirects,
+    Block, Choosing, ConfigFault, Filter, Prefix, Redirect, Refresh, Timers, blocks, choosing,
+    hosts, keys, pairing, reading, redirects,
 };
 use std::alloc::{AllocError, Global};
 use std::collections::BTreeMap;
@@ -35,6 +31,7 @@ pub struct Config {
     inside: Vec<Prefix>,
     filter: Filter,
     refresh: Refresh,
+    choosing: Choosing,
     timers: Timers,
     ring: usize,
     quota: Option<u16>,
@@ -56,7 +53,7 @@ impl Model for Config {
 }
 
 impl Config {
-    ghost use Rattle.napt_config.specs.Network.{host_count};
+    ghost use Rattle.napt_config.specs.Network.{address_count};
     ghost use Rattle.napt_config.specs.Rules.{KeepsRules, pair_of, is_inside, place_of, block_of, host_of};
     ghost use Rattle.napt_config.specs.Configured.{configured, configuration_of, built_in};
 
@@ -87,6 +84,7 @@ impl Config {
         let inside = reading::inside(alloc, table, &pool)?;
         let filter = reading::filter(table)?;
         let refresh = reading::refresh(table)?;
+        let choosing = choosing::choosing(table)?;
         let timers = reading::timers(table)?;
         let ring = reading::ring(table)?;
         let quota = reading::quota(table)?;
@@ -98,6 +96,7 @@ impl Config {
             inside,
             filter,
             refresh,
+            choosing,
             timers,
             ring,
             quota,
@@ -121,6 +120,7 @@ impl Config {
             inside,
             filter: Filter::Independent,
             refresh: Refresh::Outbound,
+            choosing: Choosing::DEFAULT,
             timers: Timers::DEFAULT,
             ring: reading::DEFAULT_SLOTS,
             quota: None,
@@ -139,6 +139,7 @@ impl Config {
             inside: Vec::from_slice(alloc, &self.inside)?,
             filter: self.filter,
             refresh: self.refresh,
+            choosing: self.choosing,
             timers: self.timers,
             ring: self.ring,
             quota: self.quota,
@@ -241,12 +242,12 @@ impl Config {
         blocks::host_at(size, &self.inside, self.pool.len(), number, place)
     }
 
-    /// How many addresses the prefixes have together.
+    /// How many inside hosts there are: the addresses that are in one of the prefixes or in several, each counted once.
     pub fn host_count(&self) -> u64
-        ensures count { result ≡ host_count self.now.inside }
+        ensures count { result ≡ address_count self.now.inside self.now.inside }
         ensures kept { KeepsRules self.now }
     {
-        blocks::host_count(&self.inside)
+        hosts::address_count(&self.inside)
     }
 
     /// Which remotes may reach a binding from outside.
@@ -261,6 +262,13 @@ impl Config {
         ensures { result ≡ self.now.refresh }
     {
         self.refresh
+    }
+
+    /// How the external number of a new binding is chosen: by the keys `parity`, `numbers` and `seed`.
+    pub fn choosing(&self) -> Choosing
+        ensures { result ≡ self.now.choosing }
+    {
+        self.choosing
     }
 
     /// The idle timers.

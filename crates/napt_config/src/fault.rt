@@ -13,10 +13,10 @@ pub enum ConfigFault {
     #[error("expected TOML in UTF-8")]
     NotToml,
     /// An unknown key, at the top, in `timers` or in an entry of `pair` or `redirect`.
-    #[error("unknown key: expected `pool`, `inside`, `filter`, `refresh`, `timers`, `ring`, `quota`, `block`, `pair` or `redirect`; in `timers` `udp`, `tcp-established`, `tcp-transitory` or `icmp`; in a `pair` `host` or `external`; in a `redirect` `protocol`, `inside` or `external`")]
+    #[error("unknown key: expected `pool`, `inside`, `filter`, `refresh`, `parity`, `numbers`, `seed`, `timers`, `ring`, `quota`, `block`, `pair` or `redirect`; in `timers` `udp`, `tcp-established`, `tcp-transitory` or `icmp`; in a `pair` `host` or `external`; in a `redirect` `protocol`, `inside` or `external`")]
     UnknownKey,
     /// A required key is absent, or its list is empty.
-    #[error("expected `pool` and `inside` with at least one entry each, `host` and `external` in each `pair`, and `protocol`, `inside` and `external` in each `redirect`")]
+    #[error("expected `pool` and `inside` with at least one entry each, a `seed` with random `numbers`, `host` and `external` in each `pair`, and `protocol`, `inside` and `external` in each `redirect`")]
     Missing,
     /// A value is not of the kind its key asks for.
     #[error("expected a value of another kind: a text, a whole number, a list or a table, as its key asks for")]
@@ -34,8 +34,14 @@ pub enum ConfigFault {
     #[error("expected a timer of 0 to 1000000000 seconds, a `ring` of 1 to 4096, a `quota` of 1 to 65535, an even `block` of 64 to 32256, or an `external` port of 1 to 65535")]
     BadNumber,
     /// A text is not a word its key allows.
-    #[error("expected `independent`, `address` or `address-port` as `filter`, `outbound` or `both` as `refresh`, or `udp` or `tcp` as `protocol`")]
+    #[error("expected `independent`, `address` or `address-port` as `filter`, `outbound` or `both` as `refresh`, `kept` or `free` as `parity`, `preserved` or `random` as `numbers`, or `udp` or `tcp` as `protocol`")]
     BadWord,
+    /// A text is not a seed of 32 hexadecimal digits.
+    #[error("expected 32 hexadecimal digits as `seed`")]
+    BadSeed,
+    /// There is a seed, and numbers are not random.
+    #[error("expected no `seed` without random `numbers`")]
+    SeedUnused,
     /// An address is in the pool twice.
     #[error("expected each address of `pool` once")]
     DoubleAddress,

@@ -1,6 +1,5 @@
 //! The keys of a configuration.
-ghost use Rattle.std.specs.Prelude.{◌≡◌, bytes_eq, map};
-ghost use Rattle.std.specs.List.{list_any};
+ghost use Rattle.std.specs.{Prelude.{◌≡◌, bytes_eq, map}, List.list_any};
 ghost use Rattle.toml.specs.View.{view, table_view, items_view};
 ghost use Rattle.napt_config.specs.Configured.{only_keys, only_keys_in, only_keys_in_each, only_keys_in_list, top_keys, knows_timer_keys, knows_pair_keys, knows_redirect_keys, knows_all_keys};
 
@@ -89,8 +88,8 @@ fn knows_top_keys(table: &Table) -> bool
     only_keys(
         table,
         &[
-            "pool", "inside", "filter", "refresh", "timers", "ring", "quota", "block", "pair",
-            "redirect",
+            "pool", "inside", "filter", "refresh", "parity", "numbers", "seed", "timers", "ring",
+            "quota", "block", "pair", "redirect",
         ],
     )
 }

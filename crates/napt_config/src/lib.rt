@@ -6,8 +6,10 @@
 
 mod address;
 mod blocks;
+mod choosing;
 mod config;
 mod fault;
+mod hosts;
 mod keys;
 mod pairing;
 mod prefix;
@@ -22,5 +24,5 @@ pub use address::Address;
 pub use config::Config;
 pub use fault::ConfigFault;
 pub use prefix::Prefix;
-pub use settings::{Block, Filter, Redirect, Refresh, Timers};
+pub use settings::{Block, Choosing, Filter, Redirect, Refresh, Seed, Timers};
 pub use transport_address::TransportAddress;

@@ -1,7 +1,6 @@
 //! The external address that a host is paired with.
 ghost use Rattle.std.specs.Prelude.{◌≡◌, ◌≤◌, length, unwrap_or};
-ghost use Rattle.napt_config.specs.Network.{index_of};
-ghost use Rattle.napt_config.specs.Rules.{paired, paired_with, pooled};
+ghost use Rattle.napt_config.specs.{Network.index_of, Rules.{paired, paired_with, pooled}};
 
 use crate::{Prefix, blocks};
 use std::collections::BTreeMap;

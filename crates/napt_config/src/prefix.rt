@@ -1,8 +1,7 @@
 //! Prefixes of addresses.
 ghost use Rattle.std.specs.Prelude.{◌≡◌, ◌≤◌, ◌<◌, ◌+◌, ◌^◌, ◌%◌, Some, IfOk};
-ghost use Rattle.napt_config.specs.Network.{IsNetwork, has_address, network_size, do_meet, private_networks};
-ghost use Rattle.napt_config.specs.Text.{network_of, network_at, network_text, IsReadBack};
-ghost use Rattle.napt_config.specs.declared.fault.ConfigFault.TheVariants.{BadPrefix};
+ghost use Rattle.napt_config.specs.Network.{IsNetwork, has_address, network_size, is_in, do_meet, private_networks};
+ghost use Rattle.napt_config.specs.{Text.{network_of, network_at, network_text, IsReadBack}, declared.fault.ConfigFault.TheVariants.BadPrefix};
 
 use crate::{Address, ConfigFault, text};
 use std::alloc::{AllocError, Global};
@@ -104,6 +103,13 @@ impl Prefix {
         ensures { result ≡ self.now.address + place }
     {
         (u64::from(self.address) + place) as u32
+    }
+
+    /// Whether all of its addresses are the other's too.
+    pub(crate) fn is_in(&self, other: &Prefix) -> bool
+        ensures { result ≡ is_in self.now other.now }
+    {
+        other.bits <= self.bits && other.contains(self.address)
     }
 
     /// Whether both have an address in common: then one contains the other.

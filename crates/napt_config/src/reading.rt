@@ -1,9 +1,7 @@
 //! Reading the keys of a configuration's table, each by its own rules.
-ghost use Rattle.std.specs.Prelude.{◌≡◌, ◌≤◌, [], codes, length};
-ghost use Rattle.std.specs.List.{list_any};
+ghost use Rattle.std.specs.{Prelude.{◌≡◌, ◌≤◌, [], codes, length}, List.list_any};
 ghost use Rattle.toml.specs.View.{view, table_view, items_view};
-ghost use Rattle.napt_config.specs.Fault.{Reads, Gives, TellsFirst};
-ghost use Rattle.napt_config.specs.Network.{have_address};
+ghost use Rattle.napt_config.specs.{Fault.{Reads, Gives, TellsFirst}, Network.have_address};
 ghost use Rattle.napt_config.specs.Configured.{each_in_order, first_in_order, between, list_up_to, short_list, with_address, pool_in, pool_first, with_prefix, prefixes_in, prefixes_first, inside_in, filter_at, filter_in, refresh_at, refresh_in, timer_at, timers_at, timers_in, ring_at, ring_in, quota_at, quota_in, block_size_at, block_size, block_size_in, address_in, with_pair, pairs_at, pairs_first, pairs_in, optional};
 
 use crate::values::{list_in, number_in, required, table_in, text_in, value_at};

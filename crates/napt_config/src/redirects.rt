@@ -1,8 +1,7 @@
 //! Reading the redirects of a configuration's table.
 ghost use Rattle.std.specs.Prelude.{◌≡◌, ◌≤◌, ℕ, [], length, codes, IfSome};
 ghost use Rattle.toml.specs.View.{view, table_view, items_view};
-ghost use Rattle.napt_config.specs.Fault.{Reads, Gives, TellsFirst};
-ghost use Rattle.napt_config.specs.Rules.{paired, block_in, may_redirect, share_inside, share_external, is_double, IsBlock};
+ghost use Rattle.napt_config.specs.{Fault.{Reads, Gives, TellsFirst}, Rules.{paired, block_in, may_redirect, share_inside, share_external, is_double, IsBlock}};
 ghost use Rattle.napt_config.specs.Configured.{each_in_order, first_in_order, list_up_to, optional, is_tcp_in, transport_address_in, port_in, redirect_in, have_double, with_redirect, redirects_at, redirects_first, redirects_in};
 
 use crate::reading::{between, have_address, list_up_to};

@@ -1,5 +1,7 @@
 //! Settings of a configuration.
 
+use std::fmt;
+
 /// Which remotes may reach a binding from outside (RFC 4787, section 5).
 #[derive(Clone, Copy, Debug, PartialEq, Eq)]
 pub enum Filter {
@@ -18,6 +20,35 @@ pub enum Refresh {
     Outbound,
     /// Those that go out, and those that are let in.
     Both,
+}
+
+/// How the external number of a new binding is chosen (RFC 7857, sections 8 and 9).
+#[derive(Clone, Copy, Debug)]
+pub struct Choosing {
+    /// Whether a port is mapped to one of its parity (RFC 4787, REQ-4).
+    pub keeps_parity: bool,
+    /// That of random numbers; without one a number is preserved where it is free.
+    pub seed: Option<Seed>,
+}
+
+impl Choosing {
+    /// That of a configuration which says nothing of it.
+    pub const DEFAULT: Choosing = Choosing {
+        keeps_parity: true,
+        seed: None,
+    };
+}
+
+/// What random numbers are made of (RFC 6056, section 3.3.3). It is a secret: nothing that is printed shows it.
+#[derive(Clone, Copy)]
+pub struct Seed {
+    pub bytes: [u8; 16],
+}
+
+impl fmt::Debug for Seed {
+    fn fmt<W: fmt::Write>(&self, f: &mut fmt::Formatter<W>) -> fmt::Result {
+        f.write_str("Seed")
+    }
 }
 
 /// Idle timers, in seconds (RFC 4787, section 4.3; RFC 5382, section 5; RFC 5508, section 3.2).

@@ -1,7 +1,5 @@
 //! Numbers and addresses in texts.
-ghost use Rattle.std.specs.Prelude.{◌≡◌, ◌≤◌, IfSome};
-ghost use Rattle.std.specs.Char.{is_ascii_digit};
-ghost use Rattle.std.specs.List.{list_all};
+ghost use Rattle.std.specs.{Prelude.{◌≡◌, ◌≤◌, IfSome}, Char.is_ascii_digit, List.list_all};
 ghost use Rattle.napt_config.specs.Text.{is_number, number_of, address_of};
 
 use std::net::Ipv4Addr;

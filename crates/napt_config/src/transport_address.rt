@@ -1,8 +1,6 @@
 //! Transport addresses.
 ghost use Rattle.std.specs.Prelude.{◌≡◌, Some};
-ghost use Rattle.napt_config.specs.Network.{IsSocket};
-ghost use Rattle.napt_config.specs.Text.{socket_of, socket_text, IsReadBack};
-ghost use Rattle.napt_config.specs.declared.fault.ConfigFault.TheVariants.{BadAddress};
+ghost use Rattle.napt_config.specs.{Network.IsSocket, Text.{socket_of, socket_text, IsReadBack}, declared.fault.ConfigFault.TheVariants.BadAddress};
 
 use crate::{Address, ConfigFault, text};
 use std::fmt;

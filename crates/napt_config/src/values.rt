@@ -1,9 +1,7 @@
 //! The values of a table, each of the kind that its key asks for.
 ghost use Rattle.std.specs.Prelude.{◌≡◌, option_map};
-ghost use Rattle.toml.specs.Data.{get_member};
-ghost use Rattle.toml.specs.View.{view, table_view, items_view};
-ghost use Rattle.napt_config.specs.Fault.{Reads};
-ghost use Rattle.napt_config.specs.Configured.{required, text_in, number_in, list_in, table_in};
+ghost use Rattle.toml.specs.{Data.get_member, View.{view, table_view, items_view}};
+ghost use Rattle.napt_config.specs.{Fault.Reads, Configured.{required, text_in, number_in, list_in, table_in}};
 
 use crate::ConfigFault;
 use toml::{Table, Value};

@@ -1,23 +1,15 @@
 -- What the workers are left with shows what a run gives.
 use Rattle.std.proofs.Common.{◌≡◌, ◌≢◌, ℕ, zero, suc, ◌+◌, ◌<◌, ◌≤◌, max, Bool, true, false, List, [], ◌∷◌, ◌++◌, length, map, Result, Ok, Err, refl, sym, ◌∙◌, ap, subst, arith}
-use Rattle.std.proofs.lemmas.List.{length-map}
-use Rattle.std.proofs.lemmas.List.Folds.{flat_map-map}
-use Rattle.std.specs.Prelude.{slice_index, slice_index_or, flat_map, IfErr, OnOk}
+use Rattle.std.{proofs.lemmas.List.{length-map, Folds.flat_map-map}, specs.Prelude.{slice_index, slice_index_or, flat_map, IfErr, OnOk}}
 use Rattle.napt_config.specs.Rules.{Rules}
-use Rattle.napt_rules.specs.declared.Row.{Row}
-use Rattle.napt_rules.specs.Prelude.{of, opening, Arrival, rows_of, rows, Course, run, last_clock, legs_at, Ran, ran, Kept, kept_after_all}
-use Rattle.napt_rules.specs.declared.Leg.{Leg}
+use Rattle.napt_rules.specs.{declared.Row.Row, Prelude.{of, opening, Arrival, rows_of, rows, Course, run, last_clock, legs_at, Ran, ran, Kept, kept_after_all}}
+use Rattle.napt_rules.specs.declared.{Leg.Leg, Outcome.Outcome}
 use Rattle.napt_translate.specs.Translators.{TranslatorState, begun, kept_of, with_kept, left_by}
-use Rattle.napt_pool.specs.declared.closing.Ended.{Ended}
-use Rattle.napt_pool.specs.Pools.{zip_with}
-use Rattle.napt_rules.specs.declared.Outcome.{Outcome}
-use Rattle.napt_sequential.specs.Faults.{is_gate_fault}
-use Rattle.napt_sequential.specs.declared.fault.RunFault.{RunFault}
+use Rattle.napt_pool.specs.{declared.{closing.Ended.Ended, fault.PoolFault.PoolFault}, Pools.zip_with}
+use Rattle.napt_sequential.specs.{Faults.is_gate_fault, declared.fault.RunFault.RunFault}
 use Rattle.napt_sequential.specs.declared.fault.RunFault.TheVariants as faults
-use Rattle.napt_laws.specs.Agreeing.{IsAtOnce}
+use Rattle.napt_laws.{specs.Agreeing.IsAtOnce, proofs.RunsLocal.seen}
 use Rattle.napt_dispatch.specs.Dispatch.{started, of_worker, fresh, rows_after, IsFaultUnder, IsDispatched, first_fault}
-use Rattle.napt_pool.specs.declared.fault.PoolFault.{PoolFault}
-use Rattle.napt_laws.proofs.RunsLocal.{seen}
 use Rattle.napt_dispatch.proofs.Ended.{zip_index, zip_long, length_started, started_at}
 
 -- LISTS

@@ -1,22 +1,13 @@
 -- What the end of a dispatch tells.
 use Rattle.std.proofs.Common.{◌≡◌, ℕ, zero, suc, ◌+◌, ◌<◌, List, [], ◌∷◌, ◌++◌, length, map, refl, sym, ap, ◌∙◌, arith, append-nil, length-append, inl, inr}
-use Rattle.std.specs.Prelude.{slice_index, slice_index_or}
-use Rattle.std.proofs.lemmas.Bool.{cases_eq}
-use Rattle.std.proofs.Math.ListN.{get_or-append}
-use Rattle.std.proofs.Math.Seq.{get_or-append_seam}
+use Rattle.std.{specs.Prelude.{slice_index, slice_index_or}, proofs.{lemmas.Bool.cases_eq, Math.{ListN.get_or-append, Seq.get_or-append_seam}}}
 use Rattle.napt_config.specs.Rules.{Rules}
 use Rattle.napt_rules.specs.declared.Leg.{Leg}
 use Rattle.napt_translate.specs.Translators.{TranslatorState, begun, kept_of, left_by}
-use Rattle.napt_pool.specs.declared.machine.Machine.{Ghosts}
-use Rattle.napt_pool.specs.Histories.{replies, AllBegin}
-use Rattle.napt_pool.specs.Pools.{zip_with}
+use Rattle.napt_pool.specs.{declared.machine.Machine.Ghosts, Histories.{replies, AllBegin}, Pools.zip_with}
 use Rattle.napt_laws.specs.Dispatching.{IsFront}
-use Rattle.napt_dispatch.specs.Dispatch.{started, of_worker, fresh, Right}
-use Rattle.napt_dispatch.proofs.Lanes.{fronts_both}
-use Rattle.napt_sequential.specs.declared.passage.Passage.{Passage}
-use Rattle.napt_sequential.specs.declared.telling.Told.{Told}
-use Rattle.napt_sequential.specs.CountedTranslators.{told_at}
-use Rattle.napt_sequential.specs.Steps.{told_replies}
+use Rattle.napt_dispatch.{specs.Dispatch.{started, of_worker, fresh, Right}, proofs.Lanes.fronts_both}
+use Rattle.napt_sequential.specs.{declared.{passage.Passage.Passage, telling.Told.Told}, CountedTranslators.told_at, Steps.told_replies}
 
 -- LISTS
 

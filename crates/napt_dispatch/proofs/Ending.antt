@@ -2,32 +2,16 @@
 use Rattle.std.proofs.Common.{◌≡◌, ℕ, Bool, false, inr, List, [], ◌++◌, length, replicate, Option, Some, None, MatchOption, refl, sym, ◌∙◌, ap, subst, arith, append-nil}
 use Rattle.std.proofs.lemmas.List.{length-map}
 use Rattle.napt_config.specs.Rules.{Rules}
-use Rattle.napt_rules.specs.Prelude.{Arrival}
+use Rattle.napt_rules.specs.{Prelude.Arrival, declared.Leg.Leg}
 use Rattle.napt_laws.specs.Dispatching.{IsFront}
-use Rattle.napt_sequential.specs.declared.fault.RunFault.{RunFault}
-use Rattle.napt_sequential.specs.declared.fault.RunFault.TheVariants.{Memory}
-use Rattle.napt_rules.specs.declared.Leg.{Leg}
-use Rattle.napt_pool.specs.declared.pool.Pool.{Pool}
-use Rattle.napt_pool.specs.Pools.{accepts, takes as taken}
-use Rattle.napt_dispatch.specs.declared.dispatcher.Dispatcher.{Dispatcher}
-use Rattle.napt_dispatch.specs.declared.dispatcher.Dispatched.{Dispatched}
-use Rattle.napt_dispatch.specs.declared.dispatcher.Ending.{Ending}
-use Rattle.napt_dispatch.specs.declared.dispatcher.Ending.TheVariants as endings
-use Rattle.napt_dispatch.specs.declared.dispatcher.reading.EndOfInputs.{EndOfInputs}
-use Rattle.napt_pool.specs.Workers.{machine_of, accepted_of, taken_of}
-use Rattle.napt_dispatch.specs.Dispatch.{of_worker, departed}
-use Rattle.napt_dispatch.specs.QueueStates.{unused, counts_in}
-use Rattle.napt_dispatch.specs.Windows.{progress_in, whole_of}
-use Rattle.napt_dispatch.specs.Standing.{state_of, Stands}
+use Rattle.napt_sequential.specs.declared.{fault.RunFault.{RunFault, TheVariants.Memory}, telling.Told.Told, passage.Passage.Passage}
+use Rattle.napt_pool.specs.{declared.pool.Pool.Pool, Pools.{accepts, takes as taken}, Workers.{machine_of, accepted_of, taken_of}}
+use Rattle.napt_dispatch.specs.declared.dispatcher.{Dispatcher.Dispatcher, Dispatched.Dispatched, Ending.Ending, reading.EndOfInputs.EndOfInputs}
+use Rattle.napt_dispatch.specs.{Dispatch.{of_worker, departed}, QueueStates.{unused, counts_in}, Windows.{progress_in, whole_of}, Standing.{state_of, Stands}}
 use Rattle.napt_dispatch.specs.Passing.{timed, HasCome, Reads, ReadsAll, ReadsSome, ReadsToHalt, EndsWith, EndsEarly, EndsHalted, EndsBy}
-use Rattle.napt_dispatch.proofs.Ended.{same_lengths}
-use Rattle.napt_dispatch.proofs.Passing.{many_read}
-use Rattle.napt_dispatch.proofs.Lanes.{grows_none}
-use Rattle.napt_dispatch.proofs.Windows.{length_all, left_front_of, departed_long}
-use Rattle.napt_dispatch.proofs.Standing.{begin_stands, all_taken, dispatched, left_right, right_before}
-use Rattle.napt_sequential.specs.declared.telling.Told.{Told}
-use Rattle.napt_sequential.specs.declared.passage.Passage.{Passage}
-use Rattle.napt_dispatch.specs.declared.departures.Departed.{Departed}
+use Rattle.napt_dispatch.proofs.{Ended.same_lengths, Passing.many_read, Lanes.grows_none, Windows.{length_all, left_front_of, departed_long}}
+use Rattle.napt_dispatch.{proofs.Standing.{begin_stands, all_taken, dispatched, left_right, right_before}, specs.declared.departures.Departed.Departed}
+use Rattle.napt_dispatch.specs.declared.dispatcher.Ending.TheVariants as endings
 
 -- before the first input
 pub begun : {P : Type 0} {tells : Passage → P} {M G : Type 0} (rules : Rules) (pool : Pool M G Leg (Told P))

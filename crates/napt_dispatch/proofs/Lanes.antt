@@ -1,16 +1,12 @@
 -- The lists of all workers, by the number of the worker.
 use Rattle.std.proofs.Common.{◌≡◌, ◌≢◌, ℕ, zero, suc, ◌<◌, ◌==◌, Bool, true, false, cond, subst, List, [], ◌∷◌, ◌++◌, length, Some, refl, sym, ◌∙◌, ap, arith, inl, inr, append-nil, append_assoc}
-use Rattle.std.specs.Prelude.{slice_index, slice_set, slice_get}
-use Rattle.std.proofs.lemmas.Bool.{cases_eq, eq-eqb, ne_eqb}
+use Rattle.std.{specs.Prelude.{slice_index, slice_set, slice_get}, proofs.lemmas.Bool.{cases_eq, eq-eqb, ne_eqb}}
 use Rattle.std.proofs.lemmas.List.{get_or-set_same, get_or-set_other, length-map}
 use Rattle.napt_rules.specs.declared.Leg.{Leg}
-use Rattle.napt_pool.specs.declared.pool.Pool.{Pool}
-use Rattle.napt_pool.specs.Pools.{starts, accepts, takes}
+use Rattle.napt_pool.specs.{declared.pool.Pool.Pool, Pools.{starts, accepts, takes}}
 use Rattle.napt_laws.specs.Dispatching.{IsFront}
-use Rattle.napt_sequential.specs.declared.fault.RunFault.{RunFault}
-use Rattle.napt_dispatch.specs.Dispatch.{of_worker}
-use Rattle.napt_dispatch.specs.Standing.{added, Grows, HaltsBy}
-use Rattle.napt_sequential.specs.declared.telling.Told.{Told}
+use Rattle.napt_sequential.specs.declared.{fault.RunFault.RunFault, telling.Told.Told}
+use Rattle.napt_dispatch.specs.{Dispatch.of_worker, Standing.{added, Grows, HaltsBy}}
 
 -- FRONTS
 

@@ -1,27 +1,18 @@
 -- What is true of a worker after legs were offered and answers taken.
 use Rattle.std.proofs.Common.{◌≡◌, ◌≢◌, ◌⊎◌, ◌||◌, ℕ, zero, suc, ◌+◌, ◌<◌, ◌≤◌, min, Bool, true, false, List, [], ◌∷◌, ◌++◌, length, map, take, drop, length-append, length-drop, take-append-drop, Option, Some, None, refl, sym, ◌∙◌, ap, subst, arith, inl, inr}
-use Rattle.std.specs.Prelude.{slice_set}
-use Rattle.std.proofs.lemmas.Bool.{cases_lt}
-use Rattle.std.proofs.lemmas.List.{length-map}
-use Rattle.napt_rules.specs.declared.Leg.{Leg}
-use Rattle.napt_pool.specs.declared.pool.Pool.{Pool}
-use Rattle.napt_pool.specs.Pools.{starts, accepts, takes, capacity_of}
-use Rattle.napt_dispatch.specs.declared.dispatcher.Dispatcher.{Dispatcher}
-use Rattle.napt_dispatch.specs.declared.dispatcher.holding.Front.{Front}
-use Rattle.napt_dispatch.specs.declared.dispatcher.holding.Front.TheVariants as fronts
-use Rattle.napt_dispatch.specs.declared.dispatcher.holding.Held.TheVariants.{Ready}
-use Rattle.napt_dispatch.specs.declared.dispatcher.progress.Progress.{Progress}
-use Rattle.napt_dispatch.specs.declared.dispatcher.progress.Progress.TheVariants.{Returning, Answered}
-use Rattle.napt_dispatch.specs.Dispatch.{of_worker}
+use Rattle.std.{specs.Prelude.slice_set, proofs.lemmas.{Bool.cases_lt, List.length-map}}
+use Rattle.napt_rules.specs.{Prelude.{opening, run}, declared.Leg.Leg}
+use Rattle.napt_pool.specs.{declared.pool.Pool.Pool, Pools.{starts, accepts, takes, capacity_of}}
+use Rattle.napt_dispatch.specs.declared.dispatcher.{Dispatcher.Dispatcher, holding.{Front.Front, Held.TheVariants.Ready}, progress.Progress.Progress}
+use Rattle.napt_dispatch.specs.{declared.dispatcher.progress.Progress.TheVariants.{Returning, Answered}, Dispatch.of_worker}
 use Rattle.napt_dispatch.specs.QueueStates.{QueueState, queue_of, all_held, many_owed, front_of, readied, answered, with_offers, with_queue}
 use Rattle.napt_dispatch.specs.Windows.{Window, progress_in, IsWritten, IsMarked}
-use Rattle.napt_dispatch.specs.Standing.{Journal, journal_of, state_with, state_of, added, Keeps, KeepsAt, IsSizedFor, Continues, Noted, NotesAll, Forgets, IsSame, Resolves, waits, waits_behind, Readies, HasTaken, HasOffered, OffersOnlyTo}
+use Rattle.napt_dispatch.specs.Standing.{Journal, journal_of, state_with, state_of, added, Keeps, KeepsAt, IsSizedFor, Continues, Noted, NotesAll, Forgets, IsSame, Resolves, waits, waits_behind, Readies, HasTaken, HasOffered, OffersOnlyTo, MovesLegsAt}
 use Rattle.napt_dispatch.proofs.Lanes.{grows_none, added_own, added_other, added_none, added_more, set_added}
-use Rattle.napt_dispatch.proofs.QueueStates.{queue_own, queue_other, sum_with, nothing}
-use Rattle.napt_dispatch.proofs.Standing.{queues_keep, offers_keep, readied_keeps, answer_keeps}
-use Rattle.napt_sequential.specs.declared.telling.Told.{Told}
-use Rattle.napt_sequential.specs.declared.passage.Passage.{Passage}
+use Rattle.napt_dispatch.proofs.{QueueStates.{queue_own, queue_other, sum_with, nothing}, Standing.{queues_keep, offers_keep, readied_keeps, answer_keeps}}
 use Rattle.napt_dispatch.specs.declared.departures.Departed.{Departed}
+use Rattle.napt_dispatch.specs.declared.dispatcher.holding.Front.TheVariants as fronts
+use Rattle.napt_sequential.specs.declared.{telling.Told.Told, passage.Passage.Passage}
 
 -- WHAT STANDS FIRST
 
@@ -88,6 +79,21 @@ readies_first w d later second within goes is queues =
       others = λ v n. ap (λ qs. queue_of qs v) queues ∙ queue_other d.queues w (readied second) v n;
       forgets = on.1;
     }
+
+pub readies_moved : {P : Type 0} {tells : Passage → P} (w : ℕ) (d later : Dispatcher P) → w < length d.queues →
+    later.progress ≡ d.progress → MovesLegsAt w d.queues later.queues → Readies tells w d later
+readies_moved w d later within same m = record {
+  journal_stays = ap journal_of same;
+  keeps = λ offered taken. queues_keep w d later (λ q. m.queue) offered offered taken taken within m.later_is
+      (λ v n. (refl, refl)) (λ rules all. rw same (record {
+        stands = λ o. rw m.moves.same o;
+        right = λ o right. right;
+        legs = λ known. ap (λ ls. offered w ++ ls) (m.moves.legs_stay (run rules all (opening rules)).acts);
+        known = λ o right front known. known;
+      }));
+  others = λ v n. ap (λ qs. queue_of qs v) m.later_is ∙ queue_other d.queues w (λ q. m.queue) v n;
+  forgets = λ number h. rw same h;
+}
 
 pub readies_both : {P : Type 0} {tells : Passage → P} {w : ℕ} {d mid later : Dispatcher P} → Readies tells w d mid →
     Readies tells w mid later → Readies tells w d later

@@ -1,38 +1,23 @@
 -- Runs from arrivals to departures, step by step.
 use Rattle.std.proofs.Common.{◌≡◌, ℕ, max, Bool, List, [], ◌∷◌, ◌++◌, length, map, Option, Some, Result, Ok, Err, refl, sym, ◌∙◌, ap, subst, arith, append-nil, append_assoc}
-use Rattle.std.specs.Prelude.{slice_get}
-use Rattle.std.proofs.lemmas.List.{map-append, length-map}
-use Rattle.napt_wire.specs.declared.Way.{Way}
-use Rattle.napt_wire.specs.declared.Side.{Side}
-use Rattle.napt_wire.specs.declared.Side.TheVariants.{Inside, Outside}
+use Rattle.std.{specs.Prelude.slice_get, proofs.lemmas.List.{map-append, length-map}}
+use Rattle.napt_wire.specs.declared.{Way.Way, Side.{Side, TheVariants.{Inside, Outside}}}
 use Rattle.napt_config.specs.Rules.{Rules}
-use Rattle.napt_rules.specs.declared.Leg.{Leg}
-use Rattle.napt_pool.specs.declared.pool.Pool.{Pool}
-use Rattle.napt_pool.specs.Pools.{accepts, takes as taken}
-use Rattle.napt_rules.specs.Prelude.{opening, way_from, Arrival, run, last_clock}
-use Rattle.napt_sequential.specs.Inputs.{Came}
-use Rattle.napt_sequential.specs.declared.fault.RunFault.{RunFault}
-use Rattle.napt_laws.specs.Places.{second_legs}
-use Rattle.napt_laws.proofs.Grown.{clock_more}
-use Rattle.napt_sequential.proofs.Joined.{input_there}
-use Rattle.napt_sequential.proofs.Traced.{outside_alone}
+use Rattle.napt_rules.specs.{declared.Leg.Leg, Prelude.{opening, way_from, Arrival, run, last_clock}}
+use Rattle.napt_pool.specs.{declared.pool.Pool.Pool, Pools.{accepts, takes as taken}}
+use Rattle.napt_sequential.{specs.{Inputs.Came, declared.{fault.RunFault.RunFault, passage.Passage.Passage}}, proofs.{Joined.input_there, Traced.outside_alone}}
+use Rattle.napt_sequential.specs.declared.telling.Told.{Told}
+use Rattle.napt_laws.{specs.Places.second_legs, proofs.Grown.clock_more}
 use Rattle.napt_dispatch.specs.declared.dispatcher.Dispatcher.{Dispatcher}
-use Rattle.napt_dispatch.specs.Windows.{Window, IsHandedOver, times_in, progress_in, expecting, NoneBehind, whole_of}
-use Rattle.napt_dispatch.specs.QueueStates.{many_held}
+use Rattle.napt_dispatch.specs.{Windows.{Window, IsHandedOver, times_in, progress_in, expecting, NoneBehind, whole_of}, QueueStates.many_held}
 use Rattle.napt_dispatch.specs.Dispatch.{of_worker}
 use Rattle.napt_dispatch.specs.Standing.{journal_of, state_of, IsSizedFor, Stands, Continues, ContinuesOr, HaltsBy, Admits, HasRoom, IsDone}
-use Rattle.napt_dispatch.proofs.QueueStates.{held_none}
-use Rattle.napt_dispatch.proofs.Lanes.{grows_none, grows_both, halts_after}
-use Rattle.napt_dispatch.proofs.Standing.{known_stands}
-use Rattle.napt_dispatch.proofs.Windows.{known_push, times_long, expecting_times, expecting_progress}
-use Rattle.napt_dispatch.specs.declared.stopped.Halted.{Halted}
-use Rattle.napt_dispatch.specs.declared.stopped.Halted.TheVariants as halts
-use Rattle.napt_dispatch.specs.declared.dispatcher.reading.EndOfInputs.{EndOfInputs}
-use Rattle.napt_dispatch.specs.declared.dispatcher.progress.Progress.TheVariants.{Awaited}
+use Rattle.napt_dispatch.proofs.{QueueStates.held_none, Lanes.{grows_none, grows_both, halts_after}, Standing.known_stands}
+use Rattle.napt_dispatch.{proofs.Windows.{known_push, times_long, expecting_times, expecting_progress}, specs.declared.stopped.Halted.Halted}
+use Rattle.napt_dispatch.specs.declared.dispatcher.{reading.EndOfInputs.EndOfInputs, progress.Progress.TheVariants.Awaited}
 use Rattle.napt_dispatch.specs.Passing.{Fails, GoesOn, LetsGo, HaltsIn, HaltsAt, Serves, Reads, HasCome, ReadsToEnd, ReadsHalted}
-use Rattle.napt_sequential.specs.declared.passage.Passage.{Passage}
-use Rattle.napt_sequential.specs.declared.telling.Told.{Told}
 use Rattle.napt_dispatch.specs.declared.departures.Departed.{Departed}
+use Rattle.napt_dispatch.specs.declared.stopped.Halted.TheVariants as halts
 
 pub many_read : {P : Type 0} (d : Dispatcher P) (inputs : List Arrival) →
     times_in d.progress ≡ map (λ i. i.time) inputs → length inputs ≡ length (progress_in d.progress)

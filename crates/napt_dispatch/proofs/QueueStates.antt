@@ -1,13 +1,10 @@
 -- The queues of one worker change.
-use Rattle.std.proofs.Common.{◌≡◌, ◌≢◌, ℕ, zero, suc, ◌+◌, ◌<◌, ◌≤◌, ◌^◌, List, [], ◌∷◌, length, map, drop, set, get_or, refl, sym, ◌∙◌, ap, arith, inl, inr, append-nil, replicate, Option, Some, None, MatchOption}
-use Rattle.std.specs.Prelude.{slice_index_or}
-use Rattle.std.specs.List.{sum_by}
-use Rattle.std.proofs.lemmas.Bool.{cases_eq, eq-eqb, ne_eqb}
+use Rattle.std.proofs.Common.{◌≡◌, ◌≢◌, ℕ, zero, suc, ◌+◌, ◌<◌, ◌≤◌, ◌^◌, List, [], ◌∷◌, ◌++◌, length, map, flat_map, append_assoc, drop, set, get_or, refl, sym, ◌∙◌, ap, arith, inl, inr, append-nil, replicate, Option, Some, None, MatchOption}
+use Rattle.std.{specs.{Prelude.slice_index_or, List.sum_by}, proofs.lemmas.Bool.{cases_eq, eq-eqb, ne_eqb}}
 use Rattle.std.proofs.lemmas.List.{length-append, length-map, length-set, length-replicate, length_push, get_or_default, get_or-set_same, get_or-set_other}
 use Rattle.std.proofs.lemmas.List.Sums.{sum_by-cons, sum_by-set}
-use Rattle.napt_dispatch.specs.declared.dispatcher.holding.Held.{Held}
-use Rattle.napt_dispatch.specs.declared.dispatcher.holding.Held.TheVariants.{Ready}
-use Rattle.napt_dispatch.specs.declared.dispatcher.holding.Owed.{Owed}
+use Rattle.napt_rules.specs.{Prelude.Act, declared.Leg.Leg}
+use Rattle.napt_dispatch.specs.{declared.dispatcher.holding.{Held.{Held, TheVariants.Ready}, Owed.Owed}, Standing.{MovesLegs, MovesLegsAt, resolved, turned}}
 use Rattle.napt_dispatch.specs.QueueStates.{QueueState, unused, queue_of, all_held, count_held, many_held, AreCounted, Holds, AllHold, AnswersAt, answered, only_at, with_queue}
 
 module _ (queues : List QueueState) (w : ℕ) (change : QueueState → QueueState) where
@@ -70,6 +67,10 @@ module _ (queues : List QueueState) (w : ℕ) (queue later : QueueState) (lt : w
         numbered = rw length-set c.numbered;
       }
 
+  -- legs became legs of the next message
+  pub moves_here : MovesLegs queue later → MovesLegsAt w queues (set queues w later)
+  moves_here m = record { queue = later; moves = rw queue_is m; later_is = refl }
+
   pub counted_same : (many : ℕ) → count_held later ≡ count_held queue → AreCounted many queues →
       AreCounted many (set queues w later)
   counted_same many e c = counted_by many many (ap (λ n. many + n) (sym e)) c.few c
@@ -87,6 +88,12 @@ count_more held q later h =
     let more : length (all_held later) ≡ length (all_held q) + 1 =
     ap length h.held_is ∙ length_push (all_held q) held in
     omega (arith, more, length_all q, length_all later)
+
+-- a leg that was held first is the last of the next message
+pub turned_on : (acts : List Act) (ready : List Leg) (leg : Leg) (held rest : List Held) → held ≡ Ready leg ∷ rest →
+    turned acts (ready ++ leg ∷ []) rest ≡ turned acts ready held
+turned_on acts ready leg held rest e =
+    append_assoc ready (leg ∷ []) (flat_map (resolved acts) rest) ∙ ap (turned acts ready) (sym e)
 
 -- NOTHING
 

@@ -2,25 +2,14 @@
 use Rattle.std.proofs.Common.{◌≡◌, ℕ, List, [], ◌++◌, length, map, Option, None, Some, Result, Ok, Err, sym, ◌∙◌, ap, subst, append-nil, inl, inr}
 use Rattle.std.specs.Prelude.{IfOk, OnErr}
 use Rattle.napt_config.specs.Rules.{Rules}
-use Rattle.napt_rules.specs.declared.Leg.{Leg}
-use Rattle.napt_rules.specs.declared.Outcome.{Outcome}
-use Rattle.napt_rules.specs.Prelude.{Arrival, Ran, ran}
-use Rattle.napt_pool.specs.declared.pool.Pool.{Pool}
-use Rattle.napt_pool.specs.Pools.{accepts, takes as taken}
-use Rattle.napt_sequential.proofs.Inputs.{came_whole}
-use Rattle.napt_dispatch.specs.declared.collected.Collected.{Collected}
-use Rattle.napt_dispatch.specs.declared.dispatcher.Dispatched.{Dispatched}
-use Rattle.napt_dispatch.specs.declared.dispatcher.Ending.{Ending}
-use Rattle.napt_dispatch.specs.declared.dispatcher.Ending.TheVariants as endings
-use Rattle.napt_sequential.specs.declared.fault.RunFault.{RunFault}
-use Rattle.napt_dispatch.specs.declared.workers.Passed.{Passed}
-use Rattle.napt_dispatch.specs.Collecting.{outcome_of, Collects}
-use Rattle.napt_dispatch.specs.Dispatch.{IsDispatched, Right}
+use Rattle.napt_rules.specs.{declared.{Leg.Leg, Outcome.Outcome}, Prelude.{Arrival, Ran, ran}}
+use Rattle.napt_pool.specs.{declared.pool.Pool.Pool, Pools.{accepts, takes as taken}}
+use Rattle.napt_sequential.{proofs.Inputs.came_whole, specs.declared.{fault.RunFault.RunFault, telling.{Told.Told, Untold.Untold}, passage.Passage.Passage}}
+use Rattle.napt_dispatch.specs.declared.{collected.Collected.Collected, dispatcher.{Dispatched.Dispatched, Ending.Ending}, workers.Passed.Passed}
+use Rattle.napt_dispatch.specs.{Collecting.{outcome_of, Collects}, Dispatch.{IsDispatched, Right}}
 use Rattle.napt_dispatch.specs.Passing.{EndsWith, EndsEarly, EndsHalted, EndsBy, PassesTo, PassesWell, PassesEarly, PassesHalted}
-use Rattle.napt_sequential.specs.declared.telling.Told.{Told}
-use Rattle.napt_sequential.specs.declared.telling.Untold.{Untold}
-use Rattle.napt_sequential.specs.declared.passage.Passage.{Passage}
 use Rattle.napt_dispatch.specs.declared.departures.Departed.{Departed}
+use Rattle.napt_dispatch.specs.declared.dispatcher.Ending.TheVariants as endings
 
 module _ {P : Type 0} {tells : Passage → P} {A F S B M G : Type 0} {rules : Rules}
     {hands : A → List Arrival → A → Type 0} {ends : A → Option F → A → Type 0}

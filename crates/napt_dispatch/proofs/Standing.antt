@@ -1,63 +1,31 @@
 -- What stands while a dispatcher hands out the legs of a run.
 use Rattle.std.proofs.Common.{◌≡◌, ◌≢◌, ℕ, zero, suc, ◌+◌, ◌<◌, ◌≤◌, ◌==◌, max, Bool, true, false, cond, List, [], ◌∷◌, ◌++◌, length, map, replicate, Option, Some, None, option_to_list, Ok, Err, refl, sym, ◌∙◌, ap, subst, arith, inl, inr, append_assoc, append-nil, length-append}
-use Rattle.std.specs.Prelude.{IfSome, drop, flat_map, slice_index, slice_get, slice_set}
-use Rattle.std.proofs.lemmas.Bool.{cases_eq, eq-eqb, ne_eqb}
-use Rattle.std.proofs.lemmas.List.{length_push, map-append, length-replicate, length-map, get_or-map}
-use Rattle.std.proofs.lemmas.Grind.{flat_map-append}
-use Rattle.napt_wire.specs.declared.Way.{Way}
-use Rattle.napt_wire.specs.declared.Way.TheVariants.{Outgoing, Incoming}
-use Rattle.napt_wire.specs.declared.Cause.{Cause}
-use Rattle.napt_wire.specs.declared.Side.{Side}
-use Rattle.napt_wire.specs.declared.Side.TheVariants.{Inside, Outside}
-use Rattle.napt_wire.specs.Fields.{destination}
+use Rattle.std.{specs.Prelude.{IfSome, drop, flat_map, slice_index, slice_get, slice_set}, proofs.lemmas.Bool.{cases_eq, eq-eqb, ne_eqb}}
+use Rattle.std.proofs.lemmas.{List.{length_push, map-append, length-replicate, length-map, get_or-map}, Grind.flat_map-append, Option.same_Some}
+use Rattle.napt_wire.specs.{declared.{Way.{Way, TheVariants.{Outgoing, Incoming}}, Cause.Cause, Side.{Side, TheVariants.{Inside, Outside}}}, Fields.destination}
 use Rattle.napt_wire.specs.Packet.{IsPacket}
-use Rattle.napt_config.specs.Rules.{Rules, place_of}
+use Rattle.napt_config.specs.{Rules.{Rules, place_of}, declared.settings.Timers.Timers}
 use Rattle.napt_rules.specs.Prelude.{Each, opening, way_from, served_at, Acted, act, follow_by, Arrival, admission, Act, Course, run, last_clock, acts_at, legs_at, Kept, kept_after}
-use Rattle.napt_rules.specs.declared.Leg.{Leg}
-use Rattle.napt_rules.specs.declared.End.{End}
+use Rattle.napt_rules.specs.declared.{Leg.Leg, End.End, Outcome.Outcome}
 use Rattle.napt_rules.specs.declared.End.TheVariants as ends
-use Rattle.napt_rules.specs.declared.Outcome.{Outcome}
 use Rattle.napt_rules.specs.declared.Outcome.TheVariants as outcomes
-use Rattle.napt_dispatch.specs.declared.dispatcher.holding.Front.{Front}
-use Rattle.napt_dispatch.specs.declared.dispatcher.holding.Front.TheVariants as fronts
-use Rattle.napt_dispatch.specs.declared.dispatcher.holding.Held.{Held}
-use Rattle.napt_dispatch.specs.declared.dispatcher.holding.Held.TheVariants.{Ready, Place}
-use Rattle.napt_dispatch.specs.declared.dispatcher.holding.Owed.{Owed}
-use Rattle.napt_dispatch.specs.declared.dispatcher.progress.Progress.{Progress}
-use Rattle.napt_dispatch.specs.declared.dispatcher.progress.Progress.TheVariants.{Awaited, Returning, Answered}
-use Rattle.napt_dispatch.specs.declared.departures.Departed.{Departed}
-use Rattle.napt_dispatch.specs.declared.dispatcher.Dispatcher.{Dispatcher}
-use Rattle.napt_laws.specs.Dispatching.{IsFront, outcome_told, IsTold, IsForetold, OnwardIsForetold}
-use Rattle.napt_laws.specs.Places.{first_act, second_legs, second_of, IsSeconded}
-use Rattle.napt_laws.proofs.Dispatched.{answers_tell}
-use Rattle.napt_laws.proofs.Grown.{outcomes_long}
-use Rattle.napt_laws.proofs.OneInput.{acts_begin, outcomes_begin, get_at, grown}
-use Rattle.napt_laws.proofs.Places.{legs_append, answers_fill, cond_map, place_stands, acts_grow}
-use Rattle.napt_laws.proofs.Pools.{stands_at}
-use Rattle.napt_pool.specs.declared.pool.Pool.{Pool}
-use Rattle.napt_pool.specs.Pools.{accepts, takes}
-use Rattle.napt_dispatch.specs.Dispatch.{of_worker, fresh, Distinct, IsDispatched, Right, departed, departed_of}
-use Rattle.napt_dispatch.specs.Collecting.{outcome_of}
-use Rattle.napt_dispatch.specs.Passing.{timed}
+use Rattle.napt_dispatch.specs.declared.dispatcher.{holding.{Front.Front, Held.{Held, TheVariants.{Ready, Place}}, Owed.Owed}, progress.Progress.Progress}
+use Rattle.napt_dispatch.specs.declared.{dispatcher.progress.Progress.TheVariants.{Awaited, Returning, Answered}, departures.Departed.Departed}
+use Rattle.napt_dispatch.specs.{declared.dispatcher.Dispatcher.Dispatcher, Dispatch.{of_worker, fresh, Distinct, IsDispatched, Right, departed, departed_of}}
+use Rattle.napt_dispatch.specs.{Collecting.outcome_of, Passing.timed}
 use Rattle.napt_dispatch.specs.QueueStates.{QueueState, unused, queue_of, counts_in, all_held, count_held, front_of, owed_of, first_leg, readied, answered, with_offers, with_queue, Holds, AllHold, only_at, place_at}
 use Rattle.napt_dispatch.specs.Windows.{Window, Whole, whole_of, progress_in, times_in, is_incoming, departed_with, passages_after, refused, refused_at, asked_by, first_by, NoneBehind, IsKnown, AllKnown}
-use Rattle.napt_dispatch.specs.Standing.{Grows, Lane, DispatchState, state_with, state_of, LaneStands, resolved, lane_legs, IsRight, AreRight, Reaches, Stands, Keeps, Admits, Resolves, waits, IsDone}
-use Rattle.napt_dispatch.proofs.Ended.{map_at}
-use Rattle.napt_dispatch.proofs.Lanes.{fronts_both, place_within}
-use Rattle.napt_dispatch.proofs.QueueStates.{queue_own, queue_other, length_with, nothing, of_replicate}
+use Rattle.napt_dispatch.specs.Standing.{Grows, Lane, DispatchState, state_with, state_of, LaneStands, resolved, lane_legs, IsRight, AreRight, Reaches, Stands, Keeps, Admits, Resolves, waits, IsDone, MovesLegs}
+use Rattle.napt_dispatch.proofs.{Ended.map_at, Lanes.{fronts_both, place_within}, QueueStates.{queue_own, queue_other, length_with, nothing, of_replicate}}
 use Rattle.napt_dispatch.proofs.Windows.{known_set, returning_known, ended_known, second_known, left_front, left_whole, timed_outcomes, departed_long, departed_outcomes}
-use Rattle.napt_sequential.specs.declared.telling.Told.{Told}
-use Rattle.napt_sequential.specs.declared.passage.Passage.TheVariants.{Nothing}
-use Rattle.napt_sequential.specs.declared.passage.Trace.{Trace}
-use Rattle.napt_sequential.specs.CountedTranslators.{told_of, told_by}
-use Rattle.napt_sequential.specs.Steps.{steps, told_replies}
-use Rattle.napt_sequential.specs.Traces.{passage_of, traces}
-use Rattle.napt_sequential.proofs.Joined.{steps_get, refused_trace}
-use Rattle.napt_sequential.proofs.ToldAlone.{right_told}
-use Rattle.napt_sequential.proofs.Traced.{IsTraced, IsPlaced, legs_traced}
-use Rattle.napt_config.specs.declared.settings.Timers.{Timers}
-use Rattle.std.proofs.lemmas.Option.{same_Some}
-use Rattle.napt_sequential.specs.declared.passage.Passage.{Passage}
+use Rattle.napt_dispatch.specs.declared.dispatcher.holding.Front.TheVariants as fronts
+use Rattle.napt_laws.specs.{Dispatching.{IsFront, outcome_told, IsTold, IsForetold, OnwardIsForetold}, Places.{first_act, second_legs, second_of, IsSeconded}}
+use Rattle.napt_laws.proofs.{Dispatched.answers_tell, Grown.outcomes_long, OneInput.{acts_begin, outcomes_begin, get_at, grown}}
+use Rattle.napt_laws.proofs.{Places.{legs_append, answers_fill, cond_map, place_stands, acts_grow}, Pools.stands_at}
+use Rattle.napt_pool.specs.{declared.pool.Pool.Pool, Pools.{accepts, takes}}
+use Rattle.napt_sequential.specs.{declared.{telling.Told.Told, passage.{Passage.TheVariants.Nothing, Trace.Trace}}, CountedTranslators.{told_of, told_by}}
+use Rattle.napt_sequential.{specs.{Steps.{steps, told_replies}, Traces.{passage_of, traces}}, proofs.{Joined.{steps_get, refused_trace}, ToldAlone.right_told}}
+use Rattle.napt_sequential.{proofs.Traced.{IsTraced, IsPlaced, legs_traced}, specs.declared.passage.Passage.Passage}
 
 -- FRONTS
 
@@ -297,6 +265,19 @@ readied_keeps {tells = tells} rules all w offered taken q window later second go
           ∙ ap (λ ls. q.ready ++ ls) (sym (first_stands whole q.held window later second goes is known)));
       known = λ o right front known. resolves_known whole (front_of q.held) window later second goes is known;
     }
+
+-- legs become legs of the next message
+pub moved_keeps : {P : Type 0} {tells : Passage → P} (rules : Rules) (all : List Arrival) (w : ℕ)
+    (offered : List Leg) (taken : List (Told P)) (q later : QueueState) (progress : List (Progress P)) →
+    MovesLegs q later →
+    LaneKeeps tells rules all w (record { offered = offered; taken = taken; queue = q })
+    (record { offered = offered; taken = taken; queue = later }) progress progress
+moved_keeps rules all w offered taken q later progress m = record {
+  stands = λ o. rw m.same o;
+  right = λ o right. right;
+  legs = λ known. ap (λ ls. offered ++ ls) (m.legs_stay (run rules all (opening rules)).acts);
+  known = λ o right front known. known;
+}
 
 -- AN ANSWER
 

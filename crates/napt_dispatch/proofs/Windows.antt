@@ -1,29 +1,18 @@
 -- What is known of the inputs that were read.
 use Rattle.std.proofs.Common.{◌≡◌, ◌⊎◌, inl, inr, ℕ, zero, suc, ◌+◌, ◌<◌, ◌≤◌, Bool, true, false, List, [], ◌∷◌, ◌++◌, length, map, set, get_or, Option, Some, None, option_to_list, refl, sym, ◌∙◌, ap, subst, arith, append-nil, append_assoc, length-append}
-use Rattle.std.specs.Prelude.{IfSome, slice_get, slice_set}
-use Rattle.std.proofs.lemmas.List.{map-set, map-append, get_or-map, length-map}
+use Rattle.std.{specs.Prelude.{IfSome, slice_get, slice_set}, proofs.lemmas.List.{map-set, map-append, get_or-map, length-map}}
 use Rattle.napt_pool.proofs.Lists.{map-kept}
 use Rattle.napt_wire.specs.declared.Way.{Way}
-use Rattle.napt_rules.specs.declared.Leg.{Leg}
-use Rattle.napt_rules.specs.declared.Outcome.{Outcome}
+use Rattle.napt_rules.specs.{declared.{Leg.Leg, Outcome.Outcome}, Prelude.{opening, Arrival, run}}
 use Rattle.napt_rules.specs.declared.Outcome.TheVariants as outcomes
 use Rattle.napt_config.specs.Rules.{Rules}
-use Rattle.napt_rules.specs.Prelude.{opening, Arrival, run}
-use Rattle.napt_sequential.specs.declared.outcome.Stepped.{Stepped}
-use Rattle.napt_sequential.specs.declared.passage.Passage.{Passage}
-use Rattle.napt_sequential.specs.Steps.{steps}
-use Rattle.napt_sequential.proofs.Joined.{steps_long, steps_outcomes}
-use Rattle.napt_dispatch.specs.Dispatch.{departed, departed_of}
-use Rattle.napt_laws.specs.Dispatching.{IsFront, outcome_told}
-use Rattle.napt_laws.specs.Places.{second_legs}
-use Rattle.napt_dispatch.specs.declared.dispatcher.progress.Progress.{Progress}
-use Rattle.napt_dispatch.specs.declared.dispatcher.progress.Progress.TheVariants.{Awaited, Returning, Answered}
-use Rattle.napt_dispatch.specs.declared.dispatcher.progress.OpenInput.{OpenInput}
-use Rattle.napt_dispatch.specs.Collecting.{outcome_of}
-use Rattle.napt_dispatch.specs.Standing.{AnswersTo, IsSecond, IsSecondOf}
+use Rattle.napt_sequential.{specs.{declared.{outcome.Stepped.Stepped, passage.Passage.Passage}, Steps.steps}, proofs.Joined.{steps_long, steps_outcomes}}
+use Rattle.napt_dispatch.specs.{Dispatch.{departed, departed_of}, declared.dispatcher.progress.Progress.{Progress, TheVariants.{Awaited, Returning, Answered}}}
+use Rattle.napt_dispatch.specs.{declared.dispatcher.progress.OpenInput.OpenInput, Collecting.outcome_of, Standing.{AnswersTo, IsSecond, IsSecondOf}}
 use Rattle.napt_dispatch.specs.Passing.{timed}
 use Rattle.napt_dispatch.specs.Windows.{Window, Whole, time_in, end_of, ended, ended_in, asked, Asks, first_by, first_in, unmarked, known_in, arrived, mark_of, progress_in, times_in, marks_in, departed_with, departed_in, is_unknown, passages_after, opened, expecting, IsUnmarked, IsWritten, HasMark, IsMarked, FirstMayLeave, Leaves, NoneBehind, KnowsSecond, IsKnown, AllKnown, IsHandedOver}
 use Rattle.napt_dispatch.specs.declared.departures.Departed.{Departed}
+use Rattle.napt_laws.specs.{Dispatching.{IsFront, outcome_told}, Places.second_legs}
 
 -- LISTS
 

@@ -1,11 +1,8 @@
 -- The outcomes of a run in a list.
-use Rattle.std.specs.Prelude.{◌≡◌, ℕ, List, [], ◌++◌, map}
-use Rattle.std.proofs.Common.{sym, append-nil, append_assoc}
-use Rattle.std.proofs.lemmas.List.{map-append}
+use Rattle.std.{specs.Prelude.{◌≡◌, ℕ, List, [], ◌++◌, map}, proofs.{Common.{sym, append-nil, append_assoc}, lemmas.List.map-append}}
 use Rattle.napt_rules.specs.declared.Outcome.{Outcome}
 use Rattle.napt_sequential.specs.declared.telling.Untold.{Untold}
-use Rattle.napt_dispatch.specs.declared.collected.Collected.{Collected}
-use Rattle.napt_dispatch.specs.declared.departures.Departed.{Departed}
+use Rattle.napt_dispatch.specs.declared.{collected.Collected.Collected, departures.Departed.Departed}
 
 abbrev pub outcome_of : {P : Type 0} → ℕ × Departed P → Outcome
 outcome_of pair = pair.1.outcome

@@ -4,17 +4,10 @@
 -- right is a premise here: it is proved once the workers are joined.
 use Rattle.std.specs.Prelude.{◌≡◌, ⊤, ℕ, zero, suc, ◌<◌, max, Bool, true, false, List, [], ◌∷◌, ◌++◌, map, length, slice_index, slice_index_or, Result, Ok, Err}
 use Rattle.napt_config.specs.Rules.{Rules}
-use Rattle.napt_rules.specs.Prelude.{of, opening, Arrival, rows, run, legs_at, Kept}
-use Rattle.napt_rules.specs.declared.Row.{Row}
-use Rattle.napt_rules.specs.declared.Leg.{Leg}
+use Rattle.napt_rules.specs.{Prelude.{of, opening, Arrival, rows, run, legs_at, Kept}, declared.{Row.Row, Leg.Leg, Outcome.Outcome}}
 use Rattle.napt_translate.specs.Translators.{TranslatorState, begun}
-use Rattle.napt_pool.specs.Faults.{IsFaultOf, is_shut}
-use Rattle.napt_pool.specs.declared.fault.PoolFault.{PoolFault}
-use Rattle.napt_rules.specs.declared.Outcome.{Outcome}
-use Rattle.napt_sequential.specs.declared.fault.RunFault.{RunFault}
-use Rattle.napt_sequential.specs.declared.passage.Passage.{Passage}
-use Rattle.napt_sequential.specs.declared.telling.Told.{Told}
-use Rattle.napt_sequential.specs.declared.outcome.Stepped.{Stepped}
+use Rattle.napt_pool.specs.{Faults.{IsFaultOf, is_shut}, declared.fault.PoolFault.PoolFault}
+use Rattle.napt_sequential.specs.declared.{fault.RunFault.RunFault, passage.Passage.Passage, telling.Told.Told, outcome.Stepped.Stepped}
 use Rattle.napt_sequential.specs.Steps.{steps, told_replies}
 use Rattle.napt_dispatch.specs.declared.departures.Departed.{Departed}
 use Rattle.napt_sequential.specs.declared.fault.RunFault.TheVariants as faults

@@ -1,30 +1,17 @@
 -- A run from arrivals to departures.
 use Rattle.std.specs.Prelude.{◌≡◌, ◌⊎◌, ⊤, ℕ, ◌^◌, ◌<◌, max, Bool, List, [], ◌∷◌, ◌++◌, map, length, Option, Some, None, Result, Ok, Err, MatchResult}
 use Rattle.napt_config.specs.Rules.{Rules, KeepsRules}
-use Rattle.napt_rules.specs.Prelude.{Arrival, last_clock, ran}
-use Rattle.napt_rules.specs.declared.Leg.{Leg}
-use Rattle.napt_pool.specs.declared.pool.Pool.{Pool}
-use Rattle.napt_pool.specs.Pools.{starts, accepts, zip_with, takes as taken}
-use Rattle.napt_sequential.specs.declared.passage.Passage.{Passage}
-use Rattle.napt_sequential.specs.declared.telling.Told.{Told}
-use Rattle.napt_dispatch.specs.declared.departures.Departed.{Departed}
-use Rattle.napt_sequential.specs.Inputs.{Came}
+use Rattle.napt_rules.specs.{Prelude.{Arrival, last_clock, ran}, declared.Leg.Leg}
+use Rattle.napt_pool.specs.{declared.pool.Pool.Pool, Pools.{starts, accepts, zip_with, takes as taken}}
+use Rattle.napt_sequential.specs.{declared.{passage.Passage.Passage, telling.Told.Told, fault.RunFault.RunFault}, Inputs.Came}
+use Rattle.napt_dispatch.specs.declared.{departures.Departed.Departed, dispatcher.{Dispatcher.Dispatcher, Dispatched.Dispatched}, stopped.Halted.Halted}
+use Rattle.napt_dispatch.specs.declared.{dispatcher.{Ending.Ending, reading.EndOfInputs.EndOfInputs}, stopped.Stopped.Stopped, workers.Passed.Passed}
+use Rattle.napt_dispatch.specs.{Collecting.outcome_of, Dispatch.{IsFaultUnder, IsDispatched, Right, departed}}
+use Rattle.napt_dispatch.specs.{Windows.{Window, progress_in, times_in, IsHandedOver}, Standing.{state_of, IsSizedFor, Stands, KeepsAt, IsDone, Grows, HaltsBy}}
 use Rattle.napt_laws.specs.Dispatching.{IsFront}
-use Rattle.napt_dispatch.specs.declared.dispatcher.Dispatcher.{Dispatcher}
-use Rattle.napt_dispatch.specs.declared.stopped.Halted.{Halted}
 use Rattle.napt_dispatch.specs.declared.stopped.Halted.TheVariants as halts
-use Rattle.napt_dispatch.specs.declared.dispatcher.Dispatched.{Dispatched}
-use Rattle.napt_dispatch.specs.declared.dispatcher.Ending.{Ending}
 use Rattle.napt_dispatch.specs.declared.dispatcher.Ending.TheVariants as endings
-use Rattle.napt_dispatch.specs.declared.dispatcher.reading.EndOfInputs.{EndOfInputs}
-use Rattle.napt_dispatch.specs.declared.stopped.Stopped.{Stopped}
 use Rattle.napt_dispatch.specs.declared.stopped.Stopped.TheVariants as stops
-use Rattle.napt_dispatch.specs.declared.workers.Passed.{Passed}
-use Rattle.napt_dispatch.specs.Collecting.{outcome_of}
-use Rattle.napt_dispatch.specs.Dispatch.{IsFaultUnder, IsDispatched, Right, departed}
-use Rattle.napt_dispatch.specs.Windows.{Window, progress_in, times_in, IsHandedOver}
-use Rattle.napt_dispatch.specs.Standing.{state_of, IsSizedFor, Stands, KeepsAt, IsDone, Grows, HaltsBy}
-use Rattle.napt_sequential.specs.declared.fault.RunFault.{RunFault}
 
 -- OUTCOMES THAT LEAVE
 

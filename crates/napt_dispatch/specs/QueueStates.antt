@@ -2,11 +2,8 @@
 use Rattle.std.specs.Prelude.{◌≡◌, ℕ, ◌+◌, ◌<◌, ◌≤◌, ◌^◌, ◌==◌, if◌then◌else◌, List, [], ◌∷◌, ◌++◌, drop, map, length, option_to_list, slice_set, slice_index_or, Option, Some, None}
 use Rattle.std.specs.List.{sum_by}
 use Rattle.napt_rules.specs.declared.Leg.{Leg}
-use Rattle.napt_dispatch.specs.declared.dispatcher.holding.Front.{Front}
+use Rattle.napt_dispatch.specs.declared.dispatcher.holding.{Front.Front, Held.{Held, TheVariants.{Ready, Place}}, Owed.Owed}
 use Rattle.napt_dispatch.specs.declared.dispatcher.holding.Front.TheVariants as fronts
-use Rattle.napt_dispatch.specs.declared.dispatcher.holding.Held.{Held}
-use Rattle.napt_dispatch.specs.declared.dispatcher.holding.Held.TheVariants.{Ready, Place}
-use Rattle.napt_dispatch.specs.declared.dispatcher.holding.Owed.{Owed}
 
 -- one worker: the number of legs offered, those not answered yet, those of the next message, and what is held behind
 pub record QueueState : Type 0 where

@@ -5,33 +5,19 @@
 -- right is a premise here: it is proved once the workers are joined.
 use Rattle.std.specs.Prelude.{◌≡◌, ◌≢◌, ◌⊎◌, ℕ, ◌+◌, ◌<◌, ◌≤◌, ◌==◌, max, Bool, true, false, if◌then◌else◌, List, [], ◌∷◌, ◌++◌, map, flat_map, length, slice_index, slice_get, Option, Some, None, Result, MatchResult}
 use Rattle.napt_config.specs.Rules.{Rules}
-use Rattle.napt_rules.specs.Prelude.{opening, Arrival, Act, run, last_clock, legs_at}
-use Rattle.napt_rules.specs.declared.Leg.{Leg}
-use Rattle.napt_pool.specs.declared.pool.Pool.{Pool}
-use Rattle.napt_pool.specs.Pools.{starts, accepts, takes, capacity_of}
-use Rattle.napt_sequential.specs.declared.fault.RunFault.{RunFault}
-use Rattle.napt_sequential.specs.declared.passage.Passage.{Passage}
-use Rattle.napt_sequential.specs.declared.passage.Passage.TheVariants.{Nothing}
-use Rattle.napt_sequential.specs.declared.telling.Told.{Told}
-use Rattle.napt_sequential.specs.Steps.{told_replies}
+use Rattle.napt_rules.specs.{Prelude.{opening, Arrival, Act, run, last_clock, legs_at}, declared.Leg.Leg}
+use Rattle.napt_pool.specs.{declared.pool.Pool.Pool, Pools.{starts, accepts, takes, capacity_of}}
+use Rattle.napt_sequential.specs.{declared.{fault.RunFault.RunFault, passage.Passage.{Passage, TheVariants.Nothing}, telling.Told.Told}, Steps.told_replies}
 use Rattle.napt_wire.specs.declared.Way.{Way}
-use Rattle.napt_laws.specs.Dispatching.{IsFront}
-use Rattle.napt_laws.specs.Places.{second_legs}
-use Rattle.napt_dispatch.specs.declared.departures.Departed.{Departed}
-use Rattle.napt_dispatch.specs.declared.dispatcher.Dispatcher.{Dispatcher}
-use Rattle.napt_dispatch.specs.declared.dispatcher.holding.Front.{Front}
-use Rattle.napt_dispatch.specs.declared.dispatcher.holding.Front.TheVariants as fronts
-use Rattle.napt_dispatch.specs.declared.dispatcher.holding.Held.{Held}
-use Rattle.napt_dispatch.specs.declared.dispatcher.holding.Held.TheVariants.{Ready, Place}
-use Rattle.napt_dispatch.specs.declared.dispatcher.holding.Owed.{Owed}
-use Rattle.napt_dispatch.specs.declared.dispatcher.progress.OpenInput.{OpenInput}
-use Rattle.napt_dispatch.specs.declared.dispatcher.progress.Progress.{Progress}
-use Rattle.napt_dispatch.specs.declared.dispatcher.progress.Progress.TheVariants.{Returning, Answered}
-use Rattle.napt_dispatch.specs.declared.dispatcher.taking.Until.{Until}
-use Rattle.napt_dispatch.specs.declared.dispatcher.taking.Until.TheVariants as untils
+use Rattle.napt_laws.specs.{Dispatching.IsFront, Places.second_legs}
+use Rattle.napt_dispatch.specs.declared.{departures.Departed.Departed, dispatcher.{Dispatcher.Dispatcher, holding.{Front.Front, Held.Held}}}
+use Rattle.napt_dispatch.specs.declared.dispatcher.{holding.{Held.TheVariants.{Ready, Place}, Owed.Owed}, progress.{OpenInput.OpenInput, Progress.Progress}}
+use Rattle.napt_dispatch.specs.declared.dispatcher.{progress.Progress.TheVariants.{Returning, Answered}, taking.Until.Until}
 use Rattle.napt_dispatch.specs.Dispatch.{of_worker, fresh, IsDispatchFault}
-use Rattle.napt_dispatch.specs.QueueStates.{QueueState, AnswersAt, all_held, count_held, front_of, queue_of, owed_of, many_owed, many_held}
+use Rattle.napt_dispatch.specs.QueueStates.{QueueState, AnswersAt, all_held, count_held, front_of, queue_of, owed_of, many_owed, many_held, with_queue}
 use Rattle.napt_dispatch.specs.Windows.{Window, progress_in, times_in, is_unknown, passages_after, asked, Asks, first_in, whole_of, AllKnown, IsWritten, HasMark, IsMarked}
+use Rattle.napt_dispatch.specs.declared.dispatcher.holding.Front.TheVariants as fronts
+use Rattle.napt_dispatch.specs.declared.dispatcher.taking.Until.TheVariants as untils
 
 -- A DISPATCHER'S STATE
 
@@ -82,9 +68,13 @@ abbrev pub resolved : List Act → Held → List Leg
 resolved acts (Ready leg) = leg ∷ []
 resolved acts (Place number) = second_legs number acts
 
+-- the legs of a next message, and those that what is held behind turns into
+abbrev pub turned : List Act → List Leg → List Held → List Leg
+turned acts ready held = ready ++ flat_map (resolved acts) held
+
 -- the legs offered to a worker, and those that are held for it
 abbrev pub lane_legs : {P : Type 0} → List Act → Lane P → List Leg
-lane_legs acts lane = lane.offered ++ (lane.queue.ready ++ flat_map (resolved acts) lane.queue.held)
+lane_legs acts lane = lane.offered ++ turned acts lane.queue.ready lane.queue.held
 
 -- the answers of worker w, and what is told with them, are its translator's
 abbrev pub IsRight : {P : Type 0} → (Passage → P) → Rules → ℕ → Lane P → Type 0
@@ -255,6 +245,19 @@ pub record NotesAll {P : Type 0} (tells : Passage → P) (w : ℕ) (answers : Li
       (state_with offered (added w answers taken) later)
 
 -- OFFERS
+
+-- legs that were held first became legs of the next message: there are as many, and in the same order
+pub record MovesLegs (q later : QueueState) : Type 0 where
+  pub same : later ≡ record q { ready = later.ready; held = later.held }
+  pub legs_stay : (acts : List Act) → turned acts later.ready later.held ≡ turned acts q.ready q.held
+  pub count_stays : count_held later ≡ count_held q
+  pub shorter : length later.held ≤ length q.held
+
+-- of worker w
+pub record MovesLegsAt (w : ℕ) (queues later : List QueueState) : Type 0 where
+  pub queue : QueueState
+  pub moves : MovesLegs (queue_of queues w) queue
+  pub later_is : later ≡ with_queue w (λ q. queue) queues
 
 -- what is held for worker w was put behind the legs of its next message, or was a placeholder without a leg
 pub record Readies {P : Type 0} (tells : Passage → P) (w : ℕ) (d later : Dispatcher P) : Type 0 where

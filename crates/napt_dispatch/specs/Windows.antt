@@ -1,24 +1,14 @@
 -- The inputs that were read: those whose outcomes have left, and the open ones.
 use Rattle.std.specs.Prelude.{◌≡◌, ℕ, ◌≤◌, ◌++◌, List, [], ◌∷◌, length, Bool, true, false, Option, Some, None, IfSome, is_some, option_to_list, map, slice_get, slice_set}
-use Rattle.napt_wire.specs.declared.Cause.{Cause}
+use Rattle.napt_wire.specs.declared.{Cause.Cause, Way.{Way, TheVariants.{Outgoing, Incoming}}}
 use Rattle.napt_config.specs.Rules.{Rules}
-use Rattle.napt_wire.specs.declared.Way.{Way}
-use Rattle.napt_wire.specs.declared.Way.TheVariants.{Outgoing, Incoming}
-use Rattle.napt_rules.specs.declared.End.{End}
+use Rattle.napt_rules.specs.{declared.{End.End, Leg.Leg, Outcome.Outcome}, Prelude.{opening, Arrival, Act, run}}
 use Rattle.napt_rules.specs.declared.End.TheVariants as ends
-use Rattle.napt_rules.specs.declared.Leg.{Leg}
-use Rattle.napt_rules.specs.Prelude.{opening, Arrival, Act, run}
-use Rattle.napt_laws.specs.Places.{second_legs}
-use Rattle.napt_rules.specs.declared.Outcome.{Outcome}
+use Rattle.napt_laws.specs.{Places.second_legs, Dispatching.outcome_told}
 use Rattle.napt_rules.specs.declared.Outcome.TheVariants as outcomes
-use Rattle.napt_laws.specs.Dispatching.{outcome_told}
-use Rattle.napt_sequential.specs.declared.passage.Passage.{Passage}
-use Rattle.napt_sequential.specs.Traces.{traces}
-use Rattle.napt_dispatch.specs.declared.departures.Departed.{Departed}
-use Rattle.napt_dispatch.specs.declared.dispatcher.progress.OpenInput.{OpenInput}
-use Rattle.napt_dispatch.specs.declared.dispatcher.progress.Progress.{Progress}
-use Rattle.napt_dispatch.specs.declared.dispatcher.progress.Progress.TheVariants.{Awaited, Returning, Answered}
-use Rattle.napt_dispatch.specs.Dispatch.{departed}
+use Rattle.napt_sequential.specs.{declared.passage.Passage.Passage, Traces.traces}
+use Rattle.napt_dispatch.specs.declared.{departures.Departed.Departed, dispatcher.progress.{OpenInput.OpenInput, Progress.Progress}}
+use Rattle.napt_dispatch.specs.{declared.dispatcher.progress.Progress.TheVariants.{Awaited, Returning, Answered}, Dispatch.departed}
 
 -- what has left, with the arrival times, then the open inputs, all in the order of the inputs
 pub record Window (P : Type 0) : Type 0 where

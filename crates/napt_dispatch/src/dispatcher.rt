@@ -5,11 +5,8 @@
 //! is read, a placeholder for the second leg is held for that worker. Everything behind it waits for that answer; nothing
 //! else does.
 ghost use Rattle.std.specs.Prelude.{◌≡◌, ◌<◌, ◌^◌, [], length, map, replicate, IfOk, IfErr, OnOk, OnErr};
-ghost use Rattle.napt_pool.specs.Pools.{starts, accepts, takes, zip_with};
-ghost use Rattle.napt_pool.specs.Histories.{replies};
-ghost use Rattle.napt_dispatch.specs.Dispatch.{started, IsDispatchFault, IsDispatched};
-ghost use Rattle.napt_dispatch.specs.Passing.{EndsBy, EndsHalted};
-ghost use Rattle.napt_dispatch.specs.QueueStates.{unused};
+ghost use Rattle.napt_pool.specs.{Pools.{starts, accepts, takes, zip_with}, Histories.replies};
+ghost use Rattle.napt_dispatch.specs.{Dispatch.{started, IsDispatchFault, IsDispatched}, Passing.{EndsBy, EndsHalted}, QueueStates.unused};
 
 mod holding;
 mod offering;

@@ -2,12 +2,10 @@
 
 ghost use Rattle.std.specs.Prelude.{◌≡◌, ◌↔◌, ◌^◌, ◌≤◌, [], length, map, flat_map, replicate, vec_len, AllPairs, IfOk, IfErr, OnOk, Ok, Err, true, false};
 ghost use Rattle.napt_config.specs.Rules.{KeepsRules};
-ghost use Rattle.napt_pool.specs.Histories.{after, replies, AllBegin};
-ghost use Rattle.napt_pool.specs.Pools.{starts, accepts, takes, zip_with};
+ghost use Rattle.napt_pool.specs.{Histories.{after, replies, AllBegin}, Pools.{starts, accepts, takes, zip_with}};
 ghost use Rattle.napt_rules.specs.Sequential as model;
-ghost use Rattle.napt_dispatch.specs.Dispatch.{first_fault, started, rows_after, IsDispatchFault, IsFaultUnder};
+ghost use Rattle.napt_dispatch.specs.{Dispatch.{first_fault, started, rows_after, IsDispatchFault, IsFaultUnder}, Passing.{Passes, IsStoppedUnder}};
 ghost use Rattle.napt_sequential.specs.Faults.{is_gate_fault};
-ghost use Rattle.napt_dispatch.specs.Passing.{Passes, IsStoppedUnder};
 ghost use Rattle.napt_rules.specs.Prelude.{AreRowsApart};
 
 use crate::Worker;

@@ -5,6 +5,7 @@
 //! The caller gives what to show (`Scene`), in its own words and with times in ns; `drawing_of` lays it out and draws
 //! it.
 
+mod axis;
 mod bars;
 mod counts;
 mod frame;
@@ -12,9 +13,8 @@ mod layout;
 mod lives;
 mod scene;
 mod shapes;
-mod span;
 mod svg;
 mod tallies;
 
-pub use crate::picture::scene::{Binding, BindingKind, NumberClass, Pass, Scene};
+pub use crate::picture::scene::{BindingKind, DrawnBinding, NumberClass, Pass, Scene};
 pub use crate::picture::svg::{MOST_BARS, drawing_of};

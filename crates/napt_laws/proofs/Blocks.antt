@@ -1,11 +1,10 @@
--- What the candidates of a number in a block are: the numbers of the block, each once, that at its place first.
-use Rattle.std.proofs.Common.{◌≡◌, ◌≢◌, ℕ, zero, suc, ◌+◌, ◌-◌, ◌*◌, ◌/◌, ◌%◌, ◌<◌, ◌≤◌, ◌==◌, true, false, nat_le, List, ◌∷◌, ◌++◌, map, Some, ◌⊎◌, inl, inr, refl, sym, ◌∙◌, ap, subst, arith, leb-true, leb-false}
-use Rattle.std.specs.List.{All, AllPairs, Contains, range_with_len}
-use Rattle.std.proofs.lemmas.Nat.{mod_below}
-use Rattle.std.proofs.Math.Nat.{mod-eq_of_lt, add-mod_left, mod-mod}
+-- What the candidates of a number in a block are: the numbers of the block, each once, that at the place first.
+use Rattle.std.proofs.Common.{◌≡◌, ◌≢◌, ℕ, zero, suc, ◌+◌, ◌-◌, ◌*◌, ◌/◌, ◌%◌, ◌<◌, ◌≤◌, ◌==◌, Bool, true, false, nat_le, List, ◌∷◌, ◌++◌, map, Option, Some, None, ◌⊎◌, inl, inr, refl, sym, ◌∙◌, ap, subst, arith, leb-true, leb-false}
+use Rattle.std.{specs.List.{All, AllPairs, Contains, range_with_len}, proofs.lemmas.Nat.{mod_below, Gcd.dvd_of_mod-eq-zero}}
+use Rattle.std.proofs.Math.Nat.{mod-eq_of_lt, add-mod_left, mod-mod_of_dvd}
 use Rattle.std.proofs.lemmas.List.Elements.{All-append, All-contains, Contains-append_left, Contains-append_right}
 use Rattle.std.proofs.lemmas.List.FromFn.{length-map-range_with_len, get_or-map-range_with_len}
-use Rattle.napt_rules.specs.Prelude.{Each, IsOfBlock, BlockBegins, BlockIsThose, BlockDiffers, numbers_below, every_other, candidates, IsBlock, Block, Protocol}
+use Rattle.napt_rules.specs.Prelude.{Each, IsOfBlock, BlockBegins, BlockIsThose, BlockDiffers, BlockKeepsParity, numbers_below, mixed, every_other, each_one, place_in, block_from, candidates, IsBlock, Block, Choosing, Seed, Endpoint, Protocol}
 use Rattle.napt_laws.proofs.Classes.{AllPairs-append, each_from}
 
 -- EACH NUMBER BELOW A LIMIT, CHANGED
@@ -124,78 +123,182 @@ module _ (block : Block) (is : IsBlock block) where
       let less : (place + 2 * k) % block.size < block.size = mod_below (place + 2 * k) block.size some in
       record { first = omega arith; last = omega (arith, less) })
 
-  module _ (protocol : Protocol) (number : ℕ) where
-    abbrev own : ℕ
-    own = number % block.size
+-- FROM A PLACE OF IT ON
 
-    abbrev alike : List ℕ
-    alike = every_other block own
+module _ (block : Block) (is : IsBlock block) (place : ℕ) (inside : place < block.size) where
+  -- by twos
+  two_all : All (IsOfBlock block) (block_from true block place)
+  two_all = All-append (IsOfBlock block) (every_other block place) (every_other block (place + 1))
+      (every_is block is place) (every_is block is (place + 1))
 
-    abbrev unlike : List ℕ
-    unlike = every_other block (own + 1)
+  two_begins : (others : List ℕ) × (block_from true block place ≡ (block.first + place) ∷ others)
+  two_begins =
+      let (rest, starts) = first_mapped (λ k. block.first + (place + 2 * k) % block.size) (block.size / 2)
+      (omega (arith, is.some)) in
+      let here : (place + 2 * 0) % block.size ≡ place =
+      ap (λ n. n % block.size) (let z : place + 2 * 0 ≡ place = omega arith in z) ∙ mod-eq_of_lt inside in (
+        rest ++ every_other block (place + 1),
+        ap (λ (l : List ℕ). l ++ every_other block (place + 1)) starts
+            ∙ ap (λ (n : ℕ). (block.first + n) ∷ (rest ++ every_other block (place + 1))) here,
+      )
 
-    inside : own < block.size
-    inside = let some : 0 < block.size = omega (arith, is.some) in mod_below number block.size some
+  two_has : (n : ℕ) → IsOfBlock block n → Contains (block_from true block place) n
+  two_has n of =
+      let o : ℕ = n - block.first in
+      let small : o < block.size = omega (arith, of.first, of.last) in
+      let back : block.first + o ≡ n = omega (arith, of.first) in
+      elim (o % 2 == place % 2) as (λ v. (o % 2 == place % 2) ≡ v → Contains (block_from true block place) n) [
+        | true ↦ λ e.
+            let same : o % 2 ≡ place % 2 = grind (arith, e) in
+            Contains-append_left (every_other block place) (every_other block (place + 1)) n
+            (subst (Contains (every_other block place)) back
+            (at_reaches block is place (omega (arith, inside)) o small same))
+        | false ↦ λ e.
+            let differ : o % 2 ≢ place % 2 = grind (arith, e) in
+            let same : o % 2 ≡ (place + 1) % 2 = omega (arith, differ) in
+            Contains-append_right (every_other block place) (every_other block (place + 1)) n
+            (subst (Contains (every_other block (place + 1))) back
+            (at_reaches block is (place + 1) (omega (arith, inside)) o small same))
+      ] refl
 
-    pub all_of_block : All (IsOfBlock block) (candidates (Some block) protocol number)
-    all_of_block = All-append (IsOfBlock block) alike unlike (every_is own) (every_is (own + 1))
+  two_differ : AllPairs (λ m n. m ≢ n) (block_from true block place)
+  two_differ =
+      AllPairs-append (λ m n. m ≢ n) (every_other block place) (every_other block (place + 1))
+      (every_differs block is place (omega (arith, inside))) (every_differs block is (place + 1)
+      (omega (arith, inside)))
+      (λ i d h j e g same.
+      let first = every_has_parity block is place (omega (arith, inside)) i d h in
+      let second = every_has_parity block is (place + 1) (omega (arith, inside)) j e g in
+      let third = sym first ∙ (ap (λ n. (n - block.first) % 2) same ∙ second) in
+      omega (arith, third))
 
-    -- what holds of each number of a block holds of the candidates there
-    pub each_of_block : (P : ℕ → Type 0) → ((n : ℕ) → IsOfBlock block n → P n) →
-        Each P (candidates (Some block) protocol number)
-    each_of_block P holds =
-        each_from P (candidates (Some block) protocol number) (λ k d h. holds _ (all_of_block k d h))
+  -- by ones
+  abbrev one_at : ℕ → ℕ
+  one_at k = (place + k) % block.size
 
-    begins : (others : List ℕ) × (candidates (Some block) protocol number ≡ (block.first + own) ∷ others)
-    begins =
-        let (rest, starts) = first_mapped (λ k. block.first + (own + 2 * k) % block.size) (block.size / 2)
-        (omega (arith, is.some)) in
-        let here : (own + 2 * 0) % block.size ≡ own =
-        ap (λ n. n % block.size) (let z : own + 2 * 0 ≡ own = omega arith in z) ∙ mod-mod number block.size in (
-          rest ++ unlike,
-          ap (λ (l : List ℕ). l ++ unlike) starts
-              ∙ ap (λ (n : ℕ). (block.first + n) ∷ (rest ++ unlike)) here,
-        )
+  one_is : (k : ℕ) → k < block.size → ((one_at k ≡ place + k) × (place + k < block.size))
+      ⊎ ((one_at k ≡ (place + k) - block.size) × (block.size ≤ place + k))
+  one_is k within = wrapped block is (place + k) (omega (arith, inside, within))
 
-    reaches : (n : ℕ) → IsOfBlock block n → Contains (candidates (Some block) protocol number) n
-    reaches n of =
-        let o : ℕ = n - block.first in
-        let small : o < block.size = omega (arith, of.first, of.last) in
-        let back : block.first + o ≡ n = omega (arith, of.first) in
-        elim (o % 2 == own % 2) as (λ v. (o % 2 == own % 2) ≡ v →
-        Contains (candidates (Some block) protocol number) n) [
-          | true ↦ λ e.
-              let same : o % 2 ≡ own % 2 = grind (arith, e) in
-              Contains-append_left alike unlike n (subst (Contains alike) back
-              (at_reaches own (omega (arith, inside)) o small same))
-          | false ↦ λ e.
-              let differ : o % 2 ≢ own % 2 = grind (arith, e) in
-              let same : o % 2 ≡ (own + 1) % 2 = omega (arith, differ) in
-              Contains-append_right alike unlike n (subst (Contains unlike) back
-              (at_reaches (own + 1) (omega (arith, inside)) o small same))
-        ] refl
+  ones_differ : (i j : ℕ) → i < j → j < block.size → one_at i ≢ one_at j
+  ones_differ i j less within = λ same. elim (one_is i (omega (arith, less, within))) as (λ v. ⊥) [
+    | inl h ↦ elim (one_is j within) as (λ v. ⊥) [
+      | inl g ↦ absurd (omega (arith, h.0, g.0, same, less))
+      | inr g ↦ absurd (omega (arith, h.0, g.0, g.1, same, less, within))
+    ]
+    | inr h ↦ elim (one_is j within) as (λ v. ⊥) [
+      | inl g ↦ absurd (omega (arith, h.1, g.1, less))
+      | inr g ↦ absurd (omega (arith, h.0, h.1, g.0, g.1, same, less))
+    ]
+  ]
 
-    differ : AllPairs (λ m n. m ≢ n) (candidates (Some block) protocol number)
-    differ =
-        AllPairs-append (λ m n. m ≢ n) alike unlike (every_differs own (omega (arith, inside)))
-        (every_differs (own + 1) (omega (arith, inside)))
-        (λ i d h j e g same.
-        let first = every_has_parity own (omega (arith, inside)) i d h in
-        let second = every_has_parity (own + 1) (omega (arith, inside)) j e g in
-        let third = sym first ∙ (ap (λ n. (n - block.first) % 2) same ∙ second) in
-        omega (arith, third))
+  one_all : All (IsOfBlock block) (block_from false block place)
+  one_all =
+      all_mapped (λ k. block.first + one_at k) block.size (IsOfBlock block) (λ k within.
+      let some : 0 < block.size = omega (arith, is.some) in
+      let less : one_at k < block.size = mod_below (place + k) block.size some in
+      record { first = omega arith; last = omega (arith, less) })
+
+  one_begins : (others : List ℕ) × (block_from false block place ≡ (block.first + place) ∷ others)
+  one_begins =
+      let (rest, starts) = first_mapped (λ k. block.first + one_at k) block.size (omega (arith, is.some)) in
+      let here : (place + 0) % block.size ≡ place =
+      ap (λ n. n % block.size) (let z : place + 0 ≡ place = omega arith in z) ∙ mod-eq_of_lt inside in
+      (rest, starts ∙ ap (λ (n : ℕ). (block.first + n) ∷ rest) here)
+
+  one_has : (n : ℕ) → IsOfBlock block n → Contains (block_from false block place) n
+  one_has n of =
+      let o : ℕ = n - block.first in
+      let small : o < block.size = omega (arith, of.first, of.last) in
+      let back : block.first + o ≡ n = omega (arith, of.first) in
+      subst (Contains (each_one block place)) back (elim (nat_le place o) as (λ v. nat_le place o ≡ v →
+      Contains (each_one block place) (block.first + o)) [
+        | true ↦ λ e.
+            let le : place ≤ o = leb-true place o e in
+            let there : place + (o - place) ≡ o = omega (arith, le) in
+            subst (λ n. Contains (each_one block place) (block.first + n))
+            (ap (λ n. n % block.size) there ∙ mod-eq_of_lt small)
+            (contains_mapped (λ k. block.first + one_at k) block.size (o - place) (omega (arith, small)))
+        | false ↦ λ e.
+            let less : o < place = leb-false place o e in
+            let k : ℕ = (block.size + o) - place in
+            let there : place + k ≡ block.size + o = omega (arith, less, inside) in
+            subst (λ n. Contains (each_one block place) (block.first + n))
+            (ap (λ n. n % block.size) there ∙ (add-mod_left block.size o ∙ mod-eq_of_lt small))
+            (contains_mapped (λ k. block.first + one_at k) block.size k (omega (arith, less, inside)))
+      ] refl)
+
+  one_differ : AllPairs (λ m n. m ≢ n) (block_from false block place)
+  one_differ =
+      pairs_mapped (λ k. block.first + one_at k) block.size (λ m n. m ≢ n)
+      (λ i j less within same. ones_differ i j less within (omega (arith, same)))
+
+  -- by either
+  from_all : (keeps : Bool) → All (IsOfBlock block) (block_from keeps block place)
+  from_all true = two_all
+  from_all false = one_all
+
+  from_begins : (keeps : Bool) → (others : List ℕ) × (block_from keeps block place ≡ (block.first + place) ∷ others)
+  from_begins true = two_begins
+  from_begins false = one_begins
+
+  from_has : (keeps : Bool) (n : ℕ) → IsOfBlock block n → Contains (block_from keeps block place) n
+  from_has true = two_has
+  from_has false = one_has
+
+  from_differ : (keeps : Bool) → AllPairs (λ m n. m ≢ n) (block_from keeps block place)
+  from_differ true = two_differ
+  from_differ false = one_differ
+
+place_inside : (seed : Option Seed) (keeps : Bool) (block : Block) → IsBlock block → (protocol : Protocol)
+    (inside : Endpoint) → place_in seed keeps block.size protocol inside < block.size
+place_inside None keeps block is protocol inside =
+    let some : 0 < block.size = omega (arith, is.some) in mod_below inside.number block.size some
+place_inside (Some seed) true block is protocol inside =
+    let some : 0 < block.size / 2 = omega (arith, is.some) in
+    let less : mixed seed protocol inside % (block.size / 2) < block.size / 2 =
+    mod_below (mixed seed protocol inside) (block.size / 2) some in
+    let parity : inside.number % 2 < 2 = omega arith in
+    omega (arith, less, parity, is.size_even)
+place_inside (Some seed) false block is protocol inside =
+    let some : 0 < block.size = omega (arith, is.some) in mod_below (mixed seed protocol inside) block.size some
+
+-- what holds of each number of a block holds of the candidates there
+pub each_of_block : (P : ℕ → Type 0) (choosing : Choosing) (block : Block) → IsBlock block → (protocol : Protocol)
+    (inside : Endpoint) → ((n : ℕ) → IsOfBlock block n → P n) →
+    Each P (candidates choosing (Some block) protocol inside)
+each_of_block P choosing block is protocol inside holds =
+    let place : ℕ = place_in choosing.seed choosing.keeps_parity block.size protocol inside in
+    let within : place < block.size = place_inside choosing.seed choosing.keeps_parity block is protocol inside in
+    each_from P (block_from choosing.keeps_parity block place) (λ k d h.
+    holds _ (from_all block is place within choosing.keeps_parity k d h))
 
 -- THE LAWS
 
 pub block_begins : BlockBegins
-block_begins block is protocol number = begins block is protocol number
+block_begins choosing block is protocol inside =
+    let place : ℕ = place_in choosing.seed choosing.keeps_parity block.size protocol inside in
+    let within : place < block.size = place_inside choosing.seed choosing.keeps_parity block is protocol inside in
+    (within, from_begins block is place within choosing.keeps_parity)
 
 pub block_is_those : BlockIsThose
-block_is_those block is protocol number n = (
-  λ h. All-contains (IsOfBlock block) (candidates (Some block) protocol number) n
-      (all_of_block block is protocol number) h,
-  λ h. reaches block is protocol number n h,
-)
+block_is_those choosing block is protocol inside n =
+    let place : ℕ = place_in choosing.seed choosing.keeps_parity block.size protocol inside in
+    let within : place < block.size = place_inside choosing.seed choosing.keeps_parity block is protocol inside in (
+      λ h. All-contains (IsOfBlock block) (block_from choosing.keeps_parity block place) n
+          (from_all block is place within choosing.keeps_parity) h,
+      λ h. from_has block is place within choosing.keeps_parity n h,
+    )
 
 pub block_differs : BlockDiffers
-block_differs block is protocol number = differ block is protocol number
+block_differs choosing block is protocol inside =
+    let place : ℕ = place_in choosing.seed choosing.keeps_parity block.size protocol inside in
+    let within : place < block.size = place_inside choosing.seed choosing.keeps_parity block is protocol inside in
+    from_differ block is place within choosing.keeps_parity
+
+pub block_keeps_parity : BlockKeepsParity
+block_keeps_parity None block is protocol inside = mod-mod_of_dvd 2 inside.number
+    (dvd_of_mod-eq-zero 2 is.size_even)
+block_keeps_parity (Some seed) block is protocol inside =
+    let place : ℕ = mixed seed protocol inside % (block.size / 2) in
+    let parity : inside.number % 2 < 2 = omega arith in omega arith

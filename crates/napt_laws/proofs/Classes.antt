@@ -1,52 +1,56 @@
--- What the candidates of a number are: those that may stand for it, each once, itself first.
-use Rattle.std.proofs.Common.{◌≡◌, ◌≢◌, ℕ, zero, suc, ◌+◌, ◌%◌, ◌<◌, ◌≤◌, ◌==◌, Bool, true, false, ◌&&◌, cond, nat_lt, nat_le, List, [], ◌∷◌, ◌++◌, slice_index_or, None, refl, sym, ◌∙◌, ap, subst, arith, ◌↔◌, filter}
-use Rattle.std.specs.Bool.{beq}
-use Rattle.std.specs.Cmp.{booleans_Decides}
-use Rattle.std.specs.List.{All, AllPairs, Contains, range_with_len}
-use Rattle.std.proofs.lemmas.Bool.{and_parts, and_from, ltb-true, lt-ltb, leb-true, leb-false, le-leb}
-use Rattle.std.proofs.lemmas.Bool.Decides.{Decides-eqb}
+-- What the candidates of a number are: those that may stand for it, each once, and which is the first.
+use Rattle.std.proofs.Common.{◌≡◌, ◌≢◌, ℕ, zero, suc, ◌+◌, ◌%◌, ◌<◌, ◌≤◌, ◌==◌, Bool, true, false, not, ◌&&◌, ◌||◌, cond, nat_lt, nat_le, List, [], ◌∷◌, ◌++◌, length, slice_index_or, Option, Some, None, refl, sym, ◌∙◌, ap, subst, arith, filter}
+use Rattle.std.specs.{Bool.beq, Cmp.booleans_Decides, List.{All, AllPairs, Contains, range_with_len}}
+use Rattle.std.proofs.lemmas.{Bool.{and_parts, and_from, ltb-true, lt-ltb, leb-true, leb-false, le-leb, Decides.{Decides-eqb, nat_tests}}, Nat.mod_below}
 use Rattle.std.proofs.lemmas.List.Elements.{All-append, All-contains, All-filter, Contains-append_left, Contains-append_right, filter_passes}
-use Rattle.std.proofs.lemmas.List.FromFn.{length-range_with_len, get_or-range_with_len}
-use Rattle.std.proofs.lemmas.List.Kept.{AllPairs-cons, AllPairs-filter, AllPairs-from_increasing}
-use Rattle.napt_rules.specs.Prelude.{Each, IsPortFor, IsNumberFor, is_port_for, is_number_for, numbers_below, candidates, Protocol, Icmp, Tcp, Udp}
+use Rattle.std.proofs.lemmas.List.{FromFn.{length-range_with_len, get_or-range_with_len}, Kept.{AllPairs-cons, AllPairs-filter, AllPairs-from_increasing}}
+use Rattle.napt_rules.specs.Prelude.{Each, IsPortFor, IsNumberFor, is_port_for, is_number_for, numbers_below, numbers_for, mixed, start_of, upwards, candidates, IsFirst, CandidatesBegin, CandidatesAreThose, CandidatesDiffer, Choosing, Seed, Endpoint, Protocol, Icmp, Tcp, Udp}
 
 -- THE TEST
 
-pub port_from_test : (port n : ℕ) → n < 65536 → is_port_for port n ≡ true → IsPortFor port n
-port_from_test port n small e =
-    let a = and_parts (nat_lt 0 n) (beq (nat_lt n 1024) (nat_lt port 1024) && (n % 2 == port % 2)) e in
-    let b = and_parts (beq (nat_lt n 1024) (nat_lt port 1024)) (n % 2 == port % 2) a.1 in
+or_parity : (keeps : Bool) (a b : ℕ) → (not keeps || (a % 2 == b % 2)) ≡ true → keeps ≡ true → a % 2 ≡ b % 2
+or_parity true a b e kept = (Decides-eqb (a % 2) (b % 2)).0 e
+or_parity false a b e kept = cc
+
+parity_or : (keeps : Bool) (a b : ℕ) → (keeps ≡ true → a % 2 ≡ b % 2) → (not keeps || (a % 2 == b % 2)) ≡ true
+parity_or true a b same = (Decides-eqb (a % 2) (b % 2)).1 (same refl)
+parity_or false a b same = refl
+
+pub port_from_test : (keeps : Bool) (port n : ℕ) → n < 65536 → is_port_for keeps port n ≡ true → IsPortFor keeps port n
+port_from_test keeps port n small e =
+    let parity : Bool = not keeps || (n % 2 == port % 2) in
+    let a = and_parts (nat_lt 0 n) (beq (nat_lt n 1024) (nat_lt port 1024) && parity) e in
+    let b = and_parts (beq (nat_lt n 1024) (nat_lt port 1024)) parity a.1 in
     record {
       positive = ltb-true 0 n a.0;
       small = small;
       side = (booleans_Decides (nat_lt n 1024) (nat_lt port 1024)).0 b.0;
-      parity = (Decides-eqb (n % 2) (port % 2)).0 b.1;
+      parity = or_parity keeps n port b.1;
     }
 
-pub test_from_port : (port n : ℕ) → IsPortFor port n → is_port_for port n ≡ true
-test_from_port port n is =
-    let a : nat_lt 0 n ≡ true = lt-ltb 0 n is.positive in
-    let b = (booleans_Decides (nat_lt n 1024) (nat_lt port 1024)).1 is.side in
-    let c = (Decides-eqb (n % 2) (port % 2)).1 is.parity in
-    and_from (nat_lt 0 n) (beq (nat_lt n 1024) (nat_lt port 1024) && (n % 2 == port % 2)) a
-    (and_from (beq (nat_lt n 1024) (nat_lt port 1024)) (n % 2 == port % 2) b c)
+pub test_from_port : (keeps : Bool) (port n : ℕ) → IsPortFor keeps port n → is_port_for keeps port n ≡ true
+test_from_port keeps port n is =
+    let parity : Bool = not keeps || (n % 2 == port % 2) in
+    and_from (nat_lt 0 n) (beq (nat_lt n 1024) (nat_lt port 1024) && parity) (lt-ltb 0 n is.positive)
+    (and_from (beq (nat_lt n 1024) (nat_lt port 1024)) parity
+    ((booleans_Decides (nat_lt n 1024) (nat_lt port 1024)).1 is.side) (parity_or keeps n port is.parity))
 
-number_from_test : (protocol : Protocol) (number n : ℕ) → n < 65536 → is_number_for protocol number n ≡ true →
-    IsNumberFor protocol number n
-number_from_test Icmp number n small e = small
-number_from_test Tcp number n small e = port_from_test number n small e
-number_from_test Udp number n small e = port_from_test number n small e
+number_from_test : (keeps : Bool) (protocol : Protocol) (number n : ℕ) → n < 65536 →
+    is_number_for keeps protocol number n ≡ true → IsNumberFor keeps protocol number n
+number_from_test keeps Icmp number n small e = small
+number_from_test keeps Tcp number n small e = port_from_test keeps number n small e
+number_from_test keeps Udp number n small e = port_from_test keeps number n small e
 
-test_from_number : (protocol : Protocol) (number n : ℕ) → IsNumberFor protocol number n →
-    is_number_for protocol number n ≡ true
-test_from_number Icmp number n is = refl
-test_from_number Tcp number n is = test_from_port number n is
-test_from_number Udp number n is = test_from_port number n is
+test_from_number : (keeps : Bool) (protocol : Protocol) (number n : ℕ) → IsNumberFor keeps protocol number n →
+    is_number_for keeps protocol number n ≡ true
+test_from_number keeps Icmp number n is = refl
+test_from_number keeps Tcp number n is = test_from_port keeps number n is
+test_from_number keeps Udp number n is = test_from_port keeps number n is
 
-pub small_number : (protocol : Protocol) (number n : ℕ) → IsNumberFor protocol number n → n < 65536
-small_number Icmp number n is = is
-small_number Tcp number n is = is.small
-small_number Udp number n is = is.small
+pub small_number : (keeps : Bool) (protocol : Protocol) (number n : ℕ) → IsNumberFor keeps protocol number n → n < 65536
+small_number keeps Icmp number n is = is
+small_number keeps Tcp number n is = is.small
+small_number keeps Udp number n is = is.small
 
 -- THE NUMBERS BELOW A LIMIT
 
@@ -109,96 +113,166 @@ rising_differ xs rise i j d less h = let lower = rise i j d less h in λ same. o
 above_differs : (number m n : ℕ) → number ≤ m → n < number → m ≢ n
 above_differs number m n above below = λ same. omega (arith, above, below, same)
 
--- THE CANDIDATES
+-- NUMBERS THAT RISE, FROM ONE ON
 
-module _ (protocol : Protocol) (number : ℕ) where
-  abbrev fitting : List ℕ
-  fitting = filter (is_number_for protocol number) (numbers_below 65536)
+same_place : (xs : List ℕ) (k : ℕ) (c d : ℕ) → k < length xs → slice_index_or xs k c ≡ slice_index_or xs k d
+same_place [] k c d h = absurd (omega (arith, h))
+same_place (x ∷ xs) zero c d h = refl
+same_place (x ∷ xs) (suc k) c d h = same_place xs k c d (omega (arith, h))
 
+none_below : (xs : List ℕ) (x : ℕ) → All (λ n. x < n) xs → filter (λ o. nat_lt o x) xs ≡ []
+none_below [] x above = refl
+none_below (y ∷ xs) x above =
+    let later : x < y = above 0 x (omega arith) in
+    let no : nat_lt y x ≡ false = grind (arith, nat_tests) in
+    ap (λ v. cond v (y ∷ filter (λ o. nat_lt o x) xs) (filter (λ o. nat_lt o x) xs)) no
+    ∙ none_below xs x (λ k d h. above (suc k) d (omega (arith, h)))
+
+-- of numbers that rise, as many are below the one at a place as its place says
+below_place : (xs : List ℕ) (k d : ℕ) → AllPairs (λ m n. m < n) xs → k < length xs →
+    length (filter (λ o. nat_lt o (slice_index_or xs k d)) xs) ≡ k
+below_place [] k d rise h = absurd (omega (arith, h))
+below_place (x ∷ xs) zero d rise h =
+    let no : nat_lt x x ≡ false = grind (arith, nat_tests) in
+    ap (λ v. length (cond v (x ∷ filter (λ o. nat_lt o x) xs) (filter (λ o. nat_lt o x) xs))) no
+    ∙ ap length (none_below xs x (λ k d h. rise 0 (suc k) d (omega arith) (omega (arith, h))))
+below_place (x ∷ xs) (suc k) d rise h =
+    let first : ℕ = slice_index_or xs k d in
+    let later : x < first = rise 0 (suc k) d (omega arith) h in
+    let yes : nat_lt x first ≡ true = lt-ltb x first later in
+    ap (λ v. length (cond v (x ∷ filter (λ o. nat_lt o first) xs) (filter (λ o. nat_lt o first) xs))) yes
+    ∙ ap suc (below_place xs k d (λ i j e less g. rise (suc i) (suc j) e (omega (arith, less)) (omega (arith, g)))
+    (omega (arith, h)))
+
+module _ (start : ℕ) (numbers : List ℕ) where
   abbrev from_it : List ℕ
-  from_it = filter (nat_le number) fitting
+  from_it = filter (nat_le start) numbers
 
   abbrev before_it : List ℕ
-  before_it = filter (λ other. nat_lt other number) fitting
+  before_it = filter (λ other. nat_lt other start) numbers
 
-  fitting_are : All (λ n. IsNumberFor protocol number n) fitting
-  fitting_are k d h = number_from_test protocol number (slice_index_or fitting k d)
-      (All-filter (is_number_for protocol number) (λ n. n < 65536) (numbers_below 65536) (below_small 65536) k d h)
-      (filter_passes (is_number_for protocol number) (numbers_below 65536) k d h)
+  upwards_all : (P : ℕ → Type 0) → All P numbers → All P (upwards start numbers)
+  upwards_all P all = All-append P from_it before_it (All-filter (nat_le start) P numbers all)
+      (All-filter (λ other. nat_lt other start) P numbers all)
 
-  pub candidates_are : All (λ n. IsNumberFor protocol number n) (candidates None protocol number)
-  candidates_are =
-      All-append (λ n. IsNumberFor protocol number n) from_it before_it
-      (All-filter (nat_le number) (λ n. IsNumberFor protocol number n) fitting fitting_are)
-      (All-filter (λ other. nat_lt other number) (λ n. IsNumberFor protocol number n) fitting fitting_are)
+  upwards_has : (n : ℕ) → Contains numbers n → Contains (upwards start numbers) n
+  upwards_has n in' = elim (nat_le start n) as (λ v. nat_le start n ≡ v → Contains (upwards start numbers) n) [
+    | true ↦ λ e. Contains-append_left from_it before_it n (Contains-filter (nat_le start) numbers n in' e)
+    | false ↦ λ e.
+        let less : nat_lt n start ≡ true = lt-ltb n start (leb-false start n e) in
+        Contains-append_right from_it before_it n (Contains-filter (λ other. nat_lt other start) numbers n in' less)
+  ] refl
 
-  all_fitting : (n : ℕ) → IsNumberFor protocol number n → Contains fitting n
-  all_fitting n is =
-      Contains-filter (is_number_for protocol number) (numbers_below 65536) n
-      (below_all 65536 n (small_number protocol number n is)) (test_from_number protocol number n is)
+  module _ (rise : AllPairs (λ m n. m < n) numbers) where
+    from_rise : AllPairs (λ m n. m < n) from_it
+    from_rise = AllPairs-filter (λ m n. m < n) (nat_le start) numbers rise
 
-  all_candidates : (n : ℕ) → IsNumberFor protocol number n → Contains (candidates None protocol number) n
-  all_candidates n is = elim (nat_le number n) as (λ v. nat_le number n ≡ v →
-      Contains (candidates None protocol number) n) [
-        | true ↦ λ e. Contains-append_left from_it before_it n
-            (Contains-filter (nat_le number) fitting n (all_fitting n is) e)
-        | false ↦ λ e.
-            let less : nat_lt n number ≡ true = lt-ltb n number (leb-false number n e) in
-            Contains-append_right from_it before_it n
-            (Contains-filter (λ other. nat_lt other number) fitting n (all_fitting n is) less)
-      ] refl
+    before_rise : AllPairs (λ m n. m < n) before_it
+    before_rise = AllPairs-filter (λ m n. m < n) (λ other. nat_lt other start) numbers rise
 
-  fitting_rise : AllPairs (λ m n. m < n) fitting
-  fitting_rise = AllPairs-filter (λ m n. m < n) (is_number_for protocol number) (numbers_below 65536) (below_rise 65536)
+    from_above : All (λ n. start ≤ n) from_it
+    from_above k d h = leb-true start (slice_index_or from_it k d) (filter_passes (nat_le start) numbers k d h)
 
-  from_rise : AllPairs (λ m n. m < n) from_it
-  from_rise = AllPairs-filter (λ m n. m < n) (nat_le number) fitting fitting_rise
+    before_below : All (λ n. n < start) before_it
+    before_below k d h =
+        ltb-true (slice_index_or before_it k d) start (filter_passes (λ other. nat_lt other start) numbers k d h)
 
-  before_rise : AllPairs (λ m n. m < n) before_it
-  before_rise = AllPairs-filter (λ m n. m < n) (λ other. nat_lt other number) fitting fitting_rise
+    upwards_first : Contains numbers start → (others : List ℕ) × (upwards start numbers ≡ start ∷ others)
+    upwards_first in' =
+        let e : nat_le start start ≡ true = le-leb start start (omega arith) in
+        let (rest, starts) = least_first from_it start from_rise from_above
+        (Contains-filter (nat_le start) numbers start in' e) in
+        (rest ++ before_it, ap (λ (l : List ℕ). l ++ before_it) starts)
 
-  from_above : All (λ n. number ≤ n) from_it
-  from_above k d h = leb-true number (slice_index_or from_it k d) (filter_passes (nat_le number) fitting k d h)
+    upwards_differ : AllPairs (λ m n. m ≢ n) (upwards start numbers)
+    upwards_differ =
+        AllPairs-append (λ m n. m ≢ n) from_it before_it (rising_differ from_it from_rise)
+        (rising_differ before_it before_rise)
+        (λ i d h j e g. above_differs start (slice_index_or from_it i d) (slice_index_or before_it j e)
+        (from_above i d h) (before_below j e g))
 
-  before_below : All (λ n. n < number) before_it
-  before_below k d h =
-      ltb-true (slice_index_or before_it k d) number (filter_passes (λ other. nat_lt other number) fitting k d h)
+-- THE NUMBERS THAT MAY STAND FOR ONE
 
-  itself_first : IsNumberFor protocol number number → (others : List ℕ)
-      × (candidates None protocol number ≡ number ∷ others)
-  itself_first is =
-      let e : nat_le number number ≡ true = le-leb number number (omega arith) in
-      let (rest, starts) = least_first from_it number from_rise from_above
-      (Contains-filter (nat_le number) fitting number (all_fitting number is) e) in
-      (rest ++ before_it, ap (λ (l : List ℕ). l ++ before_it) starts)
+module _ (keeps : Bool) (protocol : Protocol) (number : ℕ) where
+  abbrev numbers : List ℕ
+  numbers = numbers_for keeps protocol number
 
-  each_once : AllPairs (λ m n. m ≢ n) (candidates None protocol number)
-  each_once =
-      AllPairs-append (λ m n. m ≢ n) from_it before_it (rising_differ from_it from_rise)
-      (rising_differ before_it before_rise)
-      (λ i d h j e g. above_differs number (slice_index_or from_it i d) (slice_index_or before_it j e)
-      (from_above i d h) (before_below j e g))
+  numbers_are : All (IsNumberFor keeps protocol number) numbers
+  numbers_are k d h = number_from_test keeps protocol number (slice_index_or numbers k d)
+      (All-filter (is_number_for keeps protocol number) (λ n. n < 65536) (numbers_below 65536) (below_small 65536) k d
+      h)
+      (filter_passes (is_number_for keeps protocol number) (numbers_below 65536) k d h)
+
+  numbers_have : (n : ℕ) → IsNumberFor keeps protocol number n → Contains numbers n
+  numbers_have n is =
+      Contains-filter (is_number_for keeps protocol number) (numbers_below 65536) n
+      (below_all 65536 n (small_number keeps protocol number n is)) (test_from_number keeps protocol number n is)
+
+  numbers_rise : AllPairs (λ m n. m < n) numbers
+  numbers_rise = AllPairs-filter (λ m n. m < n) (is_number_for keeps protocol number) (numbers_below 65536)
+      (below_rise 65536)
+
+some_of : (xs : List ℕ) (n : ℕ) → Contains xs n → 0 < length xs
+some_of xs n (k, h, is) = omega (arith, h)
+
+module _ (keeps : Bool) (protocol : Protocol) (inside : Endpoint)
+    (is : IsNumberFor keeps protocol inside.number inside.number) where
+  abbrev own : List ℕ
+  own = numbers_for keeps protocol inside.number
+
+  place_within : (seed : Seed) → mixed seed protocol inside % length own < length own
+  place_within seed =
+      let some : 0 < length own = some_of own inside.number (numbers_have keeps protocol inside.number inside.number
+      is) in
+      mod_below (mixed seed protocol inside) (length own) some
+
+  start_in : (seed : Option Seed) → Contains own (start_of seed own protocol inside)
+  start_in None = numbers_have keeps protocol inside.number inside.number is
+  start_in (Some seed) =
+      let place : ℕ = mixed seed protocol inside % length own in (
+        place,
+        place_within seed,
+        same_place own place (slice_index_or own place inside.number) inside.number
+            (place_within seed),
+      )
+
+  start_first : (seed : Option Seed) → IsFirst seed keeps protocol inside (start_of seed own protocol inside)
+  start_first None = refl
+  start_first (Some seed) = below_place own (mixed seed protocol inside % length own) inside.number
+      (numbers_rise keeps protocol inside.number) (place_within seed)
 
 -- what holds of each number that may stand for one holds of its candidates
-pub each_candidate : (P : ℕ → Type 0) (protocol : Protocol) (number : ℕ) →
-    ((n : ℕ) → IsNumberFor protocol number n → P n) → Each P (candidates None protocol number)
-each_candidate P protocol number holds = each_from P (candidates None protocol number) (λ k d h.
-    holds (slice_index_or (candidates None protocol number) k d) (candidates_are protocol number k d h))
+pub each_candidate : (P : ℕ → Type 0) (choosing : Choosing) (protocol : Protocol) (inside : Endpoint) →
+    ((n : ℕ) → IsNumberFor choosing.keeps_parity protocol inside.number n → P n) →
+    Each P (candidates choosing None protocol inside)
+each_candidate P choosing protocol inside holds =
+    let numbers : List ℕ = numbers_for choosing.keeps_parity protocol inside.number in
+    let start : ℕ = start_of choosing.seed numbers protocol inside in
+    each_from P (upwards start numbers) (upwards_all start numbers P (λ k d h.
+    holds (slice_index_or numbers k d) (numbers_are choosing.keeps_parity protocol inside.number k d h)))
 
--- THE LAW
+-- THE LAWS
 
-pub candidates_begin : (protocol : Protocol) (number : ℕ) → IsNumberFor protocol number number →
-    (others : List ℕ) × (candidates None protocol number ≡ number ∷ others)
-candidates_begin protocol number is = itself_first protocol number is
+pub candidates_begin : CandidatesBegin
+candidates_begin choosing protocol inside is =
+    let numbers : List ℕ = numbers_for choosing.keeps_parity protocol inside.number in
+    let start : ℕ = start_of choosing.seed numbers protocol inside in
+    let (others, begins) = upwards_first start numbers (numbers_rise choosing.keeps_parity protocol inside.number)
+    (start_in choosing.keeps_parity protocol inside is choosing.seed) in
+    (start, others, begins, start_first choosing.keeps_parity protocol inside is choosing.seed)
 
-pub candidates_are_those : (protocol : Protocol) (number : ℕ) → IsNumberFor protocol number number →
-    (n : ℕ) → Contains (candidates None protocol number) n ↔ IsNumberFor protocol number n
-candidates_are_those protocol number is n = (
-  λ h. All-contains (λ n. IsNumberFor protocol number n) (candidates None protocol number) n
-      (candidates_are protocol number) h,
-  λ h. all_candidates protocol number n h,
-)
+pub candidates_are_those : CandidatesAreThose
+candidates_are_those choosing protocol inside n =
+    let numbers : List ℕ = numbers_for choosing.keeps_parity protocol inside.number in
+    let start : ℕ = start_of choosing.seed numbers protocol inside in (
+      λ h. All-contains (IsNumberFor choosing.keeps_parity protocol inside.number) (upwards start numbers) n
+          (upwards_all start numbers (IsNumberFor choosing.keeps_parity protocol inside.number)
+          (numbers_are choosing.keeps_parity protocol inside.number)) h,
+      λ h. upwards_has start numbers n (numbers_have choosing.keeps_parity protocol inside.number n h),
+    )
 
-pub candidates_differ : (protocol : Protocol) (number : ℕ) → IsNumberFor protocol number number →
-    AllPairs (λ m n. m ≢ n) (candidates None protocol number)
-candidates_differ protocol number is = each_once protocol number
+pub candidates_differ : CandidatesDiffer
+candidates_differ choosing protocol inside =
+    let numbers : List ℕ = numbers_for choosing.keeps_parity protocol inside.number in
+    upwards_differ (start_of choosing.seed numbers protocol inside) numbers
+    (numbers_rise choosing.keeps_parity protocol inside.number)

@@ -2,17 +2,10 @@
 use Rattle.std.proofs.Common.{◌≡◌, ℕ, suc, ◌+◌, ◌-◌, ◌≤◌, List, [], ◌∷◌, ◌++◌, length, Option, Some, None, IfSome, refl, sym, ◌∙◌, ap, subst, arith, append_assoc}
 use Rattle.std.specs.List.{slice_get}
 use Rattle.napt_rules.specs.Prelude.{Through, Binding, Each, of, Acted, act, Arrival, Act, Course, outcome_of, follow_by, run_from, run, Kept, kept_after, kept_answer, kept_replies, answers_at, Incoming, destination, kind, SourcesLeaveDestinations, ErrorsLeaveDestinations, Rules, place_of}
+use Rattle.napt_rules.specs.declared.{Leg.Leg, Answer.Answer, End.{End, TheVariants.{ToOutside, ToInside, Onward, Dropped}}, Outcome.Outcome}
 use Rattle.napt_laws.proofs.Lists.{each_weaker, each_append}
-use Rattle.napt_rules.specs.declared.Leg.{Leg}
-use Rattle.napt_rules.specs.declared.Answer.{Answer}
-use Rattle.napt_rules.specs.declared.End.{End}
-use Rattle.napt_rules.specs.declared.End.TheVariants.{ToOutside, ToInside, Onward, Dropped}
-use Rattle.napt_rules.specs.declared.Outcome.{Outcome}
 use Rattle.napt_laws.specs.Dispatching.{IsFront, RightAnswersAreTheRuns, RunsGrow, outcome_told, IsTold, AnswersTellOutcomes, OnwardIsForetold}
-use Rattle.napt_laws.proofs.EachLeg.{each_leg}
-use Rattle.napt_laws.proofs.Grown.{grows}
-use Rattle.napt_laws.proofs.RunsLocal.{translators_answer_alone}
-use Rattle.napt_laws.proofs.Onward.{OnwardBy, onward}
+use Rattle.napt_laws.proofs.{EachLeg.each_leg, Grown.grows, RunsLocal.translators_answer_alone, Onward.{OnwardBy, onward}}
 
 -- FRONTS
 

@@ -1,10 +1,8 @@
 -- What each leg of a run has, by the number of its input: an induction over runs.
 use Rattle.std.proofs.Common.{ℕ, ◌+◌, max, Option, List, [], ◌∷◌, ◌++◌}
 use Rattle.napt_rules.specs.Prelude.{Through, Binding, Each, Acted, act, Arrival, Act, Course, ahead, follow_by, first_leg, step, run_from, Rules}
-use Rattle.napt_rules.specs.declared.Leg.{Leg}
-use Rattle.napt_rules.specs.declared.End.{End}
-use Rattle.napt_laws.proofs.AnyStep.{of_step}
-use Rattle.napt_laws.proofs.Grown.{IsOfOne, step_one}
+use Rattle.napt_rules.specs.declared.{Leg.Leg, End.End}
+use Rattle.napt_laws.proofs.{AnyStep.of_step, Grown.{IsOfOne, step_one}}
 
 -- of the course of the input with a number, and of that of inputs from a number on
 module _ (rules : Rules) (Here From : ℕ → Course → Act → Type 0)

@@ -1,8 +1,6 @@
 -- Searches by a test that at most one element passes.
 use Rattle.std.proofs.Common.{◌≡◌, Bool, true, false, ◌||◌, cond, List, [], ◌∷◌, ◌++◌, map, Option, Some, None, refl, sym, ◌∙◌, ap, arith, filter, find, true≢false}
-use Rattle.std.specs.Option.{option_map}
-use Rattle.std.specs.List.{list_any}
-use Rattle.std.proofs.lemmas.Option.{same_Some}
+use Rattle.std.{specs.{Option.option_map, List.list_any}, proofs.lemmas.Option.same_Some}
 use Rattle.napt_rules.specs.Prelude.{change_first}
 use Rattle.napt_laws.proofs.Lists.{find_nowhere}
 

@@ -2,8 +2,7 @@
 use Rattle.std.proofs.Common.{◌≡◌, ℕ, true, max, List, Option, Some, None, Result, Ok, Err, refl, sym, ap, subst}
 use Rattle.napt_wire.specs.declared.Kind.TheVariants.{Udp, Tcp, Echo, ErrorOf}
 use Rattle.napt_rules.specs.Prelude.{Binding, onward_by, gone_out, end_out, error_out, act_by, IsForeseen, Foresees, Way, Outgoing, Cause, Endpoint, Kind, destination, kind, is_error, with_source, reverted, IsPacket, SourcesLeaveDestinations, ErrorsLeaveDestinations, Rules, place_of}
-use Rattle.napt_rules.specs.declared.Leg.{Leg}
-use Rattle.napt_rules.specs.declared.End.TheVariants.{Dropped}
+use Rattle.napt_rules.specs.declared.{Leg.Leg, End.TheVariants.Dropped}
 
 by_place : (packet : List ℕ) (found : Option ℕ) → IsForeseen found (onward_by found packet)
 by_place packet None = tt

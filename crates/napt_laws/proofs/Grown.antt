@@ -1,10 +1,7 @@
 -- A run of one input more.
 use Rattle.std.proofs.Common.{◌≡◌, ℕ, suc, ◌+◌, ◌*◌, ◌≤◌, max, List, [], ◌∷◌, ◌++◌, length, refl, ◌∙◌, ap, arith, append-nil, append_assoc, length-append}
 use Rattle.napt_rules.specs.Prelude.{Binding, Acted, act, Arrival, Course, ahead, follow_by, first_leg, step, run_from, last_clock, opening, ran, Rules}
-use Rattle.napt_rules.specs.declared.Leg.{Leg}
-use Rattle.napt_rules.specs.declared.End.{End}
-use Rattle.napt_rules.specs.declared.End.TheVariants.{ToOutside, ToInside, Onward, Dropped}
-use Rattle.napt_rules.specs.declared.Outcome.{Outcome}
+use Rattle.napt_rules.specs.declared.{Leg.Leg, End.{End, TheVariants.{ToOutside, ToInside, Onward, Dropped}}, Outcome.Outcome}
 use Rattle.napt_laws.proofs.AnyStep.{of_step}
 
 ahead_none : (course : Course) → ahead course (record { outcomes = []; acts = []; list = course.list }) ≡ course

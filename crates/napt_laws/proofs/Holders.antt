@@ -1,17 +1,14 @@
 -- The host of an external endpoint, where hosts have blocks.
 use Rattle.std.proofs.Common.{◌≡◌, ℕ, ◌+◌, ◌-◌, ◌*◌, ◌/◌, ◌%◌, ◌^◌, ◌<◌, ◌≤◌, ◌==◌, ◌||◌, Bool, true, false, cond, List, [], ◌∷◌, length, get_or, Option, Some, None, nat_lt, refl, sym, ap, subst, ◌∙◌, eq-eqb, eqb-true, lt-ltb, leb-true, ltb-true, inl, inr, arith, All, IfSome, IsSome, position, option_map, option_and_then, unwrap_or}
-use Rattle.std.specs.List.{list_any}
-use Rattle.std.proofs.Math.Nat.{mod-lt, mod-eq_of_lt, mul_comm, mul-add-mod_self_right, div-div-eq-div-mul}
+use Rattle.std.{specs.List.list_any, proofs.Math.Nat.{mod-lt, mod-eq_of_lt, mul_comm, mul-add-mod_self_right, div-div-eq-div-mul}}
 use Rattle.std.proofs.lemmas.Nat.{pow-add, div-add-mod', div-mul-add}
 use Rattle.std.proofs.lemmas.Bool.{and_from, and_parts, or_parts, not-true, le-leb, le-ltb, ltb-false, false≢true, cases_lt}
-use Rattle.std.proofs.lemmas.List.Elements.{All-head, All-tail}
-use Rattle.std.proofs.lemmas.List.Quantifiers.{position-Some}
+use Rattle.std.proofs.lemmas.List.{Elements.{All-head, All-tail}, Quantifiers.position-Some}
 use Rattle.napt_rules.specs.Prelude.{Each, IsPaired, IsOfBlock, IsInItsBlock, RunsAreSound, RunsKeepToBlocks, Block, Network, IsNetwork, has_address, network_size, do_meet, are_apart, index_of, address_at}
 use Rattle.napt_rules.specs.declared.Row.{Row}
 use Rattle.napt_laws.specs.Hosts.{BlocksTellTheirHosts, HostsHaveTheirBlocks, BlocksAreApart, IsTold, RunsTellTheirHosts}
 use Rattle.napt_config.specs.Rules.{Rules, KeepsRules, AreBlocks, IsPool, has, pooled, paired, pair_of, nth_block, block_in, block_of, has_number, host_at, host_of}
-use Rattle.napt_config.proofs.Indices.{size_pos}
-use Rattle.napt_config.proofs.Pools.{has-at, position_of_member}
+use Rattle.napt_config.proofs.{Indices.size_pos, Pools.{has-at, position_of_member}}
 
 -- ---- one network
 

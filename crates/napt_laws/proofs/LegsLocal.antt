@@ -2,14 +2,9 @@
 use Rattle.std.proofs.Common.{◌≡◌, ◌≢◌, ℕ, ◌≤◌, ◌&&◌, List, refl, sym, ◌∙◌, ap, arith, eqb, find}
 use Rattle.napt_wire.specs.declared.Protocol.TheVariants as protocols
 use Rattle.napt_wire.specs.declared.Kind.TheVariants.{Udp, Tcp, Echo, ErrorOf}
-use Rattle.napt_rules.specs.Prelude.{Binding, same_protocol, same_endpoint, is_at, of, is_of_inside, has_number, purge, inbound_of, Out, out_purged, step_out, In, in_purged, step_in, no_flags, Acted, end_out, end_in, error_out, error_in, sent_of, received_of, act_out, act_in, act_by, act, Protocol, Way, Outgoing, Incoming, Flags, Kind, kind, Rules}
-use Rattle.napt_rules.specs.declared.Sent.{Sent}
-use Rattle.napt_rules.specs.declared.Received.{Received}
-use Rattle.napt_laws.proofs.Lists.{find_filter}
-use Rattle.napt_laws.proofs.Purges.{of_purge, purge_purge}
-use Rattle.napt_laws.proofs.StepsLocal.{out_local, out_other, in_local, in_other}
-use Rattle.napt_rules.specs.declared.Leg.{Leg}
-use Rattle.napt_laws.specs.Agreeing.{Agrees}
+use Rattle.napt_rules.specs.Prelude.{Binding, same_protocol, same_endpoint, is_at, of, is_of_inside, has_number, purge, inbound_of, Out, out_purged, step_out, In, in_purged, step_in, no_flags, Acted, end_out, end_in, error_out, error_in, sent_of, received_of, act_out, act_in, act_by, act, Protocol, Way, Outgoing, Incoming, Flags, Kind, kind, Rules, granting_of}
+use Rattle.napt_rules.specs.declared.{Sent.Sent, Received.Received, Leg.Leg}
+use Rattle.napt_laws.{proofs.{Lists.find_filter, Purges.{of_purge, purge_purge}, StepsLocal.{out_local, out_other, in_local, in_other}}, specs.Agreeing.Agrees}
 use Rattle.napt_laws.proofs.Acts.{of_act}
 
 -- what a leg gives on the one and on the other
@@ -24,11 +19,11 @@ module _ (rules : Rules) (address : ℕ) (leg : Leg) (own list : List Binding) (
       (act_out rules address leg own protocol flags) (act_out rules address leg list protocol flags)
   alike_out protocol flags =
       let packet : Sent = sent_of rules protocol flags leg.now leg.packet in
-      let whole : Out = step_out rules.timers rules.quota address packet list in
-      let e : step_out rules.timers rules.quota address packet own
+      let whole : Out = step_out rules.timers (granting_of rules) address packet list in
+      let e : step_out rules.timers (granting_of rules) address packet own
       ≡ record { number = whole.number; through = whole.through; list = of address whole.list } =
-      ap (out_purged rules.quota address packet) same
-      ∙ out_local rules.quota address packet (purge rules.timers leg.now list) in
+      ap (out_purged (granting_of rules) address packet) same
+      ∙ out_local (granting_of rules) address packet (purge rules.timers leg.now list) in
       record {
         end = ap (λ (o : Out). end_out rules address leg.packet o.number) e;
         through = ap (λ (o : Out). o.through) e;
@@ -104,7 +99,7 @@ module _ (rules : Rules) (address : ℕ) (leg : Leg) (list : List Binding) (othe
       ∙ purge_purge rules.timers leg.now leg.now (omega arith) (of other list)
 
   kept_out : (protocol : Protocol) (flags : Flags) → IsKept (act_out rules address leg list protocol flags)
-  kept_out protocol flags = kept_from _ (out_other rules.quota address
+  kept_out protocol flags = kept_from _ (out_other (granting_of rules) address
       (sent_of rules protocol flags leg.now leg.packet) other differ (purge rules.timers leg.now list))
 
   kept_in : (protocol : Protocol) (flags : Flags) → IsKept (act_in rules address leg list protocol flags)

@@ -1,7 +1,6 @@
 -- Words on lists against one another.
 use Rattle.std.proofs.Common.{◌≡◌, Bool, true, false, ◌&&◌, ◌||◌, cond, List, [], ◌∷◌, ◌++◌, map, Some, None, refl, sym, ◌∙◌, ap, subst, arith, suc, ◌<◌, length, filter, find}
-use Rattle.std.specs.List.{list_any}
-use Rattle.std.proofs.lemmas.Bool.{or_parts}
+use Rattle.std.{specs.List.list_any, proofs.lemmas.Bool.or_parts}
 use Rattle.napt_rules.specs.Prelude.{change_first, Each}
 
 -- two filters in either order

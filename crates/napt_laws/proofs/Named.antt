@@ -1,16 +1,10 @@
 -- The numbers that a sound list of bindings tells are numbers of their protocol.
 use Rattle.std.proofs.Common.{◌≡◌, ℕ, Bool, true, false, List, [], ◌∷◌, map, Option, Some, None, Result, Ok, Err, refl, eqb-true, find, IfOk, IfSome}
-use Rattle.std.specs.Option.{option_map}
-use Rattle.std.proofs.lemmas.Bool.{and_parts}
-use Rattle.napt_rules.specs.declared.Inbound.{Inbound}
+use Rattle.std.{specs.Option.option_map, proofs.lemmas.Bool.and_parts}
+use Rattle.napt_rules.specs.declared.{Granting.Granting, Inbound.Inbound}
 use Rattle.napt_rules.specs.Prelude.{Binding, Each, same_protocol, is_of_inside, has_number, permits, granted, of_source, out_made, out_found, out_purged, of_destination, in_found, in_purged, row, IsNumber, IsPaired, IsSound, IsBlock, Protocol, Icmp, Tcp, Udp, Cause, Endpoint}
-use Rattle.napt_rules.specs.declared.Sent.{Sent}
-use Rattle.napt_rules.specs.declared.Received.{Received}
-use Rattle.napt_rules.specs.declared.Row.{Row}
-use Rattle.napt_laws.proofs.Passes.{in_passed}
-use Rattle.napt_laws.proofs.Quotas.{granted_is_chosen}
-use Rattle.napt_laws.proofs.Lists.{find_passes}
-use Rattle.napt_laws.proofs.StepsSound.{chosen_number}
+use Rattle.napt_rules.specs.declared.{Sent.Sent, Received.Received, Row.Row}
+use Rattle.napt_laws.proofs.{Passes.in_passed, Quotas.granted_is_chosen, Lists.find_passes, StepsSound.chosen_number}
 
 number_of : (p q : Protocol) (n : ℕ) → same_protocol p q ≡ true → IsNumber q n → IsNumber p n
 number_of Icmp q n e h = tt
@@ -95,18 +89,18 @@ module _ (pair : ℕ → ℕ) (address : ℕ) where
         IsNumber packet.protocol inside.number)
     in_named = found_named (find (of_destination address packet) list) refl
 
-  module _ (quota : Option ℕ) (packet : Sent) (keeps : IfSome packet.block IsBlock) (list : List Binding)
+  module _ (granting : Granting) (packet : Sent) (keeps : IfSome packet.block IsBlock) (list : List Binding)
       (s : IsSound pair list) where
-    made_named : (number : Result ℕ Cause) → granted quota list address packet ≡ number →
+    made_named : (number : Result ℕ Cause) → granted granting list address packet ≡ number →
         IfOk (out_made list address packet number).number (IsNumber packet.protocol)
     made_named (Err cause) e = tt
-    made_named (Ok n) e = chosen_number packet.block list packet.protocol address packet.inside.number n
-        (granted_is_chosen quota list address packet n e) keeps
+    made_named (Ok n) e = chosen_number granting.choosing packet.block list packet.protocol address packet.inside n
+        (granted_is_chosen granting list address packet n e) keeps
 
     left_named : (found : Option Binding) → find (of_source address packet) list ≡ found →
-        IfOk (out_found quota list address packet found).number (IsNumber packet.protocol)
+        IfOk (out_found granting list address packet found).number (IsNumber packet.protocol)
     left_named (Some b) e = (found_inside pair address packet.protocol packet.inside list s b e).0
-    left_named None e = made_named (granted quota list address packet) refl
+    left_named None e = made_named (granted granting list address packet) refl
 
-    pub out_named : IfOk (out_purged quota address packet list).number (IsNumber packet.protocol)
+    pub out_named : IfOk (out_purged granting address packet list).number (IsNumber packet.protocol)
     out_named = left_named (find (of_source address packet) list) refl

@@ -3,9 +3,7 @@ use Rattle.std.proofs.Common.{◌≡◌, ℕ, zero, suc, ◌+◌, ◌<◌, max, 
 use Rattle.std.proofs.lemmas.List.{take_more, take-append-drop}
 use Rattle.napt_rules.specs.Prelude.{Binding, opening, Arrival, admission, Course, ahead, first_leg, step_as, step, run_from, run, last_clock, Cause, Rules}
 use Rattle.napt_rules.specs.declared.Outcome.{Outcome}
-use Rattle.napt_laws.specs.Dispatching.{IsFront}
-use Rattle.napt_laws.proofs.Grown.{run_append}
-use Rattle.napt_laws.proofs.Dispatched.{runs_grow}
+use Rattle.napt_laws.{specs.Dispatching.IsFront, proofs.{Grown.run_append, Dispatched.runs_grow}}
 
 -- A RUN BEGINS AS THAT OF ITS FIRST INPUTS
 

@@ -1,16 +1,11 @@
 -- Second legs by the number of their input.
 use Rattle.std.proofs.Common.{◌≡◌, ◌≢◌, ℕ, ◌+◌, ◌≤◌, ◌==◌, max, Bool, true, false, cond, Option, List, [], ◌∷◌, ◌++◌, length, map, Ok, refl, sym, ◌∙◌, ap, subst, arith, append_assoc, append-nil, eq-eqb, ne_eqb}
-use Rattle.std.proofs.lemmas.List.{map-append}
-use Rattle.std.proofs.lemmas.List.Elements.{filter-append}
+use Rattle.std.proofs.lemmas.List.{map-append, Elements.filter-append}
 use Rattle.napt_rules.specs.Prelude.{Through, Binding, Each, opening, way_from, served_at, Acted, act, Arrival, admission, Act, Course, follow_by, run, last_clock, acts_at, legs_at, Way, Outgoing, destination, IsPacket, Rules}
-use Rattle.napt_laws.proofs.Lists.{each_weaker, each_append}
-use Rattle.napt_rules.specs.declared.Leg.{Leg}
-use Rattle.napt_rules.specs.declared.End.{End}
-use Rattle.napt_rules.specs.declared.End.TheVariants.{ToOutside, ToInside, Onward, Dropped}
-use Rattle.napt_laws.specs.Dispatching.{IsFront, OnwardIsForetold}
+use Rattle.napt_rules.specs.declared.{Leg.Leg, End.{End, TheVariants.{ToOutside, ToInside, Onward, Dropped}}}
+use Rattle.napt_laws.{proofs.Lists.{each_weaker, each_append}, specs.Dispatching.{IsFront, OnwardIsForetold}}
 use Rattle.napt_laws.specs.Places.{first_act, acts_of, numbered, all_but_first, second_legs, second_of, IsSeconded, AnswersFillPlaces, PlacesStandForLegs}
-use Rattle.napt_laws.proofs.EachLeg.{each_leg}
-use Rattle.napt_laws.proofs.OneInput.{acts_begin, grown}
+use Rattle.napt_laws.proofs.{EachLeg.each_leg, OneInput.{acts_begin, grown}}
 
 -- the legs of an address in acts, and in more
 pub legs_append : (address : ℕ) (xs ys : List Act) → legs_at address (xs ++ ys) ≡ legs_at address xs

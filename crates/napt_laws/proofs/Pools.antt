@@ -1,7 +1,6 @@
 -- The place of an address in the pool is one at which the pool has it.
 use Rattle.std.proofs.Common.{◌≡◌, ℕ, ◌==◌, List, Option, Some, None, IfOk, ok_or, slice_get, ◌∙◌, ap, refl, ◌<◌, true, false, length, get_or, position, eqb-true}
-use Rattle.std.proofs.lemmas.Option.{slice_get-get_or}
-use Rattle.std.proofs.lemmas.List.Quantifiers.{position-Some}
+use Rattle.std.proofs.lemmas.{Option.slice_get-get_or, List.Quantifiers.position-Some}
 use Rattle.napt_wire.specs.declared.Cause.{Cause}
 
 pub stands_at : (pool : List ℕ) (address place : ℕ) → position (λ other. other == address) pool ≡ Some place →

@@ -1,10 +1,8 @@
 -- The rows of bindings that share no endpoint share none.
 use Rattle.std.proofs.Common.{◌≡◌, ◌≢◌, ℕ, suc, ◌<◌, inl, inr, true, false, cond, List, [], ◌∷◌, ◌++◌, map, length, sym, ◌∙◌, ap, subst, arith, get_or, All, AllPairs, filter, flat_map, nat_le}
-use Rattle.std.proofs.lemmas.Bool.{cases_lt, eqb-true}
-use Rattle.std.proofs.lemmas.List.{get_or_default}
+use Rattle.std.proofs.lemmas.{Bool.{cases_lt, eqb-true}, List.get_or_default}
 use Rattle.std.proofs.lemmas.List.Elements.{All-nil, All-cons, All-head, All-tail, All-append, All-map, All-filter, filter_passes}
-use Rattle.std.proofs.lemmas.List.Kept.{AllPairs-cons, AllPairs-filter}
-use Rattle.std.proofs.lemmas.List.Sorted.{All-permutation}
+use Rattle.std.proofs.lemmas.List.{Kept.{AllPairs-cons, AllPairs-filter}, Sorted.All-permutation}
 use Rattle.napt_rules.specs.Prelude.{Binding, is_at, of, is_live, with_live_flows, purge, opening, Arrival, row, rank, put, in_order, rows, Course, run, last_clock, ran, AreRowsApart, AreApart, RunsStayApart, Rules, KeepsRules, Timers}
 use Rattle.napt_rules.specs.declared.Row.{Row}
 use Rattle.napt_laws.proofs.Orders.{put-moves, in_order-moves}

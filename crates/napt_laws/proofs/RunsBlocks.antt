@@ -1,23 +1,18 @@
 -- Every step keeps each binding that is no redirect in its host's block.
 use Rattle.std.proofs.Common.{◌≡◌, ℕ, Bool, List, [], ◌∷◌, map, Option, Some, None, filter, find, IfSome}
-use Rattle.napt_rules.specs.Prelude.{Binding, Each, inbound_of, candidates, is_free, redirected, opening, fresh, row, Acted, sent_of, received_of, act_out, act_in, act_by, Arrival, run_from, IsOfBlock, IsInItsBlock, RunsKeepToBlocks, Protocol, Way, Flags, Kind, kind, Rules, KeepsRules, IsBlock, pair_of, Block, Redirect}
-use Rattle.napt_rules.specs.declared.Sent.{Sent}
-use Rattle.napt_rules.specs.declared.Row.{Row}
-use Rattle.napt_rules.specs.declared.Leg.{Leg}
-use Rattle.napt_laws.proofs.Acts.{of_act}
-use Rattle.napt_laws.proofs.Blocks.{each_of_block}
-use Rattle.napt_laws.proofs.Lists.{each_pushed, each_kept, find_passes}
-use Rattle.napt_laws.proofs.Quotas.{granted_is_chosen}
-use Rattle.napt_laws.proofs.StepRows.{out_keeps, in_keeps}
-use Rattle.napt_laws.proofs.Turns.{run_keeps}
+use Rattle.napt_rules.specs.Prelude.{Binding, Each, inbound_of, candidates, is_free, redirected, opening, fresh, row, Acted, sent_of, received_of, act_out, act_in, act_by, Arrival, run_from, IsOfBlock, IsInItsBlock, RunsKeepToBlocks, Protocol, Way, Flags, Kind, kind, Rules, KeepsRules, IsBlock, pair_of, Block, Choosing, Endpoint, Redirect, granting_of}
+use Rattle.napt_rules.specs.declared.{Sent.Sent, Row.Row, Leg.Leg}
+use Rattle.napt_laws.proofs.{Acts.of_act, Blocks.each_of_block, Lists.{each_pushed, each_kept, find_passes}, Quotas.granted_is_chosen}
+use Rattle.napt_laws.proofs.{StepRows.{out_keeps, in_keeps}, Turns.run_keeps}
 
 -- a candidate is of the block, where there is one
-found_in_block : (block : Option Block) → IfSome block IsBlock → (free : ℕ → Bool) (protocol : Protocol) (p n : ℕ) →
-    find free (candidates block protocol p) ≡ Some n → IfSome block (λ block. IsOfBlock block n)
-found_in_block None is free protocol p n e = tt
-found_in_block (Some block) is free protocol p n e =
-    (find_passes free (IsOfBlock block) (candidates (Some block) protocol p) n
-    (each_of_block block is protocol p (IsOfBlock block) (λ m h. h)) e).1
+found_in_block : (choosing : Choosing) (block : Option Block) → IfSome block IsBlock → (free : ℕ → Bool)
+    (protocol : Protocol) (inside : Endpoint) (n : ℕ) → find free (candidates choosing block protocol inside)
+    ≡ Some n → IfSome block (λ block. IsOfBlock block n)
+found_in_block choosing None is free protocol inside n e = tt
+found_in_block choosing (Some block) is free protocol inside n e =
+    (find_passes free (IsOfBlock block) (candidates choosing (Some block) protocol inside) n
+    (each_of_block (IsOfBlock block) choosing block is protocol inside (λ m h. h)) e).1
 
 -- redirects keep the numbers that the configuration gives them
 opening_in_blocks : (rules : Rules) (pair : ℕ → ℕ) (redirects : List Redirect) →
@@ -40,10 +35,11 @@ module _ (rules : Rules) (keeps : KeepsRules rules) where
         AreInBlocks (map row (act_out rules address leg list protocol flags).list)
     blocks_sent protocol flags =
         let packet : Sent = sent_of rules protocol flags leg.now leg.packet in
-        out_keeps AreInBlocks fewer rules.quota address packet (λ live n kept none is.
+        out_keeps AreInBlocks fewer (granting_of rules) address packet (λ live n kept none is.
         each_pushed (IsInItsBlock rules) (map row live) (row (fresh address packet n)) kept (λ loose.
-        found_in_block packet.block (keeps.blocks packet.inside.address) (is_free live address packet.protocol)
-        packet.protocol packet.inside.number n (granted_is_chosen rules.quota live address packet n is)))
+        found_in_block rules.choosing packet.block (keeps.blocks packet.inside.address)
+        (is_free live address packet.protocol)
+        packet.protocol packet.inside n (granted_is_chosen (granting_of rules) live address packet n is)))
         rules.timers list h
 
     blocks_entered : (protocol : Protocol) (flags : Flags) →

@@ -1,15 +1,10 @@
 -- A step at one address, on all bindings and on that address's own.
 use Rattle.std.proofs.Common.{◌≡◌, ◌≢◌, ℕ, Bool, true, false, ◌&&◌, cond, List, [], ◌∷◌, ◌++◌, Option, Some, None, Result, Ok, Err, refl, sym, ◌∙◌, ap, eqb, eq-eqb, append-nil, find}
-use Rattle.std.proofs.lemmas.Bool.{ne_eqb, eqb-true, and_parts}
-use Rattle.std.proofs.lemmas.List.Elements.{filter-append}
-use Rattle.napt_rules.specs.declared.Inbound.{Inbound}
+use Rattle.std.proofs.lemmas.{Bool.{ne_eqb, eqb-true, and_parts}, List.Elements.filter-append}
+use Rattle.napt_rules.specs.declared.{Granting.Granting, Inbound.Inbound}
 use Rattle.napt_rules.specs.Prelude.{Binding, same_protocol, same_endpoint, is_at, of, permits, granted, of_source, sent_by, fresh, out_made, out_found, out_purged, of_destination, received_by, in_found, in_purged, Cause}
-use Rattle.napt_rules.specs.declared.Row.{Row}
-use Rattle.napt_rules.specs.declared.Sent.{Sent}
-use Rattle.napt_rules.specs.declared.Received.{Received}
-use Rattle.napt_laws.proofs.Lists.{find_filter, filter_change, filter_change_other}
-use Rattle.napt_laws.proofs.Passes.{in_passed, of_out, of_in}
-use Rattle.napt_laws.proofs.Quotas.{granted_local}
+use Rattle.napt_rules.specs.declared.{Row.Row, Sent.Sent, Received.Received}
+use Rattle.napt_laws.proofs.{Lists.{find_filter, filter_change, filter_change_other}, Passes.{in_passed, of_out, of_in}, Quotas.granted_local}
 
 of_push : (address : ℕ) (list : List Binding) (b : Binding) → is_at address b.row ≡ true → of address (list ++ b ∷ [])
     ≡ of address list ++ b ∷ []
@@ -23,7 +18,7 @@ of_push_other address list b h = filter-append (λ b. is_at address b.row) list 
 
 -- OUT
 
-module _ (quota : Option ℕ) (address : ℕ) (packet : Sent) where
+module _ (granting : Granting) (address : ℕ) (packet : Sent) where
   out_made_local : (list : List Binding) (granted : Result ℕ Cause) → out_made (of address list) address packet granted
       ≡ record {
         number = (out_made list address packet granted).number;
@@ -36,29 +31,29 @@ module _ (quota : Option ℕ) (address : ℕ) (packet : Sent) where
       (sym (of_push address list (sent_by packet (fresh address packet n)) (eq-eqb address address refl)))
 
   out_found_local : (list : List Binding) (found : Option Binding) →
-      out_found quota (of address list) address packet found ≡ record {
-        number = (out_found quota list address packet found).number;
-        through = (out_found quota list address packet found).through;
+      out_found granting (of address list) address packet found ≡ record {
+        number = (out_found granting list address packet found).number;
+        through = (out_found granting list address packet found).through;
         list =
-            of address (out_found quota list address packet found).list;
+            of address (out_found granting list address packet found).list;
       }
   out_found_local list (Some b) =
-      ap (λ (l : List Binding). record (out_found quota list address packet (Some b)) { list = l })
+      ap (λ (l : List Binding). record (out_found granting list address packet (Some b)) { list = l })
       (sym (filter_change (λ b. is_at address b.row) (λ b. same_protocol packet.protocol b.row.protocol && same_endpoint
       packet.inside b.row.inside) (sent_by packet) list (λ b. refl)))
   out_found_local list None =
-      ap (out_made (of address list) address packet) (granted_local quota list address packet)
-      ∙ out_made_local list (granted quota list address packet)
+      ap (out_made (of address list) address packet) (granted_local granting list address packet)
+      ∙ out_made_local list (granted granting list address packet)
 
   -- an outgoing leg needs the bindings of its address alone
-  pub out_local : (list : List Binding) → out_purged quota address packet (of address list) ≡ record {
-    number = (out_purged quota address packet list).number;
-    through = (out_purged quota address packet list).through;
+  pub out_local : (list : List Binding) → out_purged granting address packet (of address list) ≡ record {
+    number = (out_purged granting address packet list).number;
+    through = (out_purged granting address packet list).through;
     list =
-        of address (out_purged quota address packet list).list;
+        of address (out_purged granting address packet list).list;
   }
   out_local list =
-      ap (out_found quota (of address list) address packet)
+      ap (out_found granting (of address list) address packet)
       (find_filter (λ b. is_at address b.row) (λ b. same_protocol packet.protocol b.row.protocol && same_endpoint
       packet.inside
       b.row.inside) list) ∙ out_found_local list (find (of_source address packet) list)
@@ -68,9 +63,9 @@ module _ (quota : Option ℕ) (address : ℕ) (packet : Sent) where
     not_at b h = ne_eqb b.external.address other (λ e. differ (sym e ∙ eqb-true b.external.address address h))
 
     -- and changes no other address's
-    pub out_other : (list : List Binding) → of other (out_purged quota address packet list).list ≡ of other list
+    pub out_other : (list : List Binding) → of other (out_purged granting address packet list).list ≡ of other list
     out_other list =
-        of_out (λ (l : List Binding). of other l ≡ of other list) address list refl quota packet
+        of_out (λ (l : List Binding). of other l ≡ of other list) address list refl granting packet
         (filter_change_other (λ b. is_at other b.row) (of_source address packet) (sent_by packet) list
         (λ b h. not_at b.row (and_parts (is_at address b.row) _ h).0) (λ b. refl))
         (λ n none is. of_push_other other list (sent_by packet (fresh address packet n))

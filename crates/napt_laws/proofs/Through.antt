@@ -2,22 +2,14 @@
 use Rattle.std.proofs.Common.{◌≡◌, ℕ, Bool, true, false, cond, List, Option, Some, None, Result, Ok, Err, refl, sym, ◌∙◌, ap, subst, find}
 use Rattle.std.specs.Option.{option_map}
 use Rattle.napt_wire.specs.declared.Kind.TheVariants.{Udp, Tcp, Echo, ErrorOf}
-use Rattle.napt_rules.specs.declared.Inbound.{Inbound}
-use Rattle.napt_rules.specs.declared.Sent.{Sent}
-use Rattle.napt_rules.specs.declared.Received.{Received}
-use Rattle.napt_rules.specs.declared.Leg.{Leg}
-use Rattle.napt_rules.specs.declared.End.TheVariants.{Dropped}
-use Rattle.napt_rules.specs.Prelude.{Binding, purge, permits, inbound_of, granted, of_source, sent_by, fresh, Out, out_made, out_found, step_out, of_destination, received_by, In, in_found, step_in, onward_by, end_out, end_in, sent_of, received_of, Acted, act_by, Cause, Way, Outgoing, Incoming, Kind, kind, is_error, Rules}
-use Rattle.napt_laws.specs.Through.{IsSaid, OutSaysItsBinding, InSaysItsBinding, ErrorsGoThroughNone, DroppedGoThroughNone}
-use Rattle.napt_laws.proofs.Acts.{of_act}
-use Rattle.napt_laws.proofs.Endpoints.{inside_it}
-use Rattle.napt_laws.proofs.Finds.{find_changed, find_pushed}
-use Rattle.napt_laws.proofs.Passes.{in_passed}
-use Rattle.napt_laws.proofs.StepsLive.{out_leaves_live, in_leaves_live}
+use Rattle.napt_rules.specs.declared.{Granting.Granting, Inbound.Inbound, Sent.Sent, Received.Received, Leg.Leg, End.TheVariants.Dropped}
+use Rattle.napt_rules.specs.Prelude.{Binding, purge, permits, inbound_of, granted, of_source, sent_by, fresh, Out, out_made, out_found, step_out, of_destination, received_by, In, in_found, step_in, onward_by, end_out, end_in, sent_of, received_of, Acted, act_by, Cause, Way, Outgoing, Incoming, Kind, kind, is_error, Rules, granting_of}
+use Rattle.napt_laws.{specs.Through.{IsSaid, OutSaysItsBinding, InSaysItsBinding, ErrorsGoThroughNone, DroppedGoThroughNone}, proofs.Acts.of_act}
+use Rattle.napt_laws.proofs.{Endpoints.inside_it, Finds.{find_changed, find_pushed}, Passes.in_passed, StepsLive.{out_leaves_live, in_leaves_live}}
 
 -- OUT
 
-module _ (quota : Option ℕ) (address : ℕ) (packet : Sent) (live : List Binding) where
+module _ (granting : Granting) (address : ℕ) (packet : Sent) (live : List Binding) where
   abbrev at_source : List Binding → Option Binding
   at_source list = find (of_source address packet) list
 
@@ -37,8 +29,8 @@ module _ (quota : Option ℕ) (address : ℕ) (packet : Sent) (live : List Bindi
         made = (λ made. none, λ none. refl);
       }
 
-  out_says : (found : Option Binding) → at_source live ≡ found → OutSays (out_found quota live address packet found)
-  out_says None none = made_says none (granted quota live address packet)
+  out_says : (found : Option Binding) → at_source live ≡ found → OutSays (out_found granting live address packet found)
+  out_says None none = made_says none (granted granting live address packet)
   out_says (Some b) is = record {
     went = record { binding = sent_by packet b; made = false };
     is = refl;
@@ -48,12 +40,12 @@ module _ (quota : Option ℕ) (address : ℕ) (packet : Sent) (live : List Bindi
   }
 
 pub out_says_its_binding : OutSaysItsBinding
-out_says_its_binding timers t quota address packet list =
+out_says_its_binding timers t granting address packet list =
     let live : List Binding = purge timers packet.now list in
-    let out : Out = step_out timers quota address packet list in
+    let out : Out = step_out timers granting address packet list in
     subst (λ (left : List Binding). IsSaid out.number (find (of_source address packet) live)
-    (find (of_source address packet) left) out.through) (sym (out_leaves_live timers t quota address packet list))
-    (out_says quota address packet live (find (of_source address packet) live) refl)
+    (find (of_source address packet) left) out.through) (sym (out_leaves_live timers t granting address packet list))
+    (out_says granting address packet live (find (of_source address packet) live) refl)
 
 -- IN
 
@@ -112,9 +104,9 @@ module _ (rules : Rules) (address : ℕ) (leg : Leg) (list : List Binding) where
       made_none (Err other) h = refl
       made_none (Ok number) h = absurd (onward_goes _ _ h)
 
-      sent_none : (found : Option Binding) → (let out : Out = out_found rules.quota live address packet found in
+      sent_none : (found : Option Binding) → (let out : Out = out_found (granting_of rules) live address packet found in
           end_out rules address leg.packet out.number ≡ Dropped cause → out.through ≡ None)
-      sent_none None h = made_none (granted rules.quota live address packet) h
+      sent_none None h = made_none (granted (granting_of rules) live address packet) h
       sent_none (Some b) h = absurd (onward_goes _ _ h)
 
     module _ (packet : Received) (live : List Binding) where

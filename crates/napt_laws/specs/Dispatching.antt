@@ -1,13 +1,8 @@
 -- Laws of runs for a dispatcher, which hands each leg to the translator of its address and takes the answers one by
 -- one.
-use Rattle.std.specs.Prelude.{◌≡◌, ℕ, max, List, [], ◌∷◌, ◌++◌, length, Option, Some, None, IfSome, Ok}
-use Rattle.std.specs.List.{slice_get}
+use Rattle.std.specs.{Prelude.{◌≡◌, ℕ, max, List, [], ◌∷◌, ◌++◌, length, Option, Some, None, IfSome, Ok}, List.slice_get}
 use Rattle.napt_rules.specs.Prelude.{Binding, Each, of, act, Arrival, Act, Course, ahead, step, run, last_clock, legs_at, kept_replies, answers_at, Side, Outgoing, destination, reading, Rules, place_of}
-use Rattle.napt_rules.specs.declared.Leg.{Leg}
-use Rattle.napt_rules.specs.declared.Answer.{Answer}
-use Rattle.napt_rules.specs.declared.End.{End}
-use Rattle.napt_rules.specs.declared.End.TheVariants.{ToOutside, ToInside, Onward, Dropped}
-use Rattle.napt_rules.specs.declared.Outcome.{Outcome}
+use Rattle.napt_rules.specs.declared.{Leg.Leg, Answer.Answer, End.{End, TheVariants.{ToOutside, ToInside, Onward, Dropped}}, Outcome.Outcome}
 use Rattle.napt_rules.specs.declared.Outcome.TheVariants as outcomes
 
 -- xs begins ys

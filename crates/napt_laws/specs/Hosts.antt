@@ -2,8 +2,7 @@
 -- times, and the configuration alone says which.
 use Rattle.std.specs.Prelude.{◌≡◌, ℕ, true, false, List, map, Some, IfSome}
 use Rattle.napt_config.specs.Rules.{Rules, KeepsRules, pair_of, block_of, has_number, host_of}
-use Rattle.napt_rules.specs.declared.Row.{Row}
-use Rattle.napt_rules.specs.Prelude.{Each, row, Arrival, run, opening, Block}
+use Rattle.napt_rules.specs.{declared.Row.Row, Prelude.{Each, row, Arrival, run, opening, Block}}
 
 -- the host of each number of a host's block, at the host's external address, is that host
 abbrev pub BlocksTellTheirHosts : Type 0

@@ -3,11 +3,7 @@
 -- RFC 3022, section 4: out through the binding of the source, which is made where there is none; in through that of the
 -- destination. An ICMP error goes through none (RFC 5508, REQ-3 to REQ-6).
 use Rattle.std.specs.Prelude.{◌≡◌, ◌↔◌, ℕ, true, List, Option, Some, None, Result, Ok, Err}
-use Rattle.napt_rules.specs.declared.Inbound.{Inbound}
-use Rattle.napt_rules.specs.declared.Sent.{Sent}
-use Rattle.napt_rules.specs.declared.Received.{Received}
-use Rattle.napt_rules.specs.declared.Leg.{Leg}
-use Rattle.napt_rules.specs.declared.End.TheVariants.{Dropped}
+use Rattle.napt_rules.specs.declared.{Granting.Granting, Inbound.Inbound, Sent.Sent, Received.Received, Leg.Leg, End.TheVariants.Dropped}
 use Rattle.napt_rules.specs.Prelude.{Through, Binding, Out, step_out, In, step_in, by_inside, by_number, act, Cause, kind, is_error, Rules, AreTimers, Timers}
 
 -- the binding that a packet finds after its leg, which it made if and only if it found none before
@@ -23,9 +19,9 @@ IsSaid (Ok translated) before after through = IsThrough before after through
 IsSaid (Err cause) before after through = through ≡ None
 
 abbrev pub OutSaysItsBinding : Type 0
-OutSaysItsBinding = (timers : Timers) → AreTimers timers → (quota : Option ℕ) (address : ℕ) (packet : Sent)
+OutSaysItsBinding = (timers : Timers) → AreTimers timers → (granting : Granting) (address : ℕ) (packet : Sent)
     (list : List Binding) →
-    let out : Out = step_out timers quota address packet list in
+    let out : Out = step_out timers granting address packet list in
     IsSaid out.number (by_inside timers address packet.now packet.protocol packet.inside list)
     (by_inside timers address packet.now packet.protocol packet.inside out.list) out.through
 

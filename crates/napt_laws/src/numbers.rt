@@ -1,10 +1,12 @@
 //! A law of external numbers.
 
-ghost use Rattle.napt_rules.specs.Prelude.{CandidatesBegin, CandidatesAreThose, CandidatesDiffer, BlockBegins, BlockIsThose, BlockDiffers};
+ghost use Rattle.napt_rules.specs.Prelude.{CandidatesBegin, CandidatesAreThose, CandidatesDiffer, BlockBegins, BlockIsThose, BlockDiffers, BlockKeepsParity};
 
-/// The candidates of a number are those that it may be mapped to, each once, itself first: a port keeps its side of
-/// 1024 and its parity (RFC 4787, REQ-3 (a) and REQ-4), an identifier may become any (RFC 5508, section 3.1). Those of
-/// a host with a block are the numbers of the block, each once, that at the number's place first (RFC 7422, section 2).
+/// The candidates of a number are those that it may be mapped to, each once: a port keeps its side of 1024 and, unless that
+/// is free, its parity (RFC 4787, REQ-3 (a) and REQ-4; RFC 7857, section 8), an identifier may become any (RFC 5508, section
+/// 3.1). Those of a host with a block are the numbers of the block, each once (RFC 7422, section 2). The first is the number
+/// itself, in a block that at the number's place; where numbers are random it is that at the place of the hash (RFC 6056,
+/// section 3.3.3).
 pub fn candidates_are_the_class()
     ensures begin { CandidatesBegin }
     ensures those { CandidatesAreThose }
@@ -12,4 +14,5 @@ pub fn candidates_are_the_class()
     ensures block_begins { BlockBegins }
     ensures block_is_those { BlockIsThose }
     ensures block_differs { BlockDiffers }
+    ensures block_parity { BlockKeepsParity }
 {}

@@ -14,7 +14,7 @@ macro_rules! assert_messages {
 }
 
 #[test]
-fn faults_are_told(rt: HostRuntime) -> Result<(), Fail> {
+fn faults_of_captures_are_told(rt: HostRuntime) -> Result<(), Fail> {
     assert_messages! {rt, CaptureFault:
         NoHeader "the file is shorter than the 24 bytes of a capture's header"
         BadMagic "the file does not begin as a capture of microseconds or nanoseconds does"
@@ -26,16 +26,25 @@ fn faults_are_told(rt: HostRuntime) -> Result<(), Fail> {
         Read "the capture could not be read"
         Memory "there is not enough memory for the capture"
     }
+    let told = WriteFault { written: 24 }.to_string(rt.alloc())?;
+    assert_eq!(rt; told.as_str(), "writing failed after 24 bytes");
+    Ok(())
+}
+
+#[test]
+fn faults_of_configurations_are_told(rt: HostRuntime) -> Result<(), Fail> {
     assert_messages! {rt, ConfigFault:
         NotToml "expected TOML in UTF-8"
-        UnknownKey "unknown key: expected `pool`, `inside`, `filter`, `refresh`, `timers`, `ring`, `quota`, `block`, `pair` or `redirect`; in `timers` `udp`, `tcp-established`, `tcp-transitory` or `icmp`; in a `pair` `host` or `external`; in a `redirect` `protocol`, `inside` or `external`"
-        Missing "expected `pool` and `inside` with at least one entry each, `host` and `external` in each `pair`, and `protocol`, `inside` and `external` in each `redirect`"
+        UnknownKey "unknown key: expected `pool`, `inside`, `filter`, `refresh`, `parity`, `numbers`, `seed`, `timers`, `ring`, `quota`, `block`, `pair` or `redirect`; in `timers` `udp`, `tcp-established`, `tcp-transitory` or `icmp`; in a `pair` `host` or `external`; in a `redirect` `protocol`, `inside` or `external`"
+        Missing "expected `pool` and `inside` with at least one entry each, a `seed` with random `numbers`, `host` and `external` in each `pair`, and `protocol`, `inside` and `external` in each `redirect`"
         BadShape "expected a value of another kind: a text, a whole number, a list or a table, as its key asks for"
         TooMany "expected at most 16 entries in `pool` and in `inside`, and at most 256 of `pair` and of `redirect`"
         BadAddress "expected an IPv4 address, as `203.0.113.1`, or in a `redirect` an endpoint, as `10.0.0.3:7000`, without leading zeros"
         BadPrefix "expected an IPv4 prefix, as `10.0.0.0/8`, whose bits past its length are 0"
         BadNumber "expected a timer of 0 to 1000000000 seconds, a `ring` of 1 to 4096, a `quota` of 1 to 65535, an even `block` of 64 to 32256, or an `external` port of 1 to 65535"
-        BadWord "expected `independent`, `address` or `address-port` as `filter`, `outbound` or `both` as `refresh`, or `udp` or `tcp` as `protocol`"
+        BadWord "expected `independent`, `address` or `address-port` as `filter`, `outbound` or `both` as `refresh`, `kept` or `free` as `parity`, `preserved` or `random` as `numbers`, or `udp` or `tcp` as `protocol`"
+        BadSeed "expected 32 hexadecimal digits as `seed`"
+        SeedUnused "expected no `seed` without random `numbers`"
         DoubleAddress "expected each address of `pool` once"
         PoolInside "expected no address of `pool` in a prefix of `inside`"
         PrefixesOverlap "expected, with a `block`, prefixes of `inside` that have no address in common"
@@ -49,7 +58,5 @@ fn faults_are_told(rt: HostRuntime) -> Result<(), Fail> {
         TimerTooShort "expected at least 120 seconds for `udp`, 7440 for `tcp-established`, 240 for `tcp-transitory` and 60 for `icmp`"
         Memory "out of memory"
     }
-    let told = WriteFault { written: 24 }.to_string(rt.alloc())?;
-    assert_eq!(rt; told.as_str(), "writing failed after 24 bytes");
     Ok(())
 }

@@ -1,16 +1,15 @@
 //! The same captures under two configurations: which packets end differently.
 
 use crate::choice::Choice;
-use crate::digits::{add_number, add_seconds};
-use crate::lines::leaves_with;
-use crate::names::side_column;
+use crate::lines::{leaves_with, side_column};
 use crate::shown::{add_arrival, add_packet, is_end_of_arrival};
-use napt_commands::{Consumer, CountedRun, Outside, Stop, copied, tell_warning};
+use napt_commands::{Consumer, CountedRun, Exit, Outside, Seconds, copied, tell_warning};
 use napt_config::Config;
 use napt_records::{Counts, cause_name};
 use napt_sequential::{Input, Outcome};
 use napt_wire::Cause;
 use std::alloc::{AllocError, Global};
+use std::fmt::Write;
 
 /// Runs under two configurations, side by side, and how many packets ended differently so far.
 #[derive(Drop)]
@@ -52,7 +51,7 @@ impl<'a> Against<'a> {
         rt: &R,
         outside: Outside,
         inputs: &[Input],
-    ) -> Result<(), Stop> {
+    ) -> Result<(), Exit> {
         let alloc = rt.alloc();
         let first = outside.inputs_under(alloc, self.first.config(), copied(alloc, inputs)?)?;
         let second = outside.inputs_under(alloc, self.second.config(), copied(alloc, inputs)?)?;
@@ -72,7 +71,7 @@ impl<'a> Against<'a> {
         number: u64,
         input: &Input,
         inputs: [&Input; 2],
-    ) -> Result<(), Stop> {
+    ) -> Result<(), Exit> {
         let [first, second] = inputs;
         let first = self.first.step(rt.alloc(), first)?;
         let second = self.second.step(rt.alloc(), second)?;
@@ -96,48 +95,38 @@ impl<'a> Against<'a> {
         rt: &R,
         outside: Outside,
         names: [&str; 2],
-    ) -> Result<(), Stop> {
+    ) -> Result<(), Exit> {
         let [first, second] = names;
         tell_warning(rt, outside, Some(first), &self.first.losses);
         tell_warning(rt, outside, Some(second), &self.second.losses);
         self.tell_counts(rt)?;
         if self.different > 0 {
-            return Err(Stop::Differ);
+            return Err(Exit::Differ);
         }
         Ok(())
     }
 
     /// Prints how many packets end differently, and the counts under each configuration.
-    fn tell_counts<R: Print>(&self, rt: &R) -> Result<(), Stop> {
+    fn tell_counts<R: Print>(&self, rt: &R) -> Result<(), Exit> {
         let (first, second) = (&self.first.counts, &self.second.counts);
         let (packets, different) = (first.packets(), self.different);
         println!(rt; "packets: {packets}, of which {different} differ")?;
-        println!(rt;
-            "  {} and {} to the outside",
-            first.to_outside(),
-            second.to_outside()
-        )?;
-        println!(rt;
-            "  {} and {} to the inside",
-            first.to_inside(),
-            second.to_inside()
-        )?;
+        let (one, other) = (first.to_outside(), second.to_outside());
+        println!(rt; "  {one} and {other} to the outside")?;
+        let (one, other) = (first.to_inside(), second.to_inside());
+        println!(rt; "  {one} and {other} to the inside")?;
         tell_drops(rt, first, second)
     }
 }
 
 impl<R: Print + AllocGlobal> Consumer<R> for Against<'_> {
-    fn take(&mut self, rt: &R, number: u64, input: &Input) -> Result<(), Stop> {
+    fn take(&mut self, rt: &R, number: u64, input: &Input) -> Result<(), Exit> {
         self.take_both(rt, number, input, [input, input])
-    }
-
-    fn settle(&mut self, _rt: &R) -> Result<(), Stop> {
-        Ok(())
     }
 }
 
 /// Prints for each cause how many packets were dropped for it under each configuration, if any were.
-fn tell_drops<R: Print>(rt: &R, first: &Counts, second: &Counts) -> Result<(), Stop> {
+fn tell_drops<R: Print>(rt: &R, first: &Counts, second: &Counts) -> Result<(), Exit> {
     for cause in Cause::ALL {
         let (one, other) = (first.dropped(cause), second.dropped(cause));
         if one > 0 || other > 0 {
@@ -159,7 +148,7 @@ impl<'a> Pair<'a> {
     }
 
     /// Prints its line, if it is selected.
-    fn tell<R: Print + AllocGlobal>(self, rt: &R, choice: Choice) -> Result<(), Stop> {
+    fn tell<R: Print + AllocGlobal>(self, rt: &R, choice: Choice) -> Result<(), Exit> {
         if self.is_chosen(rt.alloc(), choice)? {
             let text = self.text(rt.alloc())?;
             println!(rt; "{text}")?;
@@ -168,8 +157,7 @@ impl<'a> Pair<'a> {
     }
 
     fn is_chosen(self, alloc: Global, choice: Choice) -> Result<bool, AllocError> {
-        let is_numbered = choice.only.is_none_or(|only| only == self.number);
-        if !is_numbered || (choice.dropped && !self.is_dropped()) {
+        if !choice.takes(self.number, self.is_dropped()) {
             return Ok(false);
         }
         let Some(host) = choice.host else {
@@ -191,10 +179,8 @@ impl<'a> Pair<'a> {
     fn text(self, alloc: Global) -> Result<String, AllocError> {
         let input = self.input;
         let mut text = String::new(alloc);
-        add_number(&mut text, self.number)?;
-        text.push_str(" ")?;
-        add_seconds(&mut text, input.time, 1)?;
-        text.push_str(side_column(input.side))?;
+        let (time, side) = (Seconds(input.time), side_column(input.side));
+        write!(text, "{} {time}{side}", self.number)?;
         add_arrival(alloc, &mut text, input.side, &input.bytes)?;
         text.push_str(" | ")?;
         add_outcome(&mut text, self.first)?;
@@ -207,10 +193,7 @@ impl<'a> Pair<'a> {
 /// Appends an outcome, such as `out: udp 203.0.113.1:5000 > 198.51.100.7:3000`.
 fn add_outcome(text: &mut String, outcome: &Outcome) -> Result<(), AllocError> {
     match outcome {
-        Outcome::Dropped(cause) => {
-            text.push_str("dropped, ")?;
-            text.push_str(cause_name(*cause))
-        }
+        Outcome::Dropped(cause) => write!(text, "dropped, {}", cause_name(*cause)),
         Outcome::ToOutside(packet) => {
             text.push_str("out: ")?;
             add_packet(text, packet)

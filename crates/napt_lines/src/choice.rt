@@ -1,5 +1,7 @@
 //! Which packets get a line.
 
+ghost use Rattle.std.specs.Prelude.{◌≡◌, ◌↔◌, ◌⊎◌, true, false, None, Some};
+
 use napt_account::Party;
 
 /// Which packets get a line: those that meet every condition given.
@@ -11,4 +13,14 @@ pub struct Choice {
     pub host: Option<Party>,
     /// Only dropped packets.
     pub dropped: bool,
+}
+
+impl Choice {
+    /// Whether a packet of this number meets the conditions beside that on its hosts.
+    pub fn takes(self, number: u64, is_dropped: bool) -> bool
+        ensures { (result ≡ true) ↔ (((self.only ≡ None) ⊎ (self.only ≡ Some number))
+            × ((self.dropped ≡ false) ⊎ (is_dropped ≡ true))) }
+    {
+        self.only.is_none_or(|only| only == number) && (is_dropped || !self.dropped)
+    }
 }

@@ -2,7 +2,6 @@
 
 use crate::choice::Choice;
 use crate::digits::{add_number_within, add_seconds, end_column};
-use crate::names::side_column;
 use crate::replies::Replies;
 use crate::shown::{add_arrival, add_packet, is_end_of, is_end_of_arrival};
 use crate::widths::{BEFORE, HAPPENED, Widths};
@@ -43,27 +42,19 @@ impl<'a> Line<'a> {
 
     /// What its object tells.
     pub fn object(self) -> Object<'a> {
-        let Passing {
-            number,
-            input,
-            step,
-        } = self.passing;
         Object {
-            number,
-            input,
-            outcome: &step.outcome,
-            note: step.used.note,
+            number: self.passing.number,
+            input: self.passing.input,
+            outcome: self.outcome(),
+            note: self.passing.step.used.note,
         }
     }
 
     /// Whether it is selected.
     pub fn is_chosen(self, alloc: Global, choice: Choice) -> Result<bool, AllocError> {
         let is_dropped = matches!(self.outcome(), Outcome::Dropped(_));
-        let is_numbered = choice.only.is_none_or(|only| only == self.passing.number);
-        if !is_numbered || (choice.dropped && !is_dropped) {
-            return Ok(false);
-        }
         match choice.host {
+            _ if !choice.takes(self.passing.number, is_dropped) => Ok(false),
             None => Ok(true),
             Some(host) => self.has_host(alloc, host),
         }
@@ -123,6 +114,14 @@ impl<'a> Line<'a> {
             }
         }
         text.push_str(meaning(cause))
+    }
+}
+
+/// The column of a side, with a space in front and at least one behind.
+pub fn side_column(side: Side) -> &'static str {
+    match side {
+        Side::Inside => " inside  ",
+        Side::Outside => " outside ",
     }
 }
 

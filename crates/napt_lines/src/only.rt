@@ -1,13 +1,14 @@
 //! The line of a single packet, and the bindings that it used.
 
 use crate::choice::Choice;
-use crate::digits::add_seconds;
 use crate::ended::add_binding;
 use crate::lines::Line;
 use crate::widths::Widths;
 use napt_account::{Entry, Listed};
-use napt_commands::{Ending, Page, Passing, Stop};
+use napt_commands::{Ending, Exit, Page, Passing, Seconds};
+use napt_program::Stop;
 use std::alloc::{AllocError, Global};
+use std::fmt::Write;
 
 /// A binding that the packet used: its number in the log, from 1, and its entry once it ended.
 #[derive(Clone, Copy)]
@@ -34,7 +35,7 @@ impl Used {
 }
 
 /// The packet that is shown alone.
-#[derive(Clone, Copy)]
+#[derive(Clone, Copy, Default)]
 pub struct Only {
     /// Its number, from 1.
     number: u64,
@@ -52,10 +53,7 @@ impl Only {
     pub fn new(number: u64) -> Only {
         Only {
             number,
-            is_found: false,
-            is_chosen: false,
-            out: None,
-            into: None,
+            ..Only::default()
         }
     }
 
@@ -105,11 +103,11 @@ impl Only {
         rt: &R,
         page: &mut Page,
         ending: &Ending<'_>,
-    ) -> Result<(), Stop> {
+    ) -> Result<(), Exit> {
         if !self.is_found {
             let (number, packets) = (self.number, ending.packets);
             let _ = eprintln!(rt; "explain: --only {number}: there are {packets} packets");
-            return Err(Stop::Told(napt_program::Stop::Usage));
+            return Err(Exit::Told(Stop::Usage));
         }
         if !self.is_chosen {
             let number = self.number;
@@ -130,16 +128,11 @@ fn add_used(text: &mut String, way: &str, used: Option<Used>) -> Result<(), Allo
     let Some(entry) = used.and_then(|used| used.entry) else {
         return Ok(());
     };
-    text.push_str("  ")?;
-    text.push_str(way)?;
-    text.push_str(" through ")?;
+    write!(text, "  {way} through ")?;
     add_binding(text, &entry.binding)?;
     if entry.binding.fixed {
         return text.push_str(", a redirect\n");
     }
-    text.push_str(", made at ")?;
-    add_seconds(text, entry.made, 1)?;
-    text.push_str(", last packet at ")?;
-    add_seconds(text, entry.last, 1)?;
-    text.push_str("\n")
+    let (made, last) = (Seconds(entry.made), Seconds(entry.last));
+    writeln!(text, ", made at {made}, last packet at {last}")
 }

@@ -1,7 +1,7 @@
 //! What packets from outside say as answers to what left just before. Only the remotes of the last minutes are kept.
 
 use napt_account::Note;
-use napt_commands::{Losses, Passing, Stop, destination_of, source_of};
+use napt_commands::{Exit, Losses, Passing, destination_of, source_of};
 use napt_sequential::{Input, Outcome};
 use napt_wire::{Cause, Side};
 use std::alloc::{AllocError, Global};
@@ -66,13 +66,13 @@ impl Remotes {
 
     /// Prints that the captured gateway had other numbers than the run has, so that this tells nothing of it, and returns
     /// how the program stops.
-    pub fn tell_astray<R: Eprint>(&self, rt: &R) -> Stop {
+    pub fn tell_astray<R: Eprint>(&self, rt: &R) -> Exit {
         let (astray, answers, first) = (self.astray, self.answers, self.first_astray);
         let _ = eprintln!(rt;
             "explain: these captures are of a gateway with other numbers: {astray} of {answers} answers from outside, packet \
 {first} the first, do not find here who asked for them (--as-napt tells of the run of napt)"
         );
-        Stop::Others
+        Exit::Others
     }
 
     /// Takes the next packet.
@@ -124,18 +124,15 @@ impl Remotes {
 
     /// The packet of this number comes from outside.
     fn come(&mut self, number: u64, input: &Input, outcome: &Outcome) {
-        let is_unmet = matches!(outcome, Outcome::Dropped(Cause::NoBinding | Cause::NotOurs));
         let sent = source_of(&input.bytes).and_then(|remote| self.sent.get(&remote).copied());
-        let Some(sent) = sent else {
-            return;
-        };
-        if input.clock.saturating_sub(sent.at) > JUST_BEFORE {
-            return;
+        if let Some(sent) = sent
+            && input.clock.saturating_sub(sent.at) <= JUST_BEFORE
+        {
+            if matches!(outcome, Outcome::Dropped(Cause::NoBinding | Cause::NotOurs)) {
+                self.unmet_answers = self.unmet_answers.saturating_add(1);
+            }
+            self.answer(number, sent, outcome);
         }
-        if is_unmet {
-            self.unmet_answers = self.unmet_answers.saturating_add(1);
-        }
-        self.answer(number, sent, outcome);
     }
 
     /// The packet of this number comes from a remote to which this was sent just before.

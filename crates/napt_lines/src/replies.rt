@@ -92,8 +92,8 @@ impl<'a> Replies<'a> {
                 add_address(text, end.address)?;
             }
             Cause::Spoofed => match Origin::of(self.config, bytes) {
-                Origin::Inside => add_both(text, "from an inside address: ", FROM_INSIDE)?,
-                Origin::Pool(_) => add_both(text, "from an address of the pool: ", FROM_POOL)?,
+                Origin::Inside => write!(text, "from an inside address: {FROM_INSIDE}")?,
+                Origin::Pool(_) => write!(text, "from an address of the pool: {FROM_POOL}")?,
                 Origin::Remote => return Ok(false),
             },
             _ => return Ok(false),
@@ -140,11 +140,6 @@ impl<'a> Replies<'a> {
         }
         Ok(())
     }
-}
-
-fn add_both(text: &mut String, first: &str, second: &str) -> Result<(), AllocError> {
-    text.push_str(first)?;
-    text.push_str(second)
 }
 
 /// What to do if many replies are dropped for a cause, where that is not what it is for other packets.

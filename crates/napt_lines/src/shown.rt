@@ -130,10 +130,7 @@ fn is_arp(bytes: &[u8]) -> bool {
 
 /// The version of an IP header; 0 if there are no bytes.
 fn version(bytes: &[u8]) -> u8 {
-    match bytes.first() {
-        Some(byte) => *byte >> 4,
-        None => 0,
-    }
+    bytes.first().map_or(0, |byte| *byte >> 4)
 }
 
 /// Whether a host or endpoint is one of a packet. An ICMP error also has those of the packet that it quotes, and the
@@ -143,11 +140,8 @@ pub fn is_end_of(party: Party, packet: &Packet) -> bool {
     match packet.kind() {
         Kind::Echo => {
             let number = source.number.max(destination.number);
-            party.has(Endpoint { number, ..source })
-                || party.has(Endpoint {
-                    number,
-                    ..destination
-                })
+            let has = |end: Endpoint| party.has(Endpoint { number, ..end });
+            has(source) || has(destination)
         }
         Kind::ErrorOf(inner) => {
             is_host(party, source.address)

@@ -1,15 +1,14 @@
 //! The lines of a run as it goes on, and its summary: the live bindings, and what became of the packets.
 
 use crate::choice::Choice;
-use crate::digits::add_seconds;
 use crate::ended::{add_binding, add_end};
 use crate::lines::{Line, has_party};
-use crate::names::Seconds;
 use crate::remotes::Remotes;
 use crate::replies::{Replies, advice_of_replies};
 use crate::widths::Widths;
 use napt_account::Entry;
-use napt_commands::{Ending, Losses, Page, Passing, Sorted, Stop};
+use napt_commands::{Ending, Exit, Losses, Page, Passing, Seconds, Sorted};
+use napt_config::Config;
 use napt_display::reasons::{advice, meaning};
 use napt_records::{Counts, cause_name};
 use napt_table::Row;
@@ -31,11 +30,36 @@ pub struct Lines {
 }
 
 /// What became of the packets from outside, and whether they are replies.
-#[derive(Clone, Copy)]
+#[derive(Drop)]
 pub struct FromOutside<'a> {
-    pub losses: &'a Losses,
-    pub remotes: &'a Remotes,
+    pub losses: Losses,
+    pub remotes: Remotes,
     pub replies: Option<Replies<'a>>,
+}
+
+impl<'a> FromOutside<'a> {
+    /// Before the first packet.
+    pub fn new(
+        alloc: Global,
+        config: &Config,
+        replies: Option<Replies<'a>>,
+    ) -> Result<FromOutside<'a>, AllocError> {
+        Ok(FromOutside {
+            losses: Losses::new(alloc, config)?,
+            remotes: Remotes::new(alloc),
+            replies,
+        })
+    }
+
+    /// Takes the next packet, of a run under this configuration.
+    pub fn take(&mut self, config: &Config, passing: Passing<'_>) -> Result<(), AllocError> {
+        self.losses
+            .take(config, passing.input, &passing.step.outcome);
+        match self.replies {
+            Some(_) => Ok(()),
+            None => self.remotes.take(passing),
+        }
+    }
 }
 
 impl Lines {
@@ -85,8 +109,8 @@ impl Lines {
         rt: &R,
         page: &mut Page,
         ending: &Ending<'_>,
-        outside: FromOutside<'_>,
-    ) -> Result<(), Stop> {
+        outside: &FromOutside<'_>,
+    ) -> Result<(), Exit> {
         self.tell_bindings(rt, page, ending)?;
         self.add_counts(&mut page.text, outside)?;
         page.end(rt)
@@ -99,7 +123,7 @@ impl Lines {
         rt: &R,
         page: &mut Page,
         ending: &Ending<'_>,
-    ) -> Result<(), Stop> {
+    ) -> Result<(), Exit> {
         let living = ending.living.iter().map(|listed| listed.entry);
         let living = Sorted::of(living.collect(rt.alloc())?)?;
         let time = Seconds(ending.last);
@@ -116,7 +140,7 @@ impl Lines {
     }
 
     /// Appends the counts of outcomes, and what to do if more than a fifth of the packets were dropped for one cause.
-    fn add_counts(&self, text: &mut String, outside: FromOutside<'_>) -> Result<(), AllocError> {
+    fn add_counts(&self, text: &mut String, outside: &FromOutside<'_>) -> Result<(), AllocError> {
         let counts = &self.counts;
         writeln!(text, "packets: {}", counts.packets())?;
         writeln!(text, "  {} to the outside", counts.to_outside())?;
@@ -130,7 +154,7 @@ impl Lines {
     fn add_cause(
         &self,
         text: &mut String,
-        outside: FromOutside<'_>,
+        outside: &FromOutside<'_>,
         cause: Cause,
     ) -> Result<(), AllocError> {
         let many = self.counts.dropped(cause);
@@ -140,7 +164,7 @@ impl Lines {
         let name = cause_name(cause);
         writeln!(text, "  {many} dropped, {name}: {}", meaning(cause))?;
         if let Some(replies) = outside.replies {
-            replies.add_losses(text, cause, outside.losses)?;
+            replies.add_losses(text, cause, &outside.losses)?;
         }
         if many > self.counts.packets() / 5 {
             self.add_advice(text, outside, cause)?;
@@ -153,12 +177,12 @@ impl Lines {
     fn add_advice(
         &self,
         text: &mut String,
-        outside: FromOutside<'_>,
+        outside: &FromOutside<'_>,
         cause: Cause,
     ) -> Result<(), AllocError> {
         let is_answered = outside.replies.is_none()
             && matches!(cause, Cause::NoBinding | Cause::NotOurs)
-            && outside.remotes.are_answers(outside.losses);
+            && outside.remotes.are_answers(&outside.losses);
         if is_answered {
             writeln!(text, "    many packets end so: {OTHER_NUMBERS}")?;
         }
@@ -187,11 +211,12 @@ fn add_row(
         return text.push_str(", a redirect\n");
     }
     if let Some(entry) = entry {
-        text.push_str(", made ")?;
-        add_seconds(text, last.saturating_sub(entry.made), 1)?;
-        text.push_str(" s ago, last used from inside ")?;
-        add_seconds(text, last.saturating_sub(entry.last_sent), 1)?;
-        text.push_str(" s ago")?;
+        let made = Seconds(last.saturating_sub(entry.made));
+        let sent = Seconds(last.saturating_sub(entry.last_sent));
+        write!(
+            text,
+            ", made {made} s ago, last used from inside {sent} s ago"
+        )?;
     }
     text.push_str("\n")
 }

@@ -35,8 +35,5 @@ impl Widths {
 
 /// How many decimal digits a number has.
 pub fn digits(number: u64) -> usize {
-    match number.checked_ilog10() {
-        Some(tens) => (tens as usize).saturating_add(1),
-        None => 1,
-    }
+    (number.checked_ilog10().unwrap_or(0) as usize).saturating_add(1)
 }

@@ -1,7 +1,6 @@
 -- Days after days: from one to another of the same month, to the next month, and to the next year.
 use Rattle.std.proofs.Common.{ℕ, zero, suc, ◌≡◌, ◌+◌, ◌-◌, ◌*◌, ◌≤◌, ◌<◌, ◌∙◌, Bool, true, false, cond, nat_lt, refl, ap, subst, arith, sym}
-use Rattle.std.proofs.lemmas.Bool.{lt-ltb, le-ltb}
-use Rattle.std.proofs.lemmas.Bool.Decides.{nat_tests}
+use Rattle.std.proofs.lemmas.Bool.{lt-ltb, le-ltb, Decides.nat_tests}
 use Rattle.napt_log_text.specs.declared.date.Date.{Date}
 use Rattle.napt_log_text.specs.Calendar.{is_leap, month_length, first_of_month, first_after, next_day, date_on, year_length, days_before}
 

@@ -1,33 +1,21 @@
 -- The log of a run grows by the rows of the inputs that come.
+use Rattle.std.proofs.lemmas.{Grind.common_steps, Bool.Decides.nat_tests}
 use Rattle.std.proofs.Common.{◌≡◌, ℕ, ◌+◌, max, length, arith, List, [], ◌∷◌, ◌++◌, refl, sym, ◌∙◌, ap, append-nil, append_assoc}
 use Rattle.napt_config.specs.Rules.{Rules, KeepsRules}
 use Rattle.napt_rules.specs.Prelude.{Arrival, opening, last_clock, run, step}
-use Rattle.napt_sequential.specs.Traces.{trace_of, traces}
-use Rattle.napt_sequential.specs.declared.passage.Trace.{Trace}
-use Rattle.napt_sequential.proofs.Joined.{traces_begin}
-use Rattle.napt_sequential.proofs.Passed.{traces_grow}
-use Rattle.napt_account.specs.TraceLogs.{told_with, TracesTellTheLog}
-use Rattle.napt_account.specs.Telling.{Told}
-use Rattle.napt_account.specs.Telling.{living_of, told_by}
-use Rattle.napt_log_text.specs.Logs.{LogGrows, log_so_far, opening_text, rows_after, rows_with, told_rows, TracesHaveTheRows}
-use Rattle.napt_log_text.specs.Times.{Text}
+use Rattle.napt_sequential.{specs.{Traces.{trace_of, traces}, declared.passage.Trace.Trace}, proofs.{Joined.traces_begin, Passed.traces_grow}}
+use Rattle.napt_account.specs.{TraceLogs.TracesTellTheLog, Telling.{Told, told_by}}
+use Rattle.napt_log_text.specs.{Logs.{LogGrows, log_so_far, rows_after, rows_with, told_rows, TracesHaveTheRows}, Times.Text}
 
 pub rows_after-append : (rules : Rules) (before xs ys : List Arrival) → rows_after rules before (xs ++ ys)
     ≡ rows_after rules before xs ++ rows_after rules (before ++ xs) ys
 rows_after-append rules before [] ys = ap (λ (l : List Arrival). rows_after rules l ys) (sym (append-nil before))
 rows_after-append rules before (x ∷ xs) ys =
-    let told : Text = told_rows rules (told_by rules before x) in
-    ap (λ (l : Text). told ++ l) (rows_after-append rules (before ++ x ∷ []) xs ys
-    ∙ ap (λ (l : List Arrival). rows_after rules (before ++ x ∷ []) xs ++ rows_after rules l ys)
-    (append_assoc before (x ∷ []) xs))
-    ∙ sym (append_assoc told (rows_after rules (before ++ x ∷ []) xs) (rows_after rules (before ++ x ∷ xs) ys))
+    grind (arith, common_steps, nat_tests, append_assoc, rows_after-append rules (before ++ x ∷ []) xs ys)
 
 pub grows : LogGrows
 unfolding log_so_far
-grows rules inputs more =
-    let front : Text = opening_text rules (living_of rules []) in
-    ap (λ (l : Text). front ++ l) (rows_after-append rules [] inputs more)
-    ∙ sym (append_assoc front (rows_after rules [] inputs) (rows_after rules inputs more))
+grows rules inputs more = grind (arith, common_steps, nat_tests, rows_after-append, append_assoc)
 
 -- BY TRACES
 
@@ -35,11 +23,7 @@ pub rows_with-append : (rules : Rules) (before xs ys : List Trace) → rows_with
     ≡ rows_with rules before xs ++ rows_with rules (before ++ xs) ys
 rows_with-append rules before [] ys = ap (λ (l : List Trace). rows_with rules l ys) (sym (append-nil before))
 rows_with-append rules before (x ∷ xs) ys =
-    let told : Text = told_rows rules (told_with rules before x) in
-    ap (λ (l : Text). told ++ l) (rows_with-append rules (before ++ x ∷ []) xs ys
-    ∙ ap (λ (l : List Trace). rows_with rules (before ++ x ∷ []) xs ++ rows_with rules l ys)
-    (append_assoc before (x ∷ []) xs))
-    ∙ sym (append_assoc told (rows_with rules (before ++ x ∷ []) xs) (rows_with rules (before ++ x ∷ xs) ys))
+    grind (arith, common_steps, nat_tests, append_assoc, rows_with-append rules (before ++ x ∷ []) xs ys)
 
 none_left : {X : Type 0} (xs ys : List X) → xs ++ ys ≡ xs → ys ≡ []
 none_left [] ys e = e

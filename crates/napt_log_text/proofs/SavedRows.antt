@@ -1,31 +1,17 @@
 -- A row is split into its fields again, since no text in one has a comma, and a log into its rows, since none has a
 -- line feed.
+use Rattle.std.proofs.lemmas.{Grind.common_steps, Bool.Decides.nat_tests}
 use Rattle.std.proofs.Common.{ℕ, zero, suc, ◌≡◌, ◌≢◌, ◌<◌, ◌^◌, get_or, ◌==◌, ◌||◌, ◌/◌, ◌%◌, ◌∙◌, Bool, true, false, List, [], ◌∷◌, ◌++◌, codes, decimal, length, Option, Some, None, IfSome, refl, sym, ap, subst, append_assoc, append-nil, length-append, replicate, if◌then◌else◌, lit<, arith}
-use Rattle.std.proofs.BufReadLemmas.{take_through-append, drop_through-append}
-use Rattle.std.specs.Fmt.{digit_glyph, digits, digits_onto}
-use Rattle.std.proofs.Math.Seq.{get_or-append_seam}
-use Rattle.std.specs.Io.BufRead.{take_through, drop_through}
-use Rattle.std.specs.Io.KnownBytes.{IsAtEnd}
-use Rattle.std.specs.List.{All, list_any, slice_split}
-use Rattle.std.specs.Net.Text.{dotted_text}
-use Rattle.std.proofs.lemmas.Bool.{both_ways, eqb-false, false_from_ne_true, or_parts}
-use Rattle.std.proofs.lemmas.Bool.Decides.{nat_tests}
-use Rattle.std.proofs.lemmas.List.{append_cancel_right}
-use Rattle.std.proofs.lemmas.List.Elements.{All-append, All-cons}
-use Rattle.std.proofs.lemmas.List.Folds.{list_any-append, list_any_at}
-use Rattle.std.proofs.lemmas.List.Splits.{slice_split_at, slice_split_none}
-use Rattle.napt_wire.specs.declared.Cause.{Cause}
-use Rattle.napt_wire.specs.declared.Cause.TheVariants.{OverQuota}
-use Rattle.napt_wire.specs.declared.Protocol.{Protocol}
-use Rattle.napt_wire.specs.declared.Protocol.TheVariants.{Icmp, Tcp, Udp}
-use Rattle.napt_config.specs.Rules.{Rules}
-use Rattle.napt_config.specs.Text.{address_text}
+use Rattle.std.{proofs.{BufReadLemmas.{take_through-append, drop_through-append}, Math.Seq.get_or-append_seam}, specs.Fmt.{digit_glyph, digits, digits_onto}}
+use Rattle.std.specs.{Io.{BufRead.{take_through, drop_through}, KnownBytes.IsAtEnd}, List.{All, list_any, slice_split}, Net.Text.dotted_text}
+use Rattle.std.proofs.lemmas.{Bool.{both_ways, eqb-false, false_from_ne_true, or_parts}, List.{append_cancel_right, Elements.{All-append, All-cons}}}
+use Rattle.std.proofs.lemmas.List.{Folds.{list_any-append, list_any_at}, Splits.{slice_split_at, slice_split_none}}
+use Rattle.napt_wire.specs.declared.{Cause.{Cause, TheVariants.OverQuota}, Protocol.{Protocol, TheVariants.{Icmp, Tcp, Udp}}}
+use Rattle.napt_config.specs.{Rules.Rules, Text.address_text}
 use Rattle.napt_account.specs.declared.log.Listed.{Listed}
 use Rattle.napt_log_text.specs.declared.event.Event.{Event}
-use Rattle.napt_log_text.specs.declared.event.Event.TheVariants.{Made, Ended, Living, Refused}
 use Rattle.napt_log_text.specs.Rows.{csv_row, date_of_any, fields, flag_text, listed_fields, number_if_any, protocol_number, quota_text, row_text, shortage_number}
-use Rattle.napt_log_text.specs.SavedRows.{fields_in, flag_number, is_comma}
-use Rattle.napt_log_text.specs.Times.{Text, clock_text, date_if_any, date_text, day_text, has_date, padded}
+use Rattle.napt_log_text.specs.{SavedRows.{fields_in, flag_number, is_comma}, Times.{Text, clock_text, date_if_any, date_text, day_text, has_date, padded}}
 
 -- what ends a field
 abbrev is_mark : ℕ → Bool
@@ -141,16 +127,11 @@ in_listed time event listed =
     simp (in_number, in_date_of, in_decimal, in_address, in_flag)
 
 in_fields : (rules : Rules) (event : Event) → have_marks (fields rules event) ≡ false
-in_fields rules (Made listed) = in_listed (Some listed.entry.made) (Some 8) listed
-in_fields rules (Ended listed) = in_listed listed.entry.end (Some 9) listed
-in_fields rules (Living listed) = in_listed listed.entry.end None listed
-in_fields rules (Refused shortage) = simp (in_decimal, in_date_if_any, in_address, in_quota)
+in_fields rules event =
+    grind (arith, common_steps, nat_tests, in_listed, in_decimal, in_date_if_any, in_address, in_quota)
 
 many : (rules : Rules) (event : Event) → length (fields rules event) ≡ 15
-many rules (Made listed) = refl
-many rules (Ended listed) = refl
-many rules (Living listed) = refl
-many rules (Refused shortage) = refl
+many rules event = grind (arith, common_steps, nat_tests)
 
 pub fields_read : (rules : Rules) (event : Event) (row : Text) → csv_row rules event ≡ row ++ codes "\n" →
     fields_in row ≡ fields rules event
@@ -206,14 +187,7 @@ module _ (left new : Option (List ℕ)) (old line : Text) (text rest : Text) (no
     (got : IfSome left (λ xs. line ≡ old ++ take_through 10 xs)) (left_is : left ≡ Some (text ++ rest)) where
   -- a line that is read is the first of what is left, which loses it
   pub line_read : IfSome left (λ xs. new ≡ Some (drop_through 10 xs)) → Line text → (line ≡ text) × (new ≡ Some rest)
-  line_read lost (row, is, whole) =
-      let parts : text ++ rest ≡ row ++ 10 ∷ rest = ap (λ l. l ++ rest) is ∙ append_assoc row (codes "\n") rest in (
-        subst (λ o. IfSome o (λ xs. line ≡ old ++ take_through 10 xs)) left_is got
-            ∙ ap (λ l. l ++ take_through 10 (text ++ rest)) none ∙ ap (take_through 10) parts
-            ∙ take_through-append 10 row (10 ∷ rest) whole ∙ sym is,
-        subst (λ o. IfSome o (λ xs. new ≡ Some (drop_through 10 xs))) left_is lost
-            ∙ ap (λ l. Some (drop_through 10 l)) parts ∙ ap Some (drop_through-append 10 row (10 ∷ rest) whole),
-      )
+  line_read h k = grind (arith, common_steps, nat_tests, append_assoc, take_through-append, drop_through-append)
 
   -- and so something is left
   pub line_left : IsAtEnd left → Line text → ⊥

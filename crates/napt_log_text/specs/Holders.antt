@@ -1,15 +1,10 @@
 -- The lines that say who had an external endpoint, and when.
 use Rattle.std.specs.Prelude.{ℕ, ◌-◌, ◌==◌, nat_le, Bool, true, false, not, is_some, Option, Some, None, [], ◌++◌, codes, decimal, if◌then◌else◌}
 use Rattle.napt_wire.specs.declared.Protocol.{Protocol}
-use Rattle.napt_config.specs.Rules.{Rules, place_of}
-use Rattle.napt_config.specs.Text.{address_text}
+use Rattle.napt_config.specs.{Rules.{Rules, place_of}, Text.address_text}
 use Rattle.napt_records.specs.Report.{protocol_name, endpoint_text}
-use Rattle.napt_account.specs.declared.log.Entry.{Entry}
-use Rattle.napt_account.specs.declared.question.Party.{Party}
-use Rattle.napt_log_text.specs.declared.request.Request.{Request}
-use Rattle.napt_log_text.specs.declared.request.Nearest.{Nearest}
-use Rattle.napt_log_text.specs.declared.request.Span.{Span}
-use Rattle.napt_log_text.specs.Times.{Text, moment_text}
+use Rattle.napt_account.specs.declared.{log.Entry.Entry, question.Party.Party}
+use Rattle.napt_log_text.specs.{declared.request.{Request.Request, Nearest.Nearest, Span.Span}, Times.{Text, moment_text}}
 
 -- an end after the last packet comes only if no packet does
 abbrev pub premise_text : ℕ → ℕ → Text

@@ -4,15 +4,9 @@
 use Rattle.std.specs.Prelude.{◌≡◌, List, [], ◌∷◌, ◌++◌, flat_map}
 use Rattle.napt_config.specs.Rules.{Rules, KeepsRules}
 use Rattle.napt_rules.specs.Prelude.{Arrival}
-use Rattle.napt_account.specs.declared.log.Listed.{Listed}
-use Rattle.napt_account.specs.declared.log.Shortage.{Shortage}
-use Rattle.napt_account.specs.Telling.{Told, living_of, told_by}
-use Rattle.napt_account.specs.TraceLogs.{told_with}
-use Rattle.napt_sequential.specs.Traces.{traces}
-use Rattle.napt_sequential.specs.declared.passage.Trace.{Trace}
-use Rattle.napt_log_text.specs.declared.event.Event.TheVariants.{Made, Ended, Living, Refused}
-use Rattle.napt_log_text.specs.Rows.{csv_row, header}
-use Rattle.napt_log_text.specs.Times.{Text}
+use Rattle.napt_account.specs.{declared.log.{Listed.Listed, Shortage.Shortage}, Telling.{Told, living_of, told_by}, TraceLogs.told_with}
+use Rattle.napt_sequential.specs.{Traces.traces, declared.passage.Trace.Trace}
+use Rattle.napt_log_text.specs.{declared.event.Event.TheVariants.{Made, Ended, Living, Refused}, Rows.{csv_row, header}, Times.Text}
 
 abbrev pub made_rows : Rules → List Listed → Text
 made_rows rules made = flat_map (λ listed. csv_row rules (Made listed)) made

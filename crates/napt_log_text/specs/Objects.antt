@@ -3,30 +3,17 @@
 --
 -- No text in it is escaped (RFC 8259, section 7), since each is a name that is listed here or in the report, or an
 -- address in dotted decimal: plain ASCII without a quote, a backslash or a control character.
-use Rattle.std.specs.Prelude.{ℕ, max, Bool, true, false, List, [], ◌∷◌, ◌++◌, codes, decimal, Option, Some, None}
-use Rattle.std.specs.Result.{result_ok}
-use Rattle.napt_wire.specs.Fields.{form_at, kind, source, destination}
-use Rattle.napt_wire.specs.Reading.{reading}
-use Rattle.napt_wire.specs.declared.Inner.{Inner}
-use Rattle.napt_wire.specs.declared.Kind.{Kind}
+use Rattle.std.specs.{Prelude.{ℕ, max, Bool, true, false, List, [], ◌∷◌, ◌++◌, codes, decimal, Option, Some, None}, Result.result_ok}
+use Rattle.napt_wire.specs.{Fields.{form_at, kind, source, destination}, Reading.reading, declared.{Inner.Inner, Kind.Kind, Protocol.Protocol, Side.Side}}
+use Rattle.napt_wire.specs.declared.{Side.TheVariants.{Inside, Outside}, form.Form.Form}
 use Rattle.napt_wire.specs.declared.Kind.TheVariants as kinds
-use Rattle.napt_wire.specs.declared.Protocol.{Protocol}
 use Rattle.napt_wire.specs.declared.Protocol.TheVariants as protocols
-use Rattle.napt_wire.specs.declared.Side.{Side}
-use Rattle.napt_wire.specs.declared.Side.TheVariants.{Inside, Outside}
-use Rattle.napt_wire.specs.declared.form.Form.{Form}
 use Rattle.napt_wire.specs.declared.form.Form.TheVariants as forms
 use Rattle.napt_config.specs.Text.{address_text}
-use Rattle.napt_rules.specs.Prelude.{Arrival}
-use Rattle.napt_rules.specs.declared.Outcome.{Outcome}
-use Rattle.napt_rules.specs.declared.Outcome.TheVariants.{ToOutside, ToInside, Dropped}
+use Rattle.napt_rules.specs.{Prelude.Arrival, declared.Outcome.{Outcome, TheVariants.{ToOutside, ToInside, Dropped}}}
 use Rattle.napt_records.specs.Report.{cause_name, protocol_name}
-use Rattle.napt_account.specs.declared.account.Note.{Note}
-use Rattle.napt_account.specs.declared.account.Note.TheVariants.{Nothing, Made, Found, Redirect}
-use Rattle.napt_log_text.specs.declared.object.Ends.{Ends}
-use Rattle.napt_log_text.specs.declared.object.Numbers.{Numbers}
-use Rattle.napt_log_text.specs.declared.object.Numbers.TheVariants.{Ports, Identifier, Absent}
-use Rattle.napt_log_text.specs.Times.{Text}
+use Rattle.napt_account.specs.declared.account.Note.{Note, TheVariants.{Nothing, Made, Found, Redirect}}
+use Rattle.napt_log_text.specs.{declared.object.{Ends.Ends, Numbers.{Numbers, TheVariants.{Ports, Identifier, Absent}}}, Times.Text}
 
 -- JSON
 

@@ -2,10 +2,8 @@
 use Rattle.std.specs.Prelude.{ℕ, nat_lt, nat_le, Bool, true, false, ◌&&◌, Option, Some, None, List, filter, find, fold, if◌then◌else◌}
 use Rattle.napt_wire.specs.declared.Protocol.{Protocol}
 use Rattle.napt_rules.specs.Prelude.{same_protocol}
-use Rattle.napt_account.specs.Questions.{is_meant}
-use Rattle.napt_account.specs.declared.log.Entry.{Entry}
-use Rattle.napt_log_text.specs.declared.request.Request.{Request}
-use Rattle.napt_log_text.specs.declared.request.Span.{Span}
+use Rattle.napt_account.specs.{Questions.is_meant, declared.log.Entry.Entry}
+use Rattle.napt_log_text.specs.declared.request.{Request.Request, Span.Span}
 
 -- no protocol means any
 abbrev pub is_of : Option Protocol → Protocol → Bool

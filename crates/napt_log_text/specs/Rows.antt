@@ -2,20 +2,11 @@
 -- one for each event, and then one for each binding that lives at the end. No field has a comma, a quote or the end of
 -- a line, so none is quoted.
 use Rattle.std.specs.Prelude.{ℕ, nat_lt, ◌||◌, Bool, true, false, List, [], ◌∷◌, ◌++◌, codes, decimal, Option, Some, None, if◌then◌else◌}
-use Rattle.napt_wire.specs.declared.Cause.{Cause}
-use Rattle.napt_wire.specs.declared.Cause.TheVariants.{OverQuota}
-use Rattle.napt_wire.specs.declared.Endpoint.{Endpoint}
-use Rattle.napt_wire.specs.declared.Protocol.{Protocol}
-use Rattle.napt_wire.specs.declared.Protocol.TheVariants.{Icmp, Tcp, Udp}
-use Rattle.napt_config.specs.Rules.{Rules, pair_of}
-use Rattle.napt_config.specs.Text.{address_text}
+use Rattle.napt_wire.specs.declared.{Cause.{Cause, TheVariants.OverQuota}, Endpoint.Endpoint, Protocol.{Protocol, TheVariants.{Icmp, Tcp, Udp}}}
+use Rattle.napt_config.specs.{Rules.{Rules, pair_of}, Text.address_text}
 use Rattle.napt_rules.specs.declared.Row.{Row}
-use Rattle.napt_account.specs.declared.log.Entry.{Entry}
-use Rattle.napt_account.specs.declared.log.Shortage.{Shortage}
-use Rattle.napt_account.specs.declared.log.Listed.{Listed}
-use Rattle.napt_log_text.specs.declared.event.Event.{Event}
-use Rattle.napt_log_text.specs.declared.event.Event.TheVariants.{Made, Ended, Living, Refused}
-use Rattle.napt_log_text.specs.Times.{Text, date_if_any}
+use Rattle.napt_account.specs.declared.log.{Entry.Entry, Shortage.Shortage, Listed.Listed}
+use Rattle.napt_log_text.specs.{declared.event.Event.{Event, TheVariants.{Made, Ended, Living, Refused}}, Times.{Text, date_if_any}}
 
 abbrev pub row_text : List Text → Text
 row_text [] = codes "\n"

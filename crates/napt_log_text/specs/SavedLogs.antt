@@ -3,12 +3,8 @@ use Rattle.std.specs.Prelude.{◌≡◌, List, [], ◌∷◌, ◌++◌, Result, 
 use Rattle.napt_config.specs.Rules.{Rules}
 use Rattle.napt_rules.specs.Prelude.{Arrival}
 use Rattle.napt_account.specs.Telling.{Told, living_of, told_by}
-use Rattle.napt_log_text.specs.declared.event.Event.{Event}
-use Rattle.napt_log_text.specs.declared.event.Event.TheVariants.{Made, Ended, Living, Refused}
-use Rattle.napt_log_text.specs.declared.saved_log.SavedFault.{SavedFault}
-use Rattle.napt_log_text.specs.declared.saved_log.SavedFault.TheVariants.{Unread}
-use Rattle.napt_log_text.specs.Logs.{log_text}
-use Rattle.napt_log_text.specs.Rows.{csv_row, header}
+use Rattle.napt_log_text.specs.declared.{event.Event.{Event, TheVariants.{Made, Ended, Living, Refused}}, saved_log.SavedFault.{SavedFault, TheVariants.Unread}}
+use Rattle.napt_log_text.specs.{Logs.log_text, Rows.{csv_row, header}}
 
 abbrev pub told_events : Told → List Event
 told_events told = map Ended told.ended ++ (map Made told.made ++ map Refused told.refused)

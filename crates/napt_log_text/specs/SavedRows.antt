@@ -1,15 +1,9 @@
 -- What a row of the log says when it is read again.
-use Rattle.std.specs.Prelude.{ℕ, ◌<◌, ◌^◌, ◌==◌, Bool, true, false, List, Option, Some, None, IfSome}
-use Rattle.std.specs.List.{slice_split}
+use Rattle.std.specs.{Prelude.{ℕ, ◌<◌, ◌^◌, ◌==◌, Bool, true, false, List, Option, Some, None, IfSome}, List.slice_split}
 use Rattle.napt_wire.specs.declared.Endpoint.{Endpoint}
-use Rattle.napt_account.specs.declared.log.Listed.{Listed}
-use Rattle.napt_account.specs.declared.log.Shortage.{Shortage}
-use Rattle.napt_log_text.specs.declared.event.Event.{Event}
-use Rattle.napt_log_text.specs.declared.event.Event.TheVariants.{Made, Ended, Living, Refused}
-use Rattle.napt_log_text.specs.declared.saved_row.SavedField.{SavedField}
-use Rattle.napt_log_text.specs.declared.saved_row.SavedField.TheVariants.{Empty, Number}
-use Rattle.napt_log_text.specs.declared.saved_row.SavedRow.{SavedRow}
-use Rattle.napt_log_text.specs.Rows.{protocol_number, shortage_number}
+use Rattle.napt_account.specs.declared.log.{Listed.Listed, Shortage.Shortage}
+use Rattle.napt_log_text.specs.declared.{event.Event.{Event, TheVariants.{Made, Ended, Living, Refused}}, saved_row.SavedField.SavedField}
+use Rattle.napt_log_text.specs.{declared.saved_row.{SavedField.TheVariants.{Empty, Number}, SavedRow.SavedRow}, Rows.{protocol_number, shortage_number}}
 use Rattle.napt_log_text.specs.Times.{Text}
 
 abbrev pub is_comma : ℕ → Bool

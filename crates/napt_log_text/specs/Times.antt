@@ -1,7 +1,6 @@
 -- The texts of times, given in ns since 1970-01-01 UTC.
 use Rattle.std.specs.Prelude.{ℕ, ◌-◌, ◌*◌, ◌/◌, ◌%◌, nat_lt, Bool, List, [], ◌++◌, length, replicate, codes, decimal, if◌then◌else◌}
-use Rattle.napt_log_text.specs.declared.date.Date.{Date}
-use Rattle.napt_log_text.specs.Calendar.{date_on, dated_days}
+use Rattle.napt_log_text.specs.{declared.date.Date.Date, Calendar.{date_on, dated_days}}
 
 abbrev pub Text : Type 0
 Text = List ℕ

@@ -1,7 +1,6 @@
 //! The text of the log of a run, part by part, while packets come.
 ghost use Rattle.std.specs.Prelude.{◌≡◌, ◌++◌, OnOk, string_bytes};
-ghost use Rattle.napt_account.specs.KnownRuns.{told_of};
-ghost use Rattle.napt_account.specs.TraceLogs.{told_in};
+ghost use Rattle.napt_account.specs.{KnownRuns.told_of, TraceLogs.told_in};
 ghost use Rattle.napt_log_text.specs.Logs as logs;
 
 use crate::event::{Event, header};

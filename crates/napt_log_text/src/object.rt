@@ -1,7 +1,6 @@
 //! The object of a packet in JSON (RFC 8259), for programs.
 ghost use Rattle.std.specs.Prelude.{◌≡◌, ◌++◌, OnOk, IfOk, codes, option_map, string_bytes};
-ghost use Rattle.napt_wire.specs.Bytes.{byte_at};
-ghost use Rattle.napt_wire.specs.Fields.{form_at, transport};
+ghost use Rattle.napt_wire.specs.{Bytes.byte_at, Fields.{form_at, transport}};
 ghost use Rattle.napt_log_text.specs.Objects as objects;
 
 use crate::digits::{add_address, add_number};

@@ -1,6 +1,5 @@
 //! A log that was written before, read again row by row.
-ghost use Rattle.std.specs.Prelude.{◌≡◌, ◌≢◌, ◌++◌, ◌<◌, ℕ, List, [], IsOkAnd, length};
-ghost use Rattle.std.specs.List.{All};
+ghost use Rattle.std.specs.{Prelude.{◌≡◌, ◌≢◌, ◌++◌, ◌<◌, ℕ, List, [], IsOkAnd, length}, List.All};
 ghost use Rattle.napt_config.specs.Rules.{Rules};
 ghost use Rattle.napt_log_text.specs.Rows as rows;
 ghost use Rattle.napt_log_text.specs.SavedLogs as logs;

@@ -1,11 +1,8 @@
 //! Rows of a log that was written before, read again.
 ghost use Rattle.std.specs.Prelude.{◌≡◌, ◌++◌, ℕ, [], Option, codes, decimal, length, slice_index_or};
-ghost use Rattle.napt_config.specs.Rules.{Rules};
-ghost use Rattle.napt_config.specs.Text.{address_text};
-ghost use Rattle.napt_wire.specs.declared.Endpoint.{Endpoint as End};
-ghost use Rattle.napt_wire.specs.declared.Protocol.{Protocol as Carried};
-ghost use Rattle.napt_account.specs.declared.log.Listed.{Listed as Logged};
-ghost use Rattle.napt_account.specs.declared.log.Shortage.{Shortage as Short};
+ghost use Rattle.napt_config.specs.{Rules.Rules, Text.address_text};
+ghost use Rattle.napt_wire.specs.declared.{Endpoint.Endpoint as End, Protocol.Protocol as Carried};
+ghost use Rattle.napt_account.specs.declared.log.{Listed.Listed as Logged, Shortage.Shortage as Short};
 ghost use Rattle.napt_log_text.specs.Rows as rows;
 ghost use Rattle.napt_log_text.specs.SavedRows as saved;
 ghost use Rattle.napt_log_text.specs.declared.event.Event.{Event as Told};

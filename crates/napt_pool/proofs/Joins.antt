@@ -1,25 +1,14 @@
 -- The workers that were joined so far.
 use Rattle.std.proofs.Common.{rules, ◌≡◌, ℕ, zero, suc, ◌+◌, ◌<◌, add-one, refl, sym, ap, ◌∙◌, arith, Bool, true, false, List, map, length, [], ◌∷◌, ◌++◌, append_assoc, length-append, ◌⊎◌, inl, inr, ⊎_elim, get_or}
-use Rattle.std.specs.Prelude.{Result, Ok, Err, OnOk, IfOk, IfErr, MatchResult, Contains, replicate}
-use Rattle.std.proofs.lemmas.List.{length-map}
-use Rattle.std.proofs.lemmas.Result.{IfOk-weaker}
-use Rattle.napt_pool.specs.declared.fault.PoolFault.{PoolFault}
-use Rattle.napt_pool.specs.declared.fault.Stop.{Stop}
-use Rattle.napt_pool.specs.declared.fault.Stop.TheVariants.{Memory, GateShut, Ring}
-use Rattle.napt_pool.specs.declared.machine.Machine.{Ghosts}
-use Rattle.napt_pool.specs.declared.closing.Closing.{Closing}
-use Rattle.napt_pool.specs.declared.closing.Ended.{Ended}
-use Rattle.napt_pool.specs.declared.message.Reply.TheVariants.{Stopped}
-use Rattle.napt_pool.specs.declared.pool.Pool.{Pool}
-use Rattle.napt_pool.specs.declared.thread_state.ThreadState.{ThreadState}
-use Rattle.napt_pool.specs.Faults.{is_shut, is_gate_shut, fault_of, IsFaultOf, IsFaultUpTo, IsLeastFault}
+use Rattle.std.{specs.Prelude.{Result, Ok, Err, OnOk, IfOk, IfErr, MatchResult, Contains, replicate}, proofs.lemmas.List.{length-map, nil_from_length}}
+use Rattle.std.{proofs.lemmas.Result.IfOk-weaker, specs.Vec.Iter.{into_iter_items, into_iter_len}}
+use Rattle.napt_pool.specs.declared.{fault.{PoolFault.PoolFault, Stop.{Stop, TheVariants.{Memory, GateShut, Ring}}}, machine.Machine.Ghosts}
+use Rattle.napt_pool.specs.declared.{closing.{Closing.Closing, Ended.Ended}, message.Reply.TheVariants.Stopped, pool.Pool.Pool}
+use Rattle.napt_pool.specs.{declared.thread_state.ThreadState.ThreadState, Faults.{is_shut, is_gate_shut, fault_of, IsFaultOf, IsFaultUpTo, IsLeastFault}}
 use Rattle.napt_pool.specs.Histories.{after, replies, AllBegin}
 use Rattle.napt_pool.specs.Workers.{IsEnd, AreEnds, closing_machine, closing_thread_state, closing_accepted, closing_taken, closing_heard}
-use Rattle.napt_pool.specs.Pools.{starts, accepts, takes, heard, thread_states, zip_with, HasTold, HaveReceived, IsLeastStop}
-use Rattle.napt_pool.proofs.Ending.{length-replies}
+use Rattle.napt_pool.{specs.Pools.{starts, accepts, takes, heard, thread_states, zip_with, HasTold, HaveReceived, IsLeastStop}, proofs.Ending.length-replies}
 use Rattle.napt_pool.proofs.Steps.{map-snoc}
-use Rattle.std.proofs.lemmas.List.{nil_from_length}
-use Rattle.std.specs.Vec.Iter.{into_iter_items, into_iter_len}
 
 no_rest : {A : Type 0} (t rest : List A) → length (t ++ rest) ≡ length t → t ++ rest ≡ t
 no_rest [] [] e = refl
@@ -59,9 +48,7 @@ module _ {M G I A : Type 0} (g : Ghosts M I A) (open_gate : Bool) where
   machines_are [] [] h = refl
   machines_are [] (e ∷ es) h = absurd h
   machines_are (w ∷ ws) [] h = absurd h
-  machines_are (w ∷ ws) (e ∷ es) h =
-      ap (λ m. m ∷ map (λ d. d.machine) es) h.0.machine_is ∙ ap (λ ms. after g (closing_machine w) (closing_accepted w)
-      ∷ ms) (machines_are ws es h.1)
+  machines_are (w ∷ ws) (e ∷ es) h = grind (arith, machines_are ws es h.1)
 
   -- what was taken and what is handed back are the replies to what was accepted
   pub answers_are : (ws : List (Closing M G I A)) (es : List (Ended M I A)) → AreEnds g open_gate ws (map Ok es)
@@ -70,10 +57,7 @@ module _ {M G I A : Type 0} (g : Ghosts M I A) (open_gate : Bool) where
   answers_are [] [] h = refl
   answers_are [] (e ∷ es) h = absurd h
   answers_are (w ∷ ws) [] h = absurd h
-  answers_are (w ∷ ws) (e ∷ es) h =
-      ap (λ r. r ∷ zip_with (λ t rest. t ++ rest) (map closing_taken ws) (map (λ d. d.answers.items) es))
-      h.0.answers_are
-      ∙ ap (λ rs. replies g (closing_machine w) (closing_accepted w) ∷ rs) (answers_are ws es h.1)
+  answers_are (w ∷ ws) (e ∷ es) h = grind (arith, answers_are ws es h.1)
 
   -- what was taken is the first of them, also where a worker stopped
   pub taken_are : (ws : List (Closing M G I A)) (es : List (Result (Ended M I A) Stop)) → AreEnds g open_gate ws es
@@ -121,10 +105,7 @@ module _ {M G I A : Type 0} (g : Ghosts M I A) (open_gate : Bool) where
 
   least_not_shut : (ws : List (Closing M G I A)) (es : List (Result (Ended M I A) Stop)) (fault : PoolFault)
       → AreEnds g open_gate ws es → IsLeastFault es fault → open_gate ≡ true → is_shut fault ≡ false
-  least_not_shut ws es fault h least is_open =
-      let here = rw least.ends_are at h in
-      ap is_shut least.fault_is ∙ shut_is least.stop (length least.before)
-      ∙ gate_at ws least.before least.stop least.rest here is_open
+  least_not_shut ws es fault h least is_open = grind (arith, shut_is, gate_at)
 
   -- the same of what `close` gives
   module _ {T : Type 0} (items : T → List (Ended M I A)) (r : Result T PoolFault) (ws : List (Closing M G I A))
@@ -150,11 +131,7 @@ module _ {M G I A : Type 0} (g : Ghosts M I A) (open_gate : Bool) where
       → (ts : List (List A)) (r : Result T PoolFault) → map closing_taken ws ≡ ts → map length ts ≡ map length xs →
       IfOk r (λ v. map Ok (items v) ≡ es)
       → OnOk r (ts ≡ zip_with (replies g) ms xs)
-  settled_at items ws es ms xs ends began accepted ts (Ok v) taken same k =
-      let here = rw (← k) at ends in
-      let counts : map length ts ≡ map length (map closing_accepted ws) = rw accepted same in
-      rw (← began, ← accepted) (settled ts ws (items v) here taken counts)
-  settled_at items ws es ms xs ends began accepted ts (Err e) taken same k = tt
+  settled_at items ws es ms xs h k j ts r p q s = grind (arith, settled)
 
   AreEnds-length : (ws : List (Closing M G I A)) (es : List (Result (Ended M I A) Stop)) → AreEnds g open_gate ws es →
       length es ≡ length ws
@@ -181,18 +158,7 @@ module _ {M G I A : Type 0} (g : Ghosts M I A) (open_gate : Bool) where
       → map closing_heard ws ≡ heard p → map closing_thread_state ws ≡ thread_states p → AreEnds g open_gate ws es
       → (r : Result T PoolFault) → IfErr r (λ fault. IsLeastFault es fault) →
       IfErr r (λ fault. IsLeastStop g open_gate p fault)
-  least_if_err p ws es began accepted taken listened given h (Ok v) least = tt
-  least_if_err p ws es began accepted taken listened given h (Err fault) least = record {
-    closing = ws;
-    ends = es;
-    machines_are = began;
-    accepted_are = accepted;
-    taken_are = taken;
-    heard_are = listened;
-    thread_states_are = given;
-    ends_are = h;
-    least = least;
-  }
+  least_if_err p ws es h k j q s t r u = grind (arith, machines_are, taken_are)
 
   -- a worker that told that it stopped: where all ended well there is none, and else the least that stopped is that one
   -- or one before it
@@ -214,8 +180,7 @@ module _ {M G I A : Type 0} (g : Ghosts M I A) (open_gate : Bool) where
   least_up_to (v ∷ ws) [] s rest h zero stop c = let here = h.0.told stop c in inr (refl, cc)
   least_up_to (v ∷ ws) [] s rest h (suc w) stop c = inl (omega arith)
   least_up_to (v ∷ ws) (b ∷ bs) s rest h zero stop c = let here = h.0.told stop c in cc
-  least_up_to (v ∷ ws) (b ∷ bs) s rest h (suc w) stop c =
-      ⊎_elim (λ less. inl (omega arith)) (λ same. inr (ap suc same.0, same.1)) (least_up_to ws bs s rest h.1 w stop c)
+  least_up_to (v ∷ ws) (b ∷ bs) s rest h (suc w) stop c = grind (arith, least_up_to ws bs s rest h.1 w stop c)
 
   pub told_is : {T : Type 0} (p : Pool M G I A) (items : T → List (Ended M I A)) (ws : List (Closing M G I A))
       (es : List (Result (Ended M I A) Stop))

@@ -1,8 +1,7 @@
 -- What faults and refusals say in words.
 use Rattle.std.specs.Prelude.{ℕ, List, ◌++◌, codes, decimal}
-use Rattle.napt_pool.specs.declared.fault.PoolFault.{PoolFault}
+use Rattle.napt_pool.specs.declared.fault.{PoolFault.PoolFault, OfferRefused.OfferRefused}
 use Rattle.napt_pool.specs.declared.fault.PoolFault.TheVariants as Fault
-use Rattle.napt_pool.specs.declared.fault.OfferRefused.{OfferRefused}
 use Rattle.napt_pool.specs.declared.fault.OfferRefused.TheVariants as Refused
 
 abbrev pub fault_message : PoolFault → List ℕ

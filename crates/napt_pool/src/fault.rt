@@ -1,8 +1,7 @@
 //! Why an item, a worker or a pool was refused.
 
 ghost use Rattle.std.specs.Prelude.{◌≡◌, ℕ, Some};
-ghost use Rattle.napt_pool.specs.Faults.{fault_of};
-ghost use Rattle.napt_pool.specs.Messages.{fault_message, refusal_message};
+ghost use Rattle.napt_pool.specs.{Faults.fault_of, Messages.{fault_message, refusal_message}};
 
 use std::error::Error;
 use std::fmt;

@@ -2,8 +2,7 @@
 
 ghost use Rattle.std.specs.Prelude.{◌≡◌, [], IfOk, IfErr};
 ghost use Rattle.rtrb.specs.Ring.{sent, received};
-ghost use Rattle.napt_pool.specs.Faults.{IsStartFault};
-ghost use Rattle.napt_pool.specs.ThreadStates.{HasRun};
+ghost use Rattle.napt_pool.specs.{Faults.IsStartFault, ThreadStates.HasRun};
 
 use crate::fault::PoolFault;
 use crate::gate::Gate;

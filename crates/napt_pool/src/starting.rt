@@ -1,8 +1,7 @@
 //! Starting a list of workers.
 
 ghost use Rattle.std.specs.Prelude.{◌≡◌, ◌≤◌, vec_len, IfOk, IfErr};
-ghost use Rattle.napt_pool.specs.Faults.{IsStartFault};
-ghost use Rattle.napt_pool.specs.Workers.{AreNew, AreGivenUp};
+ghost use Rattle.napt_pool.specs.{Faults.IsStartFault, Workers.{AreNew, AreGivenUp}};
 
 use crate::close_buffers::CloseBuffers;
 use crate::fault::PoolFault;

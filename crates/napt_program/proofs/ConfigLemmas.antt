@@ -1,7 +1,6 @@
 -- What is read of a configuration's file.
 use Rattle.std.proofs.Common.{◌≡◌, ◌≤◌, ◌+◌, ℕ, List, [], ◌++◌, length, take, min, refl, ap, ◌∙◌, arith}
-use Rattle.std.specs.Prelude.{Option, Some, None, IfSome, option_map}
-use Rattle.std.proofs.lemmas.List.{length-take, take_all}
+use Rattle.std.{specs.Prelude.{Option, Some, None, IfSome, option_map}, proofs.lemmas.List.{length-take, take_all}}
 
 -- a text that is shorter than what was asked for is all that was told
 short_is_whole : (bytes text : List ℕ) (most : ℕ) → length text ≤ most → text ≡ take (most + 1) bytes → text ≡ bytes

@@ -2,14 +2,10 @@
 use Rattle.std.proofs.Common.{◌≡◌, ◌≤◌, ◌∙◌, Bool, true, false, List, [], ◌∷◌, length, refl, sym, ap, inl, inr, arith}
 use Rattle.std.specs.Prelude.{◌≢◌, IfOk, Option, None, Result, Ok, Err, codes, option_map, string_bytes}
 use Rattle.clap.specs.Words.{App, HasKind, HasMatchesOf, IsAmong, Kinds, Row, Text, fault_of, first_of, first_value, found_of, is_simple, is_simple_and_free, kind_of, matches_of, rows_of}
-use Rattle.clap.proofs.WalkLemmas.{first_value-rows}
-use Rattle.clap.specs.declared.error.kind.ErrorKind.{ErrorKind}
+use Rattle.clap.{proofs.WalkLemmas.first_value-rows, specs.declared.{error.{kind.ErrorKind.ErrorKind, Error.Error}, parser.matches.ArgMatches.ArgMatches}}
 use Rattle.clap.specs.declared.error.kind.ErrorKind.TheVariants as kind
-use Rattle.clap.specs.declared.error.Error.{Error}
-use Rattle.clap.specs.declared.parser.matches.ArgMatches.{ArgMatches}
 use Rattle.napt_program.specs.CommandLine.{Files, app_for, files, files_in, files_of, files_with_log, help, line_by, line_for, log_in, mistake, napt_app, version}
-use Rattle.napt_program.specs.declared.options_with_log.OptionsWithLog.{OptionsWithLog}
-use Rattle.napt_program.proofs.OneKind.{one_fault}
+use Rattle.napt_program.{specs.declared.options_with_log.OptionsWithLog.OptionsWithLog, proofs.OneKind.one_fault}
 
 line_is_simple : (takes_log : Bool) → is_simple (app_for takes_log) ≡ true
 line_is_simple false = refl

@@ -1,12 +1,8 @@
 -- Which option comes first, with the log behind all others.
 use Rattle.std.proofs.Common.{◌≡◌, ◌∙◌, ◌&&◌, ◌||◌, ℕ, List, option_map, Bool, true, false, not, is_some, Option, Some, None, if◌then◌else◌, refl}
-use Rattle.napt_program.specs.CommandLine.{Files, files_of, files_with_log}
-use Rattle.napt_program.specs.Standard.{is_log_again, is_standard, is_stream, standard_again}
-use Rattle.napt_program.specs.Streams.{closed_stream}
-use Rattle.napt_program.specs.declared.options_with_log.OptionsWithLog.{OptionsWithLog}
-use Rattle.napt_program.specs.declared.role.Role.{Role}
+use Rattle.napt_program.specs.{CommandLine.{Files, files_of, files_with_log}, Standard.{is_log_again, is_standard, is_stream, standard_again}}
+use Rattle.napt_program.specs.{Streams.closed_stream, declared.{options_with_log.OptionsWithLog.OptionsWithLog, role.Role.Role, streams.Streams.Streams}}
 use Rattle.napt_program.specs.declared.role.Role.TheVariants as role
-use Rattle.napt_program.specs.declared.streams.Streams.{Streams}
 
 -- the role of the first condition that holds, or what comes behind them all
 abbrev pub first_role : (a b c d e f : Bool) (j k l m n o : Role) → Option Role → Option Role

@@ -1,15 +1,10 @@
 -- What stops a program: its arguments, what it opens, or its run.
 use Rattle.std.specs.Prelude.{◌≡◌, ◌||◌, Bool, true, false, not, is_some, if◌then◌else◌}
-use Rattle.napt_program.specs.CommandLine.{Files, Line, files, help, mistake, version}
-use Rattle.napt_program.specs.declared.role.Role.{Role}
-use Rattle.napt_program.specs.declared.role.Role.TheVariants as role
-use Rattle.napt_program.specs.declared.stop.Stop.{Stop}
-use Rattle.napt_program.specs.declared.stop.Stop.TheVariants as stop
-use Rattle.napt_program.specs.declared.streams.Streams.{Streams}
+use Rattle.napt_program.specs.{CommandLine.{Files, Line, files, help, mistake, version}, declared.{role.Role.Role, stop.Stop.Stop, streams.Streams.Streams}}
 use Rattle.napt_program.specs.declared.stop.TheConstants.{MEMORY}
-use Rattle.napt_records.specs.Faults.{tells_shut_gate}
-use Rattle.napt_records.specs.declared.Fault.{Fault}
-use Rattle.napt_records.specs.declared.Fault.TheVariants.{Capture}
+use Rattle.napt_program.specs.declared.role.Role.TheVariants as role
+use Rattle.napt_program.specs.declared.stop.Stop.TheVariants as stop
+use Rattle.napt_records.specs.{Faults.tells_shut_gate, declared.Fault.{Fault, TheVariants.Capture}}
 use Rattle.napt_wire.specs.declared.Side.TheVariants.{Outside}
 
 -- what may fail as a file: one that is named, or a closed standard stream

@@ -1,13 +1,9 @@
 -- What a command line means, by clap's own specification.
 use Rattle.std.specs.Prelude.{List, [], ◌∷◌, Bool, true, false, Option, Some, None, codes, option_map, string_bytes}
 use Rattle.clap.specs.Words.{App, Kinds, Row, Rule, Text, fault_of, first_of, matches_of, new_app, new_rule, with_rule}
-use Rattle.clap.specs.declared.builder.action.ArgAction.TheVariants.{Set}
-use Rattle.clap.specs.declared.error.kind.ErrorKind.TheVariants.{DisplayHelp, DisplayVersion}
-use Rattle.napt_program.specs.declared.options.Options.{Options}
-use Rattle.napt_program.specs.declared.options_with_log.OptionsWithLog.{OptionsWithLog}
-use Rattle.napt_program.specs.declared.options.LineFault.{LineFault}
-use Rattle.napt_program.specs.declared.options.LineFault.TheVariants.{Help, Version}
-use Rattle.napt_program.specs.declared.role.Role.{Role}
+use Rattle.clap.specs.declared.{builder.action.ArgAction.TheVariants.Set, error.kind.ErrorKind.TheVariants.{DisplayHelp, DisplayVersion}}
+use Rattle.napt_program.specs.declared.{options.{Options.Options, LineFault.LineFault}, options_with_log.OptionsWithLog.OptionsWithLog}
+use Rattle.napt_program.specs.declared.{options.LineFault.TheVariants.{Help, Version}, role.Role.Role}
 use Rattle.napt_program.specs.declared.role.Role.TheVariants as role
 
 -- `--name FILE`: a plain option that takes one value

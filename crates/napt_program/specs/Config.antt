@@ -1,8 +1,6 @@
 -- The result of reading a configuration's file.
 use Rattle.std.specs.Prelude.{◌≡◌, ◌≢◌, ℕ, List, Bool, true, Result, Ok, Err}
-use Rattle.napt_config.specs.Configured.{configuration_of}
-use Rattle.napt_config.specs.Rules.{Rules}
-use Rattle.napt_config.specs.declared.fault.ConfigFault.TheVariants.{Memory}
+use Rattle.napt_config.specs.{Configured.configuration_of, Rules.Rules, declared.fault.ConfigFault.TheVariants.Memory}
 use Rattle.napt_program.specs.declared.role.Role.TheVariants as role
 use Rattle.napt_program.specs.declared.stop.Stop.{Stop}
 use Rattle.napt_program.specs.declared.stop.Stop.TheVariants as stop

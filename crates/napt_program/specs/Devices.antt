@@ -1,14 +1,9 @@
 -- What contracts see of the devices that are made over files.
-use Rattle.std.specs.Prelude.{◌≡◌, ℕ, List, Option, option_map}
-use Rattle.std.specs.Io.Buffered.{reader_remaining, writer_contents}
-use Rattle.std.specs.declared.io.buffered.BufReader.{BufReader}
+use Rattle.std.specs.{Prelude.{◌≡◌, ℕ, List, Option, option_map}, Io.Buffered.{reader_remaining, writer_contents}, declared.io.buffered.BufReader.BufReader}
 use Rattle.std.specs.declared.io.buffered.BufWriter.{BufWriter}
-use Rattle.either.specs.Either.{either, left}
-use Rattle.either.specs.declared.Either.{Either}
-use Rattle.napt_capture.specs.Watched.{device_of, failed_of}
-use Rattle.napt_capture.specs.declared.watched.Watched.{Watched}
-use Rattle.napt_program.specs.declared.devices.Devices.{Devices}
-use Rattle.napt_program.specs.declared.files.RunFiles.{RunFiles}
+use Rattle.either.specs.{Either.{either, left}, declared.Either.Either}
+use Rattle.napt_capture.specs.{Watched.{device_of, failed_of}, declared.watched.Watched.Watched}
+use Rattle.napt_program.specs.declared.{devices.Devices.Devices, files.RunFiles.RunFiles}
 
 -- the bytes that a device has left to read, or shows as written
 abbrev pub Bytes : Type 0

@@ -1,15 +1,10 @@
 -- The result of opening the files of a run.
 use Rattle.std.specs.Prelude.{◌≡◌, ◌⊎◌, ◌||◌, true, option_map}
 use Rattle.either.specs.Either.{is_left}
-use Rattle.napt_program.specs.CommandLine.{Files}
-use Rattle.napt_program.specs.Standard.{is_dash, is_named, is_standard, is_stream}
-use Rattle.napt_program.specs.declared.files.InputFiles.{InputFiles}
-use Rattle.napt_program.specs.declared.files.FilesWithLog.{FilesWithLog}
-use Rattle.napt_program.specs.declared.files.RunFiles.{RunFiles}
+use Rattle.napt_program.specs.{CommandLine.Files, Standard.{is_dash, is_named, is_standard, is_stream}, declared.files.InputFiles.InputFiles}
+use Rattle.napt_program.specs.declared.{files.{FilesWithLog.FilesWithLog, RunFiles.RunFiles}, stop.{Stop.Stop, TheConstants.MEMORY}}
 use Rattle.napt_program.specs.declared.role.Role.TheVariants as role
-use Rattle.napt_program.specs.declared.stop.Stop.{Stop}
 use Rattle.napt_program.specs.declared.stop.Stop.TheVariants as stop
-use Rattle.napt_program.specs.declared.stop.TheConstants.{MEMORY}
 
 -- exactly the files that are named are there, a standard stream for `-`, and in place of a capture that is not named
 abbrev pub AreOpen : {S T F : Type 0} → Files → RunFiles S T F → Type 0

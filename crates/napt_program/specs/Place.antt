@@ -1,11 +1,7 @@
 -- Which places are one file.
-use Rattle.std.specs.Prelude.{◌≡◌, ◌==◌, ◌&&◌, ℕ, Bool, false, List, Option, Some, bytes_eq, codes, if◌then◌else◌, length, option_map}
-use Rattle.std.specs.Fs.{IsFile}
-use Rattle.std.specs.Path.{path_file_name, path_parent}
-use Rattle.std.specs.declared.fs.attrs.FileType.{FileType}
-use Rattle.napt_program.specs.declared.place.Node.{Node}
-use Rattle.napt_program.specs.declared.place.Place.{Place}
-use Rattle.napt_program.specs.declared.place.Place.TheVariants.{There, New, Words, Aside}
+use Rattle.std.specs.{Prelude.{◌≡◌, ◌==◌, ◌&&◌, ℕ, Bool, false, List, Option, Some, bytes_eq, codes, if◌then◌else◌, length, option_map}, Fs.IsFile}
+use Rattle.std.specs.{Path.{path_file_name, path_parent}, declared.fs.attrs.FileType.FileType}
+use Rattle.napt_program.specs.declared.place.{Node.Node, Place.{Place, TheVariants.{There, New, Words, Aside}}}
 
 abbrev pub is_same_node : Node → Node → Bool
 is_same_node a b = a.device == b.device && a.number == b.number

@@ -1,10 +1,6 @@
 -- Which output is a file that an option before it names.
 use Rattle.std.specs.Prelude.{◌≡◌, ◌||◌, Bool, false, not, Option, Some, None, is_some, if◌then◌else◌}
-use Rattle.napt_program.specs.Place.{is_same}
-use Rattle.napt_program.specs.declared.place.Place.{Place}
-use Rattle.napt_program.specs.declared.options.Options.{Options}
-use Rattle.napt_program.specs.declared.places.Places.{Places}
-use Rattle.napt_program.specs.declared.role.Role.{Role}
+use Rattle.napt_program.specs.{Place.is_same, declared.{place.Place.Place, options.Options.Options, places.Places.Places, role.Role.Role}}
 use Rattle.napt_program.specs.declared.role.Role.TheVariants as role
 
 -- the place, if there is one, is this file

@@ -1,8 +1,7 @@
 -- Which options are standard input or standard output, and which wants one that another has.
 use Rattle.std.specs.Prelude.{◌&&◌, ◌||◌, Bool, false, not, Option, Some, None, bytes_eq, codes, is_some, if◌then◌else◌}
 use Rattle.clap.specs.Words.{Text}
-use Rattle.napt_program.specs.CommandLine.{Files}
-use Rattle.napt_program.specs.declared.role.Role.{Role}
+use Rattle.napt_program.specs.{CommandLine.Files, declared.role.Role.Role}
 use Rattle.napt_program.specs.declared.role.Role.TheVariants as role
 
 -- the file that the option of a role names

@@ -1,18 +1,15 @@
 -- The fault line and the exit status of a program that stops early.
 use Rattle.std.specs.Prelude.{ℕ, List, ◌++◌, Bool, true, false, Option, Some, None, Result, Ok, Err, codes, decimal}
-use Rattle.napt_program.specs.CommandLine.{role_name}
-use Rattle.napt_program.specs.declared.role.Role.{Role}
+use Rattle.napt_program.specs.{CommandLine.role_name, declared.{role.Role.Role, stop.Stop.Stop}}
 use Rattle.napt_program.specs.declared.role.Role.TheVariants as role
-use Rattle.napt_program.specs.declared.stop.Stop.{Stop}
 use Rattle.napt_program.specs.declared.stop.Stop.TheVariants as stop
 use Rattle.napt_wire.specs.declared.Side.{Side}
 use Rattle.napt_wire.specs.declared.Side.TheVariants as side
-use Rattle.napt_records.specs.declared.Fault.{Fault}
+use Rattle.napt_records.specs.declared.{Fault.Fault, Which.Which}
 use Rattle.napt_records.specs.declared.Fault.TheVariants as run
 use Rattle.napt_sequential.specs.declared.RunFault.{RunFault}
 use Rattle.napt_sequential.specs.declared.RunFault.TheVariants as refused
 use Rattle.napt_pool.specs.declared.PoolFault.TheVariants as pool
-use Rattle.napt_records.specs.declared.Which.{Which}
 use Rattle.napt_records.specs.declared.Which.TheVariants as output
 use Rattle.napt_capture.specs.declared.CaptureFault.{CaptureFault}
 use Rattle.napt_capture.specs.declared.CaptureFault.TheVariants as capture
@@ -48,6 +45,8 @@ config_name config.BadAddress = codes "bad-address"
 config_name config.BadPrefix = codes "bad-prefix"
 config_name config.BadNumber = codes "bad-number"
 config_name config.BadWord = codes "bad-word"
+config_name config.BadSeed = codes "bad-seed"
+config_name config.SeedUnused = codes "seed-unused"
 config_name config.DoubleAddress = codes "double-address"
 config_name config.PoolInside = codes "pool-inside"
 config_name config.PrefixesOverlap = codes "prefixes-overlap"

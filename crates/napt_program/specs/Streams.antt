@@ -1,10 +1,7 @@
 -- The standard streams that are needed.
 use Rattle.std.specs.Prelude.{◌&&◌, not, Option, Some, None, if◌then◌else◌}
-use Rattle.napt_program.specs.CommandLine.{Files}
-use Rattle.napt_program.specs.Standard.{is_standard, is_stream}
-use Rattle.napt_program.specs.declared.role.Role.{Role}
+use Rattle.napt_program.specs.{CommandLine.Files, Standard.{is_standard, is_stream}, declared.{role.Role.Role, streams.Streams.Streams}}
 use Rattle.napt_program.specs.declared.role.Role.TheVariants as role
-use Rattle.napt_program.specs.declared.streams.Streams.{Streams}
 
 -- the first output that needs standard output, if that is closed
 abbrev pub closed_output : Streams → Files → Option Role

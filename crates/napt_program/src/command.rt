@@ -1,15 +1,11 @@
 //! The arguments of a program, and everything that it opens for its run.
 
-ghost use Rattle.std.specs.Prelude.{◌≡◌, ◌≢◌, ◌⊎◌, Err, IfErr, IfOk, IfSome, None, Option, false, is_some, true};
-ghost use Rattle.std.specs.IoError.{error_kind};
+ghost use Rattle.std.specs.{Prelude.{◌≡◌, ◌≢◌, ◌⊎◌, Err, IfErr, IfOk, IfSome, None, Option, false, is_some, true}, IoError.error_kind};
 ghost use Rattle.clap.specs.Words.{Text};
-ghost use Rattle.napt_program.specs.CommandLine.{files_of, files_with_log};
-ghost use Rattle.napt_program.specs.Command.{IsRunStop, stop_after};
+ghost use Rattle.napt_program.specs.{CommandLine.{files_of, files_with_log}, Command.{IsRunStop, stop_after}, Devices.{AreFresh, failed_in}};
+ghost use Rattle.napt_program.specs.{Standard.standard_again, Streams.closed_stream};
 ghost use Rattle.napt_records.specs.Faults.{tells_shut_gate};
 ghost use Rattle.either.specs.Either.{is_left};
-ghost use Rattle.napt_program.specs.Devices.{AreFresh, failed_in};
-ghost use Rattle.napt_program.specs.Standard.{standard_again};
-ghost use Rattle.napt_program.specs.Streams.{closed_stream};
 
 use crate::config_file::configuration;
 use crate::devices::{BUFFERED, Devices, HELD, buffered, sink_over};

@@ -1,11 +1,9 @@
 //! The configuration in a file.
 
-ghost use Rattle.std.specs.Prelude.{◌≡◌, ◌≢◌, ◌≤◌, IfErr, IfOk, IfSome, None, OnOk, is_some, length, true, vec_len};
-ghost use Rattle.std.specs.IoError.{error_kind};
+ghost use Rattle.std.specs.{Prelude.{◌≡◌, ◌≢◌, ◌≤◌, IfErr, IfOk, IfSome, None, OnOk, is_some, length, true, vec_len}, IoError.error_kind};
 ghost use Rattle.napt_config.specs.Configured.{built_in};
 ghost use Rattle.either.specs.Either.{is_left};
-ghost use Rattle.napt_program.specs.Config.{IsConfigStop, IsReadingOf, IsUnread};
-ghost use Rattle.napt_program.specs.Standard.{is_dash};
+ghost use Rattle.napt_program.specs.{Config.{IsConfigStop, IsReadingOf, IsUnread}, Standard.is_dash};
 
 use crate::options::is_dash;
 use crate::role::Role;

@@ -2,8 +2,7 @@
 
 ghost use Rattle.std.specs.Prelude.{◌≡◌, IfErr, IfOk, IsSome, false, option_map, string_bytes, true};
 ghost use Rattle.either.specs.Either.{is_left};
-ghost use Rattle.napt_program.specs.CommandLine.{files_of, files_with_log};
-ghost use Rattle.napt_program.specs.Files.{AreInputsOpen, AreOpen, AreOpenWithLog, IsFileStop, IsOpenStop};
+ghost use Rattle.napt_program.specs.{CommandLine.{files_of, files_with_log}, Files.{AreInputsOpen, AreOpen, AreOpenWithLog, IsFileStop, IsOpenStop}};
 ghost use Rattle.napt_program.specs.Standard.{is_dash};
 
 use crate::options::{Options, is_dash};

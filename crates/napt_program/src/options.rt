@@ -59,6 +59,8 @@ words tells where in a file, and what to do):
        bad-prefix         no IPv4 prefix, or bits past its length are set
        bad-number         a number is out of its range
        bad-word           no word that the key knows
+       bad-seed           no 32 hexadecimal digits
+       seed-unused        a seed without random numbers
        double-address     an address stands twice in the pool
        pool-inside        a pool address is in a prefix of inside
        prefixes-overlap   two prefixes have an address in common, with blocks

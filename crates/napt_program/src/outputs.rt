@@ -1,8 +1,7 @@
 //! Finds outputs that cannot be created, without creating any.
 
 ghost use Rattle.std.specs.Prelude.{◌≡◌, IfErr, IsSome};
-ghost use Rattle.napt_program.specs.CommandLine.{files_of};
-ghost use Rattle.napt_program.specs.Files.{IsFileStop};
+ghost use Rattle.napt_program.specs.{CommandLine.files_of, Files.IsFileStop};
 
 use crate::options::{Options, is_dash};
 use crate::place::folder_of;

@@ -1,7 +1,5 @@
 //! Identifies files, so that one file is recognized under several paths.
-ghost use Rattle.std.specs.Prelude.{◌≡◌, ◌==◌, None, Some, if◌then◌else◌, option_map};
-ghost use Rattle.std.specs.Fs.{file_type};
-ghost use Rattle.std.specs.Path.{path_bytes};
+ghost use Rattle.std.specs.{Prelude.{◌≡◌, ◌==◌, None, Some, if◌then◌else◌, option_map}, Fs.file_type, Path.path_bytes};
 ghost use Rattle.napt_program.specs.Place.{IsOfKind, IsOfPath, folder_of, is_same, is_same_node};
 
 use std::fs;

@@ -1,8 +1,7 @@
 //! Finds an output that would overwrite another file of the run.
 ghost use Rattle.std.specs.Prelude.{◌≡◌, IfSome, is_some, not, true};
 ghost use Rattle.napt_program.specs.CommandLine.{files_of};
-ghost use Rattle.napt_program.specs.Places.{ArePlacesOf, is_again, is_input, is_placed, is_log_named_again, is_there, output_named_again};
-ghost use Rattle.napt_program.specs.Standard.{is_named};
+ghost use Rattle.napt_program.specs.{Places.{ArePlacesOf, is_again, is_input, is_placed, is_log_named_again, is_there, output_named_again}, Standard.is_named};
 
 use crate::options::{Options, is_dash};
 use crate::options_with_log::OptionsWithLog;

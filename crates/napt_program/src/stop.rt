@@ -239,6 +239,8 @@ pub fn name_of_config_fault(fault: ConfigFault) -> &'static str
         ConfigFault::BadPrefix => "bad-prefix",
         ConfigFault::BadNumber => "bad-number",
         ConfigFault::BadWord => "bad-word",
+        ConfigFault::BadSeed => "bad-seed",
+        ConfigFault::SeedUnused => "seed-unused",
         ConfigFault::DoubleAddress => "double-address",
         ConfigFault::PoolInside => "pool-inside",
         ConfigFault::PrefixesOverlap => "prefixes-overlap",

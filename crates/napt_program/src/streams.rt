@@ -1,9 +1,7 @@
 //! The standard streams that the program was started with.
 
 ghost use Rattle.std.specs.Prelude.{◌≡◌, IfSome, true};
-ghost use Rattle.napt_program.specs.Command.{can_fail};
-ghost use Rattle.napt_program.specs.CommandLine.{files_of, files_with_log};
-ghost use Rattle.napt_program.specs.Streams.{closed_output, closed_stream};
+ghost use Rattle.napt_program.specs.{Command.can_fail, CommandLine.{files_of, files_with_log}, Streams.{closed_output, closed_stream}};
 
 use crate::options::Options;
 use crate::options_with_log::OptionsWithLog;

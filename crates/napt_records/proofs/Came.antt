@@ -1,26 +1,14 @@
 -- What came of two captures of which only the headers were read, by all that they hold.
 use Rattle.std.proofs.Common.{◌≡◌, ℕ, ◌+◌, All, List, [], ◌++◌, take, drop, Option, Some, None, Ok, Err, refl, sym, ap, ◌∙◌, subst, append-nil}
-use Rattle.std.specs.Prelude.{IfSome}
-use Rattle.std.proofs.lemmas.List.Elements.{All-nil}
-use Rattle.napt_capture.specs.declared.device.Source.{Ghosts}
-use Rattle.napt_capture.specs.declared.records.Records.{Records}
-use Rattle.napt_capture.specs.Capture.{captured, captured_by, spelling_in}
-use Rattle.napt_capture.specs.Reading.{Gives, StopsBy}
-use Rattle.napt_capture.specs.Records.{left_of}
-use Rattle.napt_capture.specs.Text.{IsWritable}
-use Rattle.std.specs.Option.{option_map}
+use Rattle.std.{specs.{Prelude.IfSome, Option.option_map}, proofs.lemmas.List.Elements.All-nil}
+use Rattle.napt_capture.specs.{declared.{device.Source.Ghosts, records.Records.Records}, Capture.{captured, captured_by, spelling_in}, Reading.{Gives, StopsBy}}
+use Rattle.napt_capture.specs.{Records.left_of, Text.IsWritable}
 use Rattle.napt_rules.specs.Prelude.{Arrival}
 use Rattle.napt_sequential.specs.Inputs.{Came}
 use Rattle.napt_wire.specs.declared.Side.TheVariants.{Inside, Outside}
-use Rattle.napt_records.specs.declared.stream.Stream.{Stream}
-use Rattle.napt_records.specs.declared.merged_streams.MergedStreams.{MergedStreams}
-use Rattle.napt_records.specs.declared.merged_streams.SideFault.{SideFault}
-use Rattle.napt_records.specs.Begun.{AreBegun, IsBegun}
-use Rattle.napt_records.specs.Merged.{AreLive, AreSame, Counts, EndsWith, HandsOut, NoneFailed, cut_of, failed_by}
-use Rattle.napt_records.specs.Output.{IsTimely}
-use Rattle.napt_records.specs.Rests.{Follows, held_in, holds_by, inputs_of, stream_holds}
-use Rattle.napt_records.specs.Taking.{Inputs, at_end, inputs_until}
-use Rattle.napt_records.proofs.Left.{StopsBy-then}
+use Rattle.napt_records.specs.{declared.{stream.Stream.Stream, merged_streams.{MergedStreams.MergedStreams, SideFault.SideFault}}, Begun.{AreBegun, IsBegun}}
+use Rattle.napt_records.specs.{Merged.{AreLive, AreSame, Counts, EndsWith, HandsOut, NoneFailed, cut_of, failed_by}, Output.IsTimely}
+use Rattle.napt_records.{specs.{Rests.{Follows, held_in, holds_by, inputs_of, stream_holds}, Taking.{Inputs, at_end, inputs_until}}, proofs.Left.StopsBy-then}
 
 -- ---- what is left behind the header is all that the capture holds
 

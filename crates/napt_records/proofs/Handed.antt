@@ -1,25 +1,16 @@
 -- What is taken of the records that were read is what merging takes of all that is left.
 use Rattle.std.proofs.Common.{◌≡◌, ℕ, Bool, true, false, All, List, [], ◌∷◌, ◌++◌, Option, None, Some, IfSome, IsSome, option_to_list, unwrap_or, Result, Ok, Err, refl, sym, ap, ◌∙◌, subst, subst₂, append-nil}
 use Rattle.std.specs.Option.{option_map}
-use Rattle.napt_wire.specs.declared.Side.{Side}
-use Rattle.napt_wire.specs.declared.Side.TheVariants.{Inside, Outside}
-use Rattle.napt_capture.specs.declared.device.Source.{Ghosts}
-use Rattle.napt_capture.specs.declared.records.Records.{Records}
-use Rattle.napt_capture.specs.declared.fault.CaptureFault.{CaptureFault}
-use Rattle.napt_capture.specs.Contents.{Entry}
-use Rattle.napt_capture.specs.Capture.{Held}
-use Rattle.napt_capture.specs.Records.{left_of}
-use Rattle.napt_capture.specs.Reading.{StopsBy}
-use Rattle.napt_records.specs.declared.stream.Stream.{Stream}
-use Rattle.napt_records.specs.declared.merged_streams.MergedStreams.{MergedStreams}
-use Rattle.napt_records.proofs.Left.{StopsBy-then}
-use Rattle.napt_records.proofs.Merges.{IsKnown, hands_until, takes_timely}
-use Rattle.napt_records.specs.Output.{IsTimely}
-use Rattle.napt_sequential.specs.Inputs.{Hands}
-use Rattle.napt_rules.specs.Prelude.{Arrival}
+use Rattle.napt_wire.specs.declared.Side.{Side, TheVariants.{Inside, Outside}}
+use Rattle.napt_capture.specs.{declared.{device.Source.Ghosts, records.Records.Records, fault.CaptureFault.CaptureFault}, Contents.Entry, Capture.Held}
+use Rattle.napt_capture.specs.{Records.left_of, Reading.StopsBy}
+use Rattle.napt_records.{specs.declared.{stream.Stream.Stream, merged_streams.MergedStreams.MergedStreams}, proofs.Left.StopsBy-then}
+use Rattle.napt_records.{proofs.Merges.{IsKnown, hands_until, takes_timely}, specs.Output.IsTimely}
 use Rattle.napt_records.specs.Merged.{AreLive, AreSame, EndsWith, HandsOut, IsSame, Looks, TakesAny, TakesFirst, cut_of}
 use Rattle.napt_records.specs.Rests.{Follows, Stays, both_hold, held_in, holds_by, inputs_of, stream_holds}
 use Rattle.napt_records.specs.Taking.{Inputs, Takes, at_end, at_fault, inputs_from, is_outside_next}
+use Rattle.napt_sequential.specs.Inputs.{Hands}
+use Rattle.napt_rules.specs.Prelude.{Arrival}
 
 -- ---- more records behind those that were read
 

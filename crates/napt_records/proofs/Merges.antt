@@ -1,22 +1,15 @@
 -- What holds of merging holds step by step: its laws, its order and its clocks.
 use Rattle.std.proofs.Common.{◌≡◌, ℕ, zero, suc, ◌+◌, ◌<◌, ◌≤◌, max, inl, inr, Bool, true, false, ◌↔◌, List, [], ◌∷◌, ◌++◌, append-nil, length, map, take, All, Option, Some, None, Result, Ok, Err, refl, sym, ◌∙◌, ap, subst, arith}
-use Rattle.std.specs.Prelude.{filter, slice_get, nat_lt}
-use Rattle.std.proofs.lemmas.Bool.{ltb-false, ltb-true, cases_Bool}
-use Rattle.std.proofs.lemmas.List.{length-map}
+use Rattle.std.{specs.Prelude.{filter, slice_get, nat_lt}, proofs.lemmas.{Bool.{ltb-false, ltb-true, cases_Bool}, List.length-map}}
 use Rattle.std.proofs.lemmas.List.Elements.{All-nil, All-cons, All-head, All-tail}
-use Rattle.napt_wire.specs.declared.Side.{Side}
-use Rattle.napt_wire.specs.declared.Side.TheVariants.{Inside, Outside}
-use Rattle.napt_capture.specs.Contents.{Entry}
-use Rattle.napt_capture.specs.Text.{IsWritable}
+use Rattle.napt_wire.specs.declared.Side.{Side, TheVariants.{Inside, Outside}}
+use Rattle.napt_capture.specs.{Contents.Entry, Text.IsWritable, Capture.Held, declared.fault.CaptureFault.CaptureFault}
 use Rattle.napt_rules.specs.Prelude.{Arrival}
 use Rattle.napt_sequential.specs.Inputs.{IsTaken}
 use Rattle.napt_records.specs.Output.{IsTimely}
 use Rattle.napt_records.specs.Taking.{Inputs, Takes, alone, alone_by, at_end, at_fault, before, input_of, inputs_from, inputs_until, is_outside_next, merged, merged_from, unless_fault, until}
 use Rattle.napt_records.specs.MergeLaws.{HaveAll, MergeEnds, MergeMeets, MergesBefore, MergesFront, MergesWhole, TellsInsideFirst, held_of}
-use Rattle.napt_records.specs.declared.merged_streams.Cuts.{Cuts}
-use Rattle.napt_records.specs.declared.merged_streams.SideFault.{SideFault}
-use Rattle.napt_capture.specs.Capture.{Held}
-use Rattle.napt_capture.specs.declared.fault.CaptureFault.{CaptureFault}
+use Rattle.napt_records.specs.declared.merged_streams.{Cuts.Cuts, SideFault.SideFault}
 use Rattle.napt_records.specs.Merge.{of_record, of_input, is_from, latest, clock_at, reach, IsMerged}
 
 -- THE UNFOLDING LAWS

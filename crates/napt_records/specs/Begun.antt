@@ -1,10 +1,7 @@
 -- Captures whose headers have been read, and nothing else.
 use Rattle.std.specs.Prelude.{◌≡◌, ℕ, List, [], take, drop, Option, None, Some, Ok}
-use Rattle.napt_capture.specs.declared.device.Source.{Ghosts}
-use Rattle.napt_capture.specs.Capture.{spelling_in}
-use Rattle.napt_capture.specs.Reading.{Gives}
-use Rattle.napt_records.specs.declared.stream.Stream.{Stream}
-use Rattle.napt_records.specs.declared.merged_streams.MergedStreams.{MergedStreams}
+use Rattle.napt_capture.specs.{declared.device.Source.Ghosts, Capture.spelling_in, Reading.Gives}
+use Rattle.napt_records.specs.declared.{stream.Stream.Stream, merged_streams.MergedStreams.MergedStreams}
 
 -- its source had these bytes before the header was read
 pub record IsBegun {R : Type 0} {G : Ghosts R} (stream : Stream R G) (bytes : Option (List ℕ)) : Type 0 where

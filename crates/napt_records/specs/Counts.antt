@@ -1,11 +1,9 @@
 -- The counts of a report, updated with each outcome.
 use Rattle.std.specs.Prelude.{◌≡◌, ℕ, List, length, count_by, slice_index}
 use denote.Enum.Declared.{tag_of}
-use Rattle.napt_wire.specs.contracts.Cause.{the_type}
-use Rattle.napt_wire.specs.declared.Cause.{Cause}
+use Rattle.napt_wire.specs.{contracts.Cause.the_type, declared.Cause.Cause}
 use Rattle.napt_rules.specs.declared.Outcome.{Outcome}
-use Rattle.napt_records.specs.declared.report.Counts.{Counts}
-use Rattle.napt_records.specs.Report.{is_to_outside, is_to_inside, is_dropped}
+use Rattle.napt_records.specs.{declared.report.Counts.Counts, Report.{is_to_outside, is_to_inside, is_dropped}}
 
 -- the place of a cause in its declaration, from 0
 abbrev pub place_of : Cause → ℕ

@@ -1,8 +1,7 @@
 -- Why a run over captures ends early.
 use Rattle.std.specs.Prelude.{Bool, false}
 use Rattle.napt_sequential.specs.Faults.{is_gate_fault}
-use Rattle.napt_records.specs.declared.fault.Fault.{Fault}
-use Rattle.napt_records.specs.declared.fault.Fault.TheVariants.{Capture, Run, Write}
+use Rattle.napt_records.specs.declared.fault.Fault.{Fault, TheVariants.{Capture, Run, Write}}
 
 -- whether a fault says that the gate was shut
 abbrev pub tells_shut_gate : Fault → Bool

@@ -1,14 +1,9 @@
 -- Handing out nothing changes nothing, and inputs handed out in two parts are handed out in one.
-use Rattle.std.specs.Prelude.{List, [], ◌++◌, Option, None, Some}
-use Rattle.std.proofs.Common.{refl, sym, ap, ◌∙◌, append_assoc}
+use Rattle.std.{specs.Prelude.{List, [], ◌++◌, Option, None, Some}, proofs.Common.{refl, sym, ap, ◌∙◌, append_assoc}}
 use Rattle.std.proofs.lemmas.List.Elements.{All-append, All-nil}
 use Rattle.napt_capture.specs.declared.device.Source.{Ghosts}
-use Rattle.napt_records.specs.declared.merged_streams.MergedStreams.{MergedStreams}
+use Rattle.napt_records.specs.{declared.merged_streams.MergedStreams.MergedStreams, Merged.HandsOut, Output.IsTimely, Rests.{Follows, inputs_of}, Taking.Inputs}
 use Rattle.napt_rules.specs.Prelude.{Arrival}
-use Rattle.napt_records.specs.Merged.{HandsOut}
-use Rattle.napt_records.specs.Output.{IsTimely}
-use Rattle.napt_records.specs.Rests.{Follows, inputs_of}
-use Rattle.napt_records.specs.Taking.{Inputs}
 
 follows_none : (x : Option Inputs) → Follows x [] x
 follows_none None = tt

@@ -1,14 +1,9 @@
 -- What merging two captures makes of their records.
 use Rattle.std.specs.Prelude.{◌≡◌, ℕ, ◌<◌, List, ◌++◌, length, map, filter, take, Ok, Err}
-use Rattle.napt_wire.specs.declared.Side.{Side}
-use Rattle.napt_wire.specs.declared.Side.TheVariants.{Inside, Outside}
-use Rattle.napt_capture.specs.declared.fault.CaptureFault.{CaptureFault}
-use Rattle.napt_capture.specs.Contents.{Entry}
-use Rattle.napt_capture.specs.Capture.{Held}
+use Rattle.napt_wire.specs.declared.Side.{Side, TheVariants.{Inside, Outside}}
+use Rattle.napt_capture.specs.{declared.fault.CaptureFault.CaptureFault, Contents.Entry, Capture.Held}
 use Rattle.napt_rules.specs.Prelude.{Arrival}
-use Rattle.napt_records.specs.declared.merged_streams.Cuts.{Cuts}
-use Rattle.napt_records.specs.declared.merged_streams.SideFault.{SideFault}
-use Rattle.napt_records.specs.Merge.{IsMerged, is_from, of_input, of_record}
+use Rattle.napt_records.specs.{declared.merged_streams.{Cuts.Cuts, SideFault.SideFault}, Merge.{IsMerged, is_from, of_input, of_record}}
 use Rattle.napt_records.specs.Taking.{inputs_until, merged}
 
 -- the merged list has each side's records in order, the sides in order, and the clocks

@@ -1,21 +1,11 @@
 -- What two captures hand out as they arrive.
 use Rattle.std.specs.Prelude.{◌≡◌, ◌⊎◌, ℕ, ◌+◌, max, Bool, false, All, List, Option, option_to_list, None, Some, IfSome, IsSome, unwrap_or, Result, Ok, Err}
-use Rattle.napt_wire.specs.declared.Side.{Side}
-use Rattle.napt_wire.specs.declared.Side.TheVariants.{Inside, Outside}
-use Rattle.napt_capture.specs.declared.device.Source.{Ghosts}
-use Rattle.napt_capture.specs.declared.fault.CaptureFault.{CaptureFault}
-use Rattle.napt_capture.specs.Contents.{Entry}
-use Rattle.napt_capture.specs.Text.{IsWritable}
-use Rattle.napt_capture.specs.Capture.{failed_reads}
-use Rattle.napt_capture.specs.Reading.{StopsBy}
-use Rattle.napt_capture.specs.Records.{Asks}
-use Rattle.napt_records.specs.declared.stream.Stream.{Stream}
-use Rattle.napt_records.specs.declared.merged_streams.MergedStreams.{MergedStreams}
-use Rattle.napt_records.specs.declared.merged_streams.SideFault.{SideFault}
+use Rattle.napt_wire.specs.declared.Side.{Side, TheVariants.{Inside, Outside}}
+use Rattle.napt_capture.specs.{declared.{device.Source.Ghosts, fault.CaptureFault.CaptureFault}, Contents.Entry, Text.IsWritable, Capture.failed_reads}
+use Rattle.napt_capture.specs.{Reading.StopsBy, Records.Asks}
+use Rattle.napt_records.specs.{declared.{stream.Stream.Stream, merged_streams.{MergedStreams.MergedStreams, SideFault.SideFault}}, Output.IsTimely}
+use Rattle.napt_records.specs.{Rests.{Follows, Stays, inputs_of, stream_holds}, Taking.{Takes, at_end, at_fault, input_of}}
 use Rattle.napt_rules.specs.Prelude.{Arrival}
-use Rattle.napt_records.specs.Output.{IsTimely}
-use Rattle.napt_records.specs.Rests.{Follows, Stays, inputs_of, stream_holds}
-use Rattle.napt_records.specs.Taking.{Takes, at_end, at_fault, input_of}
 
 -- ONE STREAM
 

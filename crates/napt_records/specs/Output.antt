@@ -1,13 +1,9 @@
 -- The records that a run writes: the outcomes to a side in the order of their inputs, each with the arrival time of its
 -- input.
 use Rattle.std.specs.Prelude.{ℕ, ◌*◌, ◌<◌, ◌^◌, List, filter_map, zip, Option, Some, None}
-use Rattle.napt_wire.specs.declared.Side.{Side}
-use Rattle.napt_wire.specs.declared.Side.TheVariants.{Inside, Outside}
-use Rattle.napt_capture.specs.Contents.{Entry}
-use Rattle.napt_capture.specs.Text.{entry_of_packet}
-use Rattle.napt_rules.specs.declared.Outcome.{Outcome}
-use Rattle.napt_rules.specs.declared.Outcome.TheVariants.{ToOutside, ToInside}
-use Rattle.napt_rules.specs.Prelude.{Arrival}
+use Rattle.napt_wire.specs.declared.Side.{Side, TheVariants.{Inside, Outside}}
+use Rattle.napt_capture.specs.{Contents.Entry, Text.entry_of_packet}
+use Rattle.napt_rules.specs.{declared.Outcome.{Outcome, TheVariants.{ToOutside, ToInside}}, Prelude.Arrival}
 
 -- the packet that an outcome sends to a side
 abbrev pub packet_to : Side → Outcome → Option (List ℕ)

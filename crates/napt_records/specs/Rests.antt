@@ -1,15 +1,8 @@
 -- What is left of two captures that are read as they arrive.
-use Rattle.std.specs.Prelude.{◌≡◌, ⊤, ℕ, Bool, List, ◌++◌, Option, Some, None, Ok, option_to_list}
-use Rattle.std.specs.Option.{option_map}
-use Rattle.napt_capture.specs.declared.device.Source.{Ghosts}
-use Rattle.napt_capture.specs.declared.records.Records.{Records}
-use Rattle.napt_capture.specs.Contents.{Entry}
-use Rattle.napt_capture.specs.Capture.{Held}
-use Rattle.napt_capture.specs.Records.{left_of, rest_of}
+use Rattle.std.specs.{Prelude.{◌≡◌, ⊤, ℕ, Bool, List, ◌++◌, Option, Some, None, Ok, option_to_list}, Option.option_map}
+use Rattle.napt_capture.specs.{declared.{device.Source.Ghosts, records.Records.Records}, Contents.Entry, Capture.Held, Records.{left_of, rest_of}}
 use Rattle.napt_rules.specs.Prelude.{Arrival}
-use Rattle.napt_records.specs.declared.stream.Stream.{Stream}
-use Rattle.napt_records.specs.declared.merged_streams.MergedStreams.{MergedStreams}
-use Rattle.napt_records.specs.Taking.{Inputs, inputs_from}
+use Rattle.napt_records.specs.{declared.{stream.Stream.Stream, merged_streams.MergedStreams.MergedStreams}, Taking.{Inputs, inputs_from}}
 
 -- what a reader with this text left holds, and the records that it read but did not hand out
 abbrev pub held_in : Records → List Entry → List ℕ → Held

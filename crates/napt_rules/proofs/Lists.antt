@@ -1,6 +1,5 @@
 -- Words on lists against one another.
-use Rattle.std.proofs.Common.{◌≡◌, Bool, true, false, cond, List, [], ◌∷◌, refl, ◌∙◌, ap, arith, filter}
-use Rattle.std.specs.List.{list_any}
+use Rattle.std.{proofs.Common.{◌≡◌, Bool, true, false, cond, List, [], ◌∷◌, refl, ◌∙◌, ap, arith, filter}, specs.List.list_any}
 use Rattle.napt_rules.specs.Prelude.{Each}
 
 pub any_narrow : {X : Type 0} (p q : X → Bool) (xs : List X) → ((x : X) → q x ≡ true → p x ≡ true) →

@@ -1,11 +1,8 @@
 -- What an input comes to before any leg: the packet that it is, or why it is refused.
 use Rattle.std.specs.Prelude.{ℕ, List, Option, Some, None, Result, Ok, Err}
-use Rattle.napt_wire.specs.declared.Cause.{Cause}
-use Rattle.napt_wire.specs.declared.Side.{Side}
-use Rattle.napt_wire.specs.Reading.{reading}
+use Rattle.napt_wire.specs.{declared.{Cause.Cause, Side.Side}, Reading.reading}
 use Rattle.napt_config.specs.Rules.{Rules}
-use Rattle.napt_rules.specs.Sides.{refusal}
-use Rattle.napt_rules.specs.Inputs.{Arrival}
+use Rattle.napt_rules.specs.{Sides.refusal, Inputs.Arrival}
 
 -- the packet that an input is, or why it is refused
 abbrev pub judged_by : List ℕ → Option Cause → Result (List ℕ) Cause

@@ -4,12 +4,8 @@
 -- that replaces it. RFC 4787, REQ-1: the mapping is the same for every remote endpoint. REQ-2: every session of a host
 -- has the same external address, that of its pairing.
 use Rattle.std.specs.Prelude.{ℕ, ◌==◌, Bool, true, false, ◌&&◌, List, filter}
-use Rattle.napt_wire.specs.declared.Protocol.{Protocol}
-use Rattle.napt_wire.specs.declared.Protocol.TheVariants.{Icmp, Tcp, Udp}
-use Rattle.napt_wire.specs.declared.Endpoint.{Endpoint}
-use Rattle.napt_rules.specs.declared.Flow.{Flow}
-use Rattle.napt_rules.specs.declared.Row.{Row}
-use Rattle.napt_rules.specs.declared.Binding.{Binding as BindingOf}
+use Rattle.napt_wire.specs.declared.{Protocol.{Protocol, TheVariants.{Icmp, Tcp, Udp}}, Endpoint.Endpoint}
+use Rattle.napt_rules.specs.declared.{Flow.Flow, Row.Row, Binding.Binding as BindingOf}
 
 -- with its flows as a list, in the order in which they began
 abbrev pub Binding : Type 0

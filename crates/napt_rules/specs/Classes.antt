@@ -1,40 +1,49 @@
--- LAWS: the candidates of a number are those that may stand for it, each once, and the number itself comes first; in a
--- block they are the numbers of the block, each once, and the one at the number's place comes first.
-use Rattle.std.specs.Prelude.{◌≡◌, ◌≢◌, ℕ, ◌+◌, ◌<◌, ◌≤◌, ◌%◌, nat_lt, List, ◌∷◌, Some, None, ◌↔◌}
+-- LAWS: the candidates of a number are those that may stand for it, each once, and the number itself comes first, or
+-- where numbers are random the one at the place of the hash; in a block they are the numbers of the block, each once,
+-- and the one at the place comes first.
+use Rattle.std.specs.Prelude.{◌≡◌, ◌≢◌, ℕ, ◌+◌, ◌<◌, ◌≤◌, ◌%◌, nat_lt, Bool, true, List, ◌∷◌, filter, length, Option, Some, None, ◌↔◌}
 use Rattle.std.specs.List.{AllPairs, Contains}
-use Rattle.napt_config.specs.Rules.{IsBlock}
-use Rattle.napt_config.specs.declared.settings.Block.{Block}
-use Rattle.napt_wire.specs.declared.Protocol.{Protocol}
-use Rattle.napt_wire.specs.declared.Protocol.TheVariants.{Icmp, Tcp, Udp}
-use Rattle.napt_rules.specs.Candidates.{candidates}
+use Rattle.napt_config.specs.{Rules.IsBlock, declared.settings.{Block.Block, Choosing.Choosing, Seed.Seed}}
+use Rattle.napt_wire.specs.declared.{Endpoint.Endpoint, Protocol.{Protocol, TheVariants.{Icmp, Tcp, Udp}}}
+use Rattle.napt_rules.specs.Candidates.{numbers_for, mixed, place_in, candidates}
 
--- a port that may stand for a port: it is not 0, on the same side of 1024 (REQ-3, a) and of the same parity (REQ-4)
-pub record IsPortFor (port number : ℕ) : Type 0 where
+-- a port that may stand for a port: it is not 0, on the same side of 1024 (REQ-3, a) and, where that is kept, of the
+-- same parity (REQ-4)
+pub record IsPortFor (keeps_parity : Bool) (port number : ℕ) : Type 0 where
   pub positive : 0 < number
   pub small : number < 65536
   pub side : nat_lt number 1024 ≡ nat_lt port 1024
-  pub parity : number % 2 ≡ port % 2
+  pub parity : keeps_parity ≡ true → number % 2 ≡ port % 2
 
 -- a number that may stand for a number; an identifier may stand for every other (RFC 5508, section 3.1)
-abbrev pub IsNumberFor : Protocol → ℕ → ℕ → Type 0
-IsNumberFor Icmp identifier number = number < 65536
-IsNumberFor Tcp port number = IsPortFor port number
-IsNumberFor Udp port number = IsPortFor port number
+abbrev pub IsNumberFor : Bool → Protocol → ℕ → ℕ → Type 0
+IsNumberFor keeps_parity Icmp identifier number = number < 65536
+IsNumberFor keeps_parity Tcp port number = IsPortFor keeps_parity port number
+IsNumberFor keeps_parity Udp port number = IsPortFor keeps_parity port number
 
--- the candidates begin with the number itself, which is preserved where it is free
+-- the first candidate: the number itself, which is preserved where it is free; or the one below which there are as
+-- many that may stand for it as the hash says
+abbrev pub IsFirst : Option Seed → Bool → Protocol → Endpoint → ℕ → Type 0
+IsFirst None keeps_parity protocol inside first = first ≡ inside.number
+IsFirst (Some seed) keeps_parity protocol inside first =
+    let numbers : List ℕ = numbers_for keeps_parity protocol inside.number in
+    length (filter (λ other. nat_lt other first) numbers) ≡ mixed seed protocol inside % length numbers
+
 abbrev pub CandidatesBegin : Type 0
-CandidatesBegin = (protocol : Protocol) (number : ℕ) → IsNumberFor protocol number number →
-    (others : List ℕ) × (candidates None protocol number ≡ number ∷ others)
+CandidatesBegin = (choosing : Choosing) (protocol : Protocol) (inside : Endpoint) →
+    IsNumberFor choosing.keeps_parity protocol inside.number inside.number →
+    (first : ℕ) × (others : List ℕ) × (candidates choosing None protocol inside ≡ first ∷ others)
+    × IsFirst choosing.seed choosing.keeps_parity protocol inside first
 
 -- they are exactly the numbers that may stand for it
 abbrev pub CandidatesAreThose : Type 0
-CandidatesAreThose = (protocol : Protocol) (number : ℕ) → IsNumberFor protocol number number →
-    (n : ℕ) → Contains (candidates None protocol number) n ↔ IsNumberFor protocol number n
+CandidatesAreThose = (choosing : Choosing) (protocol : Protocol) (inside : Endpoint) (n : ℕ) →
+    Contains (candidates choosing None protocol inside) n ↔ IsNumberFor choosing.keeps_parity protocol inside.number n
 
 -- each once
 abbrev pub CandidatesDiffer : Type 0
-CandidatesDiffer = (protocol : Protocol) (number : ℕ) → IsNumberFor protocol number number →
-    AllPairs (λ m n. m ≢ n) (candidates None protocol number)
+CandidatesDiffer = (choosing : Choosing) (protocol : Protocol) (inside : Endpoint) →
+    AllPairs (λ m n. m ≢ n) (candidates choosing None protocol inside)
 
 -- IN A BLOCK
 
@@ -42,18 +51,25 @@ pub record IsOfBlock (block : Block) (number : ℕ) : Type 0 where
   pub first : block.first ≤ number
   pub last : number < block.first + block.size
 
--- the candidates begin with the number of the block that is as far from its first as the number is past a multiple of
--- the block's size
+-- the candidates begin with the number of the block that is at the place: where numbers are preserved, as far from the
+-- block's first as the number is past a multiple of its size
 abbrev pub BlockBegins : Type 0
-BlockBegins = (block : Block) → IsBlock block → (protocol : Protocol) (number : ℕ) →
-    (others : List ℕ) × (candidates (Some block) protocol number ≡ (block.first + number % block.size) ∷ others)
+BlockBegins = (choosing : Choosing) (block : Block) → IsBlock block → (protocol : Protocol) (inside : Endpoint) →
+    let place : ℕ = place_in choosing.seed choosing.keeps_parity block.size protocol inside in
+    (place < block.size)
+    × ((others : List ℕ) × (candidates choosing (Some block) protocol inside ≡ (block.first + place) ∷ others))
 
 -- they are exactly the numbers of the block
 abbrev pub BlockIsThose : Type 0
-BlockIsThose = (block : Block) → IsBlock block → (protocol : Protocol) (number n : ℕ) →
-    Contains (candidates (Some block) protocol number) n ↔ IsOfBlock block n
+BlockIsThose = (choosing : Choosing) (block : Block) → IsBlock block → (protocol : Protocol) (inside : Endpoint)
+    (n : ℕ) → Contains (candidates choosing (Some block) protocol inside) n ↔ IsOfBlock block n
 
 -- each once
 abbrev pub BlockDiffers : Type 0
-BlockDiffers = (block : Block) → IsBlock block → (protocol : Protocol) (number : ℕ) →
-    AllPairs (λ m n. m ≢ n) (candidates (Some block) protocol number)
+BlockDiffers = (choosing : Choosing) (block : Block) → IsBlock block → (protocol : Protocol) (inside : Endpoint) →
+    AllPairs (λ m n. m ≢ n) (candidates choosing (Some block) protocol inside)
+
+-- where parity is kept, the place has that of the number
+abbrev pub BlockKeepsParity : Type 0
+BlockKeepsParity = (seed : Option Seed) (block : Block) → IsBlock block → (protocol : Protocol) (inside : Endpoint) →
+    place_in seed true block.size protocol inside % 2 ≡ inside.number % 2

@@ -1,12 +1,8 @@
 -- What every leg keeps to, whatever the bindings.
 use Rattle.std.specs.Prelude.{◌≡◌, ℕ, Bool, true, false, List, Option, Some, None}
-use Rattle.napt_wire.specs.declared.Way.TheVariants.{Incoming, Outgoing}
-use Rattle.napt_wire.specs.Fields.{destination, kind, is_error}
+use Rattle.napt_wire.specs.{declared.Way.TheVariants.{Incoming, Outgoing}, Fields.{destination, kind, is_error}}
 use Rattle.napt_config.specs.Rules.{Rules, place_of}
-use Rattle.napt_rules.specs.OwnTime.{Kept, kept_answer, kept_after}
-use Rattle.napt_rules.specs.declared.Leg.{Leg}
-use Rattle.napt_rules.specs.declared.End.{End}
-use Rattle.napt_rules.specs.declared.End.TheVariants.{ToOutside, ToInside, Onward, Dropped}
+use Rattle.napt_rules.specs.{OwnTime.{Kept, kept_answer, kept_after}, declared.{Leg.Leg, End.{End, TheVariants.{ToOutside, ToInside, Onward, Dropped}}}}
 
 -- an ICMP error changes no binding and no time (RFC 4787, REQ-12; RFC 5508, REQ-6)
 abbrev pub ErrorsChangeNothing : Type 0

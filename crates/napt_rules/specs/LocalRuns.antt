@@ -1,16 +1,9 @@
 -- The legs of one external address, on that address's bindings alone, are answered as in the whole run, and leave
 -- what the run leaves there: so each address can have a translator of its own.
-use Rattle.std.specs.Prelude.{◌≡◌, ℕ, ◌≤◌, List, map}
-use Rattle.std.specs.List.{fold, scan}
+use Rattle.std.specs.{Prelude.{◌≡◌, ℕ, ◌≤◌, List, map}, List.{fold, scan}}
 use Rattle.napt_config.specs.Rules.{Rules}
-use Rattle.napt_rules.specs.Bindings.{Binding, of}
-use Rattle.napt_rules.specs.Life.{purge}
-use Rattle.napt_rules.specs.declared.Answer.{Answer}
-use Rattle.napt_rules.specs.declared.Leg.{Leg}
-use Rattle.napt_rules.specs.Legs.{act}
-use Rattle.napt_rules.specs.OwnTime.{kept_replies, kept_after_all}
-use Rattle.napt_rules.specs.Inputs.{Arrival}
-use Rattle.napt_rules.specs.Sequential.{Act, Course, run, last_clock, acts_at, legs_at}
+use Rattle.napt_rules.specs.{Bindings.{Binding, of}, Life.purge, declared.{Answer.Answer, Leg.Leg}, Legs.act, OwnTime.{kept_replies, kept_after_all}}
+use Rattle.napt_rules.specs.{Inputs.Arrival, Sequential.{Act, Course, run, last_clock, acts_at, legs_at}}
 
 abbrev pub answer_of : Act → Answer
 answer_of a = record { number = a.leg.number; end = a.end }

@@ -3,9 +3,7 @@
 -- RFC 5382, REQ-2: every valid sequence of segments is let through, the simultaneous open among them. REQ-5: a session
 -- that is established may be idle for 2 hours and 4 minutes, one that is only opening or is closing for 4 minutes.
 use Rattle.std.specs.Prelude.{ℕ, Bool, false, not, ◌&&◌, ◌||◌, cond}
-use Rattle.napt_wire.specs.declared.Way.{Way}
-use Rattle.napt_wire.specs.declared.Way.TheVariants.{Outgoing, Incoming}
-use Rattle.napt_wire.specs.declared.Flags.{Flags}
+use Rattle.napt_wire.specs.declared.{Way.{Way, TheVariants.{Outgoing, Incoming}}, Flags.Flags}
 use Rattle.napt_config.specs.declared.settings.Timers.{Timers}
 use Rattle.napt_rules.specs.declared.Marks.{Marks}
 

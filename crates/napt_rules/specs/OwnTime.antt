@@ -1,14 +1,8 @@
 -- A translator by its list and its time: a leg before that time acts at that time, and an error moves neither.
-use Rattle.std.specs.Prelude.{ℕ, max, List}
-use Rattle.std.specs.List.{fold, scan}
-use Rattle.napt_wire.specs.declared.Kind.{Kind}
-use Rattle.napt_wire.specs.declared.Kind.TheVariants.{Udp, Tcp, Echo, ErrorOf}
-use Rattle.napt_wire.specs.Fields.{kind}
+use Rattle.std.specs.{Prelude.{ℕ, max, List}, List.{fold, scan}}
+use Rattle.napt_wire.specs.{declared.Kind.{Kind, TheVariants.{Udp, Tcp, Echo, ErrorOf}}, Fields.kind}
 use Rattle.napt_config.specs.Rules.{Rules}
-use Rattle.napt_rules.specs.Bindings.{Binding}
-use Rattle.napt_rules.specs.declared.Leg.{Leg}
-use Rattle.napt_rules.specs.declared.Answer.{Answer}
-use Rattle.napt_rules.specs.Legs.{Acted, act}
+use Rattle.napt_rules.specs.{Bindings.Binding, declared.{Leg.Leg, Answer.Answer}, Legs.{Acted, act}}
 
 pub record Kept : Type 0 where
   pub list : List Binding

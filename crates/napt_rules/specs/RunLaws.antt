@@ -1,15 +1,8 @@
 -- LAWS of runs, after any inputs.
 use Rattle.std.specs.Prelude.{AllPairs, List, ◌≡◌, ℕ, ◌≤◌, Some, false, map, IfSome}
 use Rattle.napt_config.specs.Rules.{Rules, KeepsRules, pair_of, block_of}
-use Rattle.napt_rules.specs.Endpoints.{IsSound, AreApart}
-use Rattle.napt_rules.specs.Opening.{opening}
-use Rattle.napt_rules.specs.Inputs.{Arrival}
-use Rattle.napt_rules.specs.Sequential.{run}
-use Rattle.napt_rules.specs.Quota.{count_for}
-use Rattle.napt_rules.specs.declared.Row.{Row}
-use Rattle.napt_rules.specs.Lists.{Each}
-use Rattle.napt_rules.specs.Classes.{IsOfBlock}
-use Rattle.napt_rules.specs.Rows.{row}
+use Rattle.napt_rules.specs.{Endpoints.{IsSound, AreApart}, Opening.opening, Inputs.Arrival, Sequential.run, Quota.count_for, declared.Row.Row, Lists.Each}
+use Rattle.napt_rules.specs.{Classes.IsOfBlock, Rows.row}
 
 -- SOUND: no two bindings share an endpoint
 

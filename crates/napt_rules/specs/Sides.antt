@@ -3,15 +3,8 @@
 -- RFC 2827: a source address that belongs to the other side is spoofed. RFC 4787, REQ-9 and RFC 5508, REQ-7: a packet
 -- from inside to an external address goes back inside; echoes are not sent back so here.
 use Rattle.std.specs.Prelude.{ℕ, Bool, true, false, not, ◌&&◌, ◌||◌, cond, List, Option, Some, None, is_some, ok_or, Result, Err}
-use Rattle.napt_wire.specs.declared.Protocol.TheVariants.{Icmp}
-use Rattle.napt_wire.specs.declared.Side.{Side}
-use Rattle.napt_wire.specs.declared.Side.TheVariants.{Inside, Outside}
-use Rattle.napt_wire.specs.declared.Way.{Way}
-use Rattle.napt_wire.specs.declared.Way.TheVariants.{Outgoing, Incoming}
-use Rattle.napt_wire.specs.declared.Cause.{Cause}
-use Rattle.napt_wire.specs.declared.Cause.TheVariants.{Spoofed, NotOurs, Unsupported}
-use Rattle.napt_wire.specs.declared.Kind.{Kind}
-use Rattle.napt_wire.specs.declared.Kind.TheVariants.{Udp, Tcp, Echo, ErrorOf}
+use Rattle.napt_wire.specs.declared.{Protocol.TheVariants.Icmp, Side.{Side, TheVariants.{Inside, Outside}}, Way.{Way, TheVariants.{Outgoing, Incoming}}}
+use Rattle.napt_wire.specs.declared.{Cause.{Cause, TheVariants.{Spoofed, NotOurs, Unsupported}}, Kind.{Kind, TheVariants.{Udp, Tcp, Echo, ErrorOf}}}
 use Rattle.napt_wire.specs.Fields.{source, destination, kind, local_end}
 use Rattle.napt_config.specs.Rules.{Rules, pair_of, is_inside, place_of}
 use Rattle.napt_rules.specs.Bindings.{same_protocol}

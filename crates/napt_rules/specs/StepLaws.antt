@@ -1,16 +1,8 @@
 -- LAWS of steps.
-use Rattle.std.specs.Prelude.{ℕ, List, ◌≡◌, AllPairs, Option, IfSome, ◌≢◌, ◌≤◌, Some}
-use Rattle.napt_config.specs.Rules.{Rules, KeepsRules, IsBlock, pair_of, AreTimers}
-use Rattle.napt_config.specs.declared.settings.Timers.{Timers}
-use Rattle.napt_rules.specs.Bindings.{Binding, of}
-use Rattle.napt_rules.specs.Endpoints.{IsSound, AreApart, IsNumber}
-use Rattle.napt_rules.specs.Opening.{opening}
-use Rattle.napt_rules.specs.declared.Inbound.{Inbound}
-use Rattle.napt_rules.specs.declared.Sent.{Sent}
-use Rattle.napt_rules.specs.declared.Received.{Received}
-use Rattle.napt_rules.specs.Life.{purge}
-use Rattle.napt_rules.specs.Steps.{step_out, step_in, out_purged, in_purged}
-use Rattle.napt_rules.specs.Quota.{count_for}
+use Rattle.std.specs.Prelude.{ℕ, List, ◌≡◌, AllPairs, IfSome, ◌≢◌, ◌≤◌, Some}
+use Rattle.napt_config.specs.{Rules.{Rules, KeepsRules, IsBlock, pair_of, AreTimers}, declared.settings.Timers.Timers}
+use Rattle.napt_rules.specs.{Bindings.{Binding, of}, Endpoints.{IsSound, AreApart, IsNumber}, Opening.opening, declared.{Granting.Granting, Inbound.Inbound}}
+use Rattle.napt_rules.specs.{declared.{Sent.Sent, Received.Received}, Life.purge, Steps.{step_out, step_in, out_purged, in_purged}, Quota.count_for}
 
 -- SOUND: a step keeps apart what is apart (RFC 4787, REQ-1 and REQ-3)
 
@@ -24,10 +16,10 @@ PurgeStaysSound = (pair : ℕ → ℕ) (timers : Timers) (now : ℕ) (list : Lis
 
 -- at the address of the host's pairing, from a number of the protocol, under a block that keeps its rules
 abbrev pub OutStaysSound : Type 0
-OutStaysSound = (pair : ℕ → ℕ) (timers : Timers) (quota : Option ℕ) (address : ℕ) (packet : Sent)
+OutStaysSound = (pair : ℕ → ℕ) (timers : Timers) (granting : Granting) (address : ℕ) (packet : Sent)
     (list : List Binding) → IsSound pair list → address ≡ pair packet.inside.address →
     IsNumber packet.protocol packet.inside.number → IfSome packet.block IsBlock →
-    IsSound pair (step_out timers quota address packet list).list
+    IsSound pair (step_out timers granting address packet list).list
 
 abbrev pub InStaysSound : Type 0
 InStaysSound = (pair : ℕ → ℕ) (timers : Timers) (inbound : Inbound) (address : ℕ) (packet : Received)
@@ -39,9 +31,9 @@ SoundIsApart = (pair : ℕ → ℕ) (list : List Binding) → IsSound pair list 
 -- LIVE: what a step leaves is live
 
 abbrev pub OutLeavesLive : Type 0
-OutLeavesLive = (timers : Timers) → AreTimers timers → (quota : Option ℕ) (address : ℕ) (packet : Sent)
-    (list : List Binding) → purge timers packet.now (step_out timers quota address packet list).list
-    ≡ (step_out timers quota address packet list).list
+OutLeavesLive = (timers : Timers) → AreTimers timers → (granting : Granting) (address : ℕ) (packet : Sent)
+    (list : List Binding) → purge timers packet.now (step_out timers granting address packet list).list
+    ≡ (step_out timers granting address packet list).list
 
 abbrev pub InLeavesLive : Type 0
 InLeavesLive = (timers : Timers) → AreTimers timers → (inbound : Inbound) (address : ℕ) (packet : Received)
@@ -61,16 +53,16 @@ LaterPurgeCounts = (timers : Timers) (earlier later : ℕ) → earlier ≤ later
     purge timers later (purge timers earlier list) ≡ purge timers later list
 
 abbrev pub OutIsLocal : Type 0
-OutIsLocal = (quota : Option ℕ) (address : ℕ) (packet : Sent) (list : List Binding) →
-    out_purged quota address packet (of address list) ≡ record {
-      number = (out_purged quota address packet list).number;
-      through = (out_purged quota address packet list).through;
-      list = of address (out_purged quota address packet list).list;
+OutIsLocal = (granting : Granting) (address : ℕ) (packet : Sent) (list : List Binding) →
+    out_purged granting address packet (of address list) ≡ record {
+      number = (out_purged granting address packet list).number;
+      through = (out_purged granting address packet list).through;
+      list = of address (out_purged granting address packet list).list;
     }
 
 abbrev pub OutLeavesOthers : Type 0
-OutLeavesOthers = (quota : Option ℕ) (address : ℕ) (packet : Sent) (other : ℕ) → other ≢ address →
-    (list : List Binding) → of other (out_purged quota address packet list).list ≡ of other list
+OutLeavesOthers = (granting : Granting) (address : ℕ) (packet : Sent) (other : ℕ) → other ≢ address →
+    (list : List Binding) → of other (out_purged granting address packet list).list ≡ of other list
 
 abbrev pub InIsLocal : Type 0
 InIsLocal = (inbound : Inbound) (address : ℕ) (packet : Received) (list : List Binding) →
@@ -92,8 +84,9 @@ PurgeKeepsQuota = (timers : Timers) (now at host quota : ℕ) (list : List Bindi
     count_for at host list ≤ quota → count_for at host (purge timers now list) ≤ quota
 
 abbrev pub OutKeepsQuota : Type 0
-OutKeepsQuota = (timers : Timers) (quota address : ℕ) (packet : Sent) (list : List Binding) (at host : ℕ) →
-    count_for at host list ≤ quota → count_for at host (step_out timers (Some quota) address packet list).list ≤ quota
+OutKeepsQuota = (timers : Timers) (granting : Granting) (quota : ℕ) → granting.quota ≡ Some quota → (address : ℕ)
+    (packet : Sent) (list : List Binding) (at host : ℕ) → count_for at host list ≤ quota →
+    count_for at host (step_out timers granting address packet list).list ≤ quota
 
 abbrev pub InKeepsQuota : Type 0
 InKeepsQuota = (timers : Timers) (inbound : Inbound) (address : ℕ) (packet : Received) (list : List Binding)

@@ -2,20 +2,10 @@
 --
 -- RFC 4787, REQ-6, and RFC 5382, REQ-5: UDP and echo are refreshed by outbound packets, UDP by inbound ones too where
 -- the configuration says so, a TCP flow by its segments in both directions.
-use Rattle.std.specs.Prelude.{ℕ, Bool, false, not, ◌&&◌, cond, List, [], ◌∷◌, ◌++◌}
-use Rattle.std.specs.List.{list_any}
-use Rattle.napt_wire.specs.declared.Protocol.{Protocol}
-use Rattle.napt_wire.specs.declared.Way.{Way}
-use Rattle.napt_wire.specs.declared.Way.TheVariants.{Outgoing, Incoming}
-use Rattle.napt_wire.specs.declared.Endpoint.{Endpoint}
-use Rattle.napt_wire.specs.declared.Flags.{Flags}
-use Rattle.napt_config.specs.declared.settings.Refresh.{Refresh}
-use Rattle.napt_config.specs.declared.settings.Refresh.TheVariants.{Outbound, Both}
-use Rattle.napt_rules.specs.declared.Inbound.{Inbound}
-use Rattle.napt_rules.specs.declared.Flow.{Flow}
-use Rattle.napt_rules.specs.declared.Row.{Row}
-use Rattle.napt_rules.specs.Bindings.{Binding, is_tcp, is_udp, same_endpoint}
-use Rattle.napt_rules.specs.Lists.{change_first}
+use Rattle.std.specs.{Prelude.{ℕ, Bool, false, not, ◌&&◌, cond, List, [], ◌∷◌, ◌++◌}, List.list_any}
+use Rattle.napt_wire.specs.declared.{Protocol.Protocol, Way.{Way, TheVariants.{Outgoing, Incoming}}, Endpoint.Endpoint, Flags.Flags}
+use Rattle.napt_config.specs.declared.settings.Refresh.{Refresh, TheVariants.{Outbound, Both}}
+use Rattle.napt_rules.specs.{declared.{Inbound.Inbound, Flow.Flow, Row.Row}, Bindings.{Binding, is_tcp, is_udp, same_endpoint}, Lists.change_first}
 use Rattle.napt_rules.specs.Marks.{no_marks, marked}
 
 -- FLOWS

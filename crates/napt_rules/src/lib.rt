@@ -4,7 +4,7 @@
 //! The sources are RFC 3022, RFC 4787, RFC 5382, RFC 5508 and RFC 6888; each file names its sections.
 #![tactic(auto)]
 
-use napt_config::{Block, Filter, Refresh};
+use napt_config::{Block, Choosing, Filter, Refresh};
 use napt_wire::{Cause, Endpoint, Flags, Packet, Protocol, Way};
 
 /// What a TCP flow was seen to do: a SYN and a FIN of each side, and a reset (RFC 5382, REQ-2 and REQ-5).
@@ -47,6 +47,14 @@ pub struct Binding<R, F> {
     pub last: u64,
     /// One for each remote endpoint to which a packet went out.
     pub flows: F,
+}
+
+/// How many bindings an inside host may have (RFC 6888, REQ-4), and how the number of a new one is chosen.
+#[derive(Clone, Copy)]
+pub struct Granting {
+    /// Over all protocols, without redirects; `None` if there is no limit.
+    pub quota: Option<u16>,
+    pub choosing: Choosing,
 }
 
 /// Whom a binding lets in, and which of those packets keep it alive (RFC 4787, REQ-8 and REQ-6).

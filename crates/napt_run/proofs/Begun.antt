@@ -3,26 +3,15 @@ use Rattle.std.proofs.Common.{◌≡◌, ◌⊎◌, inl, inr, ℕ, ◌+◌, List
 use Rattle.std.proofs.lemmas.List.Elements.{All-nil}
 use Rattle.napt_wire.specs.declared.Side.{Side}
 use Rattle.napt_wire.specs.declared.Side.TheVariants as sides
-use Rattle.napt_capture.specs.declared.device.Source.{Ghosts}
-use Rattle.napt_capture.specs.declared.fault.CaptureFault.{CaptureFault}
+use Rattle.napt_capture.specs.declared.{device.Source.Ghosts, fault.CaptureFault.CaptureFault}
 use Rattle.napt_capture.specs.declared.fault.CaptureFault.TheVariants.{NoHeader, BadMagic, BadVersion, BadLink, BadFraction, TooLong, TooLarge, Read, Memory}
-use Rattle.napt_capture.specs.declared.records.Records.{Records}
-use Rattle.napt_capture.specs.Contents.{Contents}
-use Rattle.napt_capture.specs.Capture.{failed_reads, spelling_in}
-use Rattle.napt_capture.specs.Reading.{Gives}
-use Rattle.napt_capture.specs.Text.{IsWritable}
-use Rattle.napt_records.specs.Begun.{IsBegun}
-use Rattle.napt_records.specs.Merged.{AreLive, AreSame, Counts, EndsWith, HandsOut, failed_by}
-use Rattle.napt_records.specs.declared.Fault.{Fault}
-use Rattle.napt_records.specs.declared.Fault.TheVariants.{Capture}
-use Rattle.napt_records.specs.declared.merged_streams.MergedStreams.{MergedStreams}
-use Rattle.napt_records.specs.declared.merged_streams.SideFault.{SideFault}
-use Rattle.napt_records.specs.declared.stream.Stream.{Stream}
+use Rattle.napt_capture.specs.{declared.records.Records.Records, Contents.Contents, Capture.{failed_reads, spelling_in}, Reading.Gives, Text.IsWritable}
+use Rattle.napt_records.specs.{Begun.IsBegun, Merged.{AreLive, AreSame, Counts, EndsWith, HandsOut, failed_by}, declared.Fault.{Fault, TheVariants.Capture}}
+use Rattle.napt_records.specs.declared.{merged_streams.{MergedStreams.MergedStreams, SideFault.SideFault}, stream.Stream.Stream}
 use Rattle.napt_records.proofs.Came.{came_counts, came_failed, came_same}
 use Rattle.napt_rules.specs.Prelude.{Arrival}
-use Rattle.napt_run.specs.Captures.{failed_readings}
+use Rattle.napt_run.specs.{Captures.failed_readings, Streams.{IsBehindHeader, IsOfReading}}
 use Rattle.napt_sequential.specs.Inputs.{Came}
-use Rattle.napt_run.specs.Streams.{IsBehindHeader, IsOfReading}
 
 -- THE START
 

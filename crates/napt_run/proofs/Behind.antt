@@ -6,37 +6,22 @@ use Rattle.napt_capture.specs.declared.device.Sink as sink
 use Rattle.napt_capture.specs.declared.device.Source as source
 use Rattle.napt_capture.specs.declared.fault.CaptureFault.{CaptureFault}
 use Rattle.napt_capture.specs.declared.fault.CaptureFault.TheVariants.{NoHeader, BadMagic, BadVersion, BadLink, BadFraction, TooLong, TooLarge, Read, Memory}
-use Rattle.napt_capture.specs.declared.fault.WriteFault.{WriteFault}
-use Rattle.napt_capture.specs.Reading.{StopsBy}
+use Rattle.napt_capture.specs.{declared.fault.WriteFault.WriteFault, Reading.StopsBy}
 use Rattle.napt_config.specs.Rules.{Rules}
 use Rattle.napt_dispatch.specs.Passing.{HasCome}
-use Rattle.napt_records.specs.Begun.{AreBegun}
-use Rattle.napt_records.specs.Counts.{AreCountsOf}
-use Rattle.napt_laws.specs.Dispatching.{IsFront}
-use Rattle.napt_records.specs.Merged.{AreLive, EndsWith, HandsOut, cut_of}
-use Rattle.napt_records.specs.Taking.{Inputs}
-use Rattle.napt_records.specs.declared.Fault.{Fault}
-use Rattle.napt_records.specs.declared.Fault.TheVariants.{Capture, Run, Write}
-use Rattle.napt_records.specs.declared.Which.{Which}
-use Rattle.napt_records.specs.declared.Which.TheVariants.{Outside, Inside, Report}
-use Rattle.napt_records.specs.declared.merged_streams.Cuts.{Cuts}
-use Rattle.napt_records.specs.declared.merged_streams.MergedStreams.{MergedStreams}
-use Rattle.napt_records.proofs.Came.{came_fault, came_whole, handed_front, handed_timely}
+use Rattle.napt_records.specs.{Begun.AreBegun, Counts.AreCountsOf, Merged.{AreLive, EndsWith, HandsOut, cut_of}, Taking.Inputs, declared.Fault.Fault}
+use Rattle.napt_records.specs.declared.{Fault.TheVariants.{Capture, Run, Write}, Which.{Which, TheVariants.{Outside, Inside, Report}}, merged_streams.Cuts.Cuts}
+use Rattle.napt_records.{specs.declared.merged_streams.MergedStreams.MergedStreams, proofs.Came.{came_fault, came_whole, handed_front, handed_timely}}
 use Rattle.napt_records.proofs.Left.{StopsBy-then}
+use Rattle.napt_laws.specs.Dispatching.{IsFront}
 use Rattle.napt_rules.specs.Prelude.{Arrival, ran}
 use Rattle.napt_sequential.specs.Inputs.{Came}
 use Rattle.napt_run.specs.Leaving.{AreSound, AreTimes, FailsBy, IsSettled, Takes, Timed, records_text}
-use Rattle.napt_run.specs.LeavingLaws.{breaks_more, grows_more, records_text-append, times_first, times_second}
-use Rattle.napt_run.specs.Outputs.{Breaks, Grows}
+use Rattle.napt_run.specs.{LeavingLaws.{breaks_more, grows_more, records_text-append, times_first, times_second}, Outputs.{Breaks, Grows}}
 use Rattle.napt_run.specs.Passed.{PassesAll, PassesEarly, PassesHalted, PassesOr, PassesTo}
-use Rattle.napt_run.specs.Runs.{FailsInside, FailsOutside, Halts, IfHeld, RunsTo, RunsToFault, RunsWell, Writes, left_of, text_behind}
-use Rattle.napt_run.specs.Files.{files_until}
-use Rattle.napt_run.specs.Streams.{AreTaken, IsFaultOf, IsOfRun, IsReading}
-use Rattle.napt_run.specs.declared.leaving.Leaving.{Leaving}
-use Rattle.napt_run.specs.declared.passing.Totals.{Totals}
-use Rattle.napt_run.proofs.Begun.{ReadBy, read_somehow, read_to_fault, read_well, told}
-use Rattle.napt_run.proofs.Counted.{all_counted}
-use Rattle.napt_run.proofs.Files.{begun_files, files_large}
+use Rattle.napt_run.specs.{Runs.{FailsInside, FailsOutside, Halts, IfHeld, RunsTo, RunsToFault, RunsWell, Writes, left_of, text_behind}, Files.files_until}
+use Rattle.napt_run.specs.{Streams.{AreTaken, IsFaultOf, IsOfRun, IsReading}, declared.{leaving.Leaving.Leaving, passing.Totals.Totals}}
+use Rattle.napt_run.proofs.{Begun.{ReadBy, read_somehow, read_to_fault, read_well, told}, Counted.all_counted, Files.{begun_files, files_large}}
 use Rattle.napt_run.proofs.Fronts.{front_of, times_of}
 
 -- WHAT IS KNOWN OF THE CAPTURES

@@ -6,45 +6,24 @@ use Rattle.napt_capture.specs.declared.device.Sink as sink
 use Rattle.napt_capture.specs.declared.device.Source as source
 use Rattle.napt_capture.specs.declared.fault.CaptureFault.{CaptureFault}
 use Rattle.napt_config.specs.Rules.{Rules}
-use Rattle.napt_dispatch.specs.Dispatch.{departed, departed_of}
-use Rattle.napt_dispatch.specs.Passing.{HasCome, timed}
-use Rattle.napt_dispatch.specs.Passing as passing
-use Rattle.napt_dispatch.specs.declared.departures.Departed.{Departed}
-use Rattle.napt_dispatch.specs.declared.stopped.Stopped.{Stopped}
-use Rattle.napt_dispatch.specs.declared.stopped.Stopped.TheVariants as stops
+use Rattle.napt_dispatch.specs.{Dispatch.{departed, departed_of}, Passing.{HasCome, timed}, declared.{departures.Departed.Departed, stopped.Stopped.Stopped}}
 use Rattle.napt_dispatch.specs.declared.workers.Passed.{Passed}
+use Rattle.napt_dispatch.specs.Passing as passing
+use Rattle.napt_dispatch.specs.declared.stopped.Stopped.TheVariants as stops
 use Rattle.napt_laws.specs.Dispatching.{IsFront}
-use Rattle.napt_records.specs.Begun.{AreBegun}
-use Rattle.napt_records.specs.Counts.{AreCountsOf}
-use Rattle.napt_records.specs.Merged.{AreLive, EndsWith, HandsOut}
-use Rattle.napt_records.specs.declared.Fault.{Fault}
-use Rattle.napt_records.specs.declared.Fault.TheVariants.{Capture, Run, Write}
-use Rattle.napt_records.specs.declared.merged_streams.MergedStreams.{MergedStreams}
-use Rattle.napt_rules.specs.Prelude.{Arrival}
-use Rattle.napt_rules.specs.declared.Outcome.{Outcome}
-use Rattle.napt_sequential.specs.Steps.{steps}
-use Rattle.napt_sequential.specs.Traces.{traces}
-use Rattle.napt_sequential.specs.declared.outcome.Stepped.{Stepped}
-use Rattle.napt_sequential.specs.declared.passage.Passage.{Passage}
-use Rattle.napt_sequential.specs.declared.passage.Trace.{Trace}
+use Rattle.napt_records.specs.{Begun.AreBegun, Counts.AreCountsOf, Merged.{AreLive, EndsWith, HandsOut}, declared.Fault.Fault}
+use Rattle.napt_records.specs.declared.{Fault.TheVariants.{Capture, Run, Write}, merged_streams.MergedStreams.MergedStreams}
+use Rattle.napt_rules.specs.{Prelude.Arrival, declared.Outcome.Outcome}
+use Rattle.napt_sequential.specs.{Steps.steps, Traces.traces, declared.{outcome.Stepped.Stepped, passage.{Passage.Passage, Trace.Trace}}}
 use Rattle.napt_sequential.proofs.Joined.{steps_long, steps_ran, steps_traces}
-use Rattle.napt_run.specs.Files.{files_until}
-use Rattle.napt_run.specs.Leaving.{AreSound, FailsToBegin, Takes, Timed}
+use Rattle.napt_run.specs.{Files.files_until, Leaving.{AreSound, FailsToBegin, Takes, Timed}}
 use Rattle.napt_run.specs.LeavingWithLogs.{AreSettled, FailsEither, IsSamePlace, TakesBoth, legs_in, outcomes_in}
 use Rattle.napt_run.specs.Logging.{EntersFront, FailsOver, Legs, LogsTo, as_run, legs_told}
 use Rattle.napt_run.specs.Passed.{EntersBy, EntersFirst, EntersOr, EntersTo, FailsAfter, FailsFirst, PassesBy, PassesHalted, PassesOr, PassesTo}
-use Rattle.napt_run.specs.Runs.{IfHeld, left_of}
-use Rattle.napt_run.specs.Streams.{AreTaken}
-use Rattle.napt_run.specs.declared.leaving.Leaving.{Leaving}
-use Rattle.napt_run.specs.declared.leaving.OutputFault.{OutputFault}
-use Rattle.napt_run.specs.declared.leaving_with_log.LeavingFault.{LeavingFault}
-use Rattle.napt_run.specs.declared.leaving_with_log.LeavingFault.TheVariants.{Output, Log}
-use Rattle.napt_run.specs.declared.leaving_with_log.LeavingWithLog.{LeavingWithLog}
-use Rattle.napt_run.specs.declared.logging.Halt.{Halt}
+use Rattle.napt_run.specs.{Runs.{IfHeld, left_of}, Streams.AreTaken, declared.leaving.{Leaving.Leaving, OutputFault.OutputFault}}
+use Rattle.napt_run.specs.declared.{leaving_with_log.{LeavingFault.{LeavingFault, TheVariants.{Output, Log}}, LeavingWithLog.LeavingWithLog}, logging.Halt.Halt}
+use Rattle.napt_run.{specs.declared.passing.Totals.Totals, proofs.{Behind.{IfHeld-by, front, taken_is, whole_is}, TraceFronts.{TraceFront, trace_front}}}
 use Rattle.napt_run.specs.declared.logging.Halt.TheVariants as halts
-use Rattle.napt_run.specs.declared.passing.Totals.{Totals}
-use Rattle.napt_run.proofs.Behind.{IfHeld-by, front, taken_is, whole_is}
-use Rattle.napt_run.proofs.TraceFronts.{TraceFront, trace_front}
 
 -- WHAT LEAVES
 

@@ -1,10 +1,7 @@
 -- A fault behind what was written.
 use Rattle.std.proofs.Common.{◌≡◌, ℕ, ◌≤◌, List, [], length, Result, Ok, Err, IfErr, false, subst, arith, append-nil}
-use Rattle.napt_capture.specs.declared.device.Sink.{Ghosts}
-use Rattle.napt_capture.specs.declared.fault.WriteFault.{WriteFault}
-use Rattle.napt_run.specs.LeavingLaws.{breaks_more}
-use Rattle.napt_run.specs.Outputs.{Grows, Breaks}
-use Rattle.napt_run.specs.declared.output.Output.{Output}
+use Rattle.napt_capture.specs.declared.{device.Sink.Ghosts, fault.WriteFault.WriteFault}
+use Rattle.napt_run.specs.{LeavingLaws.breaks_more, Outputs.{Grows, Breaks}, declared.output.Output.Output}
 
 module _ {W : Type 0} {S : Ghosts W} where
   pub first_within : (x y z : Output W S) (first second : List ℕ) (fault : WriteFault) (one : Grows x first y)

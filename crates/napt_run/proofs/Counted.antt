@@ -3,12 +3,8 @@ use Rattle.std.proofs.Common.{◌≡◌, ◌^◌, ◌<◌, List, [], length, map
 use Rattle.napt_capture.specs.declared.device.Sink.{Ghosts}
 use Rattle.napt_config.specs.Rules.{Rules}
 use Rattle.napt_records.specs.Counts.{AreCountsOf}
-use Rattle.napt_rules.specs.Prelude.{Arrival, ran}
-use Rattle.napt_rules.specs.declared.Outcome.{Outcome}
-use Rattle.napt_run.specs.Leaving.{Takes, Timed}
-use Rattle.napt_run.specs.Runs.{left_of}
-use Rattle.napt_run.specs.declared.leaving.Leaving.{Leaving}
-use Rattle.napt_run.proofs.Fronts.{as_many, outcomes_back}
+use Rattle.napt_rules.specs.{Prelude.{Arrival, ran}, declared.Outcome.Outcome}
+use Rattle.napt_run.{specs.{Leaving.{Takes, Timed}, Runs.left_of, declared.leaving.Leaving.Leaving}, proofs.Fronts.{as_many, outcomes_back}}
 
 -- all outcomes of a run that left
 pub all_counted : {W V : Type 0} {S : Ghosts W} {T : Ghosts V} (rules : Rules) (inputs : List Arrival)

@@ -4,21 +4,13 @@ use Rattle.std.proofs.Common.{◌≡◌, ◌≢◌, ◌⊎◌, ℕ, ◌+◌, Boo
 use Rattle.napt_wire.specs.declared.Side.TheVariants as sides
 use Rattle.napt_capture.specs.declared.device.Sink.{Ghosts}
 use Rattle.napt_config.specs.Rules.{Rules}
-use Rattle.napt_records.specs.Counts.{AreCountsOf}
-use Rattle.napt_records.specs.Report.{report_of, report_text}
-use Rattle.napt_records.specs.declared.Fault.{Fault}
-use Rattle.napt_records.specs.declared.Fault.TheVariants.{Capture, Run, Write}
-use Rattle.napt_records.specs.declared.Which.{Which}
-use Rattle.napt_records.specs.declared.Which.TheVariants.{Outside, Inside, Report}
-use Rattle.napt_rules.specs.Prelude.{Arrival, ran}
-use Rattle.napt_rules.specs.declared.Outcome.{Outcome}
-use Rattle.napt_records.specs.Faults.{tells_shut_gate}
-use Rattle.napt_run.specs.Captures.{failed_readings, failed_writings}
-use Rattle.napt_sequential.specs.declared.fault.RunFault.TheVariants as faults
-use Rattle.napt_run.specs.Runs.{IfHeld, IsToldOf}
+use Rattle.napt_records.specs.{Counts.AreCountsOf, Report.{report_of, report_text}, declared.{Fault.{Fault, TheVariants.{Capture, Run, Write}}, Which.Which}}
+use Rattle.napt_records.specs.{declared.Which.TheVariants.{Outside, Inside, Report}, Faults.tells_shut_gate}
+use Rattle.napt_rules.specs.{Prelude.{Arrival, ran}, declared.Outcome.Outcome}
+use Rattle.napt_run.specs.{Captures.{failed_readings, failed_writings}, Runs.{IfHeld, IsToldOf}}
 use Rattle.napt_run.specs.Streams.{DeviceGets, Explains, GetsReport, HasAll, HasPart, HasRead, HasText, IsOfRun, IsReading, IsReportFault, IsSettledBy, IsStopFault, ReportGets, Reports, ReportsAll, Streams, ended}
-use Rattle.napt_run.specs.declared.passing.Totals.{Totals}
-use Rattle.napt_run.proofs.Streamed.{IfHeld-all, IfHeld-map}
+use Rattle.napt_run.{specs.declared.passing.Totals.Totals, proofs.Streamed.{IfHeld-all, IfHeld-map}}
+use Rattle.napt_sequential.specs.declared.fault.RunFault.TheVariants as faults
 
 -- a fault that was told stays, and after a good run only its report fails
 pub record Ends (told : Result Totals Fault) (result : Result (Unit {0}) Fault) : Type 0 where

@@ -6,13 +6,8 @@ use Rattle.napt_account.specs.TraceLogs.{IsOfTraces, told_with}
 use Rattle.napt_log_text.specs.Logs.{rows_with, told_rows}
 use Rattle.napt_records.specs.declared.Fault.TheVariants as faults
 use Rattle.napt_sequential.specs.declared.passage.Trace.{Trace}
-use Rattle.napt_run.specs.LeavingLaws.{grows_none}
-use Rattle.napt_run.specs.Outputs.{Grows}
-use Rattle.napt_run.specs.RunningLogs.{EntersNot, EntersWith, FailsBy, GoesOn, IsAt}
-use Rattle.napt_run.specs.declared.logged_fault.LoggedFault.{LoggedFault}
-use Rattle.napt_run.specs.declared.logged_fault.LoggedFault.TheVariants.{Run, Log}
-use Rattle.napt_run.specs.declared.output.Output.{Output}
-use Rattle.napt_run.specs.declared.running_log.RunningLog.{RunningLog}
+use Rattle.napt_run.specs.{LeavingLaws.grows_none, Outputs.Grows, RunningLogs.{EntersNot, EntersWith, FailsBy, GoesOn, IsAt}}
+use Rattle.napt_run.specs.declared.{logged_fault.LoggedFault.{LoggedFault, TheVariants.{Run, Log}}, output.Output.Output, running_log.RunningLog.RunningLog}
 
 module _ {L : Type 0} {S : Ghosts L} (rules : Rules) (before : List Trace) (old : RunningLog L S) where
   pub enter_failed : (trace : Trace) (fault : LoggedFault) (new : RunningLog L S) →

@@ -1,21 +1,10 @@
 -- What two files give, behind their headers.
 use Rattle.std.proofs.Common.{◌≡◌, ℕ, List, take, drop, Option, None, Some, Result, Ok, Err, ap, ◌∙◌}
-use Rattle.napt_wire.specs.declared.Side.{Side}
-use Rattle.napt_wire.specs.declared.Side.TheVariants.{Inside, Outside}
-use Rattle.napt_capture.specs.declared.device.Source.{Ghosts}
-use Rattle.napt_capture.specs.declared.fault.CaptureFault.{CaptureFault}
-use Rattle.napt_capture.specs.declared.fault.CaptureFault.TheVariants.{Read, TooLarge}
-use Rattle.napt_capture.specs.declared.spelling.Spelling.{Spelling}
-use Rattle.napt_capture.specs.Capture.{captured, captured_by, spelling_in}
-use Rattle.napt_capture.specs.Reading.{Gives}
-use Rattle.napt_capture.proofs.Captured.{never_large}
-use Rattle.napt_records.specs.Begun.{AreBegun}
-use Rattle.napt_records.specs.MergeLaws.{held_of}
-use Rattle.napt_records.specs.Taking.{Inputs, inputs_until}
-use Rattle.napt_records.specs.declared.merged_streams.Cuts.{Cuts}
-use Rattle.napt_records.specs.declared.merged_streams.MergedStreams.{MergedStreams}
-use Rattle.napt_records.specs.declared.merged_streams.SideFault.{SideFault}
-use Rattle.napt_records.proofs.Merges.{merge_meets}
+use Rattle.napt_wire.specs.declared.Side.{Side, TheVariants.{Inside, Outside}}
+use Rattle.napt_capture.specs.declared.{device.Source.Ghosts, fault.CaptureFault.{CaptureFault, TheVariants.{Read, TooLarge}}, spelling.Spelling.Spelling}
+use Rattle.napt_capture.{specs.{Capture.{captured, captured_by, spelling_in}, Reading.Gives}, proofs.Captured.never_large}
+use Rattle.napt_records.specs.{Begun.AreBegun, MergeLaws.held_of, Taking.{Inputs, inputs_until}, declared.merged_streams.Cuts.Cuts}
+use Rattle.napt_records.{specs.declared.merged_streams.{MergedStreams.MergedStreams, SideFault.SideFault}, proofs.Merges.merge_meets}
 use Rattle.napt_run.specs.Files.{files_until, unless_bad, unless_refused}
 
 -- a header that was read of known bytes

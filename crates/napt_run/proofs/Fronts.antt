@@ -1,22 +1,15 @@
 -- What leaves of a front of the inputs is a front of what leaves.
 use Rattle.std.proofs.Common.{◌≡◌, suc, ◌≤◌, List, [], ◌∷◌, ◌++◌, length, map, take, drop, All, filter_map, flat_map, refl, sym, ◌∙◌, ap, arith, length-append}
-use Rattle.std.specs.List.{cons_option}
-use Rattle.std.proofs.Math.Seq.{take-append_seam}
-use Rattle.std.proofs.lemmas.List.{length-take-le, take-append-drop}
+use Rattle.std.{specs.List.cons_option, proofs.{Math.Seq.take-append_seam, lemmas.List.{length-take-le, take-append-drop}}}
 use Rattle.std.proofs.lemmas.List.Elements.{All-head, All-tail, All-nil, All-cons}
 use Rattle.napt_wire.specs.declared.Side.{Side}
-use Rattle.napt_capture.specs.Contents.{Entry}
-use Rattle.napt_capture.specs.Text.{file_header, record_text, text}
+use Rattle.napt_capture.specs.{Contents.Entry, Text.{file_header, record_text, text}}
 use Rattle.napt_config.specs.Rules.{Rules}
 use Rattle.napt_dispatch.specs.Passing.{timed}
 use Rattle.napt_records.specs.Output.{IsTime, IsTimely, packet_to, record_at, records_to}
-use Rattle.napt_rules.specs.Prelude.{Arrival, last_clock, opening, ran, run, run_from}
-use Rattle.napt_rules.specs.declared.Outcome.{Outcome}
-use Rattle.napt_laws.specs.Dispatching.{IsFront}
-use Rattle.napt_laws.proofs.Grown.{outcomes_long, run_append}
-use Rattle.napt_run.specs.Leaving.{AreTimes, Timed, records_text}
-use Rattle.napt_run.specs.Runs.{left_of}
-use Rattle.napt_run.specs.Streams.{capture_text}
+use Rattle.napt_rules.specs.{Prelude.{Arrival, last_clock, opening, ran, run, run_from}, declared.Outcome.Outcome}
+use Rattle.napt_laws.{specs.Dispatching.IsFront, proofs.Grown.{outcomes_long, run_append}}
+use Rattle.napt_run.specs.{Leaving.{AreTimes, Timed, records_text}, Runs.left_of, Streams.capture_text}
 
 -- TEXTS
 

@@ -2,26 +2,14 @@
 use Rattle.std.proofs.Common.{◌≡◌, ◌⊎◌, inl, inr, ℕ, ◌≤◌, Bool, List, [], Option, Result, Ok, Err, refl, sym, subst, arith, append-nil}
 use Rattle.napt_wire.specs.declared.Side.{Side}
 use Rattle.napt_wire.specs.declared.Side.TheVariants as sides
-use Rattle.napt_capture.specs.Text.{file_header}
-use Rattle.napt_capture.specs.declared.device.Sink.{Ghosts}
-use Rattle.napt_capture.specs.declared.fault.WriteFault.{WriteFault}
+use Rattle.napt_capture.specs.{Text.file_header, declared.{device.Sink.Ghosts, fault.WriteFault.WriteFault}}
 use Rattle.napt_config.specs.Rules.{Rules}
 use Rattle.napt_laws.specs.Dispatching.{IsFront}
-use Rattle.napt_records.specs.declared.Fault.{Fault}
-use Rattle.napt_records.specs.declared.Fault.TheVariants.{Capture, Run, Write}
-use Rattle.napt_records.specs.declared.Which.TheVariants.{Outside, Inside, Report}
+use Rattle.napt_records.specs.declared.{Fault.{Fault, TheVariants.{Capture, Run, Write}}, Which.TheVariants.{Outside, Inside, Report}}
 use Rattle.napt_rules.specs.Prelude.{Arrival}
-use Rattle.napt_run.specs.Leaving.{Begins, FailsToBegin}
-use Rattle.napt_run.specs.LeavingLaws.{breaks_more, grows_more}
-use Rattle.napt_run.specs.Outputs.{Breaks, Grows}
-use Rattle.napt_run.specs.Runs.{FailsInside, FailsOutside, Halts, IfHeld, IsLeft, RunsTo, Writes, text_behind}
-use Rattle.napt_run.specs.Files.{files_until}
-use Rattle.napt_run.specs.Streams.{IsReading}
-use Rattle.napt_run.specs.declared.leaving.Leaving.{Leaving}
-use Rattle.napt_run.specs.declared.output.Output.{Output}
-use Rattle.napt_run.specs.declared.passing.Totals.{Totals}
-use Rattle.napt_run.proofs.Behind.{IfHeld-by}
-use Rattle.napt_run.proofs.Breaks.{first_within}
+use Rattle.napt_run.specs.{Leaving.{Begins, FailsToBegin}, LeavingLaws.{breaks_more, grows_more}, Outputs.{Breaks, Grows}}
+use Rattle.napt_run.specs.{Runs.{FailsInside, FailsOutside, Halts, IfHeld, IsLeft, RunsTo, Writes, text_behind}, Files.files_until, Streams.IsReading}
+use Rattle.napt_run.{specs.declared.{leaving.Leaving.Leaving, output.Output.Output, passing.Totals.Totals}, proofs.{Behind.IfHeld-by, Breaks.first_within}}
 
 none_held : (inside outside : Option (List ℕ)) → IfHeld inside outside
     (λ all. IsFront [] all.arrivals)

@@ -2,24 +2,12 @@
 use Rattle.std.proofs.Common.{◌≡◌, ◌∙◌, ℕ, ◌+◌, Bool, List, [], take, drop, Option, Some, Result, Ok, Err, refl, sym, ap, subst, arith}
 use Rattle.napt_wire.specs.declared.Side.{Side}
 use Rattle.napt_wire.specs.declared.Side.TheVariants as sides
-use Rattle.napt_capture.specs.declared.device.Sink.{Ghosts}
-use Rattle.napt_capture.specs.declared.fault.CaptureFault.{CaptureFault}
-use Rattle.napt_capture.specs.declared.spelling.Spelling.{Spelling}
-use Rattle.napt_capture.specs.declared.records.Records.{Records}
-use Rattle.napt_capture.specs.Capture.{captured, spelling_in}
-use Rattle.napt_capture.specs.Reading.{Gives, Says, StopsBy}
+use Rattle.napt_capture.specs.declared.{device.Sink.Ghosts, fault.CaptureFault.CaptureFault, spelling.Spelling.Spelling, records.Records.Records}
+use Rattle.napt_capture.specs.{Capture.{captured, spelling_in}, Reading.{Gives, Says, StopsBy}}
 use Rattle.napt_config.specs.Rules.{Rules}
-use Rattle.napt_records.specs.Taking.{Inputs, at_fault, inputs_until}
-use Rattle.napt_records.specs.declared.Fault.{Fault}
-use Rattle.napt_records.specs.declared.Fault.TheVariants.{Capture, Run, Write}
-use Rattle.napt_records.proofs.Left.{StopsBy-says}
-use Rattle.napt_run.specs.Files.{files_until, unless_bad, unless_refused}
-use Rattle.napt_run.specs.Leaving.{IsSettled}
-use Rattle.napt_run.specs.LeavingLaws.{grows_none}
-use Rattle.napt_run.specs.Runs.{IfHeld, RunsTo, RunsToFault}
-use Rattle.napt_run.specs.Streams.{AreTaken, IsFaultOf, IsHeaderFault}
-use Rattle.napt_run.specs.declared.leaving.Leaving.{Leaving}
-use Rattle.napt_run.proofs.Behind.{IfHeld-by, refuses}
+use Rattle.napt_records.{specs.{Taking.{Inputs, at_fault, inputs_until}, declared.Fault.{Fault, TheVariants.{Capture, Run, Write}}}, proofs.Left.StopsBy-says}
+use Rattle.napt_run.specs.{Files.{files_until, unless_bad, unless_refused}, Leaving.IsSettled, LeavingLaws.grows_none, Runs.{IfHeld, RunsTo, RunsToFault}}
+use Rattle.napt_run.{specs.{Streams.{AreTaken, IsFaultOf, IsHeaderFault}, declared.leaving.Leaving.Leaving}, proofs.Behind.{IfHeld-by, refuses}}
 use Rattle.napt_run.proofs.Files.{spelled}
 
 -- a header of these bytes was read to this answer

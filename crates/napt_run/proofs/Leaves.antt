@@ -1,20 +1,10 @@
 -- What leaving does to the outputs.
 use Rattle.std.proofs.Common.{◌≡◌, ℕ, ◌-◌, ◌^◌, ◌<◌, List, [], ◌∷◌, ◌++◌, length, Result, Ok, Err, IfErr, OnOk, false, sym, subst, arith, append-nil, length-append}
-use Rattle.std.specs.Prelude.{MatchResult}
-use Rattle.std.proofs.lemmas.List.Elements.{All-head}
-use Rattle.napt_capture.specs.Text.{entry_of_packet, record_text}
-use Rattle.napt_capture.specs.declared.device.Sink.{Ghosts}
-use Rattle.napt_capture.specs.declared.fault.WriteFault.{WriteFault}
-use Rattle.napt_rules.specs.declared.Outcome.{Outcome}
-use Rattle.napt_rules.specs.declared.Outcome.TheVariants.{ToOutside, ToInside}
-use Rattle.napt_records.specs.Counts.{AreCountsOf}
-use Rattle.napt_records.specs.Output.{IsTime}
-use Rattle.napt_records.specs.declared.report.Counts.{Counts}
-use Rattle.napt_records.specs.declared.Which.TheVariants.{Outside, Inside}
-use Rattle.napt_run.specs.Outputs.{Grows, Breaks}
-use Rattle.napt_run.specs.Leaving.{AreTimes, Takes, Fails, named}
-use Rattle.napt_run.specs.LeavingLaws.{grows_none}
-use Rattle.napt_run.specs.declared.output.Output.{Output}
+use Rattle.std.{specs.Prelude.MatchResult, proofs.lemmas.List.Elements.All-head}
+use Rattle.napt_capture.specs.{Text.{entry_of_packet, record_text}, declared.{device.Sink.Ghosts, fault.WriteFault.WriteFault}}
+use Rattle.napt_rules.specs.declared.Outcome.{Outcome, TheVariants.{ToOutside, ToInside}}
+use Rattle.napt_records.specs.{Counts.AreCountsOf, Output.IsTime, declared.{report.Counts.Counts, Which.TheVariants.{Outside, Inside}}}
+use Rattle.napt_run.specs.{Outputs.{Grows, Breaks}, Leaving.{AreTimes, Takes, Fails, named}, LeavingLaws.grows_none, declared.output.Output.Output}
 use Rattle.napt_run.specs.declared.leaving.Leaving.{Leaving}
 
 time_of_one : (time : ℕ) (outcome : Outcome) → AreTimes ((time, outcome) ∷ []) → IsTime time

@@ -1,50 +1,27 @@
 -- What a run with a log leaves on its devices.
 use Rattle.std.proofs.Common.{◌≡◌, ◌⊎◌, inl, inr, ℕ, ◌+◌, ◌^◌, ◌<◌, ◌≤◌, Bool, true, List, [], ◌∷◌, ◌++◌, length, map, take, Option, Result, Ok, Err, IfErr, refl, sym, ◌∙◌, ap, subst, arith, append-nil, append_assoc, length-append}
-use Rattle.std.proofs.lemmas.Bool.{true≢false}
-use Rattle.std.proofs.Math.Seq.{take-append_seam}
-use Rattle.std.proofs.lemmas.List.{take-append-le}
-use Rattle.std.specs.Io.KnownBytes.{Appends}
-use Rattle.std.proofs.KnownBytes.{Appends-trans}
+use Rattle.std.{proofs.{lemmas.{Bool.true≢false, List.take-append-le}, Math.Seq.take-append_seam, KnownBytes.Appends-trans}, specs.Io.KnownBytes.Appends}
 use Rattle.napt_wire.specs.declared.Side.{Side}
-use Rattle.napt_capture.specs.declared.device.Sink.{Ghosts}
-use Rattle.napt_capture.specs.declared.fault.CaptureFault.{CaptureFault}
-use Rattle.napt_capture.specs.declared.fault.WriteFault.{WriteFault}
+use Rattle.napt_capture.specs.declared.{device.Sink.Ghosts, fault.{CaptureFault.CaptureFault, WriteFault.WriteFault}}
 use Rattle.napt_config.specs.Rules.{Rules}
 use Rattle.napt_laws.specs.Dispatching.{IsFront}
-use Rattle.napt_account.specs.Telling.{living_of}
-use Rattle.napt_account.specs.TraceLogs.{IsNext}
-use Rattle.napt_log_text.specs.Logs.{living_rows, log_so_far, log_text, opening_text, rows_after, rows_with}
-use Rattle.napt_log_text.specs.Times.{Text}
-use Rattle.napt_records.specs.Taking.{Inputs}
-use Rattle.napt_records.specs.declared.Fault.{Fault}
+use Rattle.napt_account.specs.{Telling.living_of, TraceLogs.IsNext}
+use Rattle.napt_log_text.specs.{Logs.{living_rows, log_so_far, log_text, opening_text, rows_after, rows_with}, Times.Text}
+use Rattle.napt_records.specs.{Taking.Inputs, declared.{Fault.Fault, Which.Which}}
 use Rattle.napt_records.specs.declared.Fault.TheVariants as faults
-use Rattle.napt_records.specs.declared.Which.{Which}
 use Rattle.napt_records.specs.declared.Which.TheVariants as outputs
 use Rattle.napt_rules.specs.Prelude.{Arrival}
 use Rattle.napt_rules.specs.Prelude as model
-use Rattle.napt_sequential.specs.Traces.{traces}
-use Rattle.napt_sequential.proofs.Joined.{traces_long}
-use Rattle.napt_sequential.specs.declared.fault.RunFault.{RunFault}
+use Rattle.napt_sequential.{specs.{Traces.traces, declared.{fault.RunFault.RunFault, passage.{Passage.Passage, Trace.Trace}}}, proofs.Joined.traces_long}
 use Rattle.napt_sequential.specs.declared.fault.RunFault.TheVariants as reasons
-use Rattle.napt_sequential.specs.declared.passage.Passage.{Passage}
-use Rattle.napt_sequential.specs.declared.passage.Trace.{Trace}
 use Rattle.napt_run.specs.LeavingLaws.{breaks_more, grows_more}
 use Rattle.napt_run.specs.LoggedStreams.{FailsAtMostOnce, HasBytes, HasLog, HasPart, HasRows, HasWritten, LogIsLeft, LoggedSays, besides_log, fault_of}
-use Rattle.napt_run.specs.Logging.{EntersAll, EntersFront, FailsOver, Legs, LogsTo, as_run, legs_told}
-use Rattle.napt_run.specs.Outputs.{Breaks, Grows}
-use Rattle.napt_run.specs.Runs.{IfHeld, ResultSays}
+use Rattle.napt_run.specs.{Logging.{EntersAll, EntersFront, FailsOver, Legs, LogsTo, as_run, legs_told}, Outputs.{Breaks, Grows}, Runs.{IfHeld, ResultSays}}
 use Rattle.napt_run.specs.RunningLogs.{Adds, AreLaws, Enters, Fails, FailsBy, FailsMore, Flushes, GoesOn, Halts, IsAt, IsFlushedAt, traces_of}
-use Rattle.napt_run.specs.Streams.{AreTaken, DeviceGets, HasRead, IsOfRun}
-use Rattle.napt_run.specs.declared.logged_fault.LoggedFault.{LoggedFault}
-use Rattle.napt_run.specs.declared.logged_fault.LoggedFault.TheVariants.{Run, Log}
-use Rattle.napt_run.specs.declared.logging.Halt.{Halt}
+use Rattle.napt_run.specs.{Streams.{AreTaken, DeviceGets, HasRead, IsOfRun}, declared.logged_fault.LoggedFault.{LoggedFault, TheVariants.{Run, Log}}}
+use Rattle.napt_run.specs.declared.{logging.Halt.Halt, output.Output.Output, passing.Totals.Totals, running_log.RunningLog.RunningLog}
+use Rattle.napt_run.proofs.{Endings.{IsBeforeReport, all_left}, Streamed.{IfHeld-all, IfHeld-map}, TraceFronts.{NextInput, next_input}}
 use Rattle.napt_run.specs.declared.logging.Halt.TheVariants as halts
-use Rattle.napt_run.specs.declared.output.Output.{Output}
-use Rattle.napt_run.specs.declared.passing.Totals.{Totals}
-use Rattle.napt_run.specs.declared.running_log.RunningLog.{RunningLog}
-use Rattle.napt_run.proofs.Endings.{IsBeforeReport, all_left}
-use Rattle.napt_run.proofs.Streamed.{IfHeld-all, IfHeld-map}
-use Rattle.napt_run.proofs.TraceFronts.{NextInput, next_input}
 
 -- TEXTS
 

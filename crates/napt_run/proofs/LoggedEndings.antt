@@ -4,23 +4,16 @@ use Rattle.std.proofs.Common.{◌≡◌, inl, inr, ℕ, Bool, true, List, [], le
 use Rattle.std.specs.Io.KnownBytes.{Appends}
 use Rattle.napt_capture.specs.declared.device.Sink.{Ghosts}
 use Rattle.napt_config.specs.Rules.{Rules}
-use Rattle.napt_log_text.specs.Logs.{log_text}
-use Rattle.napt_log_text.specs.Times.{Text}
+use Rattle.napt_log_text.specs.{Logs.log_text, Times.Text}
 use Rattle.napt_records.specs.declared.Fault.{Fault}
 use Rattle.napt_records.specs.declared.Fault.TheVariants as faults
 use Rattle.napt_records.specs.declared.Which.TheVariants as outputs
 use Rattle.napt_sequential.specs.declared.fault.RunFault.TheVariants as reasons
 use Rattle.napt_run.specs.LeavingLaws.{appends_none}
 use Rattle.napt_run.specs.LoggedStreams.{Counts, DeviceGetsOr, HasLog, HasPart, IsLoggedStop, IsUnderOpenGate, LogGets, LogIsLeft, LoggedExplains, Logs, besides_log, reported_of}
-use Rattle.napt_run.specs.Runs.{IfHeld}
-use Rattle.napt_run.specs.Streams.{IsOfRun, IsReportFault, ReportGets}
-use Rattle.napt_run.specs.declared.logged_fault.LoggedFault.{LoggedFault}
-use Rattle.napt_run.specs.declared.logged_fault.LoggedFault.TheVariants.{Run, Log}
-use Rattle.napt_run.specs.declared.output.Output.{Output}
-use Rattle.napt_run.specs.declared.passing.Totals.{Totals}
-use Rattle.napt_run.proofs.Endings.{Ends, IsBeforeReport, gate_of, inside_by, outside_by, settled_by}
-use Rattle.napt_run.proofs.Logged.{take_whole}
-use Rattle.napt_run.proofs.Streamed.{IfHeld-all, IfHeld-map}
+use Rattle.napt_run.specs.{Runs.IfHeld, Streams.{IsOfRun, IsReportFault, ReportGets}, declared.logged_fault.LoggedFault.{LoggedFault, TheVariants.{Run, Log}}}
+use Rattle.napt_run.specs.declared.{output.Output.Output, passing.Totals.Totals}
+use Rattle.napt_run.proofs.{Endings.{Ends, IsBeforeReport, gate_of, inside_by, outside_by, settled_by}, Logged.take_whole, Streamed.{IfHeld-all, IfHeld-map}}
 
 -- THE RESULT, BESIDES THE LOG
 

@@ -1,33 +1,16 @@
 -- From what passed between inputs that are all at hand and outputs to what these have.
-use Rattle.std.proofs.Common.{◌≡◌, ℕ, Bool, List, [], ◌++◌, All, None, Result, Ok, Err, IfOk, OnOk, sym, ap, ◌∙◌, subst}
-use Rattle.std.specs.Io.KnownBytes.{Appends}
+use Rattle.std.{proofs.Common.{◌≡◌, ℕ, Bool, List, [], ◌++◌, All, None, Result, Ok, Err, IfOk, OnOk, sym, ap, ◌∙◌, subst}, specs.Io.KnownBytes.Appends}
 use Rattle.napt_wire.specs.declared.Side.{Side}
 use Rattle.napt_wire.specs.declared.Side.TheVariants as sides
-use Rattle.napt_capture.specs.Text.{file_header}
-use Rattle.napt_capture.specs.declared.device.Sink.{Ghosts}
+use Rattle.napt_capture.specs.{Text.file_header, declared.device.Sink.Ghosts}
 use Rattle.napt_config.specs.Rules.{Rules}
 use Rattle.napt_dispatch.specs.declared.workers.Passed.{Passed}
-use Rattle.napt_records.specs.Counts.{AreCountsOf}
-use Rattle.napt_records.specs.Output.{IsTimely}
-use Rattle.napt_records.specs.Report.{report_of, report_text}
-use Rattle.napt_records.specs.declared.report.Counts.{Counts}
-use Rattle.napt_rules.specs.Prelude.{Arrival, ran}
-use Rattle.napt_rules.specs.declared.Outcome.{Outcome}
-use Rattle.napt_rules.specs.declared.Row.{Row}
-use Rattle.napt_sequential.proofs.Inputs.{came_whole}
-use Rattle.napt_sequential.specs.declared.fault.RunFault.{RunFault}
-use Rattle.napt_run.specs.Leaving.{AreTimes, Begins}
-use Rattle.napt_run.specs.LeavingLaws.{grows_more}
-use Rattle.napt_run.specs.Outputs.{Grows}
-use Rattle.napt_run.specs.Passed.{PassesWell}
-use Rattle.napt_run.specs.Runs.{left_of, text_behind}
-use Rattle.napt_run.specs.Streams.{capture_text}
-use Rattle.napt_run.specs.Whole.{IsTallyOf, WritesAll}
-use Rattle.napt_run.specs.declared.leaving.Leaving.{Leaving}
-use Rattle.napt_run.specs.declared.output.Output.{Output}
-use Rattle.napt_run.specs.declared.whole.Tally.{Tally}
-use Rattle.napt_run.proofs.Counted.{all_counted}
-use Rattle.napt_run.proofs.Fronts.{capture_is, times_of}
+use Rattle.napt_records.specs.{Counts.AreCountsOf, Output.IsTimely, Report.{report_of, report_text}, declared.report.Counts.Counts}
+use Rattle.napt_rules.specs.{Prelude.{Arrival, ran}, declared.{Outcome.Outcome, Row.Row}}
+use Rattle.napt_sequential.{proofs.Inputs.came_whole, specs.declared.fault.RunFault.RunFault}
+use Rattle.napt_run.specs.{Leaving.{AreTimes, Begins}, LeavingLaws.grows_more, Outputs.Grows, Passed.PassesWell, Runs.{left_of, text_behind}}
+use Rattle.napt_run.specs.{Streams.capture_text, Whole.{IsTallyOf, WritesAll}, declared.{leaving.Leaving.Leaving, output.Output.Output, whole.Tally.Tally}}
+use Rattle.napt_run.proofs.{Counted.all_counted, Fronts.{capture_is, times_of}}
 
 -- the run over all inputs
 pub passes_all : {F W V : Type 0} {S : Ghosts W} {T : Ghosts V} (rules : Rules) (from left : List Arrival)

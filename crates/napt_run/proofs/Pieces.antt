@@ -1,11 +1,7 @@
 -- Pieces that are written one behind the other.
 use Rattle.std.proofs.Common.{◌≡◌, ℕ, ◌+◌, ◌^◌, ◌<◌, ◌≤◌, List, [], ◌∷◌, ◌++◌, length, flat_map, take, drop, get_or, Option, sym, ap, ◌∙◌, arith, length-append, append-nil, take_all, take-append-drop}
-use Rattle.std.proofs.lemmas.List.{take_more}
-use Rattle.std.proofs.lemmas.List.Concat.{flat_map-append}
-use Rattle.std.proofs.lemmas.List.Folds.{length-flat_map-take}
-use Rattle.std.specs.Io.KnownBytes.{Appends}
-use Rattle.napt_capture.specs.Writing.{PutsAll, PutsFront}
-use Rattle.napt_capture.specs.declared.fault.WriteFault.{WriteFault}
+use Rattle.std.{proofs.lemmas.List.{take_more, Concat.flat_map-append, Folds.length-flat_map-take}, specs.Io.KnownBytes.Appends}
+use Rattle.napt_capture.specs.{Writing.{PutsAll, PutsFront}, declared.fault.WriteFault.WriteFault}
 use Rattle.napt_capture.proofs.Puts.{PutsAll-same, PutsFront-append, PutsFront-fault, PutsFront-longer, PutsFront-same}
 
 module _ {X : Type 0} (xs : List X) (f : X → List ℕ) (last : List ℕ) (i : ℕ) where

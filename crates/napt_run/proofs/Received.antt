@@ -1,25 +1,15 @@
 -- From what was read and what was made to what the devices show.
 use Rattle.std.proofs.Common.{◌≡◌, ℕ, ◌+◌, ◌^◌, inl, inr, refl, sym, ap, ap₂, ◌∙◌, subst, length, List, string_bytes, Option, Some, None, IfSome, IfErr, Result, Ok, Err}
-use Rattle.std.specs.Prelude.{nat_le}
-use Rattle.std.proofs.lemmas.Bool.{cases_Bool, le-leb, lt-leb}
-use Rattle.std.proofs.Math.Nat.{lt_of_not-le}
+use Rattle.std.{specs.Prelude.nat_le, proofs.{lemmas.Bool.{cases_Bool, le-leb, lt-leb}, Math.Nat.lt_of_not-le}}
 use Rattle.napt_wire.specs.declared.Side.{Side}
 use Rattle.napt_wire.specs.declared.Side.TheVariants as sides
-use Rattle.napt_capture.specs.Contents.{Contents}
-use Rattle.napt_capture.specs.Capture.{failed_reads, read_whole}
-use Rattle.napt_capture.specs.Reading.{Gives, IsForRecords, ReadsWhole, Says}
-use Rattle.napt_capture.specs.declared.fault.WriteFault.{WriteFault}
-use Rattle.napt_capture.specs.declared.fault.CaptureFault.{CaptureFault}
+use Rattle.napt_capture.specs.{Contents.Contents, Capture.{failed_reads, read_whole}, Reading.{Gives, IsForRecords, ReadsWhole, Says}}
+use Rattle.napt_capture.specs.declared.fault.{WriteFault.WriteFault, CaptureFault.CaptureFault}
 use Rattle.napt_config.specs.Rules.{Rules}
-use Rattle.napt_records.specs.declared.Fault.{Fault}
-use Rattle.napt_records.specs.declared.Fault.TheVariants.{Capture, Run, Write}
-use Rattle.napt_records.proofs.Left.{StopsBy-says, StopsBy-then}
-use Rattle.napt_sequential.specs.declared.fault.RunFault.{RunFault}
-use Rattle.napt_sequential.specs.declared.fault.RunFault.TheVariants.{Memory, TooMany, Pool}
-use Rattle.napt_records.specs.declared.Which.{Which}
+use Rattle.napt_records.{specs.declared.{Fault.{Fault, TheVariants.{Capture, Run, Write}}, Which.Which}, proofs.Left.{StopsBy-says, StopsBy-then}}
 use Rattle.napt_records.specs.declared.Which.TheVariants.{Outside, Inside, Report}
-use Rattle.napt_run.specs.declared.captures.Captures.{Captures}
-use Rattle.napt_run.specs.declared.captures.Outputs.{Outputs}
+use Rattle.napt_sequential.specs.declared.fault.RunFault.{RunFault, TheVariants.{Memory, TooMany, Pool}}
+use Rattle.napt_run.specs.declared.captures.{Captures.Captures, Outputs.Outputs}
 use Rattle.napt_run.specs.Captures.{Answers, AreOutputs, AreTooMany, Explains, Gets, IfKnown, IsPastInside, IsReadFrom, IsReadable, IsUnread, IsWriteFaultOf, Receives, Share, both_by, failed_readings, front, nothing, share_of, text_to, texts, texts_by, texts_made, whole}
 
 IfKnown-more : {P Q : List ℕ → List ℕ → Type 0} (inside outside : Option (List ℕ))

@@ -1,28 +1,16 @@
 -- A run that succeeds writes the same, whether its captures are read as they arrive or whole.
 use Rattle.std.proofs.Common.{◌≡◌, ℕ, ◌+◌, ◌^◌, inl, inr, Bool, List, length, take, Option, Some, None, Result, Ok, Err, refl, sym, ap, ap₂, ◌∙◌, subst}
-use Rattle.std.specs.Prelude.{IsOk, IsOkAnd, nat_le, nat_lt}
-use Rattle.std.specs.Io.KnownBytes.{Appends}
-use Rattle.std.proofs.lemmas.Bool.{cases_Bool}
+use Rattle.std.{specs.{Prelude.{IsOk, IsOkAnd, nat_le, nat_lt}, Io.KnownBytes.Appends}, proofs.lemmas.Bool.cases_Bool}
 use Rattle.napt_wire.specs.declared.Side.{Side}
 use Rattle.napt_wire.specs.declared.Side.TheVariants as sides
-use Rattle.napt_capture.specs.Capture.{Held, asked_of, captured, contents_by, read_whole, spelling_in}
-use Rattle.napt_capture.specs.Contents.{Contents, Entry}
-use Rattle.napt_capture.specs.declared.TheConstants.{MOST_ASKED}
-use Rattle.napt_capture.specs.declared.fault.CaptureFault.{CaptureFault}
-use Rattle.napt_capture.specs.declared.spelling.Spelling.{Spelling}
+use Rattle.napt_capture.specs.{Capture.{Held, asked_of, captured, contents_by, read_whole, spelling_in}, Contents.{Contents, Entry}}
+use Rattle.napt_capture.specs.declared.{TheConstants.MOST_ASKED, fault.CaptureFault.CaptureFault, spelling.Spelling.Spelling}
 use Rattle.napt_config.specs.Rules.{Rules}
-use Rattle.napt_records.specs.declared.Fault.{Fault}
-use Rattle.napt_records.specs.Report.{report_text}
-use Rattle.napt_records.specs.Taking.{Inputs, inputs_until}
-use Rattle.napt_records.specs.declared.merged_streams.Cuts.{Cuts}
-use Rattle.napt_records.specs.declared.merged_streams.SideFault.{SideFault}
+use Rattle.napt_records.specs.{declared.{Fault.Fault, merged_streams.{Cuts.Cuts, SideFault.SideFault}}, Report.report_text, Taking.{Inputs, inputs_until}}
 use Rattle.napt_records.proofs.Merges.{merge_ends, merges_whole}
 use Rattle.napt_rules.specs.Prelude.{Arrival, ran}
-use Rattle.napt_run.specs.Captures.{Texts, arrivals_of, both_by, texts, texts_by, texts_made}
-use Rattle.napt_run.specs.Files.{files_until, unless_bad, unless_refused}
-use Rattle.napt_run.specs.StreamLaws.{OutputsAreTheSame, ReportsAreTheSame}
-use Rattle.napt_run.specs.Streams.{capture_text}
-use Rattle.napt_run.specs.declared.captures.Captures.{Captures}
+use Rattle.napt_run.specs.{Captures.{Texts, arrivals_of, both_by, texts, texts_by, texts_made}, Files.{files_until, unless_bad, unless_refused}}
+use Rattle.napt_run.specs.{StreamLaws.{OutputsAreTheSame, ReportsAreTheSame}, Streams.capture_text, declared.captures.Captures.Captures}
 
 -- what a file holds that reads as these contents
 abbrev held_as : Contents → Held

@@ -3,30 +3,17 @@ use Rattle.std.proofs.Common.{◌≡◌, ◌⊎◌, inl, inr, ℕ, ◌+◌, ◌-
 use Rattle.std.specs.Io.KnownBytes.{Appends}
 use Rattle.napt_wire.specs.declared.Side.{Side}
 use Rattle.napt_wire.specs.declared.Side.TheVariants as sides
-use Rattle.napt_capture.specs.Text.{file_header}
-use Rattle.napt_capture.specs.declared.device.Sink.{Ghosts}
-use Rattle.napt_capture.specs.declared.fault.CaptureFault.{CaptureFault}
-use Rattle.napt_capture.specs.declared.fault.WriteFault.{WriteFault}
+use Rattle.napt_capture.specs.{Text.file_header, declared.{device.Sink.Ghosts, fault.{CaptureFault.CaptureFault, WriteFault.WriteFault}}}
 use Rattle.napt_config.specs.Rules.{Rules}
 use Rattle.napt_laws.specs.Dispatching.{IsFront}
-use Rattle.napt_records.specs.Taking.{Inputs}
-use Rattle.napt_records.specs.declared.Fault.{Fault}
-use Rattle.napt_records.specs.declared.Fault.TheVariants.{Capture, Run, Write}
-use Rattle.napt_records.specs.declared.Which.{Which}
-use Rattle.napt_records.specs.declared.Which.TheVariants.{Outside, Inside, Report}
+use Rattle.napt_records.specs.{Taking.Inputs, declared.{Fault.{Fault, TheVariants.{Capture, Run, Write}}, Which.{Which, TheVariants.{Outside, Inside, Report}}}}
 use Rattle.napt_rules.specs.Prelude.{Arrival}
-use Rattle.napt_run.specs.Captures.{failed_writings}
-use Rattle.napt_sequential.specs.declared.fault.RunFault.{RunFault}
-use Rattle.napt_sequential.specs.declared.fault.RunFault.TheVariants as faults
-use Rattle.napt_run.specs.Outputs.{Breaks, Grows}
-use Rattle.napt_run.specs.Runs.{FailsOutside, IfHeld, IsLeft, IsToldOf, ResultSays, RunsTo, text_behind}
+use Rattle.napt_run.specs.{Captures.failed_writings, Outputs.{Breaks, Grows}, Runs.{FailsOutside, IfHeld, IsLeft, IsToldOf, ResultSays, RunsTo, text_behind}}
 use Rattle.napt_run.specs.Files.{files_until}
 use Rattle.napt_run.specs.Streams.{DeviceGets, AreTaken, Explains, GetsOf, HasAll, HasFront, HasPart, HasText, HasWritten, IsOfRun, IsSettledBy, IsStopFault, Streams, capture_text, ended, side_of}
-use Rattle.napt_run.specs.declared.leaving.Leaving.{Leaving}
-use Rattle.napt_run.specs.declared.output.Output.{Output}
-use Rattle.napt_run.specs.declared.passing.Totals.{Totals}
-use Rattle.napt_run.proofs.Behind.{IfHeld-by}
-use Rattle.napt_run.proofs.Fronts.{capture_is}
+use Rattle.napt_run.{specs.declared.{leaving.Leaving.Leaving, output.Output.Output, passing.Totals.Totals}, proofs.{Behind.IfHeld-by, Fronts.capture_is}}
+use Rattle.napt_sequential.specs.declared.fault.RunFault.{RunFault}
+use Rattle.napt_sequential.specs.declared.fault.RunFault.TheVariants as faults
 
 pub IfHeld-map : (P Q : Inputs → Type 0) (inside outside : Option (List ℕ)) →
     ((all : Inputs) → P all → Q all) → IfHeld inside outside P → IfHeld inside outside Q

@@ -3,10 +3,7 @@ use Rattle.std.proofs.Common.{◌≡◌, ◌⊎◌, inl, inr, ℕ, ◌+◌, max,
 use Rattle.std.proofs.lemmas.List.{length-map, length-take-le, map-append, take-append-drop}
 use Rattle.napt_config.specs.Rules.{Rules}
 use Rattle.napt_rules.specs.Prelude.{Arrival, last_clock, opening, run, step}
-use Rattle.napt_sequential.specs.Traces.{trace_of, traces}
-use Rattle.napt_sequential.specs.declared.passage.Trace.{Trace}
-use Rattle.napt_sequential.proofs.Joined.{traces_begin, traces_long}
-use Rattle.napt_sequential.proofs.Passed.{traces_grow}
+use Rattle.napt_sequential.{specs.{Traces.{trace_of, traces}, declared.passage.Trace.Trace}, proofs.{Joined.{traces_begin, traces_long}, Passed.traces_grow}}
 use Rattle.napt_run.proofs.Fronts.{same_front}
 
 module _ {X : Type 0} (of : Trace → X) (rules : Rules) where

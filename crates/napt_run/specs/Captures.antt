@@ -4,23 +4,14 @@ use Rattle.std.specs.Prelude.{◌≡◌, ⊤, ℕ, ◌+◌, ◌≤◌, ◌^◌, 
 use Rattle.std.specs.Io.KnownBytes.{Appends}
 use Rattle.napt_wire.specs.declared.Side.{Side}
 use Rattle.napt_wire.specs.declared.Side.TheVariants as sides
-use Rattle.napt_capture.specs.Contents.{Contents}
-use Rattle.napt_capture.specs.Capture.{failed_reads, read_whole}
-use Rattle.napt_capture.specs.Reading.{IsForRecords, StopsBy}
-use Rattle.napt_capture.specs.Text.{text}
+use Rattle.napt_capture.specs.{Contents.Contents, Capture.{failed_reads, read_whole}, Reading.{IsForRecords, StopsBy}, Text.text}
 use Rattle.napt_capture.specs.declared.fault.CaptureFault.{CaptureFault}
 use Rattle.napt_config.specs.Rules.{Rules}
-use Rattle.napt_records.specs.declared.Fault.{Fault}
-use Rattle.napt_records.specs.declared.Fault.TheVariants.{Capture, Run, Write}
+use Rattle.napt_records.specs.declared.{Fault.{Fault, TheVariants.{Capture, Run, Write}}, Which.{Which, TheVariants.{Outside, Inside, Report}}}
+use Rattle.napt_records.specs.{Output.records_to, Report.report_text, Taking.merged}
 use Rattle.napt_sequential.specs.declared.fault.RunFault.TheVariants.{Memory, TooMany, Pool}
-use Rattle.napt_records.specs.declared.Which.{Which}
-use Rattle.napt_records.specs.declared.Which.TheVariants.{Outside, Inside, Report}
-use Rattle.napt_run.specs.declared.captures.Captures.{Captures}
-use Rattle.napt_run.specs.declared.captures.Outputs.{Outputs}
+use Rattle.napt_run.specs.declared.captures.{Captures.Captures, Outputs.Outputs}
 use Rattle.napt_rules.specs.Prelude.{Arrival, ran}
-use Rattle.napt_records.specs.Output.{records_to}
-use Rattle.napt_records.specs.Report.{report_text}
-use Rattle.napt_records.specs.Taking.{merged}
 
 -- WHAT IS READ: the inside capture first
 

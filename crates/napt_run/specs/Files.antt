@@ -1,10 +1,7 @@
 -- What two captures give as they arrive, headers included.
 use Rattle.std.specs.Prelude.{ℕ, List, take, Result, Ok, Err}
-use Rattle.napt_wire.specs.declared.Side.{Side}
-use Rattle.napt_wire.specs.declared.Side.TheVariants.{Inside, Outside}
-use Rattle.napt_capture.specs.Capture.{captured, spelling_in}
-use Rattle.napt_capture.specs.declared.fault.CaptureFault.{CaptureFault}
-use Rattle.napt_capture.specs.declared.spelling.Spelling.{Spelling}
+use Rattle.napt_wire.specs.declared.Side.{Side, TheVariants.{Inside, Outside}}
+use Rattle.napt_capture.specs.{Capture.{captured, spelling_in}, declared.{fault.CaptureFault.CaptureFault, spelling.Spelling.Spelling}}
 use Rattle.napt_records.specs.Taking.{Inputs, at_fault, inputs_until}
 
 -- nothing is handed out where the header of a file has a fault

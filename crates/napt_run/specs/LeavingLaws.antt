@@ -1,27 +1,14 @@
 -- What leaves in two parts leaves as one.
 use Rattle.std.specs.Prelude.{◌≡◌, ℕ, ◌+◌, ◌-◌, ◌^◌, ◌<◌, min, List, [], ◌∷◌, ◌++◌, length, take, map, filter_map, flat_map, Option, Some, None, refl}
 use Rattle.std.proofs.Common.{sym, ◌∙◌, ap, subst, append-nil, append_assoc, arith, length-append, add_assoc, add-zero}
-use Rattle.std.proofs.Math.Nat.{lt_of_le_of_lt, le-add_right}
-use Rattle.std.specs.Io.KnownBytes.{Appends}
-use Rattle.std.proofs.KnownBytes.{Appends-trans}
-use Rattle.std.proofs.Math.Seq.{take-append-add}
-use Rattle.std.proofs.lemmas.List.{map-append}
-use Rattle.std.proofs.lemmas.Grind.{flat_map-append}
-use Rattle.std.proofs.lemmas.List.Elements.{filter_map-append, All-head, All-tail, All-nil, All-cons}
+use Rattle.std.{proofs.{Math.{Nat.{lt_of_le_of_lt, le-add_right}, Seq.take-append-add}, KnownBytes.Appends-trans}, specs.Io.KnownBytes.Appends}
+use Rattle.std.proofs.lemmas.{List.{map-append, Elements.{filter_map-append, All-head, All-tail, All-nil, All-cons}}, Grind.flat_map-append}
 use Rattle.napt_wire.specs.declared.Side.{Side}
 use Rattle.napt_wire.specs.declared.Side.TheVariants as sides
-use Rattle.napt_capture.specs.declared.device.Sink.{Ghosts}
-use Rattle.napt_capture.specs.declared.fault.WriteFault.{WriteFault}
-use Rattle.napt_capture.specs.Contents.{Entry}
-use Rattle.napt_capture.specs.Text.{record_text}
+use Rattle.napt_capture.specs.{declared.{device.Sink.Ghosts, fault.WriteFault.WriteFault}, Contents.Entry, Text.record_text}
 use Rattle.napt_rules.specs.declared.Outcome.{Outcome}
-use Rattle.napt_records.specs.Output.{packet_to, record_at}
-use Rattle.napt_records.specs.Counts.{AreCountsOf}
-use Rattle.napt_records.specs.Output.{IsTime}
-use Rattle.napt_run.specs.Outputs.{Breaks, Grows}
-use Rattle.napt_run.specs.Leaving.{Timed, records_text, AreTimes, Takes}
-use Rattle.napt_run.specs.declared.output.Output.{Output}
-use Rattle.napt_run.specs.declared.leaving.Leaving.{Leaving}
+use Rattle.napt_records.specs.{Output.{packet_to, record_at, IsTime}, Counts.AreCountsOf}
+use Rattle.napt_run.specs.{Outputs.{Breaks, Grows}, Leaving.{Timed, records_text, AreTimes, Takes}, declared.{output.Output.Output, leaving.Leaving.Leaving}}
 
 -- TEXTS AND TIMES
 

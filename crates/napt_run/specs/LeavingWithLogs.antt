@@ -1,15 +1,9 @@
 -- What leaves during a run, and what that does to the log and then to the outputs.
-use Rattle.std.specs.Prelude.{◌≡◌, ℕ, List, [], ◌++◌, map, refl}
-use Rattle.std.proofs.Common.{sym, ◌∙◌, subst}
-use Rattle.std.proofs.lemmas.List.{map-append}
+use Rattle.std.{specs.Prelude.{◌≡◌, ℕ, List, [], ◌++◌, map, refl}, proofs.{Common.{sym, ◌∙◌, subst}, lemmas.List.map-append}}
 use Rattle.napt_capture.specs.declared.device.Sink.{Ghosts}
 use Rattle.napt_dispatch.specs.declared.departures.Departed.{Departed}
-use Rattle.napt_run.specs.Leaving.{Fails, IsSettled, Takes, Timed}
-use Rattle.napt_run.specs.LeavingLaws.{takes_none, takes_more}
-use Rattle.napt_run.specs.Logging.{Legs}
-use Rattle.napt_run.specs.declared.leaving.OutputFault.{OutputFault}
-use Rattle.napt_run.specs.declared.leaving_with_log.LeavingFault.{LeavingFault}
-use Rattle.napt_run.specs.declared.leaving_with_log.LeavingFault.TheVariants.{Output, Log}
+use Rattle.napt_run.specs.{Leaving.{Fails, IsSettled, Takes, Timed}, LeavingLaws.{takes_none, takes_more}, Logging.Legs}
+use Rattle.napt_run.specs.declared.{leaving.OutputFault.OutputFault, leaving_with_log.LeavingFault.{LeavingFault, TheVariants.{Output, Log}}}
 use Rattle.napt_run.specs.declared.leaving_with_log.LeavingWithLog.{LeavingWithLog}
 
 -- the outcomes of what left, with the arrival times of their inputs

@@ -2,29 +2,19 @@
 use Rattle.std.specs.Prelude.{◌≡◌, ◌⊎◌, ℕ, ◌+◌, ◌-◌, ◌^◌, ◌≤◌, ◌<◌, min, List, length, take, Bool, false, Option, Result, Ok, Err, IfErr, IfOk, IsOk}
 use Rattle.std.specs.Io.KnownBytes.{Appends}
 use Rattle.napt_wire.specs.declared.Side.{Side}
-use Rattle.napt_capture.specs.declared.device.Sink.{Ghosts}
-use Rattle.napt_capture.specs.declared.fault.CaptureFault.{CaptureFault}
+use Rattle.napt_capture.specs.declared.{device.Sink.Ghosts, fault.CaptureFault.CaptureFault}
 use Rattle.napt_config.specs.Rules.{Rules}
 use Rattle.napt_laws.specs.Dispatching.{IsFront}
 use Rattle.napt_log_text.specs.Logs.{log_so_far, log_text}
-use Rattle.napt_records.specs.Taking.{Inputs}
-use Rattle.napt_records.specs.declared.Fault.{Fault}
+use Rattle.napt_records.specs.{Taking.Inputs, declared.{Fault.Fault, Which.Which}, Faults.tells_shut_gate}
 use Rattle.napt_records.specs.declared.Fault.TheVariants as faults
-use Rattle.napt_records.specs.declared.Which.{Which}
 use Rattle.napt_records.specs.declared.Which.TheVariants as outputs
-use Rattle.napt_records.specs.Faults.{tells_shut_gate}
 use Rattle.napt_rules.specs.Prelude.{Arrival}
 use Rattle.napt_sequential.specs.declared.fault.RunFault.TheVariants as reasons
-use Rattle.napt_run.specs.Captures.{IfKnown}
-use Rattle.napt_run.specs.Files.{files_until}
-use Rattle.napt_run.specs.Runs.{IsToldOf}
-use Rattle.napt_run.specs.Streams.{AreTaken, DeviceGets, Explains, IsOfRun, IsSettledBy, IsStopFault, ended}
-use Rattle.napt_run.specs.declared.logging.Halt.{Halt}
+use Rattle.napt_run.specs.{Captures.IfKnown, Files.files_until, Runs.IsToldOf}
+use Rattle.napt_run.specs.{Streams.{AreTaken, DeviceGets, Explains, IsOfRun, IsSettledBy, IsStopFault, ended}, declared.logging.Halt.Halt}
+use Rattle.napt_run.specs.declared.{output.Output.Output, logged_fault.LoggedFault.{LoggedFault, TheVariants.{Run, Log}}, passing.Totals.Totals}
 use Rattle.napt_run.specs.declared.logging.Halt.TheVariants as halts
-use Rattle.napt_run.specs.declared.output.Output.{Output}
-use Rattle.napt_run.specs.declared.logged_fault.LoggedFault.{LoggedFault}
-use Rattle.napt_run.specs.declared.logged_fault.LoggedFault.TheVariants.{Run, Log}
-use Rattle.napt_run.specs.declared.passing.Totals.{Totals}
 
 -- a fault of the log leaves the captures and the report as one of the run does
 abbrev pub besides_log : {T : Type 0} → Result T LoggedFault → Result T Fault

@@ -4,18 +4,11 @@ use Rattle.napt_wire.specs.declared.Side.{Side}
 use Rattle.napt_capture.specs.declared.fault.CaptureFault.{CaptureFault}
 use Rattle.napt_config.specs.Rules.{Rules}
 use Rattle.napt_laws.specs.Dispatching.{IsFront}
-use Rattle.napt_records.specs.declared.Fault.{Fault}
-use Rattle.napt_records.specs.declared.Fault.TheVariants.{Capture, Run, Write}
-use Rattle.napt_records.specs.declared.merged_streams.Cuts.{Cuts}
+use Rattle.napt_records.specs.declared.{Fault.{Fault, TheVariants.{Capture, Run, Write}}, merged_streams.Cuts.Cuts}
 use Rattle.napt_rules.specs.Prelude.{Arrival}
-use Rattle.napt_sequential.specs.Traces.{traces}
-use Rattle.napt_sequential.specs.declared.fault.RunFault.TheVariants.{Memory}
-use Rattle.napt_sequential.specs.declared.passage.Passage.{Passage}
-use Rattle.napt_run.specs.Runs.{IfHeld}
-use Rattle.napt_run.specs.Streams.{AreTaken}
-use Rattle.napt_run.specs.declared.logging.Halt.{Halt}
+use Rattle.napt_sequential.specs.{Traces.traces, declared.{fault.RunFault.TheVariants.Memory, passage.Passage.Passage}}
+use Rattle.napt_run.specs.{Runs.IfHeld, Streams.AreTaken, declared.{logging.Halt.Halt, passing.Totals.Totals}}
 use Rattle.napt_run.specs.declared.logging.Halt.TheVariants as halts
-use Rattle.napt_run.specs.declared.passing.Totals.{Totals}
 
 -- a fault of the log leaves the outputs as a fault of the run does
 abbrev pub as_run : {T F : Type 0} → Result T (Halt F) → Result T Fault

@@ -1,8 +1,6 @@
 -- What a call of an output does.
-use Rattle.std.specs.Prelude.{◌≡◌, ℕ, ◌+◌, ◌-◌, ◌^◌, ◌≤◌, min, List, length, take, true, false}
-use Rattle.std.specs.Io.KnownBytes.{Appends}
-use Rattle.napt_capture.specs.declared.device.Sink.{Ghosts}
-use Rattle.napt_capture.specs.declared.fault.WriteFault.{WriteFault}
+use Rattle.std.specs.{Prelude.{◌≡◌, ℕ, ◌+◌, ◌-◌, ◌^◌, ◌≤◌, min, List, length, take, true, false}, Io.KnownBytes.Appends}
+use Rattle.napt_capture.specs.declared.{device.Sink.Ghosts, fault.WriteFault.WriteFault}
 use Rattle.napt_run.specs.declared.output.Output.{Output}
 
 -- this text was written, and no call failed

@@ -3,30 +3,17 @@ use Rattle.std.specs.Prelude.{◌≡◌, ◌⊎◌, ℕ, ◌^◌, ◌<◌, Bool,
 use Rattle.napt_capture.specs.declared.device.Sink as sink
 use Rattle.napt_capture.specs.declared.device.Source as source
 use Rattle.napt_config.specs.Rules.{Rules}
-use Rattle.napt_dispatch.specs.Dispatch.{IsFaultUnder}
-use Rattle.napt_dispatch.specs.Passing.{HasCome}
-use Rattle.napt_dispatch.specs.declared.stopped.Stopped.{Stopped}
+use Rattle.napt_dispatch.specs.{Dispatch.IsFaultUnder, Passing.HasCome, declared.{stopped.Stopped.Stopped, workers.Passed.Passed}}
 use Rattle.napt_dispatch.specs.declared.stopped.Stopped.TheVariants as stops
-use Rattle.napt_dispatch.specs.declared.workers.Passed.{Passed}
 use Rattle.napt_laws.specs.Dispatching.{IsFront}
-use Rattle.napt_records.specs.Merged.{EndsWith, HandsOut, cut_of}
-use Rattle.napt_records.specs.declared.Fault.{Fault}
-use Rattle.napt_records.specs.declared.Fault.TheVariants.{Capture, Run, Write}
-use Rattle.napt_records.specs.declared.merged_streams.MergedStreams.{MergedStreams}
-use Rattle.napt_records.specs.declared.merged_streams.SideFault.{SideFault}
+use Rattle.napt_records.specs.{Merged.{EndsWith, HandsOut, cut_of}, declared.Fault.{Fault, TheVariants.{Capture, Run, Write}}}
+use Rattle.napt_records.specs.declared.merged_streams.{MergedStreams.MergedStreams, SideFault.SideFault}
 use Rattle.napt_rules.specs.Prelude.{Arrival, ran}
-use Rattle.napt_sequential.specs.Inputs.{Came}
-use Rattle.napt_sequential.specs.declared.passage.Passage.{Passage}
-use Rattle.napt_run.specs.Leaving.{Fails, IsSettled, Takes, Timed}
-use Rattle.napt_run.specs.Logging.{Legs, legs_told}
-use Rattle.napt_run.specs.Runs.{left_of}
-use Rattle.napt_run.specs.declared.leaving.Leaving.{Leaving}
-use Rattle.napt_run.specs.declared.leaving.OutputFault.{OutputFault}
-use Rattle.napt_run.specs.declared.leaving_with_log.LeavingFault.{LeavingFault}
-use Rattle.napt_run.specs.declared.leaving_with_log.LeavingFault.TheVariants.{Output, Log}
-use Rattle.napt_run.specs.declared.logging.Halt.{Halt}
-use Rattle.napt_run.specs.declared.logging.Halt.TheVariants as halts
+use Rattle.napt_sequential.specs.{Inputs.Came, declared.passage.Passage.Passage}
+use Rattle.napt_run.specs.{Leaving.{Fails, IsSettled, Takes, Timed}, Logging.{Legs, legs_told}, Runs.left_of, declared.leaving.Leaving.Leaving}
+use Rattle.napt_run.specs.declared.{leaving.OutputFault.OutputFault, leaving_with_log.LeavingFault.{LeavingFault, TheVariants.{Output, Log}}, logging.Halt.Halt}
 use Rattle.napt_run.specs.declared.passing.Totals.{Totals}
+use Rattle.napt_run.specs.declared.logging.Halt.TheVariants as halts
 
 -- THE OUTPUTS
 

@@ -1,23 +1,14 @@
 -- What is entered in a log in two parts is entered as one.
-use Rattle.std.specs.Prelude.{◌≡◌, List, [], ◌∷◌, ◌++◌}
-use Rattle.std.proofs.Common.{sym, ◌∙◌, ap, subst, append-nil, append_assoc}
-use Rattle.std.proofs.lemmas.List.{map-append}
+use Rattle.std.{specs.Prelude.{◌≡◌, List, [], ◌∷◌, ◌++◌}, proofs.{Common.{sym, ◌∙◌, ap, subst, append-nil, append_assoc}, lemmas.List.map-append}}
 use Rattle.napt_capture.specs.declared.device.Sink.{Ghosts}
 use Rattle.napt_config.specs.Rules.{Rules}
 use Rattle.napt_account.specs.TraceLogs.{IsOfTraces}
-use Rattle.napt_log_text.specs.Logs.{rows_with}
-use Rattle.napt_log_text.specs.Times.{Text}
-use Rattle.napt_log_text.proofs.Logs.{rows_with-append}
+use Rattle.napt_log_text.{specs.{Logs.rows_with, Times.Text}, proofs.Logs.rows_with-append}
 use Rattle.napt_records.specs.declared.fault.Fault.TheVariants as faults
-use Rattle.napt_sequential.specs.declared.passage.Passage.{Passage}
-use Rattle.napt_sequential.specs.declared.passage.Trace.{Trace}
-use Rattle.napt_run.specs.LeavingLaws.{breaks_more, grows_more, grows_none}
-use Rattle.napt_run.specs.Logging.{Legs}
-use Rattle.napt_run.specs.Outputs.{Breaks, Grows}
-use Rattle.napt_run.specs.RunningLogs.{Enters, Fails, FailsBy, GoesOn, IsAt, traces_of}
-use Rattle.napt_run.specs.declared.logged_fault.LoggedFault.{LoggedFault}
-use Rattle.napt_run.specs.declared.logged_fault.LoggedFault.TheVariants.{Run, Log}
-use Rattle.napt_run.specs.declared.running_log.RunningLog.{RunningLog}
+use Rattle.napt_sequential.specs.declared.passage.{Passage.Passage, Trace.Trace}
+use Rattle.napt_run.specs.{LeavingLaws.{breaks_more, grows_more, grows_none}, Logging.Legs, Outputs.{Breaks, Grows}}
+use Rattle.napt_run.specs.{RunningLogs.{Enters, Fails, FailsBy, GoesOn, IsAt, traces_of}, declared.logged_fault.LoggedFault.LoggedFault}
+use Rattle.napt_run.specs.declared.{logged_fault.LoggedFault.TheVariants.{Run, Log}, running_log.RunningLog.RunningLog}
 
 traces_join : (xs ys : List (Legs Passage)) → traces_of (xs ++ ys) ≡ traces_of xs ++ traces_of ys
 traces_join xs ys =

@@ -3,20 +3,13 @@ use Rattle.std.specs.Prelude.{◌≡◌, ◌⊎◌, ℕ, ◌+◌, ◌<◌, ◌^�
 use Rattle.napt_capture.specs.declared.device.Sink.{Ghosts}
 use Rattle.napt_config.specs.Rules.{Rules, KeepsRules}
 use Rattle.napt_account.specs.TraceLogs.{IsOfTraces, TracesCome, told_with}
-use Rattle.napt_log_text.specs.Logs.{TracesHaveTheRows, rows_with, told_rows}
-use Rattle.napt_log_text.specs.Times.{Text}
+use Rattle.napt_log_text.specs.{Logs.{TracesHaveTheRows, rows_with, told_rows}, Times.Text}
 use Rattle.napt_records.specs.declared.fault.Fault.TheVariants as faults
 use Rattle.napt_sequential.specs.declared.fault.RunFault.TheVariants as reasons
-use Rattle.napt_sequential.specs.declared.fault.RunFault.{RunFault}
-use Rattle.napt_sequential.specs.declared.passage.Passage.{Passage}
-use Rattle.napt_sequential.specs.declared.passage.Trace.{Trace}
-use Rattle.napt_run.specs.Logging.{Legs}
-use Rattle.napt_run.specs.Outputs.{Breaks, Grows}
-use Rattle.napt_run.specs.declared.logged_fault.LoggedFault.{LoggedFault}
-use Rattle.napt_run.specs.declared.logged_fault.LoggedFault.TheVariants.{Run, Log}
-use Rattle.napt_run.specs.declared.logging.Halt.{Halt}
-use Rattle.napt_run.specs.declared.logging.Halt.TheVariants as halts
+use Rattle.napt_sequential.specs.declared.{fault.RunFault.RunFault, passage.{Passage.Passage, Trace.Trace}}
+use Rattle.napt_run.specs.{Logging.Legs, Outputs.{Breaks, Grows}, declared.{logged_fault.LoggedFault.{LoggedFault, TheVariants.{Run, Log}}, logging.Halt.Halt}}
 use Rattle.napt_run.specs.declared.running_log.RunningLog.{RunningLog}
+use Rattle.napt_run.specs.declared.logging.Halt.TheVariants as halts
 
 -- what holds of logs by traces
 pub record AreLaws (rules : Rules) : Type 0 where

@@ -2,27 +2,16 @@
 use Rattle.std.specs.Prelude.{◌≡◌, ◌⊎◌, ℕ, ◌≤◌, Bool, List, ◌++◌, length, Option, Result, Ok, Err, IfErr, IfOk}
 use Rattle.napt_wire.specs.declared.Side.{Side}
 use Rattle.napt_wire.specs.declared.Side.TheVariants as sides
-use Rattle.napt_capture.specs.declared.device.Sink.{Ghosts}
-use Rattle.napt_capture.specs.declared.fault.CaptureFault.{CaptureFault}
-use Rattle.napt_capture.specs.declared.fault.WriteFault.{WriteFault}
+use Rattle.napt_capture.specs.declared.{device.Sink.Ghosts, fault.{CaptureFault.CaptureFault, WriteFault.WriteFault}}
 use Rattle.napt_config.specs.Rules.{Rules}
-use Rattle.napt_dispatch.specs.Dispatch.{IsFaultUnder}
-use Rattle.napt_dispatch.specs.Passing.{timed}
-use Rattle.napt_records.specs.Counts.{AreCountsOf}
-use Rattle.napt_laws.specs.Dispatching.{IsFront}
-use Rattle.napt_records.specs.Taking.{Inputs}
-use Rattle.napt_records.specs.declared.Fault.{Fault}
-use Rattle.napt_records.specs.declared.Fault.TheVariants.{Capture, Run, Write}
+use Rattle.napt_dispatch.specs.{Dispatch.IsFaultUnder, Passing.timed}
+use Rattle.napt_records.specs.{Counts.AreCountsOf, Taking.Inputs, declared.Fault.{Fault, TheVariants.{Capture, Run, Write}}}
 use Rattle.napt_records.specs.declared.Which.TheVariants.{Outside, Inside, Report}
-use Rattle.napt_run.specs.Captures.{IfKnown}
-use Rattle.napt_rules.specs.Prelude.{Arrival, ran}
-use Rattle.napt_run.specs.Leaving.{IsSettled, Timed, records_text}
-use Rattle.napt_run.specs.Outputs.{Breaks, Grows}
-use Rattle.napt_run.specs.Files.{files_until}
-use Rattle.napt_run.specs.Streams.{AreTaken, Explains, IsFaultOf, IsStopFault}
-use Rattle.napt_run.specs.declared.leaving.Leaving.{Leaving}
-use Rattle.napt_run.specs.declared.output.Output.{Output}
+use Rattle.napt_laws.specs.Dispatching.{IsFront}
+use Rattle.napt_run.specs.{Captures.IfKnown, Leaving.{IsSettled, Timed, records_text}, Outputs.{Breaks, Grows}, Files.files_until}
+use Rattle.napt_run.specs.{Streams.{AreTaken, Explains, IsFaultOf, IsStopFault}, declared.{leaving.Leaving.Leaving, output.Output.Output}}
 use Rattle.napt_run.specs.declared.passing.Totals.{Totals}
+use Rattle.napt_rules.specs.Prelude.{Arrival, ran}
 
 -- this holds of what the captures give, if their bytes are known
 abbrev pub IfHeld : Option (List ℕ) → Option (List ℕ) → (Inputs → Type 0) → Type 0

@@ -2,8 +2,7 @@
 use Rattle.std.specs.Prelude.{◌≡◌, ℕ, List, Option, Some, Ok}
 use Rattle.napt_config.specs.Rules.{Rules}
 use Rattle.napt_records.specs.declared.Which.TheVariants.{Outside, Inside, Report}
-use Rattle.napt_run.specs.Captures.{Gets, whole}
-use Rattle.napt_run.specs.Streams.{Streams, Reports}
+use Rattle.napt_run.specs.{Captures.{Gets, whole}, Streams.{Streams, Reports}}
 
 -- what `run_captures` promises of an output, and what `run_streams` does, over the same bytes
 abbrev pub OutputsAreTheSame : Type 0

@@ -4,27 +4,15 @@ use Rattle.std.specs.Prelude.{◌≡◌, ◌⊎◌, ℕ, ◌+◌, ◌≤◌, ◌
 use Rattle.std.specs.Io.KnownBytes.{Appends}
 use Rattle.napt_wire.specs.declared.Side.{Side}
 use Rattle.napt_wire.specs.declared.Side.TheVariants as sides
-use Rattle.napt_capture.specs.Capture.{spelling_in}
-use Rattle.napt_capture.specs.Reading.{Gives, Says, StopsBy}
-use Rattle.napt_capture.specs.Text.{file_header, text}
+use Rattle.napt_capture.specs.{Capture.spelling_in, Reading.{Gives, Says, StopsBy}, Text.{file_header, text}, declared.device.Source.Ghosts}
+use Rattle.napt_capture.specs.declared.{records.Records.Records, fault.CaptureFault.{CaptureFault, TheVariants.{TooLarge, Read, Memory}}}
 use Rattle.napt_capture.specs.declared.device.Sink as sink
-use Rattle.napt_capture.specs.declared.device.Source.{Ghosts}
-use Rattle.napt_capture.specs.declared.records.Records.{Records}
-use Rattle.napt_capture.specs.declared.fault.CaptureFault.{CaptureFault}
-use Rattle.napt_capture.specs.declared.fault.CaptureFault.TheVariants.{TooLarge, Read, Memory}
 use Rattle.napt_config.specs.Rules.{Rules}
 use Rattle.napt_dispatch.specs.Dispatch.{IsFaultUnder}
-use Rattle.napt_records.specs.Output.{records_to}
-use Rattle.napt_records.specs.Report.{report_text}
+use Rattle.napt_records.specs.{Output.records_to, Report.report_text, Taking.Inputs, declared.{merged_streams.Cuts.Cuts, Fault.Fault}}
+use Rattle.napt_records.specs.declared.{Fault.TheVariants.{Capture, Run, Write}, Which.{Which, TheVariants.{Outside, Inside, Report}}}
 use Rattle.napt_laws.specs.Dispatching.{IsFront}
-use Rattle.napt_records.specs.Taking.{Inputs}
-use Rattle.napt_records.specs.declared.merged_streams.Cuts.{Cuts}
-use Rattle.napt_records.specs.declared.Fault.{Fault}
-use Rattle.napt_records.specs.declared.Fault.TheVariants.{Capture, Run, Write}
-use Rattle.napt_records.specs.declared.Which.{Which}
-use Rattle.napt_records.specs.declared.Which.TheVariants.{Outside, Inside, Report}
-use Rattle.napt_run.specs.Captures.{IfKnown, failed_readings, failed_writings}
-use Rattle.napt_run.specs.Files.{files_until}
+use Rattle.napt_run.specs.{Captures.{IfKnown, failed_readings, failed_writings}, Files.files_until}
 use Rattle.napt_rules.specs.Prelude.{Arrival, ran}
 use Rattle.napt_sequential.specs.declared.fault.RunFault.TheVariants as faults
 

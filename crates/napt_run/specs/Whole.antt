@@ -5,10 +5,7 @@ use Rattle.napt_capture.specs.declared.device.Sink.{Ghosts}
 use Rattle.napt_config.specs.Rules.{Rules}
 use Rattle.napt_records.specs.Counts.{AreCountsOf}
 use Rattle.napt_rules.specs.Prelude.{Arrival, ran}
-use Rattle.napt_run.specs.Outputs.{Grows}
-use Rattle.napt_run.specs.Runs.{text_behind}
-use Rattle.napt_run.specs.declared.leaving.Leaving.{Leaving}
-use Rattle.napt_run.specs.declared.whole.Tally.{Tally}
+use Rattle.napt_run.specs.{Outputs.Grows, Runs.text_behind, declared.{leaving.Leaving.Leaving, whole.Tally.Tally}}
 
 -- what a report says of these inputs
 pub record IsTallyOf (rules : Rules) (inputs : List Arrival) (tally : Tally) : Type 0 where

@@ -1,8 +1,6 @@
 //! Bytes that are kept in memory until they are written.
-ghost use Rattle.std.specs.Prelude.{◌≡◌, ◌+◌, ◌-◌, ◌^◌, ◌<◌, ◌≤◌, [], ◌++◌, flat_map, length, take, IfOk, IfErr, OnOk, vec_len};
-ghost use Rattle.std.specs.Io.KnownBytes.{Appends};
-ghost use Rattle.napt_capture.specs.Device.{failed_calls};
-ghost use Rattle.napt_capture.specs.Writing.{Puts};
+ghost use Rattle.std.specs.{Prelude.{◌≡◌, ◌+◌, ◌-◌, ◌^◌, ◌<◌, ◌≤◌, [], ◌++◌, flat_map, length, take, IfOk, IfErr, OnOk, vec_len}, Io.KnownBytes.Appends};
+ghost use Rattle.napt_capture.specs.{Device.failed_calls, Writing.Puts};
 
 use napt_capture::{Sink, WriteFault, write_text};
 use std::alloc::{AllocError, Global};

@@ -1,8 +1,7 @@
 //! A run over captures as they arrive, with its log.
 ghost use Rattle.std.specs.Prelude.{◌≡◌, ◌-◌, ◌^◌, ◌<◌, [], IfErr, true};
 ghost use Rattle.napt_run.specs.LoggedStreams.{DeviceGetsOr, IsUnderOpenGate, LogGets, LogIsLeft, LoggedExplains, LoggedSays, besides_log, fault_of, reported_of};
-ghost use Rattle.napt_run.specs.RunningLogs.{AreLaws, IsAt};
-ghost use Rattle.napt_run.specs.Streams.{HasRead, IsOfRun, ReportGets};
+ghost use Rattle.napt_run.specs.{RunningLogs.{AreLaws, IsAt}, Streams.{HasRead, IsOfRun, ReportGets}};
 
 use crate::logged_fault::LoggedFault;
 use crate::logging::Halt;

@@ -1,8 +1,6 @@
 //! A capture that is written record by record, or another text that is written part by part.
-ghost use Rattle.std.specs.Prelude.{◌≡◌, ◌+◌, ◌-◌, min, ◌^◌, ◌≤◌, ◌<◌, [], length, take, OnOk, IfErr, false};
-ghost use Rattle.std.specs.Io.KnownBytes.{Appends};
-ghost use Rattle.napt_capture.specs.Device.{failed_calls};
-ghost use Rattle.napt_capture.specs.Text.{entry_of_packet, file_header, record_text};
+ghost use Rattle.std.specs.{Prelude.{◌≡◌, ◌+◌, ◌-◌, min, ◌^◌, ◌≤◌, ◌<◌, [], length, take, OnOk, IfErr, false}, Io.KnownBytes.Appends};
+ghost use Rattle.napt_capture.specs.{Device.failed_calls, Text.{entry_of_packet, file_header, record_text}};
 
 use napt_capture::{Sink, WriteFault, Written};
 

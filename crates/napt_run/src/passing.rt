@@ -2,9 +2,7 @@
 ghost use Rattle.std.specs.Prelude.{IfErr};
 ghost use Rattle.napt_dispatch.specs.Passing.{IsStoppedUnder};
 ghost use Rattle.napt_records.specs.Merged.{EndsWith, HandsOut};
-ghost use Rattle.napt_run.specs.LeavingWithLogs.{IsSamePlace};
-ghost use Rattle.napt_run.specs.Logging.{as_run};
-ghost use Rattle.napt_run.specs.Passed.{EntersBy, EntersOr, PassesBy, PassesOr};
+ghost use Rattle.napt_run.specs.{LeavingWithLogs.IsSamePlace, Logging.as_run, Passed.{EntersBy, EntersOr, PassesBy, PassesOr}};
 
 use crate::leaving_with_log::{LeavingFault, LeavingWithLog};
 use crate::logging::{Halt, Logging};

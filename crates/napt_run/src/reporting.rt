@@ -1,10 +1,8 @@
 //! The report of a run.
 ghost use Rattle.std.specs.Prelude.{◌≡◌, ◌+◌, ◌-◌, ◌^◌, ◌<◌, List, Ok, IfErr, IfOk, OnOk};
 ghost use Rattle.napt_rules.specs.declared.Outcome.{Outcome};
-ghost use Rattle.napt_records.specs.Counts.{AreCountsOf};
-ghost use Rattle.napt_records.specs.Report.{report_of};
-ghost use Rattle.napt_run.specs.Captures.{failed_writings};
-ghost use Rattle.napt_run.specs.Streams.{GetsReport, IsReportFault};
+ghost use Rattle.napt_records.specs.{Counts.AreCountsOf, Report.report_of};
+ghost use Rattle.napt_run.specs.{Captures.failed_writings, Streams.{GetsReport, IsReportFault}};
 
 use crate::passing::Totals;
 use napt_capture::{Sink, write_text};

@@ -1,13 +1,10 @@
 //! The log of a run, written while its outcomes leave.
 
-ghost use Rattle.std.specs.Prelude.{◌≡◌, ◌++◌, [], ◌∷◌, List, true, IfOk, MatchResult, string_bytes};
-ghost use Rattle.std.specs.Io.KnownBytes.{Appends};
+ghost use Rattle.std.specs.{Prelude.{◌≡◌, ◌++◌, [], ◌∷◌, List, true, IfOk, MatchResult, string_bytes}, Io.KnownBytes.Appends};
 ghost use Rattle.napt_config.specs.Rules.{Rules, KeepsRules};
 ghost use Rattle.napt_rules.specs.Prelude.{Arrival};
-ghost use Rattle.napt_account.specs.Telling.{living_of};
-ghost use Rattle.napt_account.specs.TraceLogs.{told_in};
-ghost use Rattle.napt_sequential.specs.Traces.{traces};
-ghost use Rattle.napt_sequential.specs.declared.passage.Trace.{Trace as Did};
+ghost use Rattle.napt_account.specs.{Telling.living_of, TraceLogs.told_in};
+ghost use Rattle.napt_sequential.specs.{Traces.traces, declared.passage.Trace.Trace as Did};
 ghost use Rattle.napt_log_text.specs.Logs.{living_rows, opening_text};
 
 use crate::logged_fault::LoggedFault;

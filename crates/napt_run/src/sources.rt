@@ -1,11 +1,7 @@
 //! The captures that a run reads.
 ghost use Rattle.std.specs.Prelude.{◌≡◌, ◌+◌, ◌-◌, ◌^◌, ◌<◌, [], List, Option, ℕ, IfErr, IfOk};
 ghost use Rattle.napt_records.specs.Counts.{AreCountsOf};
-ghost use Rattle.napt_run.specs.Captures.{failed_readings};
-ghost use Rattle.napt_run.specs.Leaving.{AreSound, IsSettled};
-ghost use Rattle.napt_run.specs.Runs.{RunsTo};
-ghost use Rattle.napt_run.specs.LeavingWithLogs.{IsSamePlace};
-ghost use Rattle.napt_run.specs.Logging.{LogsTo, as_run};
+ghost use Rattle.napt_run.specs.{Captures.failed_readings, Leaving.{AreSound, IsSettled}, Runs.RunsTo, LeavingWithLogs.IsSamePlace, Logging.{LogsTo, as_run}};
 ghost use Rattle.napt_run.specs.Streams.{HasRead, IsBehindHeader, IsHeaderFault, IsOfRun};
 
 use crate::leaving_with_log::LeavingWithLog;

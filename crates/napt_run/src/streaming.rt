@@ -2,10 +2,7 @@
 ghost use Rattle.std.specs.Prelude.{◌≡◌, ◌-◌, ◌^◌, ◌<◌, []};
 ghost use Rattle.napt_capture.specs.Text.{file_header};
 ghost use Rattle.napt_records.specs.Counts.{AreCountsOf};
-ghost use Rattle.napt_run.specs.Leaving.{AreSound};
-ghost use Rattle.napt_run.specs.Runs.{ResultSays, RunsTo};
-ghost use Rattle.napt_run.specs.LeavingWithLogs.{IsSamePlace};
-ghost use Rattle.napt_run.specs.Logging.{LogsTo, as_run};
+ghost use Rattle.napt_run.specs.{Leaving.AreSound, Runs.{ResultSays, RunsTo}, LeavingWithLogs.IsSamePlace, Logging.{LogsTo, as_run}};
 ghost use Rattle.napt_run.specs.Streams.{DeviceGets, HasRead, IsOfRun};
 
 use crate::leaving::Leaving;

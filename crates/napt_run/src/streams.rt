@@ -1,8 +1,7 @@
 //! A run over captures as they arrive.
 ghost use Rattle.std.specs.Prelude.{◌≡◌, ◌≢◌, ◌-◌, ◌^◌, ◌<◌, IfErr, Err, true, false};
 ghost use Rattle.napt_records.specs.Faults.{tells_shut_gate};
-ghost use Rattle.napt_run.specs.Logging.{as_run};
-ghost use Rattle.napt_run.specs.Streams.{DeviceGets, Explains, HasRead, IsOfRun, ReportGets};
+ghost use Rattle.napt_run.specs.{Logging.as_run, Streams.{DeviceGets, Explains, HasRead, IsOfRun, ReportGets}};
 
 use crate::logging::{Halt, Unlogged};
 use crate::passing::{Setting, Totals};

@@ -1,12 +1,9 @@
 //! The run over inputs that are all at hand.
-ghost use Rattle.std.specs.Prelude.{◌≡◌, ◌-◌, ◌^◌, ◌<◌, [], All, IfErr, IfOk, OnOk};
-ghost use Rattle.std.specs.Io.KnownBytes.{Appends};
+ghost use Rattle.std.specs.{Prelude.{◌≡◌, ◌-◌, ◌^◌, ◌<◌, [], All, IfErr, IfOk, OnOk}, Io.KnownBytes.Appends};
 ghost use Rattle.napt_capture.specs.Text.{file_header};
 ghost use Rattle.napt_dispatch.specs.Dispatch.{IsFaultUnder};
-ghost use Rattle.napt_records.specs.Counts.{AreCountsOf};
-ghost use Rattle.napt_records.specs.Output.{IsTimely};
-ghost use Rattle.napt_run.specs.Streams.{capture_text};
-ghost use Rattle.napt_run.specs.Whole.{IsTallyOf, WritesAll};
+ghost use Rattle.napt_records.specs.{Counts.AreCountsOf, Output.IsTimely};
+ghost use Rattle.napt_run.specs.{Streams.capture_text, Whole.{IsTallyOf, WritesAll}};
 
 use crate::leaving::Leaving;
 use crate::leaving_with_log::LeavingWithLog;

@@ -1,13 +1,10 @@
 -- The translators before any leg.
 use Rattle.std.proofs.Common.{◌≡◌, ℕ, ◌+◌, ◌<◌, List, [], ◌∷◌, ◌++◌, length, Some, refl, sym, ◌∙◌, ap, arith, get_or, length-append, inl, inr}
-use Rattle.std.specs.List.{slice_get}
-use Rattle.std.proofs.lemmas.Option.{slice_get_within, get_or_from_slice_get, same_Some}
-use Rattle.std.proofs.lemmas.Bool.{cases_lt}
+use Rattle.std.{specs.List.slice_get, proofs.lemmas.{Option.{slice_get_within, get_or_from_slice_get, same_Some}, Bool.cases_lt}}
 use Rattle.napt_config.specs.Rules.{Rules}
 use Rattle.napt_rules.specs.Prelude.{of, opening, Kept}
 use Rattle.napt_translate.specs.Translators.{begun, with_kept}
-use Rattle.napt_sequential.specs.declared.counted_translator.CountedTranslator.{CountedTranslator}
-use Rattle.napt_sequential.specs.CountedTranslators.{AreCountedTranslators, state_of}
+use Rattle.napt_sequential.specs.{declared.counted_translator.CountedTranslator.CountedTranslator, CountedTranslators.{AreCountedTranslators, state_of}}
 use Rattle.napt_sequential.proofs.Lists.{get_before, get_last}
 
 abbrev pub fresh : Rules → ℕ → CountedTranslator

@@ -1,18 +1,13 @@
 -- The translators after a leg, at its address and at the others.
 use Rattle.std.proofs.Common.{◌≡◌, ◌≢◌, ℕ, suc, ◌+◌, ◌≤◌, true, false, List, [], ◌∷◌, ◌++◌, map, length, cond, Some, refl, sym, ◌∙◌, ap, subst, arith, eqb, eq-eqb, append-nil, get_or, set}
-use Rattle.std.specs.List.{slice_get}
-use Rattle.std.proofs.lemmas.Bool.{ne_eqb, eqb-true, eqb-false}
-use Rattle.std.proofs.lemmas.List.{length-set}
-use Rattle.std.proofs.lemmas.List.Elements.{filter-append}
+use Rattle.std.{specs.List.slice_get, proofs.lemmas.{Bool.{ne_eqb, eqb-true, eqb-false}, List.{length-set, Elements.filter-append}}}
 use Rattle.std.proofs.lemmas.Option.{slice_get_within, slice_get-get_or, get_or_from_slice_get, same_Some}
 use Rattle.napt_config.specs.Rules.{Rules, KeepsRules}
-use Rattle.napt_rules.specs.declared.Leg.{Leg}
-use Rattle.napt_rules.specs.Prelude.{act, Act, acts_at, legs_at, kept_after}
+use Rattle.napt_rules.specs.{declared.Leg.Leg, Prelude.{act, Act, acts_at, legs_at, kept_after}}
 use Rattle.napt_translate.specs.Translators.{begun, with_kept, left_by}
 use Rattle.napt_sequential.specs.declared.counted_translator.CountedTranslator.{CountedTranslator}
 use Rattle.napt_sequential.specs.CountedTranslators.{RunState, IsCountedTranslator, AreCountedTranslators, act_of, act_there, told_of, told_at, state_after, counted_after}
-use Rattle.napt_sequential.proofs.Lists.{get_set, get_set_other}
-use Rattle.napt_sequential.proofs.ToldAlone.{acts_same}
+use Rattle.napt_sequential.proofs.{Lists.{get_set, get_set_other}, ToldAlone.acts_same}
 use Rattle.napt_laws.proofs.RunsLocal.{leg_at_once, other_at_once}
 
 -- one leg more, at its address and at another

@@ -1,18 +1,11 @@
 -- The steps of a run: one for each input, and what they begin with.
-use Rattle.std.proofs.Common.{◌≡◌, ℕ, zero, suc, ◌+◌, max, List, [], ◌∷◌, ◌++◌, length, map, Some, Err, refl, sym, ◌∙◌, ap, arith}
-use Rattle.std.specs.List.{slice_get}
+use Rattle.std.{proofs.Common.{◌≡◌, ℕ, zero, suc, ◌+◌, max, List, [], ◌∷◌, ◌++◌, length, map, Some, Err, refl, sym, ◌∙◌, ap, arith}, specs.List.slice_get}
 use Rattle.napt_wire.specs.declared.Cause.{Cause}
 use Rattle.napt_config.specs.Rules.{Rules}
-use Rattle.napt_rules.specs.Prelude.{Binding, opening, admission, Arrival, Course, first_leg, step_as, step, run, last_clock, ran}
-use Rattle.napt_rules.specs.declared.Outcome.{Outcome}
-use Rattle.napt_laws.specs.Dispatching.{IsFront}
-use Rattle.napt_laws.proofs.Grown.{outcomes_long}
-use Rattle.napt_sequential.specs.declared.outcome.Stepped.{Stepped}
-use Rattle.napt_sequential.specs.declared.passage.Passage.TheVariants.{Nothing}
-use Rattle.napt_sequential.specs.declared.passage.Trace.{Trace}
-use Rattle.napt_sequential.specs.Steps.{joined, steps}
-use Rattle.napt_sequential.specs.Traces.{trace_of, traces_from, traces}
-use Rattle.napt_sequential.proofs.Passed.{traces_grow}
+use Rattle.napt_rules.specs.{Prelude.{Binding, opening, admission, Arrival, Course, first_leg, step_as, step, run, last_clock, ran}, declared.Outcome.Outcome}
+use Rattle.napt_laws.{specs.Dispatching.IsFront, proofs.Grown.outcomes_long}
+use Rattle.napt_sequential.specs.{declared.{outcome.Stepped.Stepped, passage.{Passage.TheVariants.Nothing, Trace.Trace}}, Steps.{joined, steps}}
+use Rattle.napt_sequential.{specs.Traces.{trace_of, traces_from, traces}, proofs.Passed.traces_grow}
 
 -- LISTS
 

@@ -1,14 +1,9 @@
 -- The translators at a later time, at which what has ended may have been removed.
-use Rattle.std.proofs.Common.{◌≡◌, ℕ, ◌≤◌, true, false, max, List, Some, refl, sym, ◌∙◌, ap, subst, arith, eqb, set}
-use Rattle.std.specs.List.{slice_get}
-use Rattle.std.proofs.lemmas.Bool.{eqb-true, eqb-false}
-use Rattle.std.proofs.lemmas.List.{length-set}
-use Rattle.std.proofs.lemmas.Option.{slice_get_within, same_Some}
+use Rattle.std.{proofs.Common.{◌≡◌, ℕ, ◌≤◌, true, false, max, List, Some, refl, sym, ◌∙◌, ap, subst, arith, eqb, set}, specs.List.slice_get}
+use Rattle.std.proofs.lemmas.{Bool.{eqb-true, eqb-false}, List.length-set, Option.{slice_get_within, same_Some}}
 use Rattle.napt_config.specs.Rules.{Rules}
 use Rattle.napt_rules.specs.Prelude.{Kept, purge}
-use Rattle.napt_laws.proofs.Purges.{purge_purge}
-use Rattle.napt_laws.proofs.LegsLocal.{agrees_later}
-use Rattle.napt_laws.proofs.RunsLocal.{latest}
+use Rattle.napt_laws.proofs.{Purges.purge_purge, LegsLocal.agrees_later, RunsLocal.latest}
 use Rattle.napt_translate.specs.Translators.{TranslatorState, begun, with_kept}
 use Rattle.napt_sequential.specs.declared.counted_translator.CountedTranslator.{CountedTranslator}
 use Rattle.napt_sequential.specs.CountedTranslators.{RunState, IsCountedTranslator, AreCountedTranslators, at_time, StaysCounted, StayCounted}

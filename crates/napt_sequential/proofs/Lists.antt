@@ -1,6 +1,5 @@
 -- Lists: what is at a place.
-use Rattle.std.proofs.Common.{◌≡◌, ◌≢◌, ℕ, zero, suc, ◌<◌, List, [], ◌∷◌, ◌++◌, length, map, Some, refl, ◌∙◌, ap, arith, set}
-use Rattle.std.specs.Prelude.{flat_map}
+use Rattle.std.{proofs.Common.{◌≡◌, ◌≢◌, ℕ, zero, suc, ◌<◌, List, [], ◌∷◌, ◌++◌, length, map, Some, refl, ◌∙◌, ap, arith, set}, specs.Prelude.flat_map}
 use Rattle.std.specs.List.{slice_get}
 
 pub get_before : {X : Type 0} (xs : List X) (y : X) (i : ℕ) → i < length xs →

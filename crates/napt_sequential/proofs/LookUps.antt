@@ -1,34 +1,16 @@
 -- Look-ups after a leg find the binding that it went through.
-use Rattle.std.proofs.Common.{◌≡◌, ℕ, max, List, Option, Some, None, Result, Ok, Err, refl, sym, ◌∙◌, ap, arith}
-use Rattle.std.specs.Option.{option_map}
-use Rattle.napt_wire.specs.declared.Protocol.{Protocol}
+use Rattle.std.{proofs.Common.{◌≡◌, ℕ, max, List, Option, Some, None, Result, Ok, Err, refl, sym, ◌∙◌, ap, arith}, specs.Option.option_map}
+use Rattle.napt_wire.specs.declared.{Protocol.Protocol, Way.{Way, TheVariants.{Outgoing, Incoming}}, Cause.Cause, Endpoint.Endpoint, Flags.Flags, Kind.Kind}
+use Rattle.napt_wire.specs.{declared.Kind.TheVariants.{Udp, Tcp, Echo, ErrorOf}, Fields.{source, destination, kind}}
 use Rattle.napt_wire.specs.declared.Protocol.TheVariants as protocols
-use Rattle.napt_wire.specs.declared.Way.{Way}
-use Rattle.napt_wire.specs.declared.Way.TheVariants.{Outgoing, Incoming}
-use Rattle.napt_wire.specs.declared.Cause.{Cause}
-use Rattle.napt_wire.specs.declared.Endpoint.{Endpoint}
-use Rattle.napt_wire.specs.declared.Flags.{Flags}
-use Rattle.napt_wire.specs.declared.Kind.{Kind}
-use Rattle.napt_wire.specs.declared.Kind.TheVariants.{Udp, Tcp, Echo, ErrorOf}
-use Rattle.napt_wire.specs.Fields.{source, destination, kind}
 use Rattle.napt_config.specs.Rules.{Rules, AreTimers}
-use Rattle.napt_rules.specs.declared.Sent.{Sent}
-use Rattle.napt_rules.specs.declared.Received.{Received}
-use Rattle.napt_rules.specs.declared.Leg.{Leg}
-use Rattle.napt_rules.specs.declared.Answer.{Answer}
-use Rattle.napt_rules.specs.declared.End.{End}
-use Rattle.napt_rules.specs.declared.End.TheVariants.{ToOutside, Onward, Dropped}
-use Rattle.napt_rules.specs.Prelude.{Through, Binding, Out, step_out, In, step_in, by_inside, by_number, inbound_of, no_flags, onward_by, end_out, end_in, sent_of, received_of, Acted, act_out, act_in, act_by, Kept, time_after, kept_act, kept_answer}
+use Rattle.napt_rules.specs.declared.{Sent.Sent, Received.Received, Leg.Leg, Answer.Answer, End.{End, TheVariants.{ToOutside, Onward, Dropped}}}
+use Rattle.napt_rules.specs.Prelude.{Through, Binding, Out, step_out, In, step_in, by_inside, by_number, granting_of, inbound_of, no_flags, onward_by, end_out, end_in, sent_of, received_of, Acted, act_out, act_in, act_by, Kept, time_after, kept_act, kept_answer}
 use Rattle.napt_table.specs.TimedRows.{timed}
-use Rattle.napt_translate.specs.Carried.{carried_by}
-use Rattle.napt_translate.specs.Translators.{TranslatorState, kept_of, left_by}
-use Rattle.napt_laws.specs.Through.{IsSaid}
-use Rattle.napt_laws.proofs.Through.{out_says_its_binding, in_says_its_binding}
-use Rattle.napt_sequential.specs.declared.passage.Passage.{Passage}
-use Rattle.napt_sequential.specs.declared.passage.Seen.{Seen}
-use Rattle.napt_sequential.specs.declared.telling.Told.{Told}
-use Rattle.napt_sequential.specs.CountedTranslators.{seen_of, out_through, in_through, found_by, passage_seen, told_at}
-use Rattle.napt_sequential.specs.Traces.{passage_by}
+use Rattle.napt_translate.specs.{Carried.carried_by, Translators.{TranslatorState, kept_of, left_by}}
+use Rattle.napt_laws.{specs.Through.IsSaid, proofs.Through.{out_says_its_binding, in_says_its_binding}}
+use Rattle.napt_sequential.specs.declared.{passage.{Passage.Passage, Seen.Seen}, telling.Told.Told}
+use Rattle.napt_sequential.specs.{CountedTranslators.{seen_of, out_through, in_through, found_by, passage_seen, told_at}, Traces.passage_by}
 
 module _ (rules : Rules) (t : AreTimers rules.timers) (address : ℕ) (leg : Leg) (list : List Binding) where
   abbrev found : Option Protocol → List Binding → End → Passage
@@ -75,9 +57,9 @@ module _ (rules : Rules) (t : AreTimers rules.timers) (address : ℕ) (leg : Leg
       found (Some protocol) acted.list acted.end ≡ said Outgoing (Some protocol) acted.end acted.through)
   goes protocol flags =
       let packet : Sent = sent_of rules protocol flags leg.now leg.packet in
-      let out : Out = step_out rules.timers rules.quota address packet list in
+      let out : Out = step_out rules.timers (granting_of rules) address packet list in
       found_out protocol (by_inside rules.timers address leg.now protocol packet.inside list) out.list out.through
-      out.number (out_says_its_binding rules.timers t rules.quota address packet list)
+      out.number (out_says_its_binding rules.timers t (granting_of rules) address packet list)
 
   comes : (protocol : Protocol) (flags : Flags) → (let acted : Acted = act_in rules address leg list protocol flags in
       found (Some protocol) acted.list acted.end ≡ said Incoming (Some protocol) acted.end acted.through)

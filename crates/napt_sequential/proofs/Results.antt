@@ -1,5 +1,4 @@
-use Rattle.std.proofs.Common.{Result, Ok, Err, IfOk}
-use Rattle.std.specs.Prelude.{OnOk}
+use Rattle.std.{proofs.Common.{Result, Ok, Err, IfOk}, specs.Prelude.OnOk}
 
 pub if_both : {X E : Type 0} (P R : X → Type 0) (Q : Type 0) (r : Result X E) → ((x : X) → P x → Q → R x) →
     IfOk r P → OnOk r Q → IfOk r R

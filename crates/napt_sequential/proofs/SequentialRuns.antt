@@ -1,19 +1,10 @@
 -- A run whose inputs come one at a time: one more of them, and what is left after all.
-use Rattle.std.proofs.Common.{◌≡◌, ℕ, ◌+◌, ◌*◌, ◌^◌, ◌<◌, ◌≤◌, max, List, [], ◌∷◌, ◌++◌, length, map, refl, sym, ◌∙◌, ap, arith}
-use Rattle.std.specs.Prelude.{flat_map}
+use Rattle.std.{proofs.Common.{◌≡◌, ℕ, ◌+◌, ◌*◌, ◌^◌, ◌<◌, ◌≤◌, max, List, [], ◌∷◌, ◌++◌, length, map, refl, sym, ◌∙◌, ap, arith}, specs.Prelude.flat_map}
 use Rattle.napt_config.specs.Rules.{Rules}
-use Rattle.napt_rules.specs.declared.Outcome.{Outcome}
-use Rattle.napt_rules.specs.declared.Row.{Row}
-use Rattle.napt_rules.specs.Prelude.{Binding, opening, Arrival, step, run, last_clock, Ran, ran}
-use Rattle.napt_sequential.specs.declared.counted_translator.CountedTranslator.{CountedTranslator}
-use Rattle.napt_sequential.specs.declared.outcome.Stepped.{Stepped}
-use Rattle.napt_sequential.specs.declared.passage.Trace.{Trace}
-use Rattle.napt_sequential.specs.declared.sequential_run.SequentialRun.{SequentialRun}
-use Rattle.napt_sequential.specs.CountedTranslators.{CanTake, Steps, rows_at, state_of}
-use Rattle.napt_sequential.specs.SequentialRuns.{StandsAfter, TellsLast}
-use Rattle.napt_sequential.specs.Traces.{trace_of, traces}
-use Rattle.napt_sequential.proofs.Passed.{traces_grow}
-use Rattle.napt_sequential.proofs.Shown.{run_shown}
+use Rattle.napt_rules.specs.{declared.{Outcome.Outcome, Row.Row}, Prelude.{Binding, opening, Arrival, step, run, last_clock, Ran, ran}}
+use Rattle.napt_sequential.specs.declared.{counted_translator.CountedTranslator.CountedTranslator, outcome.Stepped.Stepped, passage.Trace.Trace}
+use Rattle.napt_sequential.specs.{declared.sequential_run.SequentialRun.SequentialRun, CountedTranslators.{CanTake, Steps, rows_at, state_of}}
+use Rattle.napt_sequential.{specs.{SequentialRuns.{StandsAfter, TellsLast}, Traces.{trace_of, traces}}, proofs.{Passed.traces_grow, Shown.run_shown}}
 use Rattle.napt_sequential.proofs.SoFar.{RunSoFar, after_one}
 use Rattle.napt_laws.proofs.Grown.{acts_few}
 

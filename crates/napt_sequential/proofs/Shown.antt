@@ -1,11 +1,8 @@
 -- The translators after all inputs have the bindings and counts of the run.
-use Rattle.std.proofs.Common.{◌≡◌, ℕ, ◌≤◌, max, List, length, map, refl, sym, ◌∙◌, ap, arith}
-use Rattle.std.specs.Prelude.{flat_map}
+use Rattle.std.{proofs.Common.{◌≡◌, ℕ, ◌≤◌, max, List, length, map, refl, sym, ◌∙◌, ap, arith}, specs.Prelude.flat_map}
 use Rattle.napt_config.specs.Rules.{Rules}
-use Rattle.napt_rules.specs.declared.Row.{Row}
-use Rattle.napt_rules.specs.Prelude.{of, opening, Arrival, rows_of, rows, run, last_clock, legs_at, Ran, ran}
+use Rattle.napt_rules.specs.{declared.{Row.Row, Outcome.Outcome}, Prelude.{of, opening, Arrival, rows_of, rows, run, last_clock, legs_at, Ran, ran}}
 use Rattle.napt_translate.specs.Translators.{TranslatorState}
-use Rattle.napt_rules.specs.declared.Outcome.{Outcome}
 use Rattle.napt_sequential.specs.declared.counted_translator.CountedTranslator.{CountedTranslator}
 use Rattle.napt_sequential.specs.CountedTranslators.{RunState, IsCountedTranslator, AreCountedTranslators, rows_at, state_of}
 use Rattle.napt_sequential.proofs.Lists.{map_alike, flat_alike}

@@ -1,19 +1,12 @@
 -- A step at the translators: the legs of one input.
 use Rattle.std.proofs.Common.{◌≡◌, ℕ, ◌≤◌, List, [], ◌∷◌, ◌++◌, length, Result, refl, sym, ◌∙◌, ap, subst, append-nil, append_assoc}
-use Rattle.napt_wire.specs.declared.Way.TheVariants.{Incoming}
-use Rattle.napt_wire.specs.declared.Cause.{Cause}
-use Rattle.napt_wire.specs.Fields.{destination}
+use Rattle.napt_wire.specs.{declared.{Way.TheVariants.Incoming, Cause.Cause}, Fields.destination, Reading.reading}
 use Rattle.napt_config.specs.Rules.{Rules}
-use Rattle.napt_rules.specs.Prelude.{Acted, act, Arrival, Act, Course, ahead, outcome_of, once, follow_by, refused, admitted, legs_at}
-use Rattle.napt_rules.specs.declared.Leg.{Leg}
-use Rattle.napt_rules.specs.declared.End.{End}
-use Rattle.napt_rules.specs.declared.End.TheVariants.{Onward}
-use Rattle.napt_rules.specs.declared.Outcome.{Outcome}
-use Rattle.napt_rules.specs.declared.Outcome.TheVariants.{Dropped}
+use Rattle.napt_rules.specs.{Prelude.{Acted, act, Arrival, Act, Course, ahead, outcome_of, once, follow_by, refused, admitted, legs_at}, declared.Leg.Leg}
+use Rattle.napt_rules.specs.declared.{End.{End, TheVariants.Onward}, Outcome.{Outcome, TheVariants.Dropped}}
 use Rattle.napt_sequential.specs.declared.counted_translator.CountedTranslator.{CountedTranslator}
-use Rattle.napt_sequential.specs.declared.input.Input.TheInside as fields
-use Rattle.napt_wire.specs.Reading.{reading}
 use Rattle.napt_sequential.specs.CountedTranslators.{RunState, IsCountedTranslator, AreCountedTranslators, act_of, state_after, Follows}
+use Rattle.napt_sequential.specs.declared.input.Input.TheInside as fields
 use Rattle.napt_laws.proofs.RunsLocal.{later_at_once}
 
 -- A FIRST LEG ALONE, OR TWO

@@ -2,17 +2,11 @@
 use Rattle.std.proofs.Common.{◌≡◌, ℕ, ◌≤◌, true, false, cond, List, [], ◌∷◌, ◌++◌, map, Option, refl, sym, ◌∙◌, ap, subst, arith, eqb, append_assoc}
 use Rattle.std.proofs.lemmas.Bool.{eqb-true, eqb-false}
 use Rattle.napt_config.specs.Rules.{Rules}
-use Rattle.napt_rules.specs.Prelude.{Through, Binding, of, Acted, act, Arrival, Act, run, last_clock, acts_at, legs_at, Kept, kept_after}
-use Rattle.napt_rules.specs.declared.Leg.{Leg}
+use Rattle.napt_rules.specs.{Prelude.{Through, Binding, of, Acted, act, Arrival, Act, run, last_clock, acts_at, legs_at, Kept, kept_after}, declared.Leg.Leg}
 use Rattle.napt_rules.specs.declared.End.{End}
-use Rattle.napt_laws.specs.Agreeing.{IsAtOnce}
-use Rattle.napt_laws.specs.Dispatching.{IsFront}
-use Rattle.napt_laws.proofs.LegsLocal.{ActsAlike, alike}
-use Rattle.napt_laws.proofs.RunsLocal.{ActsOnTime, on_time, leg_at_once, other_at_once}
-use Rattle.napt_laws.proofs.Turns.{InTurn, run_turn}
-use Rattle.napt_sequential.specs.declared.passage.Passage.{Passage}
-use Rattle.napt_sequential.specs.declared.telling.Told.{Told}
-use Rattle.napt_sequential.specs.CountedTranslators.{act_of, act_there, told_of, told_by}
+use Rattle.napt_laws.{specs.{Agreeing.IsAtOnce, Dispatching.IsFront}, proofs.LegsLocal.{ActsAlike, alike}}
+use Rattle.napt_laws.proofs.{RunsLocal.{ActsOnTime, on_time, leg_at_once, other_at_once}, Turns.{InTurn, run_turn}}
+use Rattle.napt_sequential.specs.{declared.{passage.Passage.Passage, telling.Told.Told}, CountedTranslators.{act_of, act_there, told_of, told_by}}
 use Rattle.napt_sequential.specs.Steps.{told_replies}
 
 -- a leg acts there as in the run

@@ -1,22 +1,13 @@
 -- What each leg of a run did is in the trace of its input.
 use Rattle.std.proofs.Common.{◌≡◌, ◌≢◌, ◌⊎◌, inl, inr, true, ℕ, zero, suc, ◌+◌, ◌-◌, ◌≤◌, max, cond, List, [], ◌∷◌, ◌++◌, map, Option, Some, refl, sym, ◌∙◌, ap, subst, arith}
-use Rattle.std.proofs.lemmas.Bool.{eq-eqb, ne_eqb}
-use Rattle.std.specs.List.{slice_get}
-use Rattle.napt_wire.specs.declared.Side.TheVariants.{Outside}
-use Rattle.napt_wire.specs.declared.Way.TheVariants.{Incoming}
-use Rattle.napt_config.specs.Rules.{Rules}
-use Rattle.napt_config.specs.declared.settings.Timers.{Timers}
-use Rattle.napt_rules.specs.declared.Leg.{Leg}
-use Rattle.napt_rules.specs.declared.End.{End}
-use Rattle.napt_rules.specs.declared.End.TheVariants.{ToOutside, ToInside, Onward, Dropped}
+use Rattle.std.{proofs.lemmas.Bool.{eq-eqb, ne_eqb}, specs.List.slice_get}
+use Rattle.napt_wire.specs.declared.{Side.TheVariants.Outside, Way.TheVariants.Incoming}
+use Rattle.napt_config.specs.{Rules.Rules, declared.settings.Timers.Timers}
+use Rattle.napt_rules.specs.declared.{Leg.Leg, End.{End, TheVariants.{ToOutside, ToInside, Onward, Dropped}}}
 use Rattle.napt_rules.specs.Prelude.{Through, Binding, Each, opening, way_from, served_at, Acted, act, Arrival, Act, Course, follow_by, first_leg, step, run_from, run, is_in_or_dropped}
-use Rattle.napt_laws.specs.Places.{numbered, all_but_first, second_legs}
-use Rattle.napt_laws.proofs.AnyStep.{of_input, of_step}
-use Rattle.napt_laws.proofs.LegLaws.{in_stays_in}
+use Rattle.napt_laws.{specs.Places.{numbered, all_but_first, second_legs}, proofs.{AnyStep.{of_input, of_step}, LegLaws.in_stays_in}}
 use Rattle.napt_laws.proofs.Lists.{each_weaker, each_append}
-use Rattle.napt_sequential.specs.declared.passage.Passage.TheVariants.{Nothing}
-use Rattle.napt_sequential.specs.declared.passage.Trace.{Trace}
-use Rattle.napt_sequential.specs.Traces.{passage_of, trace_of, traces_from, traces}
+use Rattle.napt_sequential.specs.{declared.passage.{Passage.TheVariants.Nothing, Trace.Trace}, Traces.{passage_of, trace_of, traces_from, traces}}
 
 -- HOW AN ACT STANDS AMONG THOSE OF ITS INPUT, whose legs after the first are these
 

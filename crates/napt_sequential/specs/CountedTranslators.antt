@@ -1,30 +1,16 @@
 -- The translators of a sequential run, one for each external address in the order of the pool, and the one list of
 -- bindings that they split between them.
-use Rattle.std.specs.Prelude.{◌≡◌, ℕ, ◌+◌, ◌<◌, ◌≤◌, ◌^◌, max, length, List, [], ◌∷◌, ◌++◌, Option, Some, None}
-use Rattle.std.specs.Option.{option_map}
-use Rattle.std.specs.List.{slice_get}
-use Rattle.napt_wire.specs.declared.Protocol.{Protocol}
-use Rattle.napt_wire.specs.Fields.{source, destination, kind}
-use Rattle.napt_config.specs.declared.settings.Timers.{Timers}
-use Rattle.napt_config.specs.Rules.{Rules}
+use Rattle.std.specs.{Prelude.{◌≡◌, ℕ, ◌+◌, ◌<◌, ◌≤◌, ◌^◌, max, length, List, [], ◌∷◌, ◌++◌, Option, Some, None}, Option.option_map, List.slice_get}
+use Rattle.napt_wire.specs.{declared.Protocol.Protocol, Fields.{source, destination, kind}}
+use Rattle.napt_config.specs.{declared.settings.Timers.Timers, Rules.Rules}
 use Rattle.napt_rules.specs.Prelude.{Binding, by_inside, by_number, opening, Acted, act, Arrival, rows, Act, Course, run, last_clock, legs_at, Kept, kept_act, answer_of}
-use Rattle.napt_rules.specs.declared.Row.{Row}
-use Rattle.napt_rules.specs.declared.Leg.{Leg}
-use Rattle.napt_rules.specs.declared.End.{End}
+use Rattle.napt_rules.specs.declared.{Row.Row, Leg.Leg, End.End, Outcome.Outcome}
 use Rattle.napt_rules.specs.declared.End.TheVariants as ends
-use Rattle.napt_table.specs.declared.TimedRow.{TimedRow}
-use Rattle.napt_table.specs.TimedRows.{timed}
-use Rattle.napt_translate.specs.Carried.{carried_by}
-use Rattle.napt_translate.specs.Translators.{TranslatorState, begun, kept_of, with_kept, left_by}
-use Rattle.napt_rules.specs.declared.Outcome.{Outcome}
-use Rattle.napt_sequential.specs.declared.counted_translator.CountedTranslator.{CountedTranslator}
-use Rattle.napt_sequential.specs.declared.passage.Passage.{Passage}
-use Rattle.napt_sequential.specs.declared.passage.Passage.TheVariants.{Nothing, Out, In, Dropped}
-use Rattle.napt_sequential.specs.declared.passage.Seen.{Seen}
-use Rattle.napt_sequential.specs.declared.telling.Told.{Told}
-use Rattle.napt_sequential.specs.declared.telling.Untold.{Untold}
-use Rattle.napt_sequential.specs.declared.outcome.Stepped.{Stepped}
-use Rattle.napt_sequential.specs.Traces.{passage_of, trace_of}
+use Rattle.napt_table.specs.{declared.TimedRow.TimedRow, TimedRows.timed}
+use Rattle.napt_translate.specs.{Carried.carried_by, Translators.{TranslatorState, begun, kept_of, with_kept, left_by}}
+use Rattle.napt_sequential.specs.declared.{counted_translator.CountedTranslator.CountedTranslator, passage.Passage.Passage}
+use Rattle.napt_sequential.specs.declared.{passage.{Passage.TheVariants.{Nothing, Out, In, Dropped}, Seen.Seen}, telling.{Told.Told, Untold.Untold}}
+use Rattle.napt_sequential.specs.{declared.outcome.Stepped.Stepped, Traces.{passage_of, trace_of}}
 use Rattle.napt_laws.specs.Agreeing.{IsAtOnce}
 
 -- a run at some time: the time of the last leg, the legs that acted, and the bindings

@@ -1,6 +1,5 @@
 -- What contracts see of an input of a run: everything but where it lies in memory. Its number is its place, from 0.
-use Rattle.std.specs.Prelude.{◌≡◌, List, [], ◌∷◌, ◌++◌, Option, Some, None, Result, Ok, Err}
-use Rattle.std.proofs.Common.{refl, ap, ◌∙◌}
+use Rattle.std.{specs.Prelude.{◌≡◌, List, [], ◌∷◌, ◌++◌, Option, Some, None, Result, Ok, Err}, proofs.Common.{refl, ap, ◌∙◌}}
 use Rattle.napt_rules.specs.Prelude.{Arrival}
 
 -- the next input was taken, or none was left

@@ -2,10 +2,8 @@
 use Rattle.std.specs.Prelude.{◌≡◌, List, [], ◌∷◌, ◌++◌, length}
 use Rattle.napt_config.specs.Rules.{Rules}
 use Rattle.napt_rules.specs.Prelude.{opening, Arrival, run, last_clock}
-use Rattle.napt_sequential.specs.declared.outcome.Stepped.{Stepped}
-use Rattle.napt_sequential.specs.declared.sequential_run.SequentialRun.{SequentialRun}
-use Rattle.napt_sequential.specs.CountedTranslators.{AreCountedTranslators, state_of}
-use Rattle.napt_sequential.specs.Traces.{traces}
+use Rattle.napt_sequential.specs.declared.{outcome.Stepped.Stepped, sequential_run.SequentialRun.SequentialRun}
+use Rattle.napt_sequential.specs.{CountedTranslators.{AreCountedTranslators, state_of}, Traces.traces}
 
 -- it took these inputs, and its translators are those after them
 pub record StandsAfter (rules : Rules) (inputs : List Arrival) (it : SequentialRun) : Type 0 where

@@ -1,15 +1,8 @@
 -- What each input of a run came to: its outcome, and what its legs did to the bindings.
-use Rattle.std.specs.Prelude.{ℕ, List, [], ◌∷◌}
-use Rattle.std.specs.List.{scan}
+use Rattle.std.specs.{Prelude.{ℕ, List, [], ◌∷◌}, List.scan}
 use Rattle.napt_config.specs.Rules.{Rules}
-use Rattle.napt_rules.specs.Prelude.{opening, Arrival, run, Kept, kept_after}
-use Rattle.napt_rules.specs.declared.Leg.{Leg}
-use Rattle.napt_rules.specs.declared.Outcome.{Outcome}
-use Rattle.napt_sequential.specs.declared.outcome.Stepped.{Stepped}
-use Rattle.napt_sequential.specs.declared.passage.Passage.{Passage}
-use Rattle.napt_sequential.specs.declared.passage.Trace.{Trace}
-use Rattle.napt_sequential.specs.declared.telling.Told.{Told}
-use Rattle.napt_sequential.specs.CountedTranslators.{told_by}
+use Rattle.napt_rules.specs.{Prelude.{opening, Arrival, run, Kept, kept_after}, declared.{Leg.Leg, Outcome.Outcome}}
+use Rattle.napt_sequential.specs.{declared.{outcome.Stepped.Stepped, passage.{Passage.Passage, Trace.Trace}, telling.Told.Told}, CountedTranslators.told_by}
 use Rattle.napt_sequential.specs.Traces.{traces}
 
 -- each outcome with its trace

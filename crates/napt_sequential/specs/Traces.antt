@@ -4,21 +4,13 @@
 -- RFC 3022, section 4: out through the binding of the source, which is made if there is none; in through that of the
 -- destination. An ICMP error goes through none (RFC 5508, REQ-3 to REQ-6).
 use Rattle.std.specs.Prelude.{ℕ, ◌+◌, max, List, [], ◌∷◌, Option, Some, None}
-use Rattle.napt_wire.specs.declared.Protocol.{Protocol}
-use Rattle.napt_wire.specs.declared.Way.{Way}
-use Rattle.napt_wire.specs.declared.Way.TheVariants.{Outgoing, Incoming}
-use Rattle.napt_wire.specs.Fields.{source, kind}
-use Rattle.napt_config.specs.Rules.{Rules}
-use Rattle.napt_config.specs.declared.settings.Timers.{Timers}
-use Rattle.napt_rules.specs.Prelude.{Through, Binding, opening, Arrival, Act, Course, step}
-use Rattle.napt_table.specs.declared.TimedRow.{TimedRow}
-use Rattle.napt_table.specs.TimedRows.{timed}
+use Rattle.napt_wire.specs.{declared.{Protocol.Protocol, Way.{Way, TheVariants.{Outgoing, Incoming}}}, Fields.{source, kind}}
+use Rattle.napt_config.specs.{Rules.Rules, declared.settings.Timers.Timers}
+use Rattle.napt_rules.specs.{Prelude.{Through, Binding, opening, Arrival, Act, Course, step}, declared.End.End}
+use Rattle.napt_table.specs.{declared.TimedRow.TimedRow, TimedRows.timed}
 use Rattle.napt_translate.specs.Carried.{carried_by}
-use Rattle.napt_rules.specs.declared.End.{End}
 use Rattle.napt_rules.specs.declared.End.TheVariants as ends
-use Rattle.napt_sequential.specs.declared.passage.Passage.{Passage}
-use Rattle.napt_sequential.specs.declared.passage.Passage.TheVariants.{Nothing, Out, In, Dropped}
-use Rattle.napt_sequential.specs.declared.passage.Trace.{Trace}
+use Rattle.napt_sequential.specs.declared.passage.{Passage.{Passage, TheVariants.{Nothing, Out, In, Dropped}}, Trace.Trace}
 
 -- ONE LEG
 

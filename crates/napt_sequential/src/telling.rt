@@ -1,8 +1,7 @@
 //! A leg at a translator, with what it did to the bindings.
 
 ghost use Rattle.std.specs.Prelude.{◌≡◌, IfOk, OnOk, OnErr};
-ghost use Rattle.napt_sequential.specs.CountedTranslators.{told_at, passage_seen};
-ghost use Rattle.napt_sequential.specs.declared.passage.Passage.{Passage as KnownPassage};
+ghost use Rattle.napt_sequential.specs.{CountedTranslators.{told_at, passage_seen}, declared.passage.Passage.Passage as KnownPassage};
 ghost use Rattle.napt_sequential.specs.declared.passage.Passage.TheVariants.{Nothing as NoPassage};
 ghost use Rattle.napt_translate.specs.Translators.{left_by};
 

@@ -8,7 +8,7 @@ use crate::sizes::lifetimes::{Lifetimes, SPANS};
 use crate::sizes::quotas::Quota;
 use crate::sizes::refusals::Refusals;
 use crate::sizes::spaces::Space;
-use napt_commands::{Ending, Stop};
+use napt_commands::{Ending, Exit};
 use napt_config::Address;
 use napt_records::protocol_name;
 
@@ -23,7 +23,7 @@ pub fn tell_sizes<R: Print + Eprint + AllocGlobal>(
     rt: &R,
     sizes: &Sizes,
     ending: &Ending<'_>,
-) -> Result<(), Stop> {
+) -> Result<(), Exit> {
     let config = ending.config;
     sizes.coverage.tell(rt);
     sizes.coverage.tell_living(rt, None, &ending.living);
@@ -42,7 +42,7 @@ pub fn tell_sizes<R: Print + Eprint + AllocGlobal>(
 }
 
 /// Prints how much of a protocol's numbers is used at an address.
-fn tell_space<R: Print>(rt: &R, space: &Space) -> Result<(), Stop> {
+fn tell_space<R: Print>(rt: &R, space: &Space) -> Result<(), Exit> {
     let (name, address) = (protocol_name(space.protocol), Address(space.address));
     let Level { most, at, .. } = space.bindings;
     if most == 0 {
@@ -52,13 +52,13 @@ fn tell_space<R: Print>(rt: &R, space: &Space) -> Result<(), Stop> {
     print!(rt; "{name} at {address}: most bindings at once {most}, first ")?;
     match at {
         0 => print!(rt; "before the first packet")?,
-        _ => print!(rt; "at {}", Moment(u128::from(at)))?,
+        _ => print!(rt; "at {}", Moment(at))?,
     }
     println!(rt; "; most hosts at once {}", space.hosts.most)?;
     tell_classes(rt, space)
 }
 
-fn tell_classes<R: Print>(rt: &R, space: &Space) -> Result<(), Stop> {
+fn tell_classes<R: Print>(rt: &R, space: &Space) -> Result<(), Exit> {
     for (class, used) in space.classes().iter().zip(space.used.iter()) {
         let (name, many, most) = (class.name, class.many, used.most);
         let share = most.saturating_mul(10_000) / many.max(1);
@@ -69,7 +69,7 @@ fn tell_classes<R: Print>(rt: &R, space: &Space) -> Result<(), Stop> {
 }
 
 /// Prints how many bindings the ranked hosts had at once.
-fn tell_hosts<R: Print>(rt: &R, ranked: &[Host]) -> Result<(), Stop> {
+fn tell_hosts<R: Print>(rt: &R, ranked: &[Host]) -> Result<(), Exit> {
     println!(rt; "hosts with bindings: {}", ranked.len())?;
     if ranked.is_empty() {
         return Ok(());
@@ -87,9 +87,9 @@ fn tell_hosts<R: Print>(rt: &R, ranked: &[Host]) -> Result<(), Stop> {
     Ok(())
 }
 
-fn tell_host<R: Print>(rt: &R, host: &Host) -> Result<(), Stop> {
+fn tell_host<R: Print>(rt: &R, host: &Host) -> Result<(), Exit> {
     let Level { most, at, .. } = host.bindings;
-    let (address, time) = (Address(host.address), Moment(u128::from(at)));
+    let (address, time) = (Address(host.address), Moment(at));
     println!(rt; "  {address}: {most}, first at {time}")?;
     Ok(())
 }
@@ -101,7 +101,7 @@ fn tell_quotas<R: Print>(
     quotas: &[Quota],
     greatest: u64,
     own: Option<u16>,
-) -> Result<(), Stop> {
+) -> Result<(), Exit> {
     let mut is_behind = false;
     for quota in quotas {
         if !is_behind {
@@ -120,7 +120,7 @@ fn tell_quotas<R: Print>(
 }
 
 /// Prints what blocks of each size would have refused, and how many addresses all hosts of the prefixes would need.
-fn tell_blocks<R: Print>(rt: &R, blocks: &[Quota], all: u64) -> Result<(), Stop> {
+fn tell_blocks<R: Print>(rt: &R, blocks: &[Quota], all: u64) -> Result<(), Exit> {
     for block in blocks {
         let (most, refused, hosts) = (block.most, block.refused.many, block.refused.hosts());
         let each = (NUMBERS / u64::from(most).max(1)).max(1);
@@ -134,7 +134,7 @@ addresses for all {all} hosts {addresses}"
 }
 
 /// Prints how many packets were refused a binding for this cause, if any were.
-fn tell_refusals<R: Print>(rt: &R, cause: &str, refusals: &Refusals) -> Result<(), Stop> {
+fn tell_refusals<R: Print>(rt: &R, cause: &str, refusals: &Refusals) -> Result<(), Exit> {
     let (packets, hosts) = (refusals.many, refusals.hosts());
     if packets > 0 {
         println!(rt; "dropped, {cause}: packets {packets}, of hosts {hosts}")?;
@@ -143,7 +143,7 @@ fn tell_refusals<R: Print>(rt: &R, cause: &str, refusals: &Refusals) -> Result<(
 }
 
 /// Prints how long bindings lived.
-fn tell_lifetimes<R: Print>(rt: &R, lifetimes: Lifetimes) -> Result<(), Stop> {
+fn tell_lifetimes<R: Print>(rt: &R, lifetimes: Lifetimes) -> Result<(), Exit> {
     println!(rt; "bindings by how long they lived:")?;
     for (seconds, many) in SPANS.iter().zip(lifetimes.within.iter()) {
         println!(rt; "  at most {seconds} s: {many}")?;

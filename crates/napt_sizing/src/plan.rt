@@ -9,7 +9,7 @@ pub mod table;
 use crate::plan::planned_run::PlannedRun;
 use crate::plan::sheet::write_sheet;
 use crate::plan::table::tell_table;
-use napt_commands::{Consumer, Outside, Stop, tell_warning};
+use napt_commands::{Consumer, Exit, Outside, tell_warning};
 use napt_config::Config;
 use napt_sequential::Input;
 use std::alloc::{AllocError, Global};
@@ -42,7 +42,7 @@ impl<'a> Plans<'a> {
         alloc: Global,
         outside: Outside,
         inputs: &[Input],
-    ) -> Result<(), Stop> {
+    ) -> Result<(), Exit> {
         for run in self.runs.iter_mut() {
             run.follow(alloc, outside, inputs)?;
         }
@@ -56,7 +56,7 @@ impl<'a> Plans<'a> {
         rt: &R,
         outside: Outside,
         is_csv: bool,
-    ) -> Result<(), Stop> {
+    ) -> Result<(), Exit> {
         if let Some(run) = self.runs.first() {
             run.coverage.tell(rt);
         }
@@ -72,21 +72,17 @@ impl<'a> Plans<'a> {
             tell_table(rt, self.paths, &lines)?;
         }
         if lines.iter().all(|figures| figures.to_outside == 0) {
-            return Err(Stop::Nothing);
+            return Err(Exit::Nothing);
         }
         Ok(())
     }
 }
 
 impl<R: AllocGlobal> Consumer<R> for Plans<'_> {
-    fn take(&mut self, rt: &R, _number: u64, input: &Input) -> Result<(), Stop> {
+    fn take(&mut self, rt: &R, _number: u64, input: &Input) -> Result<(), Exit> {
         for run in self.runs.iter_mut() {
             run.take(rt.alloc(), input)?;
         }
-        Ok(())
-    }
-
-    fn settle(&mut self, _rt: &R) -> Result<(), Stop> {
         Ok(())
     }
 }

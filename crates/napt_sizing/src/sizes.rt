@@ -35,7 +35,7 @@ impl Sizes {
         Ok(Sizes {
             usage: Usage::of(alloc, config, opening)?,
             trials: Trials::new(alloc)?,
-            lifetimes: Lifetimes::NONE,
+            lifetimes: Lifetimes::default(),
             coverage: Coverage::default(),
         })
     }

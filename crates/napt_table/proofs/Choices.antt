@@ -1,16 +1,8 @@
 -- The first free place from a number's own on, else before it, is that of its first free candidate.
-use Rattle.std.proofs.Common.{◌≡◌, ℕ, zero, suc, ◌+◌, ◌-◌, ◌*◌, ◌/◌, ◌<◌, ◌≤◌, Bool, true, false, not, cond, List, [], ◌∷◌, ◌++◌, map, Option, Some, None, ◌⊎◌, inl, inr, refl, sym, ◌∙◌, ap, subst, arith}
-use Rattle.std.specs.Prelude.{find}
-use Rattle.std.specs.List.{range_with_len}
+use Rattle.std.proofs.Common.{◌≡◌, ℕ, zero, suc, ◌+◌, ◌-◌, ◌*◌, ◌<◌, ◌≤◌, Bool, true, false, not, cond, List, [], ◌∷◌, ◌++◌, map, Option, Some, None, refl, sym, ◌∙◌, ap, subst, arith}
+use Rattle.std.specs.{Prelude.find, List.range_with_len}
 use Rattle.napt_collections.specs.Sets.{IsFirstAbsent}
-use Rattle.napt_wire.specs.declared.Protocol.{Protocol}
-use Rattle.napt_wire.specs.declared.Protocol.TheVariants.{Icmp, Tcp, Udp}
-use Rattle.napt_rules.specs.Prelude.{candidates_in_class}
-use Rattle.napt_table.specs.declared.class.Class.{Class}
-use Rattle.napt_table.specs.Classes.{port_class, class_of, member, from_place}
-use Rattle.napt_table.specs.Places.{place_of}
-use Rattle.napt_table.proofs.Ports.{by_class}
-use Rattle.napt_table.proofs.Classes.{candidates_by_class}
+use Rattle.napt_table.specs.{declared.class.Class.Class, Classes.{member, from_place}, Places.place_of}
 
 -- FIND AMONG THE NUMBERS FROM ONE ON
 
@@ -169,53 +161,26 @@ module _ (used : ℕ → Bool) (class : Class) (apart : class.apart ≡ 2) (k : 
   no_choice none h =
       sym (found_nowhere used place_of class run_is k within (moved k class.many None none) (moved_first None h))
 
--- IDENTIFIERS
+-- A CLASS WITHOUT GAPS
 
-module _ (used : ℕ → Bool) (p : ℕ) (small : p ≤ 65536) where
-  abbrev all : Class
-  all = record { least = 0; many = 65536; apart = 1 }
+module _ (used : ℕ → Bool) (class : Class) (apart : class.apart ≡ 1) (p : ℕ) (small : p ≤ class.many) where
+  all_is : (q : ℕ) → q < class.many → class.least + class.apart * q ≡ class.least + q
+  all_is q lt = ap (λ n. class.least + n * q) apart ∙ omega arith
 
-  all_is : (q : ℕ) → q < 65536 → 0 + 1 * q ≡ 0 + q
-  all_is q lt = omega arith
+  number_at : (x : ℕ) → class.least ≤ x → x ≡ member class (x - class.least)
+  number_at x le =
+      let one : 1 * (x - class.least) ≡ class.apart * (x - class.least) = ap (λ n. n * (x - class.least)) (sym apart) in
+      omega (arith, le, one)
 
-  from_p : (o : Option ℕ) → IsFirstAbsent used p 65536 o → IsFirstAbsent used (0 + p) 65536 o
-  from_p o h = let z : 0 + p ≡ p = omega arith in subst (λ (n : ℕ). IsFirstAbsent used n 65536 o) (sym z) h
+  pub near_number : (x : ℕ) → IsFirstAbsent used (class.least + p) (class.least + class.many) (Some x) →
+      Some x ≡ find (λ n. not (used n)) (from_place class p)
+  near_number x h =
+      ap (λ (n : ℕ). Some n) (number_at x (omega (arith, h.0)))
+      ∙ sym (found_near used (λ n. n) class all_is p small x h)
 
-  before_p : (o : Option ℕ) → IsFirstAbsent used 0 p o → IsFirstAbsent used 0 (0 + p) o
-  before_p o h = let z : 0 + p ≡ p = omega arith in subst (λ (n : ℕ). IsFirstAbsent used 0 n o) (sym z) h
-
-  pub near_identifier : (x : ℕ) → IsFirstAbsent used p 65536 (Some x) →
-      Some x ≡ find (λ n. not (used n)) (from_place all p)
-  near_identifier x h =
-      let same : x ≡ 0 + 1 * (x - 0) = omega arith in
-      ap (λ (n : ℕ). Some n) same ∙ sym (found_near used (λ n. n) all all_is p small x (from_p (Some x) h))
-
-  pub far_identifier : IsFirstAbsent used p 65536 None → (o : Option ℕ) → IsFirstAbsent used 0 p o →
-      o ≡ find (λ n. not (used n)) (from_place all p)
-  far_identifier none (Some x) h =
-      let same : x ≡ 0 + 1 * (x - 0) = omega arith in
-      ap (λ (n : ℕ). Some n) same ∙ sym (found_far used (λ n. n) all all_is p small x (from_p None none)
-      (before_p (Some x) h))
-  far_identifier none None h = sym (found_nowhere used (λ n. n) all all_is p small (from_p None none)
-      (before_p None h))
-
-pub identifier_class : (p : ℕ) → p < 65536 → candidates_in_class Icmp p ≡ from_place (class_of Icmp p) p
-identifier_class p lt =
-    let place : (p - 0) / 1 ≡ p = omega arith in
-    candidates_by_class Icmp p lt ∙ ap (from_place (class_of Icmp p)) place
-
--- PORTS
-
-by_two : (p : ℕ) → from_place (port_class p) ((p - (port_class p).least) / (port_class p).apart)
-    ≡ from_place (port_class p) ((p - (port_class p).least) / 2)
-by_two p = by_class (λ class. from_place class ((p - class.least) / class.apart)
-    ≡ from_place class ((p - class.least) / 2)) p (λ e f. refl) (λ e f. refl) (λ e f. refl) (λ e f. refl)
-
-pub port_candidates : (protocol : Protocol) → (protocol ≡ Tcp) ⊎ (protocol ≡ Udp) → (p : ℕ) → p < 65536 →
-    (class : Class) → class ≡ port_class p → from_place class ((p - class.least) / 2) ≡ candidates_in_class protocol p
-port_candidates Tcp which p lt class is =
-    ap (λ (c : Class). from_place c ((p - c.least) / 2)) is ∙ (sym (by_two p) ∙ sym (candidates_by_class Tcp p lt))
-port_candidates Udp which p lt class is =
-    ap (λ (c : Class). from_place c ((p - c.least) / 2)) is ∙ (sym (by_two p) ∙ sym (candidates_by_class Udp p lt))
-port_candidates Icmp (inl e) p lt class is = cc
-port_candidates Icmp (inr e) p lt class is = cc
+  pub far_number : IsFirstAbsent used (class.least + p) (class.least + class.many) None → (o : Option ℕ) →
+      IsFirstAbsent used class.least (class.least + p) o → o ≡ find (λ n. not (used n)) (from_place class p)
+  far_number none (Some x) h =
+      ap (λ (n : ℕ). Some n) (number_at x (omega (arith, h.0)))
+      ∙ sym (found_far used (λ n. n) class all_is p small x none h)
+  far_number none None h = sym (found_nowhere used (λ n. n) class all_is p small none h)

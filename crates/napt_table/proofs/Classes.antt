@@ -1,15 +1,12 @@
 -- The candidates of a number are the numbers of its class: those from its own place on, then those before it.
-use Rattle.std.proofs.Common.{inl, inr, ◌≡◌, ◌≢◌, ℕ, zero, suc, ◌+◌, ◌-◌, ◌*◌, ◌/◌, ◌%◌, ◌<◌, ◌≤◌, Bool, true, false, ◌&&◌, cond, nat_lt, nat_le, List, [], ◌∷◌, ◌++◌, map, refl, sym, ◌∙◌, ap, arith}
-use Rattle.std.specs.Prelude.{filter}
-use Rattle.std.specs.List.{range_with_len}
-use Rattle.std.proofs.lemmas.Bool.{and_parts, and_from, cases_lt, true≢false, ltb-true, ltb-false, lt-ltb, le-ltb, leb-true, le-leb}
-use Rattle.napt_wire.specs.declared.Protocol.{Protocol}
-use Rattle.napt_wire.specs.declared.Protocol.TheVariants.{Icmp, Tcp, Udp}
-use Rattle.napt_rules.specs.Prelude.{is_port_for, is_number_for, numbers_below, candidates_in_class}
+use Rattle.std.proofs.Common.{inl, inr, ◌≡◌, ◌≢◌, ℕ, zero, suc, ◌+◌, ◌-◌, ◌*◌, ◌/◌, ◌%◌, ◌<◌, ◌≤◌, Bool, true, false, ◌&&◌, cond, nat_lt, nat_le, List, [], ◌∷◌, ◌++◌, length, map, slice_index_or, Option, Some, None, refl, sym, ◌∙◌, ap, arith}
+use Rattle.std.specs.{Prelude.filter, List.range_with_len}
+use Rattle.std.proofs.lemmas.{Bool.{and_parts, and_from, cases_lt, true≢false, ltb-true, ltb-false, lt-ltb, le-ltb, leb-true, le-leb}, Nat.mod_below}
+use Rattle.std.proofs.lemmas.List.FromFn.{length-map-range_with_len, get_or-map-range_with_len}
+use Rattle.napt_wire.specs.declared.{Endpoint.Endpoint, Protocol.{Protocol, TheVariants.{Icmp, Tcp, Udp}}}
+use Rattle.napt_rules.specs.Prelude.{is_port_for, is_number_for, numbers_below, numbers_for, upwards, start_of, mixed, candidates_in_class, Choosing, Seed}
 use Rattle.napt_laws.proofs.Classes.{port_from_test, test_from_port}
-use Rattle.napt_table.specs.declared.class.Class.{Class}
-use Rattle.napt_table.specs.Classes.{port_class, class_of, member, from_place}
-use Rattle.napt_table.proofs.Ports.{by_class}
+use Rattle.napt_table.{specs.{declared.class.Class.Class, Classes.{port_class, class_of, member, from_place, place_of_class}}, proofs.Ports.by_class}
 
 -- WHAT A FILTER KEEPS OF A RANGE
 
@@ -84,6 +81,7 @@ filter_both p q (x ∷ xs) = grind (arith, filter_both p q xs)
 -- A CLASS THAT HAS THE CANDIDATES OF A NUMBER, which would come at a place
 
 record IsClassOf (fits : ℕ → Bool) (number place : ℕ) (class : Class) : Type 0 where
+  some : 0 < class.many
   rises : (i j : ℕ) → i < j → member class i < member class j
   sound : (j : ℕ) → j < class.many → (member class j < 65536) × (fits (member class j) ≡ true)
   whole : (x : ℕ) → x < 65536 → fits x ≡ true → (j : ℕ) × (j < class.many) × (x ≡ member class j)
@@ -144,39 +142,73 @@ module _ (fits : ℕ → Bool) (number place : ℕ) (class : Class) (s : IsClass
             (j, omega arith, omega (arith, early), is);
       })
 
-  both_parts : filter (nat_le number) (filter fits (numbers_below 65536))
-      ++ filter (λ other. nat_lt other number) (filter fits (numbers_below 65536))
-      ≡ map (member class) (range_with_len place (class.many - place))
-      ++ map (member class) (range_with_len 0 place)
+  both_parts : upwards number (filter fits (numbers_below 65536)) ≡ from_place class place
   both_parts =
       ap (λ (l : List ℕ). l ++ filter (λ other. nat_lt other number) (filter fits (numbers_below 65536))) upper
       ∙ ap (λ (l : List ℕ). map (member class) (range_with_len place (class.many - place)) ++ l) lower
 
--- THE FIVE CLASSES
+  whole_is : filter fits (numbers_below 65536) ≡ map (member class) (range_with_len 0 class.many)
+  whole_is = kept_below fits (member class) s.rises 65536 0 class.many (record {
+    sound = λ j from to.
+        let (small, passes) = s.sound j (omega (arith, to)) in (omega arith, omega (arith, small), passes);
+    whole = λ x from to e.
+        let (j, below, is) = s.whole x (omega (arith, to)) e in (j, omega arith, omega (arith, below), is);
+  })
+
+  -- the same class, from another of its numbers on
+  from_other : (k : ℕ) → k < class.many → IsClassOf fits (member class k) k class
+  from_other k within = record {
+    some = s.some;
+    rises = s.rises;
+    sound = s.sound;
+    whole = s.whole;
+    within = omega (arith, within);
+    from_it = λ j from. elim (cases_lt k j) as (λ _. member class k ≤ member class j) [
+      | inl less ↦ let higher : member class k < member class j = s.rises k j less in omega (arith, higher)
+      | inr not_less ↦
+          let same : k ≡ j = omega (arith, from, not_less) in
+          let alike : member class k ≡ member class j = ap (member class) same in
+          omega (arith, alike)
+    ];
+    before_it = λ j to. s.rises j k to;
+  }
+
+  -- what stands at a place of the list that has all
+  at_place : (k d : ℕ) → k < class.many → slice_index_or (filter fits (numbers_below 65536)) k d ≡ member class k
+  at_place k d within =
+      ap (λ (l : List ℕ). slice_index_or l k d) whole_is
+      ∙ get_or-map-range_with_len (member class) 0 class.many k k d within (omega arith)
+
+  count_is : length (filter fits (numbers_below 65536)) ≡ class.many
+  count_is = ap length whole_is ∙ length-map-range_with_len (member class) 0 class.many
+
+-- THE CLASSES
 
 -- every second number from the least on, so many of them, on one side of 1024: those of its parity on that side
-ports_of : (least many : ℕ) (low : Bool) (port : ℕ) → port < 65536 →
+ports_of : (least many : ℕ) (low : Bool) (port : ℕ) → port < 65536 → 0 < many →
     nat_lt port 1024 ≡ low → port % 2 ≡ least % 2 → 0 < least → least + 2 * many ≤ 65537 →
     (port - least) / 2 ≤ many →
     ((n : ℕ) → least ≤ n → n + 1 < least + 2 * many → nat_lt n 1024 ≡ low) →
     ((n : ℕ) → 0 < n → n < 65536 → n % 2 ≡ least % 2 → nat_lt n 1024 ≡ low →
     (least ≤ n) × (n < least + 2 * many)) →
-    IsClassOf (is_port_for port) port ((port - least) / 2) (record { least = least; many = many; apart = 2 })
-ports_of least many low port number_small side parity positive small fits within between = record {
+    IsClassOf (is_port_for true port) port ((port - least) / 2) (record { least = least; many = many; apart = 2 })
+ports_of least many low port number_small some side parity positive small fits within between = record {
+  some = some;
   rises = λ i j less. omega arith;
   sound = λ j h. (
     omega (arith, h, small),
-    test_from_port port (least + 2 * j) (record {
+    test_from_port true port (least + 2 * j) (record {
       positive = omega (arith, positive);
       small = omega (arith, h, small);
       side = within (least + 2 * j) (omega arith) (omega (arith, h)) ∙ sym side;
-      parity = omega (arith, parity);
+      parity = λ kept. omega (arith, parity);
     }),
   );
   whole = λ x x_small e.
-      let is = port_from_test port x x_small e in
-      let there = between x is.positive is.small (is.parity ∙ parity) (is.side ∙ side) in
-      ((x - least) / 2, omega (arith, there.0, there.1), omega (arith, is.parity, parity, there.0));
+      let is = port_from_test true port x x_small e in
+      let there = between x is.positive is.small (is.parity refl ∙ parity) (is.side ∙ side) in
+      let alike = is.parity refl in
+      ((x - least) / 2, omega (arith, there.0, there.1), omega (arith, alike, parity, there.0));
   within = fits;
   from_it = λ j from. omega (arith, from, parity);
   before_it = λ j to. omega (arith, to, parity);
@@ -196,44 +228,103 @@ high_between least many n high small parity h end =
 
 module _ (port : ℕ) (small : port < 65536) where
   low_odd : nat_lt port 1024 ≡ true → port % 2 ≡ 1 →
-      IsClassOf (is_port_for port) port ((port - 1) / 2) (record { least = 1; many = 512; apart = 2 })
+      IsClassOf (is_port_for true port) port ((port - 1) / 2) (record { least = 1; many = 512; apart = 2 })
   low_odd low odd =
       let below : port < 1024 = ltb-true port 1024 low in
-      ports_of 1 512 true port small low odd (omega arith) (omega arith) (omega arith)
+      ports_of 1 512 true port small (omega arith) low odd (omega arith) (omega arith) (omega arith)
       (λ n _ h. lt-ltb n 1024 (omega (arith, h)))
       (λ n h _ _ side. low_between 1 512 n side (omega (arith, h)) (omega arith))
 
   low_even : nat_lt port 1024 ≡ true → port % 2 ≡ 0 →
-      IsClassOf (is_port_for port) port ((port - 2) / 2) (record { least = 2; many = 511; apart = 2 })
+      IsClassOf (is_port_for true port) port ((port - 2) / 2) (record { least = 2; many = 511; apart = 2 })
   low_even low even =
       let below : port < 1024 = ltb-true port 1024 low in
-      ports_of 2 511 true port small low even (omega arith) (omega arith) (omega arith)
+      ports_of 2 511 true port small (omega arith) low even (omega arith) (omega arith) (omega arith)
       (λ n _ h. lt-ltb n 1024 (omega (arith, h)))
       (λ n h _ parity side. low_between 2 511 n side (omega (arith, h, parity)) (omega arith))
 
   high_odd : nat_lt port 1024 ≡ false → port % 2 ≡ 1 →
-      IsClassOf (is_port_for port) port ((port - 1025) / 2) (record { least = 1025; many = 32256; apart = 2 })
+      IsClassOf (is_port_for true port) port ((port - 1025) / 2) (record { least = 1025; many = 32256; apart = 2 })
   high_odd high odd =
-      ports_of 1025 32256 false port small high odd (omega arith) (omega arith) (omega arith)
+      ports_of 1025 32256 false port small (omega arith) high odd (omega arith) (omega arith) (omega arith)
       (λ n h _. le-ltb n 1024 (omega (arith, h)))
       (λ n _ small parity side. high_between 1025 32256 n side small parity (omega arith) refl)
 
   high_even : nat_lt port 1024 ≡ false → port % 2 ≡ 0 →
-      IsClassOf (is_port_for port) port ((port - 1024) / 2) (record { least = 1024; many = 32256; apart = 2 })
+      IsClassOf (is_port_for true port) port ((port - 1024) / 2) (record { least = 1024; many = 32256; apart = 2 })
   high_even high even =
-      ports_of 1024 32256 false port small high even (omega arith) (omega arith) (omega arith)
+      ports_of 1024 32256 false port small (omega arith) high even (omega arith) (omega arith) (omega arith)
       (λ n h _. le-ltb n 1024 (omega (arith, h)))
       (λ n _ small parity side. high_between 1024 32256 n side small parity (omega arith) refl)
 
-  is_port_class : IsClassOf (is_port_for port) port ((port - (port_class port).least) / (port_class port).apart)
-      (port_class port)
-  is_port_class =
-      by_class (λ class. IsClassOf (is_port_for port) port ((port - class.least) / class.apart) class) port
+  kept_class : IsClassOf (is_port_for true port) port
+      ((port - (port_class true port).least) / (port_class true port).apart) (port_class true port)
+  kept_class =
+      by_class (λ class. IsClassOf (is_port_for true port) port ((port - class.least) / class.apart) class) port
       low_odd low_even high_odd high_even
 
-is_identifier_class : (number : ℕ) → number < 65536 →
-    IsClassOf (is_number_for Icmp number) number ((number - 0) / 1) (record { least = 0; many = 65536; apart = 1 })
-is_identifier_class number small = record {
+  -- a side of 1024 whole
+  free_side : (least many : ℕ) (low : Bool) → nat_lt port 1024 ≡ low → 0 < many → 0 < least → least + many ≤ 65536 →
+      (port - least) / 1 ≤ many → ((n : ℕ) → least ≤ n → n < least + many → nat_lt n 1024 ≡ low) →
+      ((n : ℕ) → 0 < n → n < 65536 → nat_lt n 1024 ≡ low → (least ≤ n) × (n < least + many)) →
+      (port < least → port ≡ 0) →
+      IsClassOf (is_port_for false port) port ((port - least) / 1) (record { least = least; many = many; apart = 1 })
+  free_side least many low side some positive fits near within between below = record {
+    some = some;
+    rises = λ i j less. omega (arith, less);
+    sound = λ j h. (
+      omega (arith, h, fits),
+      test_from_port false port (least + 1 * j) (record {
+        positive = omega (arith, positive);
+        small = omega (arith, h, fits);
+        side = within (least + 1 * j) (omega arith) (omega (arith, h)) ∙ sym side;
+        parity = λ kept. cc;
+      }),
+    );
+    whole = λ x x_small e.
+        let is = port_from_test false port x x_small e in
+        let there = between x is.positive is.small (is.side ∙ side) in
+        (x - least, omega (arith, there.0, there.1), omega (arith, there.0));
+    within = near;
+    from_it = λ j from. omega (arith, from);
+    before_it = λ j to. omega (arith, to);
+  }
+
+  free_class : IsClassOf (is_port_for false port) port
+      ((port - (port_class false port).least) / (port_class false port).apart) (port_class false port)
+  free_class = elim (nat_lt port 1024) as (λ v. nat_lt port 1024 ≡ v →
+      (let class : Class = cond v (record { least = 1; many = 1023; apart = 1 }) (record {
+        least = 1024;
+        many = 64512;
+        apart = 1;
+      }) in IsClassOf (is_port_for false port) port ((port - class.least) / class.apart) class)) [
+        | true ↦ λ low.
+            let below : port < 1024 = ltb-true port 1024 low in
+            free_side 1 1023 true low (omega arith) (omega arith) (omega arith) (omega arith)
+            (λ n _ h. lt-ltb n 1024 (omega (arith, h)))
+            (λ n h _ side. let under : n < 1024 = ltb-true n 1024 side in (omega (arith, h), omega (arith, under)))
+            (λ h. omega (arith, h))
+        | false ↦ λ high.
+            let above : 1024 ≤ port = ltb-false port 1024 high in
+            free_side 1024 64512 false high (omega arith) (omega arith) (omega arith) (omega arith)
+            (λ n h _. le-ltb n 1024 (omega (arith, h)))
+            (λ n _ h side. let over : 1024 ≤ n = ltb-false n 1024 side in (omega (arith, over), omega (arith, h)))
+            (λ h. absurd (omega (arith, h, above)))
+      ] refl
+
+  is_port_class : (keeps : Bool) → IsClassOf (is_port_for keeps port) port
+      ((port - (port_class keeps port).least) / (port_class keeps port).apart) (port_class keeps port)
+  is_port_class true = kept_class
+  is_port_class false = free_class
+
+is_identifier_class : (keeps : Bool) (number : ℕ) → number < 65536 →
+    IsClassOf (is_number_for keeps Icmp number) number ((number - 0) / 1) (record {
+      least = 0;
+      many = 65536;
+      apart = 1;
+    })
+is_identifier_class keeps number small = record {
+  some = omega arith;
   rises = λ i j less. omega arith;
   sound = λ j h. (omega (arith, h), refl);
   whole = λ x h e. (x, h, omega arith);
@@ -242,20 +333,51 @@ is_identifier_class number small = record {
   before_it = λ j to. omega arith;
 }
 
-is_class_of : (protocol : Protocol) (number : ℕ) → number < 65536 →
-    IsClassOf (is_number_for protocol number) number
-    ((number - (class_of protocol number).least) / (class_of protocol number).apart) (class_of protocol number)
-is_class_of Icmp number small = is_identifier_class number small
-is_class_of Tcp number small = is_port_class number small
-is_class_of Udp number small = is_port_class number small
+is_class_of : (keeps : Bool) (protocol : Protocol) (number : ℕ) → number < 65536 →
+    IsClassOf (is_number_for keeps protocol number) number
+    ((number - (class_of keeps protocol number).least) / (class_of keeps protocol number).apart)
+    (class_of keeps protocol number)
+is_class_of keeps Icmp number small = is_identifier_class keeps number small
+is_class_of keeps Tcp number small = is_port_class number small keeps
+is_class_of keeps Udp number small = is_port_class number small keeps
 
 -- THE LAW
 
-pub candidates_by_class : (protocol : Protocol) (number : ℕ) → number < 65536 →
-    let class = class_of protocol number in
-    let place = (number - class.least) / class.apart in
-    candidates_in_class protocol number ≡ from_place class place
-candidates_by_class protocol number small =
-    let class = class_of protocol number in
-    let place = (number - class.least) / class.apart in
-    both_parts (is_number_for protocol number) number place class (is_class_of protocol number small)
+module _ (keeps : Bool) (protocol : Protocol) (inside : Endpoint) (small : inside.number < 65536) where
+  abbrev class : Class
+  class = class_of keeps protocol inside.number
+
+  abbrev numbers : List ℕ
+  numbers = numbers_for keeps protocol inside.number
+
+  abbrev fits : ℕ → Bool
+  fits = is_number_for keeps protocol inside.number
+
+  abbrev own : ℕ
+  own = (inside.number - class.least) / class.apart
+
+  is_own : IsClassOf fits inside.number own class
+  is_own = is_class_of keeps protocol inside.number small
+
+  from_start : (seed : Option Seed) → upwards (start_of seed numbers protocol inside) numbers
+      ≡ from_place class (place_of_class seed class protocol inside)
+  from_start None = both_parts fits inside.number own class is_own
+  from_start (Some seed) =
+      let hash : ℕ = mixed seed protocol inside in
+      let many : 0 < class.many = is_own.some in
+      let place : ℕ = hash % class.many in
+      let within : place < class.many = mod_below hash class.many many in
+      let first : start_of (Some seed) numbers protocol inside ≡ member class place =
+      ap (λ n. slice_index_or numbers (hash % n) inside.number) (count_is fits inside.number own class is_own)
+      ∙ at_place fits inside.number own class is_own place inside.number within in
+      ap (λ n. upwards n numbers) first
+      ∙ both_parts fits (member class place) place class (from_other fits inside.number own class is_own place within)
+
+pub candidates_by_class : (choosing : Choosing) (protocol : Protocol) (inside : Endpoint) → inside.number < 65536 →
+    (class : Class) → class ≡ class_of choosing.keeps_parity protocol inside.number →
+    (place : ℕ) → place ≡ place_of_class choosing.seed class protocol inside →
+    from_place class place ≡ candidates_in_class choosing protocol inside
+candidates_by_class choosing protocol inside small class class_is place place_is =
+    ap (from_place class) place_is
+    ∙ (ap (λ (k : Class). from_place k (place_of_class choosing.seed k protocol inside)) class_is
+    ∙ sym (from_start choosing.keeps_parity protocol inside small choosing.seed))

@@ -1,33 +1,16 @@
 -- What is held stays found by both its ends, and counted, when a binding comes, goes or changes.
 use Rattle.std.proofs.Common.{◌≡◌, ◌≢◌, ℕ, zero, suc, ◌+◌, ◌*◌, ◌<◌, ◌≤◌, ◌^◌, Bool, true, false, not, ◌&&◌, cond, List, [], ◌∷◌, Option, Some, None, refl, sym, ◌∙◌, ap, subst, arith, eqb}
-use Rattle.std.specs.Prelude.{find, slice_get, IfSome}
-use Rattle.std.specs.Option.{is_some, option_map}
-use Rattle.std.specs.Map.{lookup, values_of}
-use Rattle.indexmap.specs.IndexMap.{with_value_at, IsUnique}
-use Rattle.indexmap.proofs.CallerLemmas.{updates-with_value_at}
-use Rattle.std.proofs.lemmas.Bool.{true≢false}
+use Rattle.std.{specs.{Prelude.{find, slice_get, IfSome}, Option.{is_some, option_map}, Map.{lookup, values_of}}, proofs.lemmas.Bool.true≢false}
 use Rattle.std.proofs.lemmas.Option.{same_Some}
-use Rattle.napt_config.specs.Rules.{IsBlock}
-use Rattle.napt_config.specs.declared.settings.Block.{Block}
-use Rattle.napt_wire.specs.declared.Protocol.{Protocol}
-use Rattle.napt_wire.specs.declared.Protocol.TheVariants.{Icmp, Tcp, Udp}
-use Rattle.napt_wire.specs.declared.Endpoint.{Endpoint}
-use Rattle.napt_rules.specs.declared.Row.{Row}
-use Rattle.napt_rules.specs.Prelude.{Each, Binding, is_live, with_live_flows, row, candidates}
+use Rattle.indexmap.{specs.IndexMap.{with_value_at, IsUnique}, proofs.CallerLemmas.updates-with_value_at}
+use Rattle.napt_config.specs.{Rules.IsBlock, declared.settings.{Block.Block, Timers.Timers}}
+use Rattle.napt_wire.specs.declared.{Protocol.{Protocol, TheVariants.{Icmp, Tcp, Udp}}, Endpoint.Endpoint}
+use Rattle.napt_rules.specs.{declared.{Granting.Granting, Row.Row}, Prelude.{Choosing, Each, Binding, is_live, with_live_flows, row, candidates}}
 use Rattle.napt_binding.specs.declared.addresses.Addresses.{Addresses}
-use Rattle.napt_table.specs.declared.bindings.keys.ExternalKey.{ExternalKey}
-use Rattle.napt_table.specs.declared.bindings.held.Held.TheInside.{Inside}
-use Rattle.napt_table.specs.Counts.{are_counted, count_by, count_in}
-use Rattle.napt_table.specs.Hosts.{held_for, count_held}
-use Rattle.napt_config.specs.declared.settings.Timers.{Timers}
-use Rattle.napt_table.specs.Held.{seen}
-use Rattle.napt_table.specs.Holdings.{Holdings, held, held_at, count_all, IsNumberOf, HoldsSame, ChangesOne}
-use Rattle.napt_table.specs.HeldShown.{holdings_of, number_at, IsHeld}
-use Rattle.napt_table.specs.InUse.{is_in_use, AreByProtocol}
-use Rattle.napt_table.specs.Keys.{key_eq, inside_eq, external_key, inside_key}
-use Rattle.napt_table.proofs.InBlock.{each_small}
-use Rattle.napt_table.proofs.Hosts.{count_same, count_changed, count_none, count_few}
-use Rattle.napt_table.proofs.Seen.{seen_is, seen_live}
+use Rattle.napt_table.specs.{declared.bindings.{keys.ExternalKey.ExternalKey, held.Held.TheInside.Inside}, Counts.{are_counted, count_by, count_in}}
+use Rattle.napt_table.specs.{Hosts.{held_for, count_held}, Held.seen, Holdings.{Holdings, held, held_at, count_all, IsNumberOf, HoldsSame, ChangesOne}}
+use Rattle.napt_table.specs.{HeldShown.{holdings_of, number_at, IsHeld}, InUse.{is_in_use, AreByProtocol}, Keys.{key_eq, inside_eq, external_key, inside_key}}
+use Rattle.napt_table.proofs.{InBlock.each_small, Hosts.{count_same, count_changed, count_none, count_few}, Seen.{seen_is, seen_live}}
 use Rattle.napt_table.proofs.Keys.{by_key, at_key, past_key, by_inside, inside_same, key_equiv}
 
 -- COUNTS
@@ -116,7 +99,7 @@ module _ (old new : Inside) (is : IsHeld old) (key : ExternalKey) (small : key.n
     (had : (b : Binding) → was ≡ Some b → b.row.inside ≡ inside)
     (only : (n : ℕ) → number_at old key.protocol inside ≡ Some n → n ≡ key.number)
     (fits : (b : Binding) → left ≡ Some b → IsAt new.address key inside b)
-    (address : new.address ≡ old.address) (quota : new.quota ≡ old.quota) where
+    (address : new.address ≡ old.address) (granting : new.granting ≡ old.granting) where
   here : held_in new key ≡ left
   here = holds key ∙ at_key key left (held_in old key)
 
@@ -178,7 +161,7 @@ module _ (old new : Inside) (is : IsHeld old) (key : ExternalKey) (small : key.n
     used_is = λ k. by_key key k (λ n. n.number < 2 ^ 16 → is_in_use new.numbers n ≡ is_some (held_in new n))
         (λ lt. used_here ∙ sym (ap is_some here))
         (λ d lt. used_others k lt d ∙ (is.used_is k lt ∙ sym (ap is_some (others k d))));
-    counting = counting ∙ (is.counting ∙ ap is_some (sym quota));
+    counting = counting ∙ (is.counting ∙ ap (λ (g : Granting). is_some g.quota) (sym granting));
     counted = λ on host. counts (sym counting ∙ on) host (count_all (holdings_of new) host)
         (ap (λ (o : Option Binding). count_all (holdings_of new) host + cond {A = ℕ} (held_for host o) 1 0) (sym there)
         ∙ (count_all_changed (holdings_of old) (holdings_of new) host key small others
@@ -187,12 +170,12 @@ module _ (old new : Inside) (is : IsHeld old) (key : ExternalKey) (small : key.n
 
 -- NOTHING CHANGES
 
-pub same_held : (old new : Inside) → IsHeld old → new.address ≡ old.address → new.quota ≡ old.quota →
+pub same_held : (old new : Inside) → IsHeld old → new.address ≡ old.address → new.granting ≡ old.granting →
     ((k : ExternalKey) → held_in new k ≡ held_in old k) →
     ((q : Protocol) (e : Endpoint) → number_at new q e ≡ number_at old q e) →
     new.numbers ≡ old.numbers → are_counted new.hosts ≡ are_counted old.hosts →
     ((host : ℕ) → count_in new.hosts host ≡ count_in old.hosts host) → IsHeld new
-same_held old new is address quota holds insides numbers counting counts = record {
+same_held old new is address granting holds insides numbers counting counts = record {
   named = record {
     protocol_is = λ k b h. is.named.protocol_is k b (sym (holds k) ∙ h);
     external_is = λ k b h. at_address new.address old.address k.number address b.row.external
@@ -204,7 +187,7 @@ same_held old new is address quota holds insides numbers counting counts = recor
       (o.0, holds (external_key q n) ∙ o.1, o.2);
   by_protocol = subst AreByProtocol (sym numbers) is.by_protocol;
   used_is = λ k lt. ap (λ (u : _). is_in_use u k) numbers ∙ (is.used_is k lt ∙ ap is_some (sym (holds k)));
-  counting = counting ∙ (is.counting ∙ ap is_some (sym quota));
+  counting = counting ∙ (is.counting ∙ ap (λ (g : Granting). is_some g.quota) (sym granting));
   counted = λ on host. counts host ∙ (is.counted (sym counting ∙ on) host
       ∙ sym (count_all_same (holdings_of old) (holdings_of new) host holds));
 }
@@ -212,7 +195,7 @@ same_held old new is address quota holds insides numbers counting counts = recor
 -- NOTHING IS HELD
 
 pub none_held : (it : Inside) → it.by_number.entries ≡ [] → it.by_inside.entries ≡ [] → AreByProtocol it.numbers →
-    ((key : ExternalKey) → is_in_use it.numbers key ≡ false) → are_counted it.hosts ≡ is_some it.quota →
+    ((key : ExternalKey) → is_in_use it.numbers key ≡ false) → are_counted it.hosts ≡ is_some it.granting.quota →
     ((host : ℕ) → count_in it.hosts host ≡ 0) → IsHeld it
 none_held it no_numbers no_insides by_protocol unused counting no_counts =
     let none : (key : ExternalKey) → held_in it key ≡ None = λ key. ap (lookup (key_eq key)) no_numbers in
@@ -243,14 +226,15 @@ find_agree_each p q (x ∷ xs) same =
     ∙ ap (λ (o : Option ℕ). cond (q x) (Some x) o) (find_agree_each p q xs same.1)
 
 -- a number is in use where a binding has it
-pub choice_held : (it : Inside) → IsHeld it → (block : Option Block) → IfSome block IsBlock → (protocol : Protocol)
-    (number : ℕ) → find (λ n. not (is_in_use it.numbers (external_key protocol n))) (candidates block protocol number)
-    ≡ find (λ n. not (is_some (held_at (holdings_of it) protocol n))) (candidates block protocol number)
-choice_held it is block keeps protocol number =
+pub choice_held : (it : Inside) → IsHeld it → (choosing : Choosing) (block : Option Block) → IfSome block IsBlock →
+    (protocol : Protocol) (inside : Endpoint) →
+    find (λ n. not (is_in_use it.numbers (external_key protocol n))) (candidates choosing block protocol inside)
+    ≡ find (λ n. not (is_some (held_at (holdings_of it) protocol n))) (candidates choosing block protocol inside)
+choice_held it is choosing block keeps protocol inside =
     let p = λ (n : ℕ). not (is_in_use it.numbers (external_key protocol n)) in
     let q = λ (n : ℕ). not (is_some (held_at (holdings_of it) protocol n)) in
-    find_agree_each p q (candidates block protocol number) (each_small block keeps (λ n. p n ≡ q n) protocol number
-    (λ n small. ap not (is.used_is (external_key protocol n) small)))
+    find_agree_each p q (candidates choosing block protocol inside) (each_small choosing block keeps (λ n. p n ≡ q n)
+    protocol inside (λ n small. ap not (is.used_is (external_key protocol n) small)))
 
 -- A BINDING CHANGES, and keeps its ends
 
@@ -259,7 +243,7 @@ count_kept then now one other alike moved = omega arith
 
 module _ (old new : Inside) (key : ExternalKey) (is : IsHeld old) (b w : Binding) (there : held_in old key ≡ Some b)
     (holds : (k : ExternalKey) → held_in new k ≡ cond (key_eq key k) (Some w) (held_in old k))
-    (address : new.address ≡ old.address) (quota : new.quota ≡ old.quota) where
+    (address : new.address ≡ old.address) (granting : new.granting ≡ old.granting) where
   written_there : held_in new key ≡ Some w
   written_there = holds key ∙ at_key key (Some w) (held_in old key)
 
@@ -286,7 +270,7 @@ module _ (old new : Inside) (key : ExternalKey) (is : IsHeld old) (b w : Binding
         at_address new.address old.address key.number address w.row.external
             (ap (λ (r : Row). r.external) rows ∙ is.named.external_is key b there),
         ap (λ (r : Row). r.inside) rows,
-      )) address quota (subst AreByProtocol (sym numbers) is.by_protocol)
+      )) address granting (subst AreByProtocol (sym numbers) is.by_protocol)
       (ap (λ (u : _). is_in_use u key) numbers ∙ (is.used_is key (is.named.small key b there) ∙ ap is_some there))
       (λ k lt d. ap (λ (u : _). is_in_use u k) numbers) (ap are_counted hosts)
       (λ on host n moved. ap (λ (h : _). count_in h host) hosts ∙ count_kept (count_in old.hosts host) n
@@ -294,11 +278,11 @@ module _ (old new : Inside) (key : ExternalKey) (is : IsHeld old) (b w : Binding
       (ap (λ (r : Row). cond {A = ℕ} (eqb r.inside.address host && not r.fixed) 1 0) (sym rows)) moved)
 
   written_one : ChangesOne key (holdings_of old) (holdings_of new)
-  written_one = record { place = record { address_is = address; quota_is = quota }; others = written_others }
+  written_one = record { place = record { address_is = address; granting_is = granting }; others = written_others }
 
   written_same : w ≡ b → HoldsSame (holdings_of old) (holdings_of new)
   written_same e = record {
-    place = record { address_is = address; quota_is = quota };
+    place = record { address_is = address; granting_is = granting };
     held_same = λ k. by_key key k (λ n. held_in new n ≡ held_in old n)
         (written_there ∙ (ap (λ (x : Binding). Some x) e ∙ sym there)) (written_others k);
   }

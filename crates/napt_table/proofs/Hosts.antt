@@ -1,16 +1,11 @@
 -- How many bindings of each inside host are held, in the list and in what is held for it.
 use Rattle.std.proofs.Common.{◌≡◌, ◌≢◌, ℕ, zero, suc, ◌+◌, ◌<◌, ◌≤◌, ◌^◌, Bool, true, false, not, ◌&&◌, cond, List, [], ◌∷◌, map, length, Option, Some, None, refl, sym, ◌∙◌, ap, arith, eqb, eqb-true}
-use Rattle.std.specs.Prelude.{filter, find}
-use Rattle.std.proofs.lemmas.Bool.{eq-eqb, true≢false}
-use Rattle.napt_wire.specs.declared.Protocol.{Protocol}
-use Rattle.napt_wire.specs.declared.Protocol.TheVariants.{Icmp, Tcp, Udp}
+use Rattle.std.{specs.Prelude.{filter, find}, proofs.lemmas.Bool.{eq-eqb, true≢false}}
+use Rattle.napt_wire.specs.declared.Protocol.{Protocol, TheVariants.{Icmp, Tcp, Udp}}
 use Rattle.napt_config.specs.declared.settings.Timers.{Timers}
 use Rattle.napt_rules.specs.Prelude.{Binding, same_protocol, is_at, has_number, is_live, with_live_flows, counts_for, count_for, row, Apart}
-use Rattle.napt_table.specs.Held.{seen, Shows}
-use Rattle.napt_table.specs.Hosts.{held_for, count_below, count_held, CountIsHeld}
-use Rattle.napt_laws.proofs.Lists.{find_nowhere}
-use Rattle.napt_laws.proofs.Finds.{Once}
-use Rattle.napt_laws.proofs.Endpoints.{protocol_is, same_itself, has_it, number_of_it, not_has, once_number}
+use Rattle.napt_table.specs.{Held.{seen, Shows}, Hosts.{held_for, count_below, count_held, CountIsHeld}}
+use Rattle.napt_laws.proofs.{Lists.find_nowhere, Finds.Once, Endpoints.{protocol_is, same_itself, has_it, number_of_it, not_has, once_number}}
 
 -- one where the test passes
 abbrev one : Bool → ℕ

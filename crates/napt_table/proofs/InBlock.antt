@@ -1,19 +1,12 @@
 -- The candidates of a number in a block are the numbers of one parity, then those of the other: each a class, from a
--- place of it on, then before it.
-use Rattle.std.proofs.Common.{◌≡◌, ℕ, zero, suc, ◌+◌, ◌-◌, ◌*◌, ◌/◌, ◌%◌, ◌<◌, ◌≤◌, ◌^◌, Bool, List, ◌∷◌, ◌++◌, map, Option, Some, None, refl, sym, ◌∙◌, ap, arith}
-use Rattle.std.specs.Prelude.{find, IfSome}
-use Rattle.std.specs.List.{range_with_len}
-use Rattle.std.proofs.lemmas.List.{map-append}
-use Rattle.std.proofs.lemmas.Nat.{mod_below}
-use Rattle.std.proofs.Math.Nat.{mod-eq_of_lt, add-mod_left}
-use Rattle.napt_config.specs.Rules.{IsBlock}
-use Rattle.napt_config.specs.declared.settings.Block.{Block}
-use Rattle.napt_wire.specs.declared.Protocol.{Protocol}
-use Rattle.napt_rules.specs.Prelude.{Each, numbers_below, every_other, candidates_in_block, candidates}
-use Rattle.napt_laws.proofs.Blocks.{each_of_block}
-use Rattle.napt_laws.proofs.Classes.{small_number, each_candidate}
-use Rattle.napt_table.specs.Classes.{member, from_place, class_in_block}
-use Rattle.napt_table.proofs.Choices.{find_front, find_rest}
+-- place of it on, then before it; or, where parity is free, all of them so.
+use Rattle.std.proofs.Common.{◌≡◌, ℕ, zero, suc, ◌+◌, ◌-◌, ◌*◌, ◌/◌, ◌%◌, ◌<◌, ◌≤◌, ◌^◌, Bool, true, false, List, ◌∷◌, ◌++◌, map, Option, Some, None, refl, sym, ◌∙◌, ap, arith}
+use Rattle.std.{specs.{Prelude.{find, IfSome}, List.range_with_len}, proofs.{lemmas.List.map-append, Math.Nat.{mod-eq_of_lt, add-mod_left}}}
+use Rattle.napt_config.specs.{Rules.IsBlock, declared.settings.Block.Block}
+use Rattle.napt_wire.specs.declared.{Endpoint.Endpoint, Protocol.Protocol}
+use Rattle.napt_rules.specs.Prelude.{Each, numbers_below, every_other, each_one, place_in, block_from, candidates_in_block, candidates, Choosing}
+use Rattle.napt_laws.proofs.{Blocks.each_of_block, Classes.{small_number, each_candidate}}
+use Rattle.napt_table.{specs.{declared.class.Class.Class, Classes.{member, from_place, class_in_block, class_of_block}}, proofs.Choices.{find_front, find_rest}}
 
 -- RANGES
 
@@ -74,36 +67,58 @@ module _ (block : Block) (is : IsBlock block) where
       ap (λ n. block.first + n % block.size) over
       ∙ (ap (λ n. block.first + n) (add-mod_left block.size (place % 2 + 2 * k) ∙ mod-eq_of_lt less) ∙ omega arith))
 
-  module _ (free : ℕ → Bool) (number : ℕ) where
-    abbrev own : ℕ
-    own = number % block.size
+  -- all of them
+  pub each_is : (place : ℕ) → place ≤ block.size → each_one block place ≡ from_place (class_of_block block) place
+  unfolding numbers_below
+  each_is place on =
+      map_wraps (λ k. block.first + (place + k) % block.size) (member (class_of_block block)) block.size place on
+      (λ k lt.
+      let less : place + (0 + k) < block.size = omega (arith, lt) in
+      ap (λ n. block.first + n) (mod-eq_of_lt less) ∙ omega arith)
+      (λ k lt.
+      let over : place + ((0 + (block.size - place)) + k) ≡ block.size + k = omega (arith, on) in
+      let less : k < block.size = omega (arith, on, lt) in
+      ap (λ n. block.first + n % block.size) over
+      ∙ (ap (λ n. block.first + n) (add-mod_left block.size k ∙ mod-eq_of_lt less) ∙ omega arith))
 
+  -- by a class and a place that are those
+  pub each_by : (choosing : Choosing) → choosing.keeps_parity ≡ false → (protocol : Protocol) (inside : Endpoint)
+      (class : Class) → class ≡ class_of_block block → (place : ℕ) →
+      place ≡ place_in choosing.seed choosing.keeps_parity block.size protocol inside → place < block.size →
+      from_place class place ≡ candidates_in_block choosing block protocol inside
+  each_by choosing free protocol inside class class_is place place_is within =
+      ap (λ (k : Class). from_place k place) class_is
+      ∙ (sym (each_is place (omega (arith, within)))
+      ∙ (sym (ap (λ keeps. block_from keeps block place) free)
+      ∙ ap (block_from choosing.keeps_parity block) place_is))
+
+  module _ (free : ℕ → Bool) (place : ℕ) (within : place < block.size) where
     abbrev alike : List ℕ
-    alike = from_place (class_in_block block (own % 2)) (own / 2)
+    alike = from_place (class_in_block block (place % 2)) (place / 2)
 
     abbrev unlike : List ℕ
-    unlike = from_place (class_in_block block ((own + 1) % 2)) ((own + 1) / 2)
+    unlike = from_place (class_in_block block ((place + 1) % 2)) ((place + 1) / 2)
 
-    both : candidates_in_block block number ≡ alike ++ unlike
+    both : block_from true block place ≡ alike ++ unlike
     both =
-        let some : 0 < block.size = omega (arith, is.some) in
-        let within : own < block.size = mod_below number block.size some in
-        ap (λ (l : List ℕ). l ++ every_other block (own + 1)) (turn_is own (omega (arith, within)))
-        ∙ ap (λ (l : List ℕ). alike ++ l) (turn_is (own + 1) (omega (arith, within)))
+        ap (λ (l : List ℕ). l ++ every_other block (place + 1)) (turn_is place (omega (arith, within)))
+        ∙ ap (λ (l : List ℕ). alike ++ l) (turn_is (place + 1) (omega (arith, within)))
 
     -- a number of its parity is free
-    pub found_alike : (n : ℕ) → find free alike ≡ Some n → Some n ≡ find free (candidates_in_block block number)
+    pub found_alike : (n : ℕ) → find free alike ≡ Some n → Some n ≡ find free (block_from true block place)
     found_alike n e = sym (ap (find free) both ∙ find_front free alike unlike n e)
 
     -- none is
-    pub found_unlike : find free alike ≡ None → find free unlike ≡ find free (candidates_in_block block number)
+    pub found_unlike : find free alike ≡ None → find free unlike ≡ find free (block_from true block place)
     found_unlike e = sym (ap (find free) both ∙ find_rest free alike unlike e)
 
 -- EACH CANDIDATE has 16 bits
 
-pub each_small : (block : Option Block) → IfSome block IsBlock → (P : ℕ → Type 0) (protocol : Protocol) (number : ℕ) →
-    ((n : ℕ) → n < 2 ^ 16 → P n) → Each P (candidates block protocol number)
-each_small None is P protocol number holds =
-    each_candidate P protocol number (λ n fits. holds n (small_number protocol number n fits))
-each_small (Some block) is P protocol number holds =
-    each_of_block block is protocol number P (λ n of. holds n (omega (arith, of.last, is.high)))
+pub each_small : (choosing : Choosing) (block : Option Block) → IfSome block IsBlock → (P : ℕ → Type 0)
+    (protocol : Protocol) (inside : Endpoint) → ((n : ℕ) → n < 2 ^ 16 → P n) →
+    Each P (candidates choosing block protocol inside)
+each_small choosing None is P protocol inside holds =
+    each_candidate P choosing protocol inside (λ n fits. holds n (small_number choosing.keeps_parity protocol
+    inside.number n fits))
+each_small choosing (Some block) is P protocol inside holds =
+    each_of_block P choosing block is protocol inside (λ n of. holds n (omega (arith, of.last, is.high)))

@@ -1,14 +1,9 @@
 -- The keys of what is held.
 use Rattle.std.proofs.Common.{◌≡◌, ◌≢◌, ℕ, Bool, true, false, ◌&&◌, cond, refl, sym, ◌∙◌, ap, subst, eqb, eqb-true}
-use Rattle.std.proofs.lemmas.Bool.{eq-eqb, and_from, and_parts, true≢false}
-use Rattle.std.specs.Cmp.{IsEquivalence}
+use Rattle.std.{proofs.lemmas.Bool.{eq-eqb, and_from, and_parts, true≢false}, specs.Cmp.IsEquivalence}
 use denote.Enum.Bare.{sameb}
-use Rattle.napt_wire.specs.contracts.Protocol.{the_type}
-use Rattle.napt_wire.specs.declared.Protocol.{Protocol}
-use Rattle.napt_wire.specs.declared.Protocol.TheVariants.{Icmp, Tcp, Udp}
-use Rattle.napt_wire.specs.declared.Endpoint.{Endpoint}
-use Rattle.napt_table.specs.declared.bindings.keys.ExternalKey.{ExternalKey}
-use Rattle.napt_table.specs.Keys.{key_eq, inside_eq, external_key, inside_key}
+use Rattle.napt_wire.specs.{contracts.Protocol.the_type, declared.{Protocol.{Protocol, TheVariants.{Icmp, Tcp, Udp}}, Endpoint.Endpoint}}
+use Rattle.napt_table.specs.{declared.bindings.keys.ExternalKey.ExternalKey, Keys.{key_eq, inside_eq, external_key, inside_key}}
 
 same_bare : (p q : Protocol) → sameb the_type p q ≡ true → p ≡ q
 same_bare Icmp Icmp h = refl

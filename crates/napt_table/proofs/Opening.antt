@@ -1,35 +1,17 @@
 -- The table over maps as a translator begins: each redirect of its address is held.
 use Rattle.std.proofs.Common.{◌≡◌, ◌≢◌, ℕ, zero, suc, ◌+◌, ◌<◌, ◌≤◌, Bool, true, false, ◌||◌, cond, List, [], ◌∷◌, ◌++◌, length, get_or, take, map, filter, Some, None, refl, sym, ◌∙◌, ap, subst, arith, eqb}
-use Rattle.std.specs.Prelude.{find}
-use Rattle.std.specs.List.{list_any}
-use Rattle.std.proofs.lemmas.Bool.{eq-eqb, or_parts, true≢false}
-use Rattle.std.proofs.lemmas.Bool.Decides.{nat_tests}
-use Rattle.std.proofs.lemmas.List.{map_more, append-nil, take_all}
-use Rattle.std.proofs.lemmas.List.Elements.{filter-append}
-use Rattle.napt_wire.specs.declared.Protocol.{Protocol}
-use Rattle.napt_wire.specs.declared.Endpoint.{Endpoint}
-use Rattle.napt_config.specs.Rules.{Rules, KeepsRules, AreSingle, is_double, pair_of}
-use Rattle.napt_config.specs.declared.settings.Redirect.{Redirect}
-use Rattle.napt_rules.specs.Prelude.{Binding, is_at, of, is_of_inside, has_number, inbound_of, protocol_of, redirected, opening, row, Apart}
-use Rattle.napt_table.specs.declared.bindings.keys.ExternalKey.{ExternalKey}
-use Rattle.napt_table.specs.Keys.{key_eq, external_key}
-use Rattle.napt_table.specs.Held.{redirect_of, seen}
-use Rattle.napt_table.specs.Holdings.{Holdings, held, held_at, IsNamed, IsAbsent}
-use Rattle.napt_table.specs.Bindings.{AllShow}
-use Rattle.napt_table.specs.declared.event.Event.{Event}
-use Rattle.napt_table.specs.declared.event.Event.TheVariants.{Redirected}
-use Rattle.napt_table.specs.Events.{played_all}
-use Rattle.napt_table.specs.Shown.{list_of, shown, KeepsItsList}
-use Rattle.napt_table.specs.Tables.{TableState, IsTable, opened}
-use Rattle.napt_table.specs.declared.table.Table.TheInside.{Inside}
-use Rattle.napt_laws.proofs.Finds.{Once, find_pushed, find_passed_over, any_found, none_passes}
-use Rattle.napt_table.proofs.Steps.{played_more}
-use Rattle.napt_table.proofs.Keys.{by_key, at_key, past_key}
-use Rattle.napt_laws.proofs.Opened.{apart_redirects}
-use Rattle.napt_table.proofs.Opened.{opened_is_table}
-use Rattle.napt_laws.proofs.Endpoints.{has_it, inside_it, has_protocol, number_of_it, once_number, once_inside}
+use Rattle.std.{specs.{Prelude.find, List.list_any}, proofs.lemmas.Bool.{eq-eqb, or_parts, true≢false, Decides.nat_tests}}
+use Rattle.std.proofs.lemmas.List.{map_more, append-nil, take_all, Elements.filter-append}
+use Rattle.napt_wire.specs.declared.{Protocol.Protocol, Endpoint.Endpoint}
+use Rattle.napt_config.specs.{Rules.{Rules, KeepsRules, AreSingle, is_double, pair_of}, declared.settings.Redirect.Redirect}
+use Rattle.napt_rules.specs.Prelude.{granting_of, Binding, is_at, of, is_of_inside, has_number, inbound_of, protocol_of, redirected, opening, row, Apart}
+use Rattle.napt_table.specs.{declared.bindings.keys.ExternalKey.ExternalKey, Keys.{key_eq, external_key}, Held.{redirect_of, seen}}
+use Rattle.napt_table.specs.{Holdings.{Holdings, held, held_at, IsNamed, IsAbsent}, Bindings.AllShow, declared.event.Event.{Event, TheVariants.Redirected}}
+use Rattle.napt_table.specs.{Events.played_all, Shown.{list_of, shown, KeepsItsList}, Tables.{TableState, IsTable, opened}}
+use Rattle.napt_table.{specs.declared.table.Table.TheInside.Inside, proofs.{Steps.played_more, Keys.{by_key, at_key, past_key}, Opened.opened_is_table}}
 use Rattle.napt_table.proofs.Seen.{found_seen}
-use Rattle.napt_laws.proofs.StepsSound.{apart_kept}
+use Rattle.napt_laws.proofs.{Finds.{Once, find_pushed, find_passed_over, any_found, none_passes}, Opened.apart_redirects}
+use Rattle.napt_laws.proofs.{Endpoints.{has_it, inside_it, has_protocol, number_of_it, once_number, once_inside}, StepsSound.apart_kept}
 
 -- THE REDIRECTS SO FAR
 
@@ -223,11 +205,12 @@ module _ (rules : Rules) (keeps : KeepsRules rules) (address k : ℕ) (redirect 
       (Some (redirect_of protocol a inside redirect.external)) (held old n)) at holds))
 
   pub step_played : (past new : List (ℕ × Event)) → new ≡ past ++ (0, Redirected protocol inside redirect.external)
-      ∷ [] → played_all rules.timers rules.quota (inbound_of rules) address past [] ≡ begun rules address k →
-      played_all rules.timers rules.quota (inbound_of rules) address new [] ≡ begun rules address (k + 1)
+      ∷ [] → played_all rules.timers (granting_of rules) (inbound_of rules) address past [] ≡ begun rules address k →
+      played_all rules.timers (granting_of rules) (inbound_of rules) address new [] ≡ begun rules address (k + 1)
   step_played past new is_new so_far =
-      ap (λ (es : List (ℕ × Event)). played_all rules.timers rules.quota (inbound_of rules) address es []) is_new
-      ∙ (played_more rules.timers rules.quota (inbound_of rules) address past
+      ap (λ (es : List (ℕ × Event)). played_all rules.timers (granting_of rules) (inbound_of rules) address es [])
+      is_new
+      ∙ (played_more rules.timers (granting_of rules) (inbound_of rules) address past
       (0, Redirected protocol inside redirect.external) []
       ∙ (ap (λ (list : List Binding). list ++ redirect_of protocol address inside redirect.external ∷ []) so_far
       ∙ sym pushed))
@@ -236,8 +219,8 @@ module _ (rules : Rules) (keeps : KeepsRules rules) (address k : ℕ) (redirect 
 
 pub opened_keeps_its_list : (rules : Rules) → KeepsRules rules → (address k : ℕ) (table : Inside) →
     length rules.redirects ≤ k → table.bindings.held.address ≡ address → table.bindings.timers ≡ rules.timers →
-    table.bindings.held.quota ≡ rules.quota → table.inbound ≡ (inbound_of rules) → table.bindings.at ≡ 0 →
-    played_all rules.timers rules.quota (inbound_of rules) address table.past.items [] ≡ begun rules address k →
+    table.bindings.held.granting ≡ granting_of rules → table.inbound ≡ (inbound_of rules) → table.bindings.at ≡ 0 →
+    played_all rules.timers (granting_of rules) (inbound_of rules) address table.past.items [] ≡ begun rules address k →
     AreHeld address table.bindings.held (begun rules address k) →
     (shown table ≡ opened rules address) × KeepsItsList table
 opened_keeps_its_list rules keeps address k table end a t u f z played are =
@@ -245,7 +228,7 @@ opened_keeps_its_list rules keeps address k table end a t u f z played are =
     let shown : shown table ≡ opened rules address = λ i. record {
       address = a i;
       timers = t i;
-      quota = u i;
+      granting = u i;
       inbound =
           f i;
       list = list i;

@@ -1,8 +1,6 @@
 -- What holds of each class of ports holds of that of a port.
-use Rattle.std.proofs.Common.{◌≡◌, ◌≢◌, ℕ, ◌%◌, ◌<◌, ◌==◌, Bool, true, false, cond, nat_lt, refl, arith}
-use Rattle.std.proofs.lemmas.Bool.Decides.{nat_tests}
-use Rattle.napt_table.specs.declared.class.Class.{Class}
-use Rattle.napt_table.specs.Classes.{port_class}
+use Rattle.std.proofs.{Common.{◌≡◌, ◌≢◌, ℕ, ◌%◌, ◌<◌, ◌==◌, Bool, true, false, cond, nat_lt, refl, arith}, lemmas.Bool.Decides.nat_tests}
+use Rattle.napt_table.specs.{declared.class.Class.Class, Classes.port_class}
 
 odd : (p : ℕ) → (p % 2 == 1) ≡ true → p % 2 ≡ 1
 odd p e = grind (arith, nat_tests, e)
@@ -23,7 +21,7 @@ pub by_class : (P : Class → Type 0) (p : ℕ) →
     (nat_lt p 1024 ≡ true → p % 2 ≡ 1 → P (record { least = 1; many = 512; apart = 2 })) →
     (nat_lt p 1024 ≡ true → p % 2 ≡ 0 → P (record { least = 2; many = 511; apart = 2 })) →
     (nat_lt p 1024 ≡ false → p % 2 ≡ 1 → P (record { least = 1025; many = 32256; apart = 2 })) →
-    (nat_lt p 1024 ≡ false → p % 2 ≡ 0 → P (record { least = 1024; many = 32256; apart = 2 })) → P (port_class p)
+    (nat_lt p 1024 ≡ false → p % 2 ≡ 0 → P (record { least = 1024; many = 32256; apart = 2 })) → P (port_class true p)
 by_class P p low_odd low_even high_odd high_even =
     elim (nat_lt p 1024) as (λ v. nat_lt p 1024 ≡ v → P (cond v (low_class (p % 2 == 1)) (high_class (p % 2 == 1)))) [
       | true ↦ λ e. elim (p % 2 == 1) as (λ v. (p % 2 == 1) ≡ v → P (low_class v))

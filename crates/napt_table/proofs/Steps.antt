@@ -1,18 +1,13 @@
 -- The protocols that a step leaves as they are, and one event more.
-use Rattle.std.proofs.Common.{◌≡◌, ◌≢◌, ℕ, true, false, List, [], ◌∷◌, ◌++◌, Option, Some, None, Result, Ok, Err, refl, sym, ◌∙◌, ap, subst, eqb, eqb-true}
-use Rattle.std.specs.Prelude.{find, OnErr}
-use Rattle.std.proofs.lemmas.Bool.{eq-eqb, true≢false}
+use Rattle.std.proofs.Common.{◌≡◌, ◌≢◌, ℕ, true, false, List, [], ◌∷◌, ◌++◌, Some, None, Result, Ok, Err, refl, sym, ◌∙◌, ap, subst, eqb, eqb-true}
+use Rattle.std.{specs.Prelude.{find, OnErr}, proofs.lemmas.Bool.{eq-eqb, true≢false}}
 use Rattle.napt_wire.specs.declared.Protocol.{Protocol}
 use Rattle.napt_config.specs.declared.settings.Timers.{Timers}
-use Rattle.napt_rules.specs.declared.Inbound.{Inbound}
-use Rattle.napt_rules.specs.declared.Sent.{Sent}
-use Rattle.napt_rules.specs.declared.Received.{Received}
+use Rattle.napt_rules.specs.declared.{Granting.Granting, Inbound.Inbound, Sent.Sent, Received.Received}
 use Rattle.napt_rules.specs.Prelude.{Binding, same_protocol, has_number, permits, granted, of_source, sent_by, fresh, out_made, out_found, out_purged, of_destination, received_by, in_found, in_purged}
-use Rattle.napt_laws.proofs.Finds.{find_other, find_passed_over}
-use Rattle.napt_table.specs.declared.event.Event.{Event}
-use Rattle.napt_table.specs.Events.{played, played_all}
-use Rattle.napt_laws.proofs.Passes.{in_passed}
+use Rattle.napt_laws.proofs.{Finds.{find_other, find_passed_over}, Passes.in_passed}
 use Rattle.napt_laws.proofs.Endpoints.{protocol_is, same_itself, changed_other, inside_protocol, not_has}
+use Rattle.napt_table.specs.{declared.event.Event.Event, Events.{played, played_all}}
 
 -- other protocols are as before
 pub in_others : (inbound : Inbound) (timers : Timers) (address : ℕ) (packet : Received) (list : List Binding)
@@ -33,15 +28,15 @@ in_others inbound timers address packet list q differs n =
           ]
     ]
 
-pub out_others : (quota : Option ℕ) (timers : Timers) (address : ℕ) (packet : Sent) (list : List Binding)
+pub out_others : (granting : Granting) (timers : Timers) (address : ℕ) (packet : Sent) (list : List Binding)
     (q : Protocol) → q ≢ packet.protocol → (n : ℕ) →
-    find (λ b. has_number address q n b.row) (out_purged quota address packet list).list
+    find (λ b. has_number address q n b.row) (out_purged granting address packet list).list
     ≡ find (λ b. has_number address q n b.row) list
-out_others quota timers address packet list q differs n =
+out_others granting timers address packet list q differs n =
     elim (find (of_source address packet) list) as (λ o.
-    find (λ b. has_number address q n b.row) (out_found quota list address packet o).list
+    find (λ b. has_number address q n b.row) (out_found granting list address packet o).list
     ≡ find (λ b. has_number address q n b.row) list) [
-      | None ↦ elim (granted quota list address packet) as (λ m.
+      | None ↦ elim (granted granting list address packet) as (λ m.
           find (λ b. has_number address q n b.row) (out_made list address packet m).list
           ≡ find (λ b. has_number address q n b.row) list) [
             | Err cause ↦ refl
@@ -72,10 +67,11 @@ same_everywhere old new number others here n = elim (eqb n number) as (λ v. eqb
 ] refl
 
 -- one event more
-pub played_more : (timers : Timers) (quota : Option ℕ) (inbound : Inbound) (address : ℕ) (events : List (ℕ × Event))
+pub played_more : (timers : Timers) (granting : Granting) (inbound : Inbound) (address : ℕ) (events : List (ℕ × Event))
     (event : ℕ × Event) (list : List Binding) →
-    played_all timers quota inbound address (events ++ event ∷ []) list
-    ≡ played timers quota inbound address event.1 (played_all timers quota inbound address events list)
-played_more timers quota inbound address [] event list = refl
-played_more timers quota inbound address (e ∷ events) event list = played_more timers quota inbound address events event
-    (played timers quota inbound address e.1 list)
+    played_all timers granting inbound address (events ++ event ∷ []) list
+    ≡ played timers granting inbound address event.1 (played_all timers granting inbound address events list)
+played_more timers granting inbound address [] event list = refl
+played_more timers granting inbound address (e ∷ events) event list = played_more timers granting inbound address
+    events event
+    (played timers granting inbound address e.1 list)

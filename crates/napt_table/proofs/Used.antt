@@ -1,23 +1,12 @@
 -- No flow of a binding was last used after a time, as packets go through it.
-use Rattle.std.proofs.Common.{◌≡◌, ℕ, ◌≤◌, Bool, true, false, cond, List, [], ◌∷◌, ◌++◌, inl, inr, refl, sym, ◌∙◌, arith}
-use Rattle.std.specs.Prelude.{filter}
-use Rattle.std.specs.List.{list_any}
-use Rattle.std.proofs.lemmas.Bool.{true≢false, cases_lt}
-use Rattle.std.proofs.lemmas.List.Elements.{All-cons, All-head, All-tail, All-push}
-use Rattle.napt_wire.specs.declared.Endpoint.{Endpoint}
-use Rattle.napt_wire.specs.declared.Flags.{Flags}
-use Rattle.napt_wire.specs.declared.Protocol.{Protocol}
-use Rattle.napt_wire.specs.declared.Protocol.TheVariants.{Icmp, Tcp, Udp}
-use Rattle.napt_wire.specs.declared.Way.TheVariants.{Outgoing, Incoming}
-use Rattle.napt_config.specs.Rules.{AreTimers}
-use Rattle.napt_config.specs.declared.settings.Timers.{Timers}
-use Rattle.napt_rules.specs.declared.Flow.{Flow}
-use Rattle.napt_rules.specs.declared.Inbound.{Inbound}
-use Rattle.napt_rules.specs.declared.Received.{Received}
+use Rattle.std.{proofs.Common.{◌≡◌, ℕ, ◌≤◌, Bool, true, false, cond, List, [], ◌∷◌, ◌++◌, inl, inr, refl, sym, ◌∙◌, arith}, specs.Prelude.filter}
+use Rattle.std.{specs.List.list_any, proofs.lemmas.{Bool.{true≢false, cases_lt}, List.Elements.{All-cons, All-head, All-tail, All-push}}}
+use Rattle.napt_wire.specs.declared.{Endpoint.Endpoint, Flags.Flags, Protocol.{Protocol, TheVariants.{Icmp, Tcp, Udp}}, Way.TheVariants.{Outgoing, Incoming}}
+use Rattle.napt_config.specs.{Rules.AreTimers, declared.settings.Timers.Timers}
+use Rattle.napt_rules.specs.declared.{Flow.Flow, Inbound.Inbound, Received.Received}
 use Rattle.napt_rules.specs.Prelude.{Binding, change_first, is_live_flow, is_tcp, live_flows, no_marks, permits, is_flow_of, used, with_flow, sent, received_by}
 use Rattle.napt_rules.proofs.Life.{used_live, lived_flow}
-use Rattle.napt_binding.specs.Entering.{left_by}
-use Rattle.napt_binding.specs.Slots.{NoneUsedAfter}
+use Rattle.napt_binding.specs.{Entering.left_by, Slots.NoneUsedAfter}
 
 module _ (now : ℕ) where
   abbrev UpTo : Flow → Type 0

@@ -1,8 +1,6 @@
 -- Counts by inside host.
-use Rattle.std.specs.Prelude.{ℕ, Bool, Option, Some, None}
-use Rattle.std.specs.Option.{is_some}
-use Rattle.napt_binding.specs.declared.addresses.Addresses.{Addresses}
-use Rattle.napt_binding.specs.Counts.{count_at, room_of}
+use Rattle.std.specs.{Prelude.{ℕ, Bool, Option, Some, None}, Option.is_some}
+use Rattle.napt_binding.specs.{declared.addresses.Addresses.Addresses, Counts.{count_at, room_of}}
 use Rattle.napt_table.specs.declared.host_counts.HostCounts.{HostCounts}
 
 -- whether bindings are counted by host

@@ -1,10 +1,7 @@
 -- The numbers in use, under each protocol.
 use Rattle.std.specs.Prelude.{◌≡◌, Bool}
-use Rattle.napt_wire.specs.declared.Protocol.{Protocol}
-use Rattle.napt_wire.specs.declared.Protocol.TheVariants.{Icmp, Tcp, Udp}
-use Rattle.napt_table.specs.Places.{Used, is_used}
-use Rattle.napt_table.specs.declared.bindings.keys.ExternalKey.{ExternalKey}
-use Rattle.napt_table.specs.declared.bindings.numbers_in_use.NumbersInUse.{NumbersInUse}
+use Rattle.napt_wire.specs.declared.Protocol.{Protocol, TheVariants.{Icmp, Tcp, Udp}}
+use Rattle.napt_table.specs.{Places.{Used, is_used}, declared.bindings.{keys.ExternalKey.ExternalKey, numbers_in_use.NumbersInUse.NumbersInUse}}
 
 abbrev pub numbers_of : NumbersInUse → Protocol → Used
 numbers_of numbers Icmp = numbers.icmp

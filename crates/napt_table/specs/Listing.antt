@@ -1,12 +1,8 @@
 -- The rows of what is held, in no order.
-use Rattle.std.specs.Prelude.{ℕ, ◌<◌, ◌^◌, All, List, map, filter}
-use Rattle.std.specs.List.{IsDistinct}
-use Rattle.std.specs.Map.{keys_of, values_of}
+use Rattle.std.specs.{Prelude.{ℕ, ◌<◌, ◌^◌, All, List, map, filter}, List.IsDistinct, Map.{keys_of, values_of}}
 use Rattle.napt_config.specs.declared.settings.Timers.{Timers}
-use Rattle.napt_rules.specs.declared.Row.{Row}
-use Rattle.napt_rules.specs.Prelude.{is_live, row}
-use Rattle.napt_table.specs.Holdings.{Holdings}
-use Rattle.napt_table.specs.Keys.{key_eq}
+use Rattle.napt_rules.specs.{declared.Row.Row, Prelude.{is_live, row}}
+use Rattle.napt_table.specs.{Holdings.Holdings, Keys.key_eq}
 
 -- those of the bindings that are live at the time
 abbrev pub held_rows : Timers → ℕ → Holdings → List Row

@@ -1,12 +1,12 @@
 -- No inside host comes to have more bindings than its quota (RFC 6888, REQ-4).
-use Rattle.std.specs.Prelude.{ℕ, ◌≤◌, List, [], Some}
+use Rattle.std.specs.Prelude.{◌≡◌, ℕ, ◌≤◌, List, [], Some}
 use Rattle.napt_config.specs.declared.settings.Timers.{Timers}
-use Rattle.napt_rules.specs.declared.Inbound.{Inbound}
-use Rattle.napt_table.specs.declared.event.Event.{Event}
-use Rattle.napt_rules.specs.Prelude.{count_for}
-use Rattle.napt_table.specs.Events.{played_all}
+use Rattle.napt_rules.specs.{declared.{Granting.Granting, Inbound.Inbound}, Prelude.count_for}
+use Rattle.napt_table.specs.{declared.event.Event.Event, Events.played_all}
 
 -- so whatever happened to a table, no host has more than the quota
 abbrev pub PlayedKeepsQuota : Type 0
-PlayedKeepsQuota = (timers : Timers) (quota : ℕ) (inbound : Inbound) (address : ℕ) (events : List (ℕ × Event))
-    (at host : ℕ) → count_for at host (played_all timers (Some quota) inbound address events []) ≤ quota
+PlayedKeepsQuota = (timers : Timers) (granting : Granting) (quota : ℕ) → granting.quota ≡ Some quota →
+    (inbound : Inbound)
+    (address : ℕ) (events : List (ℕ × Event)) (at host : ℕ) →
+    count_for at host (played_all timers granting inbound address events []) ≤ quota

@@ -4,20 +4,17 @@
 //! number. Its queue entry has a time until which it is sure to live, kept lazily: a packet that keeps the binding alive
 //! does not move the entry, and when its time has come the binding is checked again.
 
-ghost use Rattle.std.specs.Prelude.{◌≡◌, ℕ, ◌+◌, ◌*◌, ◌^◌, ◌≤◌, ◌<◌, All, true, false, Some, None, OnOk, IfOk};
-ghost use Rattle.std.specs.Option.{option_map, is_some};
+ghost use Rattle.std.specs.{Prelude.{◌≡◌, ℕ, ◌+◌, ◌*◌, ◌^◌, ◌≤◌, ◌<◌, All, true, false, Some, None, OnOk, IfOk}, Option.{option_map, is_some}};
 ghost use Rattle.napt_rules.specs.Prelude.{Binding, second, is_live};
 ghost use Rattle.napt_binding.specs.Ends.{least_timer};
-ghost use Rattle.napt_table.specs.Held.{HeldIsPurgedLater};
-ghost use Rattle.napt_table.specs.Holdings.{KeepsSeen, held as held_at_key};
-ghost use Rattle.napt_table.specs.Bindings.{AreDue, AreDueBut, come_up};
+ghost use Rattle.napt_table.specs.{Held.HeldIsPurgedLater, Holdings.{KeepsSeen, held as held_at_key}, Bindings.{AreDue, AreDueBut, come_up}};
 
 use crate::TimedRow;
 use crate::bindings::held::Held;
 use crate::bindings::keys::ExternalKey;
 use napt_binding::{IdleTimers, end_of, is_live, until};
 use napt_collections::Due;
-use napt_rules::{Inbound, Received, Row};
+use napt_rules::{Granting, Inbound, Received, Row};
 use napt_wire::{Cause, Endpoint, Protocol};
 use std::alloc::{AllocError, Global};
 use std::marker::Model;
@@ -100,18 +97,18 @@ impl Bindings {
         alloc: Global,
         address: u32,
         timers: IdleTimers,
-        quota: Option<u16>,
+        granting: Granting,
     ) -> Result<Bindings, AllocError>
         ensures timers { IfOk result (λ bindings. bindings.timers ≡ timers) }
         ensures at { IfOk result (λ bindings. bindings.at ≡ 0) }
         ensures address { IfOk result (λ bindings. bindings.held.address ≡ address) }
-        ensures quota { IfOk result (λ bindings. bindings.held.quota ≡ quota) }
+        ensures granting { IfOk result (λ bindings. bindings.held.granting ≡ granting) }
         ensures none { IfOk result (λ bindings. (key : Key) → held bindings.held key ≡ None) }
     {
         Ok(Bindings {
             timers,
             at: 0,
-            held: Held::new(alloc, address, quota)?,
+            held: Held::new(alloc, address, granting)?,
             due: Due::new(alloc),
         })
     }

@@ -4,12 +4,12 @@
 #![tactic(auto)]
 
 ghost use Rattle.std.specs.Prelude.{◌≡◌, ℕ, List};
-ghost use Rattle.napt_table.specs.QuotaKept.{PlayedKeepsQuota};
-ghost use Rattle.napt_table.specs.Tables.{TablesShareNothing, TablesAreNumbered};
+ghost use Rattle.napt_table.specs.{QuotaKept.PlayedKeepsQuota, Tables.{TablesShareNothing, TablesAreNumbered}};
 
 mod bindings;
 mod class;
 mod event;
+mod first_place;
 mod host_counts;
 mod numbers;
 mod rows;

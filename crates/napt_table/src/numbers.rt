@@ -1,18 +1,17 @@
-//! Which external numbers of a protocol are in use, and the choice of a free one (RFC 4787, REQ-3 and REQ-4; RFC 5508,
-//! section 3.1; RFC 7422, section 2).
+//! Which external numbers of a protocol are in use, and the choice of a free one (RFC 4787, REQ-3 and REQ-4; RFC 7857,
+//! sections 8 and 9; RFC 5508, section 3.1; RFC 7422, section 2).
 
-ghost use Rattle.std.specs.Prelude.{◌≡◌, ℕ, ◌+◌, ◌-◌, ◌*◌, ◌/◌, ◌^◌, ◌<◌, ◌≤◌, ◌==◌, false, not, ◌&&◌, ◌||◌, find, IfOk, IfSome, Bool};
+ghost use Rattle.std.specs.Prelude.{◌≡◌, ℕ, ◌+◌, ◌-◌, ◌*◌, ◌/◌, ◌^◌, ◌<◌, ◌≤◌, ◌==◌, true, false, not, ◌&&◌, ◌||◌, find, IfOk, IfSome, Bool};
 ghost use Rattle.napt_config.specs.Rules.{IsBlock};
-ghost use Rattle.napt_rules.specs.Prelude.{candidates, candidates_in_class, candidates_in_block};
-ghost use Rattle.napt_wire.specs.declared.Protocol.TheVariants.{Icmp};
+ghost use Rattle.napt_rules.specs.Prelude.{block_from, candidates, candidates_in_class, candidates_in_block};
 ghost use Rattle.napt_collections.specs.Sets.{IsFirstAbsent};
-ghost use Rattle.napt_table.specs.Classes.{class_of, from_place};
-ghost use Rattle.napt_table.specs.Places.{place_of, is_used};
+ghost use Rattle.napt_table.specs.{Classes.{from_place, IsSearched}, Places.{place_of, is_used}};
 
-use crate::class::{Class, class_in_block, class_of_port};
+use crate::class::{Class, class_in_block, class_of, class_of_block};
+use crate::first_place::{place_in_block, place_in_class};
 use napt_collections::Bits;
-use napt_config::Block;
-use napt_wire::Protocol;
+use napt_config::{Block, Choosing};
+use napt_wire::{Endpoint, Protocol};
 use std::alloc::{AllocError, Global};
 use std::marker::Model;
 
@@ -80,50 +79,73 @@ impl Numbers {
         self.protocol
     }
 
-    /// The external number for an inside endpoint with this number, of a host with this block or none: the first of its
-    /// candidates that is free; `None` if all are in use. Without a block that is the number itself, else the next free
-    /// one of its class, wrapping around (RFC 4787, REQ-3 and REQ-4).
-    pub fn choose(&self, block: Option<Block>, number: u16) -> Option<u16>
+    /// The external number for an inside endpoint, of a host with this block or none: the first of its candidates that is
+    /// free; `None` if all are in use. Without a block that is the number itself, or if numbers are random that at the place
+    /// of a hash, else the next free one of its class, wrapping around (RFC 4787, REQ-3 and REQ-4).
+    pub fn choose(&self, choosing: Choosing, block: Option<Block>, inside: Endpoint) -> Option<u16>
         requires { IfSome block IsBlock }
         ensures { result ≡ find (λ n. not (is_used self.now n))
-            (candidates block self.now.protocol number) }
+            (candidates choosing block self.now.protocol inside) }
     {
         match block {
-            None => self.choose_in_class(number),
-            Some(block) => self.choose_in_block(block, number),
+            None => self.choose_in_class(choosing, inside),
+            Some(block) => self.choose_in_block(choosing, block, inside),
         }
     }
 
-    /// The first free number of the class of a number, from the number on.
-    fn choose_in_class(&self, number: u16) -> Option<u16>
+    /// The first free number of the class of an endpoint's number, from the one that is tried first on.
+    fn choose_in_class(&self, choosing: Choosing, inside: Endpoint) -> Option<u16>
         ensures { result ≡ find (λ n. not (is_used self.now n))
-            (candidates_in_class self.now.protocol number) }
+            (candidates_in_class choosing self.now.protocol inside) }
     {
-        match self.protocol {
-            Protocol::Icmp => self.first_identifier(number),
-            Protocol::Tcp | Protocol::Udp => {
-                let class = class_of_port(number);
-                self.first_of(class, u32::from(number).saturating_sub(class.least) / 2)
-            }
-        }
+        let class = class_of(choosing.keeps_parity, self.protocol, inside.number);
+        let place = place_in_class(choosing.seed, class, self.protocol, inside);
+        self.first_of(class, place)
     }
 
-    /// The first free number of a block, from the place of a number on: of the number's parity, else of the other.
-    fn choose_in_block(&self, block: Block, number: u16) -> Option<u16>
+    /// The first free number of a block, from the one that is tried first on.
+    fn choose_in_block(&self, choosing: Choosing, block: Block, inside: Endpoint) -> Option<u16>
         requires { IsBlock block }
         ensures { result ≡ find (λ n. not (is_used self.now n))
-            (candidates_in_block block number) }
+            (candidates_in_block choosing block self.now.protocol inside) }
     {
-        let place = number % block.size;
-        let next = place + 1;
-        match self.first_of(class_in_block(block, place % 2), u32::from(place / 2)) {
-            Some(number) => Some(number),
-            None => self.first_of(class_in_block(block, next % 2), u32::from(next / 2)),
+        let place = place_in_block(choosing, block.size, self.protocol, inside);
+        if choosing.keeps_parity {
+            self.first_by_parity(block, place)
+        } else {
+            self.first_of_all(class_of_block(block), u32::from(place))
         }
     }
 
-    /// The first free number of a class of ports or of a block, from a place of it on, then before that.
+    /// The first free number of a block, from a place on: of the place's parity, else of the other.
+    fn first_by_parity(&self, block: Block, place: u16) -> Option<u16>
+        requires block { IsBlock block }
+        requires within { place < block.size }
+        ensures { result ≡ find (λ n. not (is_used self.now n)) (block_from true block place) }
+    {
+        let next = place + 1;
+        match self.first_of_parity(class_in_block(block, place % 2), u32::from(place / 2)) {
+            Some(number) => Some(number),
+            None => self.first_of_parity(class_in_block(block, next % 2), u32::from(next / 2)),
+        }
+    }
+
+    /// The first free number of a class, from a place of it on, then before that.
     fn first_of(&self, class: Class, place: u32) -> Option<u16>
+        requires searched { IsSearched class }
+        requires some { 0 < class.many }
+        requires within { place ≤ class.many }
+        ensures { result ≡ find (λ n. not (is_used self.now n)) (from_place class place) }
+    {
+        if class.apart == 2 {
+            self.first_of_parity(class, place)
+        } else {
+            self.first_of_all(class, place)
+        }
+    }
+
+    /// The same of a class of every other number.
+    fn first_of_parity(&self, class: Class, place: u32) -> Option<u16>
         requires apart { class.apart ≡ 2 }
         requires some { 0 < class.many }
         requires fits { class.least + 2 * class.many ≤ 65537 }
@@ -139,14 +161,17 @@ impl Numbers {
         Some((class.least + 2 * (found - start)) as u16)
     }
 
-    /// The first free identifier from one on, then before that.
-    fn first_identifier(&self, number: u16) -> Option<u16>
-        ensures { result ≡ find (λ n. not (is_used self.now n))
-            (from_place (class_of Icmp number) number) }
+    /// The same of a class without gaps.
+    fn first_of_all(&self, class: Class, place: u32) -> Option<u16>
+        requires apart { class.apart ≡ 1 }
+        requires fits { class.least + class.many ≤ 65536 }
+        requires within { place ≤ class.many }
+        ensures { result ≡ find (λ n. not (is_used self.now n)) (from_place class place) }
     {
-        match self.first_from(u32::from(number), 65_536) {
+        let from = class.least + place;
+        match self.first_from(from, class.least + class.many) {
             Some(found) => Some(found),
-            None => self.first_from(0, u32::from(number)),
+            None => self.first_from(class.least, from),
         }
     }
 

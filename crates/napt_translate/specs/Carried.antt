@@ -1,9 +1,7 @@
 -- The protocol of a packet that is not an ICMP error.
 use Rattle.std.specs.Prelude.{Option, Some, None}
-use Rattle.napt_wire.specs.declared.Kind.{Kind}
+use Rattle.napt_wire.specs.declared.{Kind.Kind, Protocol.{Protocol, TheVariants.{Icmp, Tcp, Udp}}}
 use Rattle.napt_wire.specs.declared.Kind.TheVariants as kinds
-use Rattle.napt_wire.specs.declared.Protocol.{Protocol}
-use Rattle.napt_wire.specs.declared.Protocol.TheVariants.{Icmp, Tcp, Udp}
 
 abbrev pub carried_by : Kind → Option Protocol
 carried_by kinds.Udp = Some Udp

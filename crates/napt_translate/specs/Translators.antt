@@ -1,13 +1,10 @@
 -- What contracts see of a translator: its place in the pool, its configuration, and the table of its external address.
 use Rattle.std.specs.Prelude.{◌≡◌, ℕ, ◌<◌, List, length, slice_index, Result}
-use Rattle.napt_wire.specs.declared.Protocol.{Protocol}
-use Rattle.napt_wire.specs.declared.Flags.{Flags}
-use Rattle.napt_wire.specs.declared.Cause.{Cause}
-use Rattle.napt_rules.specs.Prelude.{inbound_of, Out, step_out, In, step_in, sent_of, received_of, Kept, kept_after}
+use Rattle.napt_wire.specs.declared.{Protocol.Protocol, Flags.Flags, Cause.Cause}
+use Rattle.napt_rules.specs.{Prelude.{granting_of, inbound_of, Out, step_out, In, step_in, sent_of, received_of, Kept, kept_after}, declared.Leg.Leg}
+use Rattle.napt_rules.specs.declared.Sent.{Sent}
 use Rattle.napt_config.specs.Rules.{Rules, KeepsRules, block_of}
 use Rattle.napt_table.specs.Tables.{TableState, opened}
-use Rattle.napt_rules.specs.declared.Leg.{Leg}
-use Rattle.napt_rules.specs.declared.Sent.{Sent}
 
 pub record TranslatorState : Type 0 where
   -- the place of its external address in the pool, from 0
@@ -25,7 +22,7 @@ pub record IsTranslator (state : TranslatorState) : Type 0 where
   pub rules : KeepsRules state.rules
   pub address : state.table.address ≡ slice_index state.rules.pool state.index
   pub timers : state.table.timers ≡ state.rules.timers
-  pub quota : state.table.quota ≡ state.rules.quota
+  pub granting : state.table.granting ≡ granting_of state.rules
   pub inbound : state.table.inbound ≡ inbound_of state.rules
 
 abbrev pub kept_of : TableState → Kept
@@ -40,7 +37,7 @@ left_by leg state = with_kept state (kept_after state.rules state.table.address 
 
 -- a packet's step out at a time, and in
 abbrev pub out_at : TranslatorState → ℕ → Protocol → Flags → List ℕ → Out
-out_at state now protocol flags packet = step_out state.rules.timers state.rules.quota state.table.address
+out_at state now protocol flags packet = step_out state.rules.timers (granting_of state.rules) state.table.address
     (sent_of state.rules protocol flags now packet) state.table.list
 
 abbrev pub in_at : TranslatorState → ℕ → Protocol → Flags → List ℕ → In
@@ -49,10 +46,10 @@ in_at state now protocol flags packet = step_in state.rules.timers (inbound_of s
 
 -- a packet went out under the block of its host: its answer, and what it leaves
 pub record GoneOut (packet : Sent) (old new : TranslatorState) (answer : Result ℕ Cause) : Type 0 where
-  pub answered : answer ≡ (step_out old.rules.timers old.rules.quota old.table.address
+  pub answered : answer ≡ (step_out old.rules.timers (granting_of old.rules) old.table.address
       (record packet { block = block_of old.rules packet.inside.address }) old.table.list).number
   pub left : new ≡ with_kept old (record {
-    list = (step_out old.rules.timers old.rules.quota old.table.address
+    list = (step_out old.rules.timers (granting_of old.rules) old.table.address
         (record packet { block = block_of old.rules packet.inside.address }) old.table.list).list;
     at = packet.now;
   })

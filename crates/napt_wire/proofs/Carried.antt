@@ -1,10 +1,8 @@
 -- What a packet that reads has: numbers that its kind can carry, and no more bytes than its length field can say.
-use Rattle.std.proofs.Common.{◌≡◌, ℕ, ◌^◌, ◌<◌, ◌≤◌, false, List, length, take, Ok, arith, refl, sym, ap, subst, slice_index}
-use Rattle.std.proofs.lemmas.Bool.Decides.{nat_tests}
+use Rattle.std.proofs.{Common.{◌≡◌, ℕ, ◌^◌, ◌<◌, ◌≤◌, false, List, length, take, Ok, arith, refl, sym, ap, subst, slice_index}, lemmas.Bool.Decides.nat_tests}
 use Rattle.std.proofs.lemmas.Grind.{common_steps}
 use Rattle.napt_wire.specs.Prelude.{total_length, transport, form_at, source, kind, kind_of, number_at, number_place, is_error, CanCarry, reading, message_checks, has_zero_port, IsPacket, Side, Form, Source}
 use Rattle.napt_wire.proofs.Readings.{AllPass, passes_of_read}
-use Rattle.napt_wire.specs.declared.form.Form.TheVariants.{Udp, Tcp, Request, Reply, Error}
 
 module _ (side : Side) (bytes : List ℕ) where
   no_zero_port : (form : Form) → has_zero_port (form_at 0 bytes) (transport 0 bytes) bytes ≡ false →
@@ -14,11 +12,7 @@ module _ (side : Side) (bytes : List ℕ) where
   carried_by : (form : Form) → AllPass (message_checks form side bytes) → form ≡ form_at 0 bytes →
       is_error (kind_of form bytes) ≡ false →
       CanCarry (kind_of form bytes) (number_at (transport 0 bytes) (number_place form Source) bytes)
-  carried_by Udp h e plain = let ports = no_zero_port Udp h.0 e in grind (arith, nat_tests, ports)
-  carried_by Tcp h e plain = let ports = no_zero_port Tcp h.0 e in grind (arith, nat_tests, ports)
-  carried_by Request h e plain = tt
-  carried_by Reply h e plain = tt
-  carried_by Error h e plain = cc
+  carried_by form h k g = grind (arith, common_steps, nat_tests, no_zero_port)
 
   -- UDP and TCP packets have no source port 0
   pub source-carried : reading side bytes ≡ Ok bytes → is_error (kind bytes) ≡ false →

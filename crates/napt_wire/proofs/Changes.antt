@@ -1,10 +1,8 @@
 -- What replaced words leave as it was, and what they do to the sum of the words of a part.
+use Rattle.std.proofs.lemmas.{Grind.{common_steps, same_number_lists}, Bool.Decides.nat_tests}
 use Rattle.std.proofs.Common.{◌≡◌, ℕ, zero, suc, ◌+◌, ◌-◌, ◌*◌, ◌/◌, ◌%◌, ◌<◌, ◌≤◌, List, [], ◌∷◌, ◌++◌, length, min, take, drop, set, sum, slice_index, arith, refl, sym, ◌∙◌, ap, length-drop, length-take, length-take-le, length-set, get_or-set_same, get_or-set_other, get_or-drop, get_or-take, take_at}
-use Rattle.std.proofs.lemmas.Grind.{same_number_lists}
-use Rattle.std.proofs.Math.Seq.{take-set-lt}
-use Rattle.std.proofs.lemmas.List.{drop-set-add}
-use Rattle.napt_wire.proofs.Checksums.{sum-cons}
-use Rattle.napt_wire.specs.Prelude.{word_at, long_at, put_word, words, changed, olds, news, Change}
+use Rattle.std.proofs.{Math.Seq.take-set-lt, lemmas.List.drop-set-add}
+use Rattle.napt_wire.{proofs.Checksums.sum-cons, specs.Prelude.{word_at, long_at, put_word, words, changed, olds, news, Change}}
 
 pub length-put_word : (place word : ℕ) (bytes : List ℕ) → length (put_word place word bytes) ≡ length bytes
 length-put_word place word bytes = simp length-set
@@ -97,22 +95,13 @@ slice_index-put_word_other place word i bytes clear =
 
 pub word_at-put_word_other : (place word i : ℕ) (bytes : List ℕ) → IsClear i 2 place →
     word_at i (put_word place word bytes) ≡ word_at i bytes
-word_at-put_word_other place word i bytes clear =
-    rw (
-      slice_index-put_word_other place word i bytes (omega arith),
-      slice_index-put_word_other place word (i + 1) bytes (omega arith),
-    ) refl
+word_at-put_word_other place word i bytes clear = grind (arith, common_steps, nat_tests, slice_index-put_word_other)
 
 -- what was written is read
 pub word_at-put_word : (place word : ℕ) (bytes : List ℕ) → place + 2 ≤ length bytes →
     word_at place (put_word place word bytes) ≡ word
 word_at-put_word place word bytes h =
-    let high : slice_index (put_word place word bytes) place ≡ word / 256 =
-    get_or-set_other (set bytes place (word / 256)) (place + 1) place (word % 256) 0 (λ e. omega arith)
-    ∙ get_or-set_same bytes place (word / 256) 0 (omega arith) in
-    let low : slice_index (put_word place word bytes) (place + 1) ≡ word % 256 =
-    get_or-set_same (set bytes place (word / 256)) (place + 1) (word % 256) 0 (rw length-set (omega arith)) in
-    omega (arith, high, low)
+    grind (arith, common_steps, nat_tests, get_or-set_other, get_or-set_same, length-set)
 
 pub word-stays : (i : ℕ) (changes : List Change) (bytes : List ℕ) → AreClear i 2 changes →
     word_at i (changed changes bytes) ≡ word_at i bytes
@@ -170,11 +159,7 @@ written-edits low high changes bytes edits fits = record {
 
 pub word-same : (low i : ℕ) (changes : List Change) (bytes after : List ℕ) → IsWritten low changes bytes after →
     low ≤ i → AreClear i 2 changes → word_at i after ≡ word_at i bytes
-word-same low i changes bytes after w h clear =
-    rw (
-      w.stays i h (clear-part i 2 i 1 changes (omega arith) (omega arith) clear),
-      w.stays (i + 1) (omega arith) (clear-part i 2 (i + 1) 1 changes (omega arith) (omega arith) clear),
-    ) refl
+word-same low i changes bytes after w h clear = grind (arith, common_steps, nat_tests, clear-part)
 
 pub long-same : (low i : ℕ) (changes : List Change) (bytes after : List ℕ) → IsWritten low changes bytes after →
     low ≤ i → AreClear i 4 changes → long_at i after ≡ long_at i bytes
@@ -188,11 +173,8 @@ long-same low i changes bytes after w h clear =
 -- so it is of the first of them, where the others stand before
 pub written-front : (low start below above : ℕ) (xs ys : List Change) (bytes after : List ℕ) → low ≤ start →
     above ≤ start → AreWithin below above ys → IsWritten low (xs ++ ys) bytes after → IsWritten start xs bytes after
-written-front low start below above xs ys bytes after l h within w = record {
-  stands = (stands-append xs ys after w.stands).0;
-  stays = λ i behind clear. w.stays i (omega arith)
-      (clear-append i 1 xs ys clear (clear-within below above i 1 ys within (omega arith)));
-}
+written-front low start below above xs ys bytes after l h within w =
+    grind (arith, common_steps, nat_tests, stands-append, clear-append, clear-within)
 
 -- a part of the bytes
 abbrev pub part : ℕ → ℕ → List ℕ → List ℕ
@@ -273,26 +255,29 @@ pub edits-changed : (low high below above : ℕ) (outer changes : List Change) (
     AreWithin low high outer → above ≤ low → AreEdits below above bytes changes →
     AreEdits below above (changed outer bytes) changes
 edits-changed low high below above outer [] bytes within out edits = tt
-edits-changed low high below above outer (c ∷ changes) bytes within out edits = (
-  edits.0,
-  edits.1,
-  edits.2,
-  edits.3 ∙ sym (word-stays c.place outer bytes (clear-within low high c.place 2 outer within (omega arith))),
-  edits.4,
-  edits-changed low high below above outer changes bytes within out edits.5,
-)
+edits-changed low high below above outer (c ∷ changes) bytes within out edits =
+    grind (
+      arith,
+      common_steps,
+      nat_tests,
+      word-stays,
+      clear-within,
+      edits-changed low high below above outer changes
+          bytes within out edits.5,
+    )
 
 edits-put_word : (low high : ℕ) (c : Change) (changes : List Change) (bytes : List ℕ) → AreClear c.place 2 changes →
     AreEdits low high bytes changes → AreEdits low high (put_word c.place c.new bytes) changes
 edits-put_word low high c [] bytes clear edits = tt
-edits-put_word low high c (d ∷ changes) bytes clear edits = (
-  edits.0,
-  edits.1,
-  edits.2,
-  edits.3 ∙ sym (word_at-put_word_other c.place c.new d.place bytes (λ h k. clear.0 k h)),
-  edits.4,
-  edits-put_word low high c changes bytes clear.1 edits.5,
-)
+edits-put_word low high c (d ∷ changes) bytes clear edits =
+    grind (
+      arith,
+      common_steps,
+      nat_tests,
+      word_at-put_word_other,
+      edits-put_word low high c changes bytes clear.1
+          edits.5,
+    )
 
 -- the sum of a part's words where some of them are replaced
 pub sum-part-changed : (at n : ℕ) (changes : List Change) (bytes : List ℕ) → at + n ≤ length bytes →

@@ -1,8 +1,6 @@
 -- Updates of a checksum, one after another.
-use Rattle.std.proofs.Common.{◌≡◌, ℕ, ◌+◌, ◌*◌, ◌%◌, ◌<◌, List, [], ◌∷◌, ◌++◌, arith, sum, bit_and}
-use Rattle.std.proofs.lemmas.List.{map-append}
-use Rattle.std.proofs.lemmas.Nat.{and_mask}
-use Rattle.std.proofs.lemmas.List.Sums.{sum_by-cons, sum_by-append}
+use Rattle.std.proofs.{lemmas.{Grind.common_steps, Bool.Decides.nat_tests}, Common.{◌≡◌, ℕ, ◌+◌, ◌%◌, ◌<◌, List, [], ◌∷◌, ◌++◌, arith, sum, bit_and}}
+use Rattle.std.proofs.lemmas.{List.{map-append, Sums.{sum_by-cons, sum_by-append}}, Nat.and_mask}
 use Rattle.napt_wire.specs.Prelude.{canon, olds, news, Change}
 
 pub sum-cons : (x : ℕ) (xs : List ℕ) → sum (x ∷ xs) ≡ x + sum xs
@@ -16,15 +14,7 @@ mod_early a b = omega arith
 pub canon_again : (check : ℕ) (old new : List ℕ) (x y : ℕ) → canon (canon check old new) (x ∷ []) (y ∷ [])
     ≡ canon check (x ∷ old) (y ∷ new)
 unfolding canon
-canon_again check old new x y =
-    omega (
-      arith,
-      sum-cons x old,
-      sum-cons y new,
-      sum-cons x [],
-      sum-cons y [],
-      mod_early (check + sum old + 65534 * sum new) (x + 65534 * y),
-    )
+canon_again check old new x y = grind (arith, common_steps, nat_tests, sum-cons, mod_early)
 
 pub canon_low : (check : ℕ) (old new : List ℕ) (x y : ℕ) → canon (canon check old new) (bit_and x 65535 ∷ [])
     (bit_and y 65535 ∷ []) ≡ canon check (x % 65536 ∷ old) (y % 65536 ∷ new)
@@ -35,18 +25,7 @@ canon_low check old new x y =
 pub canon_swap : (check x y z w : ℕ) (old new : List ℕ) → canon check (x ∷ y ∷ old) (z ∷ w ∷ new)
     ≡ canon check (y ∷ x ∷ old) (w ∷ z ∷ new)
 unfolding canon
-canon_swap check x y z w old new =
-    omega (
-      arith,
-      sum-cons x (y ∷ old),
-      sum-cons y old,
-      sum-cons y (x ∷ old),
-      sum-cons x old,
-      sum-cons z (w ∷ new),
-      sum-cons w new,
-      sum-cons w (z ∷ new),
-      sum-cons z new,
-    )
+canon_swap check x y z w old new = grind (arith, common_steps, nat_tests, sum-cons)
 
 pub sum-append : (xs ys : List ℕ) → sum (xs ++ ys) ≡ sum xs + sum ys
 sum-append xs ys = sum_by-append (λ (n : ℕ). n) xs ys
@@ -60,14 +39,7 @@ pub canon_all : (check : ℕ) (a b h : List Change) →
     canon (canon (canon check (olds h) (news h)) (olds a) (news a)) (olds b) (news b)
     ≡ canon check (olds (a ++ b ++ h)) (news (a ++ b ++ h))
 unfolding canon
-canon_all check a b h =
-    simp (map-append) (omega (
-      arith,
-      sum-append (olds a ++ olds b) (olds h),
-      sum-append (olds a) (olds b),
-      sum-append (news a ++ news b) (news h),
-      sum-append (news a) (news b),
-    ))
+canon_all check a b h = grind (arith, common_steps, nat_tests, map-append, sum-append)
 
 -- three updates of one word each are one
 pub canon_three : (check : ℕ) (x y z : Change) →

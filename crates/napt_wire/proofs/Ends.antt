@@ -1,10 +1,9 @@
 -- What the replacement of an end leaves as it was.
+use Rattle.std.proofs.lemmas.Grind.{common_steps}
 use Rattle.std.proofs.Common.{◌≡◌, ℕ, ◌+◌, ◌*◌, ◌/◌, ◌%◌, ◌≤◌, Bool, true, false, List, [], ◌∷◌, ◌++◌, length, sum, arith, refl, nat_le, if◌then◌else◌}
-use Rattle.std.proofs.lemmas.Bool.Decides.{nat_tests}
-use Rattle.std.proofs.lemmas.List.Elements.{All-cons, All-head, All-tail}
+use Rattle.std.proofs.lemmas.{Bool.Decides.nat_tests, List.Elements.{All-cons, All-head, All-tail}}
 use Rattle.napt_wire.proofs.Changes.{AreWithin, AreEdits, AreClear, IsClear, Stands, IsWritten, written-edits, written-front, long-same, clear-append, clear-within, stands-append, part, length-changed, sum-part-changed, within-edits, edits-append, edits-higher}
 use Rattle.napt_wire.specs.Prelude.{word_at, words, canon, address, address_place, transport, form_at, number_place, end_at, change, changed, address_words, address_changes, number_changes, end_changes, HasHeaders, AreThere, Endpoint, Change, Form, End, Source, Destination}
-use Rattle.napt_wire.specs.declared.form.Form.TheVariants.{Udp, Tcp, Request, Reply, Error}
 
 pub there-of_within : (low : ℕ) (xs : List Change) (bytes : List ℕ) → AreWithin low (length bytes) xs →
     AreThere xs bytes
@@ -59,18 +58,7 @@ le_of a b h = grind (arith, nat_tests)
 pub number-edits : (form : Form) (end : End) (start : ℕ) (old new : Endpoint) (bytes : List ℕ) →
     start + 8 ≤ length bytes →
     AreEdits start (length bytes) bytes (number_changes (number_place form end) form start old new bytes)
-number-edits Udp Source start old new bytes h = omega arith
-number-edits Udp Destination start old new bytes h = omega arith
-number-edits Tcp Source start old new bytes h = tcp_edits (nat_le (start + 18) (length bytes)) start (length bytes) 0
-    new.number _ bytes (le_of (start + 18) (length bytes)) h (omega arith) (omega arith)
-number-edits Tcp Destination start old new bytes h = tcp_edits (nat_le (start + 18) (length bytes)) start (length bytes)
-    2 new.number _ bytes (le_of (start + 18) (length bytes)) h (omega arith) (omega arith)
-number-edits Request Source start old new bytes h = omega arith
-number-edits Request Destination start old new bytes h = tt
-number-edits Reply Source start old new bytes h = tt
-number-edits Reply Destination start old new bytes h = omega arith
-number-edits Error Source start old new bytes h = tt
-number-edits Error Destination start old new bytes h = tt
+number-edits form end start old new bytes h = grind (arith, common_steps, nat_tests, tcp_edits, le_of)
 
 pub number-there : (form : Form) (end : End) (start : ℕ) (old new : Endpoint) (bytes : List ℕ) →
     start + 8 ≤ length bytes →
@@ -83,11 +71,7 @@ number-there form end start old new bytes h =
 pub end-edits : (at : ℕ) (end : End) (new : Endpoint) (bytes : List ℕ) → HasHeaders at bytes →
     AreEdits at (length bytes) bytes (end_changes at end new bytes)
 unfolding end_changes
-end-edits at end new bytes room =
-    edits-append at (at + 20) (transport at bytes) (length bytes) bytes _ (address_changes at end new.address bytes)
-    (omega (arith, room.header)) room.header (omega (arith, room.header, room.transport_start)) (omega arith)
-    (number-edits (form_at at bytes) end (transport at bytes) (end_at at end bytes) new bytes room.transport_start)
-    (address-edits at end new.address bytes)
+end-edits at end new bytes room = grind (arith, common_steps, nat_tests, edits-append, number-edits, address-edits)
 
 abbrev pub numbers : Form → End → ℕ → Endpoint → Endpoint → List ℕ → List Change
 numbers form end start old new bytes = number_changes (number_place form end) form start old new bytes

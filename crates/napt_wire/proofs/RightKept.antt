@@ -1,13 +1,12 @@
 -- A transport checksum is right after a rewrite exactly where it was right before.
+use Rattle.std.proofs.lemmas.Grind.{common_steps}
 use Rattle.std.proofs.Common.{◌≡◌, ℕ, ◌+◌, ◌/◌, ◌%◌, ◌≤◌, ◌==◌, ◌||◌, Bool, true, false, List, [], ◌∷◌, ◌++◌, length, Some, None, sum, arith, refl, ◌∙◌, ap, nat_le, nat_lt, if◌then◌else◌, option_map}
-use Rattle.std.proofs.lemmas.Bool.{or_parts}
-use Rattle.std.proofs.lemmas.Bool.Decides.{nat_tests}
-use Rattle.napt_wire.proofs.Changes.{IsWritten, part, changed-append, word-same, part-changed_other, sum-part-changed}
-use Rattle.napt_wire.proofs.Checksums.{sum-append}
+use Rattle.std.proofs.lemmas.Bool.{or_parts, Decides.nat_tests}
+use Rattle.napt_wire.proofs.{Changes.{IsWritten, part, changed-append, word-same, part-changed_other, sum-part-changed}, Checksums.sum-append}
 use Rattle.napt_wire.proofs.Ends.{address-within, address_same, end_address, end-written, numbers, numbers-written, other}
 use Rattle.napt_wire.proofs.WithEnd.{Carries, KeepsHeader, end_keeps_header, first_byte, same_start}
 use Rattle.napt_wire.proofs.WithInner.{PassesError, error_kept, inner_header, inner_room, quoted-part, quoted-written}
-use Rattle.napt_wire.specs.Prelude.{Side, Way, word_at, words, canon, canon_udp, is_right, address, protocol_number, transport, form_at, number_place, number_at, inner_at, pseudo_words, message_length, covered_by, transport_right, change, changed, end_words, address_changes, end_changes, reverted_changes, inner_end, HasHeaders, Endpoint, Change, Form, End, Source, Destination}
+use Rattle.napt_wire.specs.Prelude.{Side, Way, word_at, words, canon, canon_udp, is_right, address, protocol_number, transport, form_at, number_place, number_at, inner_at, pseudo_words, message_length, covered_by, transport_right, change, changed, end_words, end_changes, reverted_changes, inner_end, HasHeaders, Endpoint, Change, Form, End, Source, Destination}
 use Rattle.napt_wire.specs.declared.form.Form.TheVariants.{Udp, Tcp, Request, Reply, Error}
 
 -- a check that is there as before, and right as before
@@ -18,12 +17,7 @@ same_right true gone' old new e h = rw e refl
 same_right false gone' old new e h = rw (e, h refl) refl
 
 same_length : (at : ℕ) (old new : List ℕ) → KeepsHeader at old new → message_length at new ≡ message_length at old
-same_length at old new keeps =
-    rw (
-      first_byte at old new keeps,
-      keeps.first (at + 2) (omega arith),
-      keeps.first (at + 2 + 1) (omega arith),
-    ) refl
+same_length at old new keeps = grind (arith, common_steps, nat_tests, first_byte)
 
 -- the residue of what a checksum covers, where an end's words and the checksum are replaced
 is_zero : (n : ℕ) → (n == 0) ≡ true → n ≡ 0
@@ -216,17 +210,13 @@ right_of_form Tcp Source at new bytes after keeps read same w parts =
 right_of_form Tcp Destination at new bytes after keeps read same w parts =
     tcp_right at 2 Destination new bytes after (omega arith) (omega arith) keeps read same parts
 right_of_form Request Source at new bytes after keeps read same w parts =
-    rw (same_start at bytes after keeps, same_length at bytes after keeps, keeps.long)
-    (echo_right (transport at bytes) (message_length at bytes) new.number bytes after (parts (message_length at bytes)))
+    grind (arith, common_steps, nat_tests, same_start, same_length, echo_right)
 right_of_form Request Destination at new bytes after keeps read same w parts =
-    rw (same_start at bytes after keeps, same_length at bytes after keeps, keeps.long, parts (message_length at bytes))
-    refl
+    grind (arith, common_steps, nat_tests, same_start, same_length)
 right_of_form Reply Source at new bytes after keeps read same w parts =
-    rw (same_start at bytes after keeps, same_length at bytes after keeps, keeps.long, parts (message_length at bytes))
-    refl
+    grind (arith, common_steps, nat_tests, same_start, same_length)
 right_of_form Reply Destination at new bytes after keeps read same w parts =
-    rw (same_start at bytes after keeps, same_length at bytes after keeps, keeps.long)
-    (echo_right (transport at bytes) (message_length at bytes) new.number bytes after (parts (message_length at bytes)))
+    grind (arith, common_steps, nat_tests, same_start, same_length, echo_right)
 right_of_form Error end at new bytes after keeps read same w parts = refl
 
 -- the transport checksum of a datagram whose end was replaced, and maybe more before it
@@ -247,10 +237,7 @@ end_part : (at size : ℕ) (end : End) (new : Endpoint) (bytes : List ℕ) → H
     ≡ part (transport at bytes) size (changed (numbers_of (form_at at bytes) end at new bytes) bytes)
 unfolding end_changes
 end_part at size end new bytes room =
-    ap (part (transport at bytes) size) (changed-append (numbers_of (form_at at bytes) end at new bytes)
-    (address_changes at end new.address bytes) bytes)
-    ∙ part-changed_other (transport at bytes) size (at + 10) (at + 20) (address_changes at end new.address bytes) _
-    (address-within at end new.address bytes) (omega (arith, room.header))
+    grind (arith, common_steps, nat_tests, part, changed-append, part-changed_other, address-within)
 
 pub end_right : (at : ℕ) (end : End) (new : Endpoint) (bytes : List ℕ) → HasHeaders at bytes →
     form_at at (changed (end_changes at end new bytes) bytes) ≡ form_at at bytes →

@@ -1,17 +1,15 @@
 -- An ICMP error whose quoted datagram gets an end back is an ICMP error.
+use Rattle.std.proofs.lemmas.Grind.{common_steps}
 use Rattle.std.proofs.Common.{◌≡◌, ℕ, ◌+◌, ◌-◌, ◌%◌, ◌≤◌, ◌==◌, ◌||◌, Bool, true, false, not, List, [], ◌∷◌, ◌++◌, length, drop, Ok, sum, slice_index, arith, refl, sym, ◌∙◌, ap, subst, nat_lt, length-drop, map}
-use Rattle.std.proofs.lemmas.Bool.{or_parts}
-use Rattle.std.proofs.lemmas.Bool.Decides.{nat_tests}
-use Rattle.std.proofs.lemmas.List.{map-append}
-use Rattle.std.proofs.Math.Seq.{take-length}
+use Rattle.std.proofs.{lemmas.{Bool.{or_parts, Decides.nat_tests}, List.map-append}, Math.Seq.take-length}
 use Rattle.napt_wire.proofs.Changes.{IsWritten, byte-stays, written-front, written-edits, AreWithin, AreEdits, AreClear, Stands, clear-within, clear-append, clear-part, stands-append, stands-edits, edits-higher, part, within-edits, edits-append, word-stays, changed-append, part-changed_other, sum-part-changed}
 use Rattle.napt_wire.proofs.Checksums.{sum-append, sum-cons}
 use Rattle.napt_wire.proofs.Ends.{address-edits, address-within, end-edits, there-of_within, other_clear, end-clear, end_address, address_stands, address_same}
 use Rattle.napt_wire.proofs.Readings.{AllPass, Passes, room_of, passes_of_read}
 use Rattle.napt_wire.proofs.WithEnd.{Carries, KeepsBody, KeepsHeader, written_keeps_body, header_keeps, end_keeps_header, first_byte, same_form, same_start, passes_kept, residue_zero, zero_residue}
 use Rattle.napt_wire.specs.Prelude.{word_at, long_at, words, canon, address, header_length, transport, form_at, inner_at, inner, kind, kind_of, is_error, CanCarry, reading, message_checks, error_checks, has_bad_inner, is_quoted, has_zero_port, change, changed, olds, news, address_changes, end_changes, reverted_changes, inner_end, outer_end, IsFound, body_of, quoted_of, HasHeaders, AreThere, Body, Quoted, Side, Way, Outgoing, Incoming, Endpoint, Change, Form, Source, Destination}
+use Rattle.napt_wire.specs.declared.form.Form.TheVariants.{Error}
 use Rattle.napt_wire.specs.declared.packet.Body.TheVariants as bodies
-use Rattle.napt_wire.specs.declared.form.Form.TheVariants.{Udp, Tcp, Request, Reply, Error}
 
 -- the datagram at a place may be quoted
 pub record GoodInner (side : Side) (at : ℕ) (bytes : List ℕ) : Type 0 where
@@ -23,31 +21,14 @@ pub record GoodInner (side : Side) (at : ℕ) (bytes : List ℕ) : Type 0 where
 
 good_inner : (side : Side) (at : ℕ) (bytes : List ℕ) → has_bad_inner side at bytes ≡ false → GoodInner side at bytes
 unfolding has_bad_inner
-good_inner side at bytes h =
-    let eight = or_parts _ _ h in
-    let seven = or_parts _ _ eight.0 in
-    let six = or_parts _ _ seven.0 in
-    let five = or_parts _ _ six.0 in
-    let four = or_parts _ _ five.0 in
-    let three = or_parts _ _ four.0 in
-    let two = or_parts _ _ three.0 in
-    record { passes = h; long = two.1; room = three.1; quoted = seven.1; ours = eight.1 }
+good_inner side at bytes h = grind (arith, common_steps, nat_tests, or_parts)
 
 pub inner_room : (side : Side) (at : ℕ) (bytes : List ℕ) → GoodInner side at bytes → HasHeaders at bytes
-inner_room side at bytes good =
-    let long : 20 ≤ header_length at bytes = grind (arith, nat_tests, good.long) in
-    record {
-      header = omega (arith, long);
-      transport_start = grind (arith, nat_tests, good.room);
-    }
+inner_room side at bytes good = grind (arith, common_steps, nat_tests)
 
 pub long-stays : (place : ℕ) (changes : List Change) (bytes : List ℕ) → AreClear place 4 changes →
     long_at place (changed changes bytes) ≡ long_at place bytes
-long-stays place changes bytes clear =
-    rw (
-      word-stays place changes bytes (clear-part place 4 place 2 changes (omega arith) (omega arith) clear),
-      word-stays (place + 2) changes bytes (clear-part place 4 (place + 2) 2 changes (omega arith) (omega arith) clear),
-    ) refl
+long-stays place changes bytes clear = grind (arith, common_steps, nat_tests, word-stays, clear-part)
 
 -- the ICMP checksum stays right
 icmp_residue : (sum_new sum_old check : ℕ) (old new : List ℕ) → sum_new + (sum old + check) ≡ sum_old
@@ -68,15 +49,7 @@ pub record PassesError (side : Side) (bytes : List ℕ) : Type 0 where
   pub ports : has_zero_port (form_at (inner_at bytes) bytes) (transport (inner_at bytes) bytes) bytes ≡ false
 
 pub passes_error : (side : Side) (bytes : List ℕ) → Passes side bytes → form_at 0 bytes ≡ Error → PassesError side bytes
-passes_error side bytes p form_is =
-    let passed = subst (λ (f : Form). AllPass (message_checks f side bytes)) form_is p.bodies.1.1 in
-    record {
-      passes = p;
-      form_is = form_is;
-      right = residue_zero (sum (words (drop (transport 0 bytes) bytes))) passed.0;
-      inner_good = good_inner side (inner_at bytes) bytes passed.1.0;
-      ports = passed.1.1.0;
-    }
+passes_error side bytes p form_is = grind (arith, common_steps, nat_tests, residue_zero, good_inner)
 
 pub same_number : (a b : ℕ) → not (a == b) ≡ false → a ≡ b
 same_number a b h = grind (arith, nat_tests)
@@ -307,11 +280,7 @@ error_there side way new bytes p =
 
 -- what the caller says of an error, and of its number
 error_form : (form : Form) (bytes : List ℕ) → is_error (kind_of form bytes) ≡ true → form ≡ Error
-error_form Udp bytes h = cc
-error_form Tcp bytes h = cc
-error_form Request bytes h = cc
-error_form Reply bytes h = cc
-error_form Error bytes h = refl
+error_form form bytes h = grind (arith, common_steps, nat_tests)
 
 pub error_of : (bytes : List ℕ) → is_error (kind bytes) ≡ true → form_at 0 bytes ≡ Error
 unfolding kind
@@ -329,11 +298,7 @@ carries_inner bytes number e h = rw e at h
 -- the body of an error says where what it quotes stands
 body_error : (form : Form) (bytes : List ℕ) (quoted : Quoted) → body_of form bytes ≡ bodies.Error quoted →
     (form ≡ Error) × (quoted ≡ quoted_of bytes)
-body_error Udp bytes quoted h = cc
-body_error Tcp bytes quoted h = cc
-body_error Request bytes quoted h = cc
-body_error Reply bytes quoted h = cc
-body_error Error bytes quoted h = (refl, cc)
+body_error form bytes quoted h = grind (arith, common_steps, nat_tests)
 
 pub quoted_form : (bytes : List ℕ) (start : ℕ) (body : Body) (quoted : Quoted) → IsFound bytes start body →
     body ≡ bodies.Error quoted → (form_at 0 bytes ≡ Error) × (quoted ≡ quoted_of bytes)
@@ -345,12 +310,7 @@ not_error bytes start body found e h = h (quoted_of bytes) (found.body_is ∙ ap
 
 pub error_found : (side : Side) (start : ℕ) (body : Body) (old new : List ℕ) →
     IsFound old start body → form_at 0 old ≡ Error → KeepsError side old new → IsFound new start body
-error_found side start body old new found form_is keeps =
-    record {
-      start_is = found.start_is ∙ sym keeps.same_start;
-      body_is = found.body_is
-          ∙ rw (keeps.same_form, form_is, keeps.same_start, keeps.inner_form, keeps.inner_start) refl;
-    }
+error_found side start body old new found form_is keeps = grind (arith, common_steps, nat_tests)
 
 -- all of that for a packet that the caller knows to be an error
 pub error_kept_of : (side : Side) (way : Way) (new : Endpoint) (bytes : List ℕ) → is_error (kind bytes) ≡ true →

@@ -1,20 +1,11 @@
 -- The fields of a datagram that begins at a place `at`: a packet's own at 0, and the one that an ICMP
 -- error quotes at `inner_at`. Layouts of RFC 791 section 3.1, RFC 768, RFC 9293 section 3.1 and RFC 792.
 use Rattle.std.specs.Prelude.{ℕ, ◌+◌, ◌*◌, ◌/◌, ◌<◌, Bool, true, false, not, List, bit_and, Option, Some, None, ◌==◌, if◌then◌else◌}
-use Rattle.napt_wire.specs.Bytes.{byte_at, word_at, long_at}
-use Rattle.napt_wire.specs.declared.Endpoint.{Endpoint}
-use Rattle.napt_wire.specs.declared.Flags.{Flags}
-use Rattle.napt_wire.specs.declared.Inner.{Inner}
-use Rattle.napt_wire.specs.declared.Kind.{Kind}
-use Rattle.napt_wire.specs.declared.Kind.TheVariants as kinds
-use Rattle.napt_wire.specs.declared.Protocol.{Protocol}
-use Rattle.napt_wire.specs.declared.Protocol.TheVariants as protocols
-use Rattle.napt_wire.specs.declared.Way.{Way}
-use Rattle.napt_wire.specs.declared.Way.TheVariants.{Outgoing, Incoming}
-use Rattle.napt_wire.specs.declared.form.Form.{Form}
-use Rattle.napt_wire.specs.declared.form.Form.TheVariants.{Udp, Tcp, Request, Reply, Error}
-use Rattle.napt_wire.specs.declared.form.End.{End}
+use Rattle.napt_wire.specs.{Bytes.{byte_at, word_at, long_at}, declared.{Endpoint.Endpoint, Flags.Flags, Inner.Inner, Kind.Kind, Protocol.Protocol, Way.Way}}
+use Rattle.napt_wire.specs.declared.{Way.TheVariants.{Outgoing, Incoming}, form.{Form.{Form, TheVariants.{Udp, Tcp, Request, Reply, Error}}, End.End}}
 use Rattle.napt_wire.specs.declared.form.End.TheVariants.{Source, Destination}
+use Rattle.napt_wire.specs.declared.Kind.TheVariants as kinds
+use Rattle.napt_wire.specs.declared.Protocol.TheVariants as protocols
 
 abbrev pub version : ℕ → List ℕ → ℕ
 version at bytes = byte_at at bytes / 16

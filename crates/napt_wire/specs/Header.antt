@@ -1,8 +1,6 @@
 -- What a `Header` says of the bytes.
 use Rattle.std.specs.Prelude.{◌≡◌, ℕ, List}
-use Rattle.napt_wire.specs.Fields.{transport, form_at}
-use Rattle.napt_wire.specs.Room.{HasHeaders}
-use Rattle.napt_wire.specs.declared.header.Header.{Header}
+use Rattle.napt_wire.specs.{Fields.{transport, form_at}, Room.HasHeaders, declared.header.Header.Header}
 
 -- the headers of the datagram at a place: they are there, and their places and form are what the bytes say
 pub record IsHeader (at : ℕ) (header : Header) (bytes : List ℕ) : Type 0 where

@@ -1,13 +1,8 @@
 -- What a packet keeps of its bytes.
 use Rattle.std.specs.Prelude.{◌≡◌, ℕ, List, Ok}
-use Rattle.napt_wire.specs.Fields.{transport, form_at, flags, inner_at}
-use Rattle.napt_wire.specs.Reading.{reading}
-use Rattle.napt_wire.specs.declared.Side.{Side}
-use Rattle.napt_wire.specs.declared.form.Form.{Form}
-use Rattle.napt_wire.specs.declared.form.Form.TheVariants.{Udp, Tcp, Request, Reply, Error}
-use Rattle.napt_wire.specs.declared.packet.Body.{Body}
+use Rattle.napt_wire.specs.{Fields.{transport, form_at, flags, inner_at}, Reading.reading, declared.{Side.Side, form.Form.Form}}
+use Rattle.napt_wire.specs.declared.{form.Form.TheVariants.{Udp, Tcp, Request, Reply, Error}, packet.{Body.Body, Quoted.Quoted}}
 use Rattle.napt_wire.specs.declared.packet.Body.TheVariants as bodies
-use Rattle.napt_wire.specs.declared.packet.Quoted.{Quoted}
 
 -- the bytes read as this packet, on arrival from one of the sides
 abbrev pub IsPacket : List ℕ → Type 0

@@ -16,21 +16,7 @@ pub use Rattle.napt_wire.specs.Room.{HasHeaders, AreThere}
 pub use Rattle.napt_wire.specs.Laws.{DestinationsAreGiven, requoted, IsErrorGiven, SourcesAreGiven, LocalEndsCarryNumbers, LastDestinationCounts, LastReversionCounts, IsCanonicalAt, IsQuotedCanonical, IsErrorCanonicalBy, OwnDestinationsChangeNothing, OwnSourcesChangeNothing, SourcesLeaveDestinations, ErrorsLeaveDestinations, PacketsCarryNumbers, IsGiven}
 pub use Rattle.napt_wire.specs.declared.Cause.{Cause}
 pub use Rattle.napt_wire.specs.declared.Cause.TheVariants.{Spoofed, NotOurs, Unsupported, Filtered, OverQuota, NoPort, NoBinding, Truncated, NotIpv4, BadHeader, BadChecksum, Fragment, BadInner, BadPort}
-pub use Rattle.napt_wire.specs.declared.Endpoint.{Endpoint}
-pub use Rattle.napt_wire.specs.declared.Flags.{Flags}
-pub use Rattle.napt_wire.specs.declared.Inner.{Inner}
-pub use Rattle.napt_wire.specs.declared.Kind.{Kind}
-pub use Rattle.napt_wire.specs.declared.Kind.TheVariants.{Echo, ErrorOf}
-pub use Rattle.napt_wire.specs.declared.Protocol.{Protocol}
-pub use Rattle.napt_wire.specs.declared.Protocol.TheVariants.{Udp, Tcp, Icmp}
-pub use Rattle.napt_wire.specs.declared.Side.{Side}
-pub use Rattle.napt_wire.specs.declared.Side.TheVariants.{Outside, Inside}
-pub use Rattle.napt_wire.specs.declared.Way.{Way}
-pub use Rattle.napt_wire.specs.declared.Way.TheVariants.{Outgoing, Incoming}
-pub use Rattle.napt_wire.specs.declared.form.End.{End}
-pub use Rattle.napt_wire.specs.declared.form.End.TheVariants.{Source, Destination}
-pub use Rattle.napt_wire.specs.declared.form.Form.{Form}
-pub use Rattle.napt_wire.specs.declared.form.Form.TheVariants.{Request, Reply, Error}
-pub use Rattle.napt_wire.specs.declared.packet.Body.{Body}
-pub use Rattle.napt_wire.specs.declared.packet.Quoted.{Quoted}
-pub use Rattle.napt_wire.specs.declared.rewrite.Change.{Change}
+pub use Rattle.napt_wire.specs.declared.{Endpoint.Endpoint, Flags.Flags, Inner.Inner, Kind.{Kind, TheVariants.{Echo, ErrorOf}}, Protocol.Protocol}
+pub use Rattle.napt_wire.specs.declared.{Protocol.TheVariants.{Udp, Tcp, Icmp}, Side.{Side, TheVariants.{Outside, Inside}}, Way.Way}
+pub use Rattle.napt_wire.specs.declared.{Way.TheVariants.{Outgoing, Incoming}, form.{End.{End, TheVariants.{Source, Destination}}, Form.Form}}
+pub use Rattle.napt_wire.specs.declared.{form.Form.TheVariants.{Request, Reply, Error}, packet.{Body.Body, Quoted.Quoted}, rewrite.Change.Change}

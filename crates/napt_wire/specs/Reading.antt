@@ -1,14 +1,9 @@
 -- Reading a packet: the checks in order. The first that fails names the cause.
 use Rattle.std.specs.Prelude.{ℕ, ◌+◌, ◌*◌, ◌/◌, Bool, true, false, not, ◌&&◌, ◌||◌, List, [], ◌∷◌, ◌++◌, length, take, drop, Option, Some, None, Result, Ok, Err, nat_lt, ◌==◌, if◌then◌else◌}
-use Rattle.napt_wire.specs.Bytes.{byte_at, word_at, words}
-use Rattle.napt_wire.specs.Checksum.{is_right}
+use Rattle.napt_wire.specs.{Bytes.{byte_at, word_at, words}, Checksum.is_right}
 use Rattle.napt_wire.specs.Fields.{version, header_length, total_length, fragment_offset, has_more, protocol_number, transport, form_at, address, inner_at}
-use Rattle.napt_wire.specs.declared.Cause.{Cause}
-use Rattle.napt_wire.specs.declared.Cause.TheVariants.{Truncated, NotIpv4, BadHeader, BadChecksum, Fragment, Unsupported, BadInner, BadPort}
-use Rattle.napt_wire.specs.declared.Side.{Side}
-use Rattle.napt_wire.specs.declared.Side.TheVariants.{Inside, Outside}
-use Rattle.napt_wire.specs.declared.form.Form.{Form}
-use Rattle.napt_wire.specs.declared.form.Form.TheVariants.{Udp, Tcp, Request, Reply, Error}
+use Rattle.napt_wire.specs.declared.Cause.{Cause, TheVariants.{Truncated, NotIpv4, BadHeader, BadChecksum, Fragment, Unsupported, BadInner, BadPort}}
+use Rattle.napt_wire.specs.declared.{Side.{Side, TheVariants.{Inside, Outside}}, form.Form.{Form, TheVariants.{Udp, Tcp, Request, Reply, Error}}}
 use Rattle.napt_wire.specs.declared.form.End.TheVariants.{Source, Destination}
 
 -- the header of the datagram at a place

@@ -1,9 +1,6 @@
 -- The words that a `Rewrite` replaces.
 use Rattle.std.specs.Prelude.{List, [], ◌∷◌, ◌++◌, option_to_list}
-use Rattle.napt_wire.specs.declared.rewrite.AddressRewrite.{AddressRewrite}
-use Rattle.napt_wire.specs.declared.rewrite.Change.{Change}
-use Rattle.napt_wire.specs.declared.rewrite.ErrorRewrite.{ErrorRewrite}
-use Rattle.napt_wire.specs.declared.rewrite.Rewrite.{Rewrite}
+use Rattle.napt_wire.specs.declared.rewrite.{AddressRewrite.AddressRewrite, Change.Change, ErrorRewrite.ErrorRewrite, Rewrite.Rewrite}
 
 abbrev pub address_changes_of : AddressRewrite → List Change
 address_changes_of r = r.header_check ∷ r.high ∷ r.low ∷ []

@@ -1,17 +1,10 @@
 -- The rewritten packet (RFC 3022 sections 4.1 to 4.3, RFC 5508 section 4): an address and a number are
 -- replaced, and each checksum that covers them, all at once. All other bytes stay.
 use Rattle.std.specs.Prelude.{ℕ, ◌+◌, ◌/◌, ◌%◌, List, [], ◌∷◌, ◌++◌, length, map, Option, Some, None, nat_le, if◌then◌else◌}
-use Rattle.napt_wire.specs.Bytes.{word_at, put_word}
-use Rattle.napt_wire.specs.Checksum.{canon, canon_udp}
-use Rattle.napt_wire.specs.Fields.{address, address_place, transport, form_at, number_place, end_at, inner_at}
-use Rattle.napt_wire.specs.declared.Endpoint.{Endpoint}
-use Rattle.napt_wire.specs.declared.Way.{Way}
-use Rattle.napt_wire.specs.declared.Way.TheVariants.{Outgoing, Incoming}
-use Rattle.napt_wire.specs.declared.form.Form.{Form}
-use Rattle.napt_wire.specs.declared.form.Form.TheVariants.{Udp, Tcp, Request, Reply, Error}
-use Rattle.napt_wire.specs.declared.form.End.{End}
-use Rattle.napt_wire.specs.declared.form.End.TheVariants.{Source, Destination}
-use Rattle.napt_wire.specs.declared.rewrite.Change.{Change}
+use Rattle.napt_wire.specs.{Bytes.{word_at, put_word}, Checksum.{canon, canon_udp}}
+use Rattle.napt_wire.specs.{Fields.{address, address_place, transport, form_at, number_place, end_at, inner_at}, declared.{Endpoint.Endpoint, Way.Way}}
+use Rattle.napt_wire.specs.declared.{Way.TheVariants.{Outgoing, Incoming}, form.{Form.{Form, TheVariants.{Udp, Tcp, Request, Reply, Error}}, End.End}}
+use Rattle.napt_wire.specs.declared.{form.End.TheVariants.{Source, Destination}, rewrite.Change.Change}
 
 -- the word at a place becomes another
 abbrev pub change : List ℕ → ℕ → ℕ → Change

@@ -1,12 +1,8 @@
 -- Whether the transport checksum of a datagram is right. Those of the IPv4 headers and of ICMP errors are
 -- judged by reading, so they are right in each packet.
 use Rattle.std.specs.Prelude.{ℕ, ◌+◌, ◌-◌, Bool, ◌||◌, ◌==◌, List, [], ◌∷◌, ◌++◌, length, take, drop, Option, Some, None, option_map, nat_lt, if◌then◌else◌}
-use Rattle.napt_wire.specs.Bytes.{word_at, words}
-use Rattle.napt_wire.specs.Checksum.{is_right}
-use Rattle.napt_wire.specs.Fields.{address, header_length, total_length, protocol_number, transport, form_at}
-use Rattle.napt_wire.specs.Rewriting.{address_words}
-use Rattle.napt_wire.specs.declared.form.Form.{Form}
-use Rattle.napt_wire.specs.declared.form.Form.TheVariants.{Udp, Tcp, Request, Reply, Error}
+use Rattle.napt_wire.specs.{Bytes.{word_at, words}, Checksum.is_right, Fields.{address, header_length, total_length, protocol_number, transport, form_at}}
+use Rattle.napt_wire.specs.{Rewriting.address_words, declared.form.Form.{Form, TheVariants.{Udp, Tcp, Request, Reply, Error}}}
 use Rattle.napt_wire.specs.declared.form.End.TheVariants.{Source, Destination}
 
 -- the pseudo-header that UDP and TCP checksums cover, for a transport header and data of a length: both

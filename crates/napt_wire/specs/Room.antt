@@ -1,7 +1,6 @@
 -- What bytes have to be there.
 use Rattle.std.specs.Prelude.{ℕ, ◌+◌, ◌≤◌, List, length, All}
-use Rattle.napt_wire.specs.Fields.{transport}
-use Rattle.napt_wire.specs.declared.rewrite.Change.{Change}
+use Rattle.napt_wire.specs.{Fields.transport, declared.rewrite.Change.Change}
 
 -- the datagram at a place has a whole IPv4 header and the first eight bytes of a transport header
 pub record HasHeaders (at : ℕ) (bytes : List ℕ) : Type 0 where

@@ -1,9 +1,7 @@
 //! Internet checksums: the sum over bytes, and its update when a word is replaced.
 
 ghost use Rattle.std.specs.Prelude.{◌≡◌, ◌≤◌, ◌==◌, [], ◌∷◌, length, if◌then◌else◌};
-ghost use Rattle.napt_wire.specs.Checksum.{canon, canon_udp, is_right};
-ghost use Rattle.napt_wire.specs.Bytes.{words};
-ghost use Rattle.napt_wire.specs.Rewriting.{address_words, end_words};
+ghost use Rattle.napt_wire.specs.{Checksum.{canon, canon_udp, is_right}, Bytes.words, Rewriting.{address_words, end_words}};
 
 use crate::Endpoint;
 use crate::bytes::{read_long, read_word};

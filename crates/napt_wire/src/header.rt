@@ -1,8 +1,7 @@
 //! Where a datagram's headers are, and its ends.
 
 ghost use Rattle.std.specs.Prelude.{◌≡◌, ◌+◌, ◌≤◌, ◌<◌, ◌^◌, IfSome, option_map};
-ghost use Rattle.napt_wire.specs.Fields.{address_place, end_at, inner_of, number_place};
-ghost use Rattle.napt_wire.specs.Header.{IsHeader};
+ghost use Rattle.napt_wire.specs.{Fields.{address_place, end_at, inner_of, number_place}, Header.IsHeader};
 
 use crate::bytes::{read_long, read_word};
 use crate::form::{End, Form};

@@ -1,13 +1,9 @@
 //! A packet that was read.
 
 ghost use Rattle.std.specs.Prelude.{◌≡◌, List, ℕ, false, true, Ok, Err, IfOk, IfErr, ◌<◌, ◌^◌, length};
-ghost use Rattle.napt_wire.specs.Fields.{source, destination, end_at, inner_at, kind, local_end, remote_end, is_error, CanCarry};
-ghost use Rattle.napt_wire.specs.Reading.{reading};
-ghost use Rattle.napt_wire.specs.Rewriting.{changed, end_changes, with_source, with_destination, reverted};
-ghost use Rattle.napt_wire.specs.Packet.{IsPacket, form_of, quoted_of};
-ghost use Rattle.napt_wire.specs.Header.{IsHeader};
-ghost use Rattle.napt_wire.specs.Right.{transport_right};
-ghost use Rattle.napt_wire.specs.declared.Side.{Side};
+ghost use Rattle.napt_wire.specs.{Fields.{source, destination, end_at, inner_at, kind, local_end, remote_end, is_error, CanCarry}, Reading.reading};
+ghost use Rattle.napt_wire.specs.{Rewriting.{changed, end_changes, with_source, with_destination, reverted}, Packet.{IsPacket, form_of, quoted_of}};
+ghost use Rattle.napt_wire.specs.{Header.IsHeader, Right.transport_right, declared.Side.Side};
 
 use crate::form::{End, Form};
 use crate::header::Header;

@@ -1,9 +1,7 @@
 //! The checks on an arriving packet, in order, and what they find.
 
-ghost use Rattle.std.specs.Prelude.{◌≡◌, ◌+◌, ◌≤◌, ◌||◌, ◌==◌, not, length, drop, take, is_none, Ok, Err, IfOk, IfErr, IfSome, Some, None};
-ghost use Rattle.std.specs.Result.{result_err};
-ghost use Rattle.napt_wire.specs.Bytes.{words};
-ghost use Rattle.napt_wire.specs.Checksum.{is_right};
+ghost use Rattle.std.specs.{Prelude.{◌≡◌, ◌+◌, ◌≤◌, ◌||◌, ◌==◌, not, length, drop, take, is_none, Ok, Err, IfOk, IfErr, IfSome, Some, None}, Result.result_err};
+ghost use Rattle.napt_wire.specs.{Bytes.words, Checksum.is_right};
 ghost use Rattle.napt_wire.specs.Fields.{flags_of, form_at, fragment_offset, has_more, header_length, inner_at, total_length, transport};
 ghost use Rattle.napt_wire.specs.Packet.{IsFound, body_of, quoted_of};
 ghost use Rattle.napt_wire.specs.Reading.{body_checks, error_checks, has_bad_inner, has_bad_transport, has_zero_port, header_checks, is_known, is_quoted, is_translated, length_checks, reading, refusal};

@@ -7,8 +7,7 @@ mod program;
 mod progress;
 mod watched;
 
-ghost use Rattle.std.specs.Prelude.{◌≡◌};
-ghost use Rattle.std.specs.Process.{exit_status};
+ghost use Rattle.std.specs.{Prelude.◌≡◌, Process.exit_status};
 ghost use Rattle.napt_program.specs.Stop.{status_at_end};
 
 use napt_program::{Call, Stop, Streams, status_at_end};

@@ -2,8 +2,7 @@
 //! them.
 
 ghost use Rattle.std.specs.Prelude.{◌≡◌, IfErr, OnOk, is_some, map, string_bytes, true};
-ghost use Rattle.napt_program.specs.CommandLine.{files_with_log, line_with_log};
-ghost use Rattle.napt_program.specs.Command.{IsLineStop, IsRunStop, IsTaken, IsUnderOpenGate};
+ghost use Rattle.napt_program.specs.{CommandLine.{files_with_log, line_with_log}, Command.{IsLineStop, IsRunStop, IsTaken, IsUnderOpenGate}};
 ghost use Rattle.napt_run.specs.LoggedStreams.{IsUnderOpenGate as IsLoggedUnderOpenGate};
 
 use crate::counted::Counted;

@@ -4,11 +4,8 @@ ghost use Rattle.std.specs.Prelude.{◌≡◌, ◌==◌, ◌≤◌, ◌<◌, ◌
 ghost use Rattle.std.specs.List.{list_any};
 ghost use Rattle.napt_rules.specs.Prelude.{change_first};
 ghost use Rattle.napt_rules.specs.Life as life;
-ghost use Rattle.napt_binding.specs.Standing.{standing_flow_of};
-ghost use Rattle.napt_binding.specs.Ends.{last_end};
-ghost use Rattle.napt_binding.specs.Kept.{few, is_full};
+ghost use Rattle.napt_binding.specs.{Standing.standing_flow_of, Ends.last_end, Kept.{few, is_full}, Slots.AreDistinct};
 ghost use Rattle.napt_binding.specs.Sent as packets;
-ghost use Rattle.napt_binding.specs.Slots.{AreDistinct};
 ghost use Rattle.napt_rules.specs.Traffic as traffic;
 
 use crate::idle_timers::IdleTimers;

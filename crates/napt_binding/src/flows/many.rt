@@ -2,13 +2,10 @@
 
 ghost use Rattle.std.specs.Prelude.{◌≡◌, ◌==◌, ◌≤◌, ◌<◌, ◌++◌, ◌^◌, ℕ, Bool, true, false, None, Some, [], ◌∷◌, length, filter, slice_set, OnOk, OnErr, IfOk, IfSome};
 ghost use Rattle.std.specs.List.{list_any};
-ghost use Rattle.napt_rules.specs.declared.Flow.{Flow};
+ghost use Rattle.napt_rules.specs.{declared.Flow.Flow, Prelude.change_first};
 ghost use Rattle.napt_rules.specs.Life as life;
-ghost use Rattle.napt_binding.specs.Standing.{standing_flow_of};
-ghost use Rattle.napt_rules.specs.Prelude.{change_first};
-ghost use Rattle.napt_binding.specs.Ends.{last_end};
+ghost use Rattle.napt_binding.specs.{Standing.standing_flow_of, Ends.last_end, Slots.{somes, Stands, AreDistinct, AreByLastUse, NoneUsedAfter}};
 ghost use Rattle.napt_binding.specs.Sent as packets;
-ghost use Rattle.napt_binding.specs.Slots.{somes, Stands, AreDistinct, AreByLastUse, NoneUsedAfter};
 ghost use Rattle.napt_rules.specs.Traffic as traffic;
 
 use super::slots::Slots;

@@ -4,9 +4,8 @@ ghost use Rattle.std.specs.Prelude.{◌≡◌, ◌≢◌, ◌<◌, ◌≤◌, �
 ghost use Rattle.std.specs.List.{list_any};
 ghost use Rattle.napt_rules.specs.declared.Flow.{Flow};
 ghost use Rattle.napt_rules.specs.Life as life;
-ghost use Rattle.napt_binding.specs.Ends.{last_end};
+ghost use Rattle.napt_binding.specs.{Ends.last_end, Slots.{somes, Stands, NoneUsedAfter, EachOf, IsFirstUsed, IsLatest, is_recent_time}};
 ghost use Rattle.napt_binding.specs.Slots as slots;
-ghost use Rattle.napt_binding.specs.Slots.{somes, Stands, NoneUsedAfter, EachOf, IsFirstUsed, IsLatest, is_recent_time};
 
 use crate::idle_timers::IdleTimers;
 use crate::life::{end_after, is_recent, last_moment};

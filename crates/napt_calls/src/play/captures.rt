@@ -1,32 +1,25 @@
 //! Captures that are read and written.
 
 use crate::Stop;
-use crate::play::words::Words;
+use crate::play::line::{Line, tell};
 use napt_capture::{LARGEST_RECORD, Record, Watched, read_capture, write_capture};
-use std::alloc::Global;
 
 /// A time in ns that a capture has no room for: 2 ^ 32 seconds.
 const TIMES_END: u64 = 4_294_967_296_000_000_000;
 
 /// `read_capture BYTES`
-pub(crate) fn tell_read<R: Print>(
-    rt: &R,
-    alloc: Global,
-    words: &mut Words<'_>,
-) -> Result<(), Stop> {
-    let bytes = words.bytes(alloc)?;
-    let answer = read_capture(alloc, &mut Watched::new(bytes.as_slice()));
-    println!(rt; "{answer:?}").map_err(|_| Stop::File)
+pub(crate) fn tell_read<R: Print>(line: &mut Line<'_, R>) -> Result<(), Stop> {
+    let bytes = line.bytes()?;
+    tell(
+        line.rt,
+        &read_capture(line.alloc, &mut Watched::new(bytes.as_slice())),
+    )
 }
 
 /// `write_capture TIME BYTES`: the text of a capture of that record.
-pub(crate) fn tell_written<R: Print>(
-    rt: &R,
-    alloc: Global,
-    words: &mut Words<'_>,
-) -> Result<(), Stop> {
-    let time = words.number()?;
-    let bytes = words.bytes(alloc)?;
+pub(crate) fn tell_written<R: Print>(line: &mut Line<'_, R>) -> Result<(), Stop> {
+    let time = line.number()?;
+    let bytes = line.bytes()?;
     if time >= TIMES_END || bytes.len() > LARGEST_RECORD as usize {
         return Err(Stop::Unsent);
     }
@@ -36,8 +29,8 @@ pub(crate) fn tell_written<R: Print>(
         bytes,
         original,
     };
-    let mut text = Watched::new(Vec::new(alloc));
+    let mut text = Watched::new(Vec::new(line.alloc));
     let answer = write_capture(&mut text, &[record]);
     let text = text.into_inner();
-    println!(rt; "{answer:?} {text:?}").map_err(|_| Stop::File)
+    println!(line.rt; "{answer:?} {text:?}").map_err(|_| Stop::File)
 }

@@ -1,18 +1,17 @@
 //! The log of a run over inputs.
 
 use crate::Stop;
-use crate::play::words::Words;
+use crate::play::line::{Line, tell};
 use napt_account::{KnownRun, in_order_of_making};
 use napt_config::Config;
 use napt_sequential::Input;
-use std::alloc::Global;
 
 /// `input SIDE NOW BYTES`
-pub(crate) fn input<R: Print>(rt: &R, alloc: Global, words: &mut Words<'_>) -> Result<Input, Stop> {
-    let side = words.side()?;
-    let time = words.number()?;
-    let bytes = words.bytes(alloc)?;
-    println!(rt; "taken").map_err(|_| Stop::File)?;
+pub(crate) fn input<R: Print>(line: &mut Line<'_, R>) -> Result<Input, Stop> {
+    let side = line.side()?;
+    let time = line.number()?;
+    let bytes = line.bytes()?;
+    println!(line.rt; "taken").map_err(|_| Stop::File)?;
     Ok(Input {
         side,
         time,
@@ -23,12 +22,12 @@ pub(crate) fn input<R: Print>(rt: &R, alloc: Global, words: &mut Words<'_>) -> R
 
 /// `logged`: which entries the log has ended, made and refused with each input, and what that did to the bindings; the entries that
 /// are left; and all entries, in order of making.
-pub(crate) fn tell<R: Print>(
-    rt: &R,
-    alloc: Global,
+pub(crate) fn tell_log<R: Print>(
+    line: &Line<'_, R>,
     config: &Config,
     inputs: &[Input],
 ) -> Result<(), Stop> {
+    let (rt, alloc) = (line.rt, line.alloc);
     let mut run = KnownRun::begin(alloc, config).map_err(|_| Stop::Call)?;
     let mut listed = Vec::new(alloc);
     for input in inputs {
@@ -44,5 +43,5 @@ pub(crate) fn tell<R: Print>(
     print!(rt; "{living:?}; ").map_err(|_| Stop::File)?;
     listed.append(&mut living).map_err(|_| Stop::Call)?;
     let log = in_order_of_making(alloc, listed).map_err(|_| Stop::Call)?;
-    println!(rt; "{log:?}").map_err(|_| Stop::File)
+    tell(line.rt, &log)
 }

@@ -4,7 +4,7 @@ ghost use Rattle.std.specs.Prelude.{◌≡◌, ◌≤◌, true, IfOk, IfSome};
 ghost use Rattle.napt_config.specs.Rules.{IsBlock};
 
 use crate::Stop;
-use crate::play::words::Words;
+use crate::play::line::{Line, tell};
 use napt_config::{Block, Config};
 use napt_table::{Sent, Table};
 use napt_wire::{Cause, Protocol};
@@ -12,45 +12,42 @@ use std::alloc::Global;
 
 /// `table ADDRESS CONFIGURATION`: a table of that address, behind a box: a function that owns one as it stands takes minutes to
 /// prove.
-pub(crate) fn begun<R: Print>(
-    rt: &R,
-    alloc: Global,
-    words: &mut Words<'_>,
-) -> Result<Box<Table>, Stop> {
-    let address = words.long()?;
-    let text = words.bytes(alloc)?;
-    let config = Config::read(alloc, &text).map_err(|_| Stop::Config)?;
-    let table = Table::new(alloc, address, &config).map_err(|_| Stop::Call)?;
-    println!(rt; "begun").map_err(|_| Stop::File)?;
-    Box::new(alloc, table).map_err(|_| Stop::Call)
+pub(crate) fn begun<R: Print>(line: &mut Line<'_, R>) -> Result<Box<Table>, Stop> {
+    let address = line.long()?;
+    let config = Config::read(line.alloc, &line.bytes()?).map_err(|_| Stop::Config)?;
+    let table = Table::new(line.alloc, address, &config).map_err(|_| Stop::Call)?;
+    println!(line.rt; "begun").map_err(|_| Stop::File)?;
+    Box::new(line.alloc, table).map_err(|_| Stop::Call)
 }
 
-/// A call on the current table.
+/// A call on the current table; `count` tells how many bindings `bindings` lists.
 pub(crate) fn answer<R: Print>(
-    rt: &R,
-    alloc: Global,
+    line: &mut Line<'_, R>,
     table: &mut Table,
     call: &str,
-    words: &mut Words<'_>,
 ) -> Result<(), Stop> {
-    let now = words.number()?;
+    let now = line.number()?;
     if now < table.at() {
         return Err(Stop::Unsent);
     }
     match call {
-        "outbound" => outbound(rt, alloc, table, now, words),
-        "inbound" => inbound(rt, table, now, words),
-        "by_external" => {
-            let answer = table.by_external(now, words.protocol()?, words.short()?);
-            println!(rt; "{answer:?}").map_err(|_| Stop::File)
-        }
-        "by_inside" => {
-            let answer = table.by_inside(now, words.protocol()?, words.endpoint()?);
-            println!(rt; "{answer:?}").map_err(|_| Stop::File)
-        }
-        "bindings" => {
-            let rows = table.bindings(alloc, now).map_err(|_| Stop::Call)?;
-            println!(rt; "{rows:?}").map_err(|_| Stop::File)
+        "outbound" => outbound(line, table, now),
+        "inbound" => inbound(line, table, now),
+        "by_external" => tell(
+            line.rt,
+            &table.by_external(now, line.protocol()?, line.short()?),
+        ),
+        "by_inside" => tell(
+            line.rt,
+            &table.by_inside(now, line.protocol()?, line.endpoint()?),
+        ),
+        "bindings" => tell(
+            line.rt,
+            &table.bindings(line.alloc, now).map_err(|_| Stop::Call)?,
+        ),
+        "count" => {
+            let rows = table.bindings(line.alloc, now).map_err(|_| Stop::Call)?;
+            tell(line.rt, &rows.len())
         }
         _ => Err(Stop::Usage),
     }
@@ -101,33 +98,28 @@ fn send(alloc: Global, table: &mut Table, sent: Sent) -> Result<Result<u16, Caus
 }
 
 /// `outbound NOW PROTOCOL INSIDE REMOTE FLAGS`, and the first number and the size of the block of the inside host, if it has one.
-fn outbound<R: Print>(
-    rt: &R,
-    alloc: Global,
-    table: &mut Table,
-    now: u64,
-    words: &mut Words<'_>,
-) -> Result<(), Stop>
+fn outbound<R: Print>(line: &mut Line<'_, R>, table: &mut Table, now: u64) -> Result<(), Stop>
     requires { table.old.at ≤ now }
 {
     let sent = Sent {
         now,
-        protocol: words.protocol()?,
-        inside: words.endpoint()?,
-        remote: words.endpoint()?,
-        flags: words.flags()?,
-        block: words.block()?,
+        protocol: line.protocol()?,
+        inside: line.endpoint()?,
+        remote: line.endpoint()?,
+        flags: line.flags()?,
+        block: line.block()?,
     };
-    let answer = send(alloc, table, sent)?;
-    println!(rt; "{answer:?}").map_err(|_| Stop::File)
+    tell(line.rt, &send(line.alloc, table, sent)?)
 }
 
 /// `inbound NOW PROTOCOL NUMBER REMOTE FLAGS`
-fn inbound<R: Print>(rt: &R, table: &mut Table, now: u64, words: &mut Words<'_>) -> Result<(), Stop>
+fn inbound<R: Print>(line: &mut Line<'_, R>, table: &mut Table, now: u64) -> Result<(), Stop>
     requires { table.old.at ≤ now }
 {
-    let (protocol, external) = (words.protocol()?, words.short()?);
-    let (remote, flags) = (words.endpoint()?, words.flags()?);
-    let answer = table.inbound(now, protocol, external, remote, flags);
-    println!(rt; "{answer:?}").map_err(|_| Stop::File)
+    let (protocol, external) = (line.protocol()?, line.short()?);
+    let (remote, flags) = (line.endpoint()?, line.flags()?);
+    tell(
+        line.rt,
+        &table.inbound(now, protocol, external, remote, flags),
+    )
 }

@@ -1,11 +1,10 @@
 //! The translators of a pool, and the sides of a packet.
 
 use crate::Stop;
-use crate::play::words::Words;
+use crate::play::line::{Line, tell};
 use napt_config::Config;
 use napt_translate::{Answer, End, Leg, Translator, onward, route};
 use napt_wire::Packet;
-use std::alloc::Global;
 
 /// A translator for each address of a configuration's pool, in its order.
 #[derive(Drop)]
@@ -15,13 +14,9 @@ pub(crate) struct Translators {
 }
 
 /// `translators CONFIGURATION`
-pub(crate) fn begun<R: Print>(
-    rt: &R,
-    alloc: Global,
-    words: &mut Words<'_>,
-) -> Result<Translators, Stop> {
-    let text = words.bytes(alloc)?;
-    let config = Config::read(alloc, &text).map_err(|_| Stop::Config)?;
+pub(crate) fn begun<R: Print>(line: &mut Line<'_, R>) -> Result<Translators, Stop> {
+    let alloc = line.alloc;
+    let config = Config::read(alloc, &line.bytes()?).map_err(|_| Stop::Config)?;
     let mut all = Vec::new(alloc);
     for index in 0..16u32 {
         if (index as usize) < config.pool().len() {
@@ -30,89 +25,78 @@ pub(crate) fn begun<R: Print>(
             all.push(translator).map_err(|_| Stop::Call)?;
         }
     }
-    println!(rt; "begun").map_err(|_| Stop::File)?;
+    println!(line.rt; "begun").map_err(|_| Stop::File)?;
     Ok(Translators { config, all })
 }
 
 impl Translators {
     /// The translator at the place that the next word says.
-    fn at(&mut self, words: &mut Words<'_>) -> Result<&mut Translator, Stop> {
-        let place = words.short()?;
+    fn at<R>(&mut self, line: &mut Line<'_, R>) -> Result<&mut Translator, Stop> {
+        let place = line.short()?;
         self.all.get_mut(usize::from(place)).ok_or(Stop::Usage)
     }
 
     /// `route SIDE`, of the current packet
     pub(crate) fn tell_route<R: Print>(
         &self,
-        rt: &R,
+        line: &mut Line<'_, R>,
         packet: &Packet,
-        words: &mut Words<'_>,
     ) -> Result<(), Stop> {
-        let place = route(&self.config, words.side()?, packet);
-        println!(rt; "{place:?}").map_err(|_| Stop::File)
+        tell(line.rt, &route(&self.config, line.side()?, packet))
     }
 
     /// `onward`, of the current packet
-    pub(crate) fn tell_onward<R: Print>(&self, rt: &R, packet: &Packet) -> Result<(), Stop> {
-        let place = onward(&self.config, packet);
-        println!(rt; "{place:?}").map_err(|_| Stop::File)
+    pub(crate) fn tell_onward<R: Print>(
+        &self,
+        line: &Line<'_, R>,
+        packet: &Packet,
+    ) -> Result<(), Stop> {
+        tell(line.rt, &onward(&self.config, packet))
     }
 
     /// `translate PLACE NUMBER NOW WAY`: a leg of the current packet; the one that leaves is the current one from now on.
     pub(crate) fn translate<R: Print>(
         &mut self,
-        rt: &R,
-        alloc: Global,
+        line: &mut Line<'_, R>,
         packet: Packet,
-        words: &mut Words<'_>,
     ) -> Result<Option<Packet>, Stop> {
-        let translator = self.at(words)?;
+        let translator = self.at(line)?;
         let leg = Leg {
-            number: words.number()?,
-            now: words.number()?,
-            way: words.way()?,
+            number: line.number()?,
+            now: line.number()?,
+            way: line.way()?,
             packet,
         };
-        let answer = translator.translate(alloc, leg).map_err(|_| Stop::Call)?;
-        tell(rt, answer)
+        let answer = translator
+            .translate(line.alloc, leg)
+            .map_err(|_| Stop::Call)?;
+        tell_end(line.rt, answer)
     }
 
     /// `rows PLACE NOW`: the bindings of a translator.
-    pub(crate) fn tell_rows<R: Print>(
-        &mut self,
-        rt: &R,
-        alloc: Global,
-        words: &mut Words<'_>,
-    ) -> Result<(), Stop> {
-        let translator = self.at(words)?;
+    pub(crate) fn tell_rows<R: Print>(&mut self, line: &mut Line<'_, R>) -> Result<(), Stop> {
+        let translator = self.at(line)?;
         let rows = translator
-            .bindings(alloc, words.number()?)
+            .bindings(line.alloc, line.number()?)
             .map_err(|_| Stop::Call)?;
-        println!(rt; "{rows:?}").map_err(|_| Stop::File)
+        tell(line.rt, &rows)
     }
 }
 
 /// Tells the number of a leg and how it ends, and hands on the packet that leaves.
-fn tell<R: Print>(rt: &R, answer: Answer) -> Result<Option<Packet>, Stop> {
+fn tell_end<R: Print>(rt: &R, answer: Answer) -> Result<Option<Packet>, Stop> {
     let Answer { number, end } = answer;
+    print!(rt; "{number} ").map_err(|_| Stop::File)?;
     let (told, packet) = match end {
-        End::ToOutside(packet) => {
-            let bytes = packet.bytes();
-            (println!(rt; "{number} ToOutside {bytes:?}"), Some(packet))
+        End::ToOutside(packet) => (print!(rt; "ToOutside"), packet),
+        End::ToInside(packet) => (print!(rt; "ToInside"), packet),
+        End::Onward(place, packet) => (print!(rt; "Onward {place}"), packet),
+        End::Dropped(cause) => {
+            println!(rt; "Dropped {cause:?}").map_err(|_| Stop::File)?;
+            return Ok(None);
         }
-        End::ToInside(packet) => {
-            let bytes = packet.bytes();
-            (println!(rt; "{number} ToInside {bytes:?}"), Some(packet))
-        }
-        End::Onward(place, packet) => {
-            let bytes = packet.bytes();
-            (
-                println!(rt; "{number} Onward {place} {bytes:?}"),
-                Some(packet),
-            )
-        }
-        End::Dropped(cause) => (println!(rt; "{number} Dropped {cause:?}"), None),
     };
     told.map_err(|_| Stop::File)?;
-    Ok(packet)
+    println!(rt; " {:?}", packet.bytes()).map_err(|_| Stop::File)?;
+    Ok(Some(packet))
 }

@@ -5,7 +5,7 @@ ghost use Rattle.napt_config.specs.Rules.{KeepsRules};
 ghost use Rattle.napt_dispatch.specs.Dispatch.{started};
 
 use crate::refused::End;
-use crate::refused::left::{Asked, Counts, gate, looked_at};
+use crate::refused::left::{Asked, counted, looked_at};
 use crate::refused::run::{configuration, end_of_run, inputs};
 use napt_config::Config;
 use napt_pool::{Pool, PoolFault};
@@ -42,44 +42,32 @@ fn dispatched<R: Threads + Wait + Copy + Send + 'static>(
     config: &Config,
     inputs: &[Input],
     gate: Arc<Asked>,
-) -> End {
-    let Ok(machines) = workers(alloc, config) else {
-        return End::Before;
-    };
+) -> Result<(), End> {
+    let machines = workers(alloc, config)?;
     if inputs.len() != 3 {
-        return End::Wrong("other inputs");
+        return Err(End::Wrong("other inputs"));
     }
     let mut pool = match Pool::start(rt, alloc, machines, config.ring(), gate) {
         Ok(pool) => pool,
-        Err(PoolFault::Memory | PoolFault::NoThread) => return End::Before,
-        Err(_) => return End::Wrong("another fault"),
+        Err(PoolFault::Memory | PoolFault::NoThread) => return Err(End::Before),
+        Err(_) => return Err(End::Wrong("another fault")),
     };
     let answer = dispatch(rt, alloc, &mut pool, config, inputs);
     let closed = pool.close(rt, alloc);
-    let (outcomes, legs) = match answer {
-        Ok(done) => done,
-        Err(fault) => return end_of_run(fault),
-    };
+    let (outcomes, legs) = answer.map_err(end_of_run)?;
     match closed {
-        Ok(_) if outcomes.len() == 3 && legs.as_slice() == [1, 3].as_slice() => End::Done,
-        Err(PoolFault::Memory) => End::After,
-        _ => End::Wrong("another run"),
+        Ok(_) if outcomes.len() == 3 && legs.as_slice() == [1, 3].as_slice() => Ok(()),
+        Err(PoolFault::Memory) => Err(End::After),
+        _ => Err(End::Wrong("another run")),
     }
 }
 
 pub(crate) fn ended<R: Files + AllocGlobal + Threads + Wait + Copy + Send + 'static>(
     rt: &R,
-) -> End {
+) -> Result<(), End> {
     let alloc = rt.alloc();
-    let (Some(config), Some(inputs)) = (configuration(alloc), inputs(alloc)) else {
-        return End::Before;
-    };
-    let Ok(counts) = Counts::shared(alloc) else {
-        return End::Before;
-    };
-    let Ok(gate) = gate(alloc, &counts) else {
-        return End::Before;
-    };
-    let end = dispatched(rt, alloc, &config, &inputs, gate);
-    looked_at(rt, &counts, end)
+    let (config, inputs) = (configuration(alloc)?, inputs(alloc)?);
+    let (counts, gate) = counted(alloc)?;
+    let came = dispatched(rt, alloc, &config, &inputs, gate);
+    looked_at(rt, &counts, came)
 }

@@ -36,21 +36,18 @@ impl Gate for Asked {
     }
 }
 
-impl Counts {
-    pub(crate) fn shared(alloc: Global) -> Result<Arc<Counts>, AllocError> {
-        let counts = Counts {
-            made: AtomicU64::new(0),
-            dropped: AtomicU64::new(0),
-            asks: AtomicU64::new(0),
-        };
-        Ok(Arc::new(alloc, counts)?)
-    }
-}
-
-/// A gate that counts there.
-pub(crate) fn gate(alloc: Global, counts: &Arc<Counts>) -> Result<Arc<Asked>, AllocError> {
-    let counts = Arc::try_clone(counts)?;
-    Ok(Arc::new(alloc, Asked { counts })?)
+/// Counts, and a gate that counts there.
+pub(crate) fn counted(alloc: Global) -> Result<(Arc<Counts>, Arc<Asked>), AllocError> {
+    let counts = Counts {
+        made: AtomicU64::new(0),
+        dropped: AtomicU64::new(0),
+        asks: AtomicU64::new(0),
+    };
+    let counts = Arc::new(alloc, counts)?;
+    let asked = Asked {
+        counts: Arc::try_clone(&counts)?,
+    };
+    Ok((counts, Arc::new(alloc, asked)?))
 }
 
 /// Whether the system counts one thread of this program.
@@ -71,17 +68,23 @@ fn is_soon_alone<R: Files + AllocGlobal + Wait>(rt: &R) -> io::Result<bool> {
     Ok(false)
 }
 
-/// The end, where nothing is left: each machine has been dropped, no thread runs beside the first, and the gate is not asked
+/// What the call came to, where nothing is left: each machine has been dropped, no thread runs beside the first, and the gate is not asked
 /// any more.
-pub(crate) fn looked_at<R: Files + AllocGlobal + Wait>(rt: &R, counts: &Counts, end: End) -> End {
+pub(crate) fn looked_at<R: Files + AllocGlobal + Wait, T: Drop>(
+    rt: &R,
+    counts: &Counts,
+    came: Result<T, End>,
+) -> Result<T, End> {
     let asks = counts.asks.load(Ordering::SeqCst);
     if counts.made.load(Ordering::SeqCst) != counts.dropped.load(Ordering::SeqCst) {
-        return End::Wrong("a machine is left");
+        return Err(End::Wrong("a machine is left"));
     }
     match is_soon_alone(rt) {
-        Err(_) => End::After,
-        Ok(false) => End::Wrong("a thread is left"),
-        Ok(true) if counts.asks.load(Ordering::SeqCst) != asks => End::Wrong("the gate is asked"),
-        Ok(true) => end,
+        Err(_) => Err(End::After),
+        Ok(false) => Err(End::Wrong("a thread is left")),
+        Ok(true) if counts.asks.load(Ordering::SeqCst) != asks => {
+            Err(End::Wrong("the gate is asked"))
+        }
+        Ok(true) => came,
     }
 }

@@ -4,7 +4,7 @@ ghost use Rattle.std.specs.Prelude.{◌≡◌, ◌<◌, IfOk, length, vec_len};
 ghost use Rattle.napt_pool.specs.Pools.{starts};
 
 use crate::refused::End;
-use crate::refused::left::{Counts, gate, looked_at};
+use crate::refused::left::{Asked, Counts, counted, looked_at};
 use napt_pool::{Ended, Gate, Machine, Pool, PoolFault};
 use std::alloc::{AllocError, Global};
 use std::rt::Files;
@@ -90,34 +90,25 @@ fn filled_and_closed<R: Threads + Wait + Copy + Send + 'static>(
     rt: &R,
     alloc: Global,
     counts: &Arc<Counts>,
-) -> End {
-    let Ok(gate) = gate(alloc, counts) else {
-        return End::Before;
-    };
-    let Ok(machines) = machines(alloc, counts) else {
-        return End::Before;
-    };
-    let mut pool = match Pool::start(rt, alloc, machines, 2, gate) {
-        Ok(pool) => pool,
-        Err(fault) => return end_of(fault),
-    };
+    gate: Arc<Asked>,
+) -> Result<(), End> {
+    let machines = machines(alloc, counts)?;
+    let mut pool = Pool::start(rt, alloc, machines, 2, gate).map_err(end_of)?;
     let first = fill(alloc, &mut pool, 0);
     let second = fill(alloc, &mut pool, 1);
     let third = fill(alloc, &mut pool, 2);
     match pool.close(rt, alloc) {
-        Ok(ended) if first && second && third && are_whole(&ended) => End::Done,
-        Ok(_) => End::Wrong("other answers"),
-        Err(fault) => end_of(fault),
+        Ok(ended) if first && second && third && are_whole(&ended) => Ok(()),
+        Ok(_) => Err(End::Wrong("other answers")),
+        Err(fault) => Err(end_of(fault)),
     }
 }
 
 pub(crate) fn ended<R: Files + AllocGlobal + Threads + Wait + Copy + Send + 'static>(
     rt: &R,
-) -> End {
+) -> Result<(), End> {
     let alloc = rt.alloc();
-    let Ok(counts) = Counts::shared(alloc) else {
-        return End::Before;
-    };
-    let end = filled_and_closed(rt, alloc, &counts);
-    looked_at(rt, &counts, end)
+    let (counts, gate) = counted(alloc)?;
+    let came = filled_and_closed(rt, alloc, &counts, gate);
+    looked_at(rt, &counts, came)
 }

@@ -38,20 +38,20 @@ inside = "10.0.0.2:53"
 external = 53
 "#;
 
-pub(crate) fn capture_ended(alloc: Global) -> End {
+pub(crate) fn capture_ended(alloc: Global) -> Result<(), End> {
     match read_capture(alloc, &mut Watched::new(CAPTURE.as_slice())) {
-        Ok(capture) if capture.records.len() == 2 && !capture.cut => End::Done,
-        Ok(_) => End::Wrong("another capture"),
-        Err(CaptureFault::Memory) => End::Memory,
-        Err(_) => End::Wrong("another fault"),
+        Ok(capture) if capture.records.len() == 2 && !capture.cut => Ok(()),
+        Ok(_) => Err(End::Wrong("another capture")),
+        Err(CaptureFault::Memory) => Err(End::Memory),
+        Err(_) => Err(End::Wrong("another fault")),
     }
 }
 
-pub(crate) fn configuration_ended(alloc: Global) -> End {
+pub(crate) fn configuration_ended(alloc: Global) -> Result<(), End> {
     match Config::read(alloc, CONFIGURATION.as_bytes()) {
-        Ok(config) if config.pool().len() == 2 && config.redirects().len() == 2 => End::Done,
-        Ok(_) => End::Wrong("another configuration"),
-        Err(ConfigFault::Memory) => End::Memory,
-        Err(_) => End::Wrong("another fault"),
+        Ok(config) if config.pool().len() == 2 && config.redirects().len() == 2 => Ok(()),
+        Ok(_) => Err(End::Wrong("another configuration")),
+        Err(ConfigFault::Memory) => Err(End::Memory),
+        Err(_) => Err(End::Wrong("another fault")),
     }
 }

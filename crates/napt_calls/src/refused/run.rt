@@ -2,7 +2,7 @@
 //! thread; and these inputs, merged.
 
 use crate::refused::End;
-use crate::refused::left::{Asked, Counts, gate, looked_at};
+use crate::refused::left::{Asked, counted, looked_at};
 use napt_capture::{CaptureFault, Record, Watched, read_capture};
 use napt_config::Config;
 use napt_pool::PoolFault;
@@ -59,9 +59,9 @@ fn end_of(fault: Fault) -> End {
     }
 }
 
-/// The configuration; none where memory is refused.
-pub(crate) fn configuration(alloc: Global) -> Option<Config> {
-    Config::read(alloc, CONFIGURATION.as_bytes()).ok()
+/// The configuration, before the call.
+pub(crate) fn configuration(alloc: Global) -> Result<Config, End> {
+    Config::read(alloc, CONFIGURATION.as_bytes()).map_err(|_| End::Before)
 }
 
 /// Makes the run, through the gate.
@@ -70,17 +70,10 @@ fn ran<R: Threads + Wait + Copy + Send + 'static>(
     alloc: Global,
     config: &Config,
     gate: Arc<Asked>,
-) -> End {
-    let (Ok(to_outside), Ok(to_inside), Ok(report)) = (
-        Vec::with_capacity(alloc, ROOM),
-        Vec::with_capacity(alloc, ROOM),
-        Vec::with_capacity(alloc, ROOM),
-    ) else {
-        return End::Before;
-    };
-    let mut to_outside = Watched::new(to_outside);
-    let mut to_inside = Watched::new(to_inside);
-    let mut report = Watched::new(report);
+) -> Result<(), End> {
+    let mut to_outside = Watched::new(Vec::with_capacity(alloc, ROOM)?);
+    let mut to_inside = Watched::new(Vec::with_capacity(alloc, ROOM)?);
+    let mut report = Watched::new(Vec::with_capacity(alloc, ROOM)?);
     let answer = run_captures(
         rt,
         alloc,
@@ -96,43 +89,35 @@ fn ran<R: Threads + Wait + Copy + Send + 'static>(
     let report = report.into_inner().len();
     match answer {
         // a packet to the outside, two to inside hosts
-        Ok(()) if to_outside == 68 && to_inside == 112 && report > 0 => End::Done,
-        Ok(()) => End::Wrong("other outputs"),
+        Ok(()) if to_outside == 68 && to_inside == 112 && report > 0 => Ok(()),
+        Ok(()) => Err(End::Wrong("other outputs")),
         Err(_) if to_outside > 0 || to_inside > 0 || report > 0 => {
-            End::Wrong("something is written")
+            Err(End::Wrong("something is written"))
         }
-        Err(fault) => end_of(fault),
+        Err(fault) => Err(end_of(fault)),
     }
 }
 
 pub(crate) fn ended<R: Files + AllocGlobal + Threads + Wait + Copy + Send + 'static>(
     rt: &R,
-) -> End {
+) -> Result<(), End> {
     let alloc = rt.alloc();
-    let Some(config) = configuration(alloc) else {
-        return End::Before;
-    };
-    let Ok(counts) = Counts::shared(alloc) else {
-        return End::Before;
-    };
-    let Ok(gate) = gate(alloc, &counts) else {
-        return End::Before;
-    };
-    let end = ran(rt, alloc, &config, gate);
-    looked_at(rt, &counts, end)
+    let config = configuration(alloc)?;
+    let (counts, gate) = counted(alloc)?;
+    let came = ran(rt, alloc, &config, gate);
+    looked_at(rt, &counts, came)
 }
 
-/// The records of a capture; none where memory is refused.
-fn records(alloc: Global, capture: &[u8]) -> Option<Vec<Record>> {
-    let capture = read_capture(alloc, &mut Watched::new(capture)).ok()?;
-    Some(capture.records)
+/// The records of a capture, before the call.
+fn records(alloc: Global, capture: &[u8]) -> Result<Vec<Record>, End> {
+    let capture = read_capture(alloc, &mut Watched::new(capture)).map_err(|_| End::Before)?;
+    Ok(capture.records)
 }
 
-/// The merged inputs; none where memory is refused.
-pub(crate) fn inputs(alloc: Global) -> Option<Vec<Input>> {
-    let inside = records(alloc, &INSIDE)?;
-    let outside = records(alloc, &OUTSIDE)?;
-    merge(alloc, inside, outside).ok()
+/// The merged inputs, before the call.
+pub(crate) fn inputs(alloc: Global) -> Result<Vec<Input>, End> {
+    let (inside, outside) = (records(alloc, &INSIDE)?, records(alloc, &OUTSIDE)?);
+    merge(alloc, inside, outside).map_err(|_| End::Before)
 }
 
 /// Whether an input is a packet of 28 bytes that came from a side at a time, in seconds, the latest so far.
@@ -154,47 +139,36 @@ fn are_merged(inputs: &[Input]) -> bool {
 }
 
 /// The records of both captures are merged.
-pub(crate) fn merge_ended(alloc: Global) -> End {
-    let (Some(inside), Some(outside)) = (records(alloc, &INSIDE), records(alloc, &OUTSIDE)) else {
-        return End::Before;
-    };
+pub(crate) fn merge_ended(alloc: Global) -> Result<(), End> {
+    let (inside, outside) = (records(alloc, &INSIDE)?, records(alloc, &OUTSIDE)?);
     match merge(alloc, inside, outside) {
-        Ok(inputs) if are_merged(&inputs) => End::Done,
-        Ok(_) => End::Wrong("other inputs"),
-        Err(_) => End::Memory,
+        Ok(inputs) if are_merged(&inputs) => Ok(()),
+        Ok(_) => Err(End::Wrong("other inputs")),
+        Err(_) => Err(End::Memory),
     }
 }
 
 /// The run on one thread.
-pub(crate) fn plain_ended(alloc: Global) -> End {
-    let (Some(config), Some(inputs)) = (configuration(alloc), inputs(alloc)) else {
-        return End::Before;
-    };
+pub(crate) fn plain_ended(alloc: Global) -> Result<(), End> {
+    let (config, inputs) = (configuration(alloc)?, inputs(alloc)?);
     match run_plain(alloc, &config, &inputs) {
-        Ok(run) if run.bindings.len() == 2 => End::Done,
-        Ok(_) => End::Wrong("another run"),
-        Err(fault) => end_of_run(fault),
+        Ok(run) if run.bindings.len() == 2 => Ok(()),
+        Ok(_) => Err(End::Wrong("another run")),
+        Err(fault) => Err(end_of_run(fault)),
     }
 }
 
 /// The run over workers.
 pub(crate) fn workers_ended<R: Files + AllocGlobal + Threads + Wait + Copy + Send + 'static>(
     rt: &R,
-) -> End {
+) -> Result<(), End> {
     let alloc = rt.alloc();
-    let (Some(config), Some(inputs)) = (configuration(alloc), inputs(alloc)) else {
-        return End::Before;
+    let (config, inputs) = (configuration(alloc)?, inputs(alloc)?);
+    let (counts, gate) = counted(alloc)?;
+    let came = match run_workers(rt, alloc, &config, &inputs, gate) {
+        Ok(run) if run.bindings.len() == 2 && run.outcomes.len() == 3 => Ok(()),
+        Ok(_) => Err(End::Wrong("another run")),
+        Err(fault) => Err(end_of_run(fault)),
     };
-    let Ok(counts) = Counts::shared(alloc) else {
-        return End::Before;
-    };
-    let Ok(gate) = gate(alloc, &counts) else {
-        return End::Before;
-    };
-    let end = match run_workers(rt, alloc, &config, &inputs, gate) {
-        Ok(run) if run.bindings.len() == 2 && run.outcomes.len() == 3 => End::Done,
-        Ok(_) => End::Wrong("another run"),
-        Err(fault) => end_of_run(fault),
-    };
-    looked_at(rt, &counts, end)
+    looked_at(rt, &counts, came)
 }

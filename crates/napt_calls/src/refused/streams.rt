@@ -3,7 +3,7 @@
 ghost use Rattle.std.specs.Prelude.{◌<◌};
 
 use crate::refused::End;
-use crate::refused::left::{Asked, Counts, gate, looked_at};
+use crate::refused::left::{Asked, counted, looked_at};
 use crate::refused::run::{INSIDE, OUTSIDE, configuration, end_of_run};
 use napt_capture::{CaptureFault, Faulty, Plan, Trouble, Watched};
 use napt_config::Config;
@@ -65,38 +65,40 @@ struct Streamed {
     report: Vec<u8>,
 }
 
-/// Makes the run, through the gate; none where memory is refused before.
+/// Makes the run, through the gate.
 fn make_run<R: Threads + Wait + Copy + Send + 'static>(
     rt: &R,
     alloc: Global,
     config: &Config,
     refusal: Refusal,
     gate: Arc<Asked>,
-) -> Option<Streamed> {
-    let written = Vec::with_capacity(alloc, ROOM).ok()?;
+) -> Result<Streamed, End> {
+    let mut inside = Faulty::new(
+        Watched::new(INSIDE.as_slice()),
+        refusal.plan(Device::Inside),
+    );
+    let mut outside = Faulty::new(
+        Watched::new(OUTSIDE.as_slice()),
+        refusal.plan(Device::Outside),
+    );
+    let written = Vec::with_capacity(alloc, ROOM)?;
     let mut to_outside = Faulty::new(Watched::new(written), refusal.plan(Device::ToOutside));
-    let written = Vec::with_capacity(alloc, ROOM).ok()?;
+    let written = Vec::with_capacity(alloc, ROOM)?;
     let mut to_inside = Faulty::new(Watched::new(written), refusal.plan(Device::ToInside));
-    let written = Vec::with_capacity(alloc, ROOM).ok()?;
+    let written = Vec::with_capacity(alloc, ROOM)?;
     let mut report = Faulty::new(Watched::new(written), refusal.plan(Device::Report));
     let answer = run_streams(
         rt,
         alloc,
         config,
-        &mut Faulty::new(
-            Watched::new(INSIDE.as_slice()),
-            refusal.plan(Device::Inside),
-        ),
-        &mut Faulty::new(
-            Watched::new(OUTSIDE.as_slice()),
-            refusal.plan(Device::Outside),
-        ),
+        &mut inside,
+        &mut outside,
         &mut to_outside,
         &mut to_inside,
         &mut report,
         gate,
     );
-    Some(Streamed {
+    Ok(Streamed {
         answer,
         to_outside: to_outside.into_inner().into_inner(),
         to_inside: to_inside.into_inner().into_inner(),
@@ -114,36 +116,27 @@ const NONE: Refusal = Refusal {
 /// The run, and what it leaves: outputs that are whole, or where memory or a thread was refused begin as the whole ones.
 pub(crate) fn ended<R: Files + AllocGlobal + Threads + Wait + Copy + Send + 'static>(
     rt: &R,
-) -> End {
+) -> Result<(), End> {
     let alloc = rt.alloc();
-    let Some(config) = configuration(alloc) else {
-        return End::Before;
-    };
-    let Ok(counts) = Counts::shared(alloc) else {
-        return End::Before;
-    };
-    let Ok(gate) = gate(alloc, &counts) else {
-        return End::Before;
-    };
-    let Some(run) = make_run(rt, alloc, &config, NONE, gate) else {
-        return End::Before;
-    };
+    let config = configuration(alloc)?;
+    let (counts, gate) = counted(alloc)?;
+    let run = make_run(rt, alloc, &config, NONE, gate)?;
     looked_at(rt, &counts, end_of(&run))
 }
 
 /// What a run comes to in which no device is refused a call.
-fn end_of(run: &Streamed) -> End {
+fn end_of(run: &Streamed) -> Result<(), End> {
     // a packet to the outside, two to inside hosts
     let (to_outside, to_inside) = (run.to_outside.len(), run.to_inside.len());
     match run.answer {
-        Ok(()) if to_outside == 68 && to_inside == 112 && !run.report.is_empty() => End::Done,
-        Ok(()) => End::Wrong("other outputs"),
+        Ok(()) if to_outside == 68 && to_inside == 112 && !run.report.is_empty() => Ok(()),
+        Ok(()) => Err(End::Wrong("other outputs")),
         Err(_) if to_outside > 68 || to_inside > 112 || !run.report.is_empty() => {
-            End::Wrong("too much is written")
+            Err(End::Wrong("too much is written"))
         }
-        Err(Fault::Capture(_, CaptureFault::Memory)) => End::Memory,
-        Err(Fault::Run(fault)) => end_of_run(fault),
-        Err(_) => End::Wrong("another fault"),
+        Err(Fault::Capture(_, CaptureFault::Memory)) => Err(End::Memory),
+        Err(Fault::Run(fault)) => Err(end_of_run(fault)),
+        Err(_) => Err(End::Wrong("another fault")),
     }
 }
 
@@ -151,15 +144,10 @@ fn end_of(run: &Streamed) -> End {
 /// the device, and how much of an output is written.
 pub(crate) fn devices_ended<R: Files + AllocGlobal + Threads + Wait + Copy + Send + 'static>(
     rt: &R,
-) -> End {
+) -> Result<(), End> {
     let alloc = rt.alloc();
-    let Some(config) = configuration(alloc) else {
-        return End::Before;
-    };
-    let whole = match tried(rt, alloc, &config, NONE) {
-        Ok(run) => run,
-        Err(end) => return end,
-    };
+    let config = configuration(alloc)?;
+    let whole = tried(rt, alloc, &config, NONE)?;
     for device in [
         Device::Inside,
         Device::Outside,
@@ -167,11 +155,9 @@ pub(crate) fn devices_ended<R: Files + AllocGlobal + Threads + Wait + Copy + Sen
         Device::ToInside,
         Device::Report,
     ] {
-        if let Err(end) = sweep(rt, alloc, &config, device, &whole) {
-            return end;
-        }
+        sweep(rt, alloc, &config, device, &whole)?;
     }
-    End::Done
+    Ok(())
 }
 
 /// Refuses each call of a device in turn.
@@ -213,13 +199,9 @@ fn tried<R: Files + AllocGlobal + Threads + Wait + Copy + Send + 'static>(
     config: &Config,
     refusal: Refusal,
 ) -> Result<Streamed, End> {
-    let counts = Counts::shared(alloc).map_err(|_| End::Before)?;
-    let gate = gate(alloc, &counts).map_err(|_| End::Before)?;
-    let run = make_run(rt, alloc, config, refusal, gate).ok_or(End::Before)?;
-    match looked_at(rt, &counts, End::Done) {
-        End::Done => Ok(run),
-        end => Err(end),
-    }
+    let (counts, gate) = counted(alloc)?;
+    let run = make_run(rt, alloc, config, refusal, gate);
+    looked_at(rt, &counts, run)
 }
 
 /// Whether a run in which one call of a device went wrong ended as it should.

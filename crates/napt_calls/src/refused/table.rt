@@ -129,16 +129,12 @@ fn step(alloc: Global, table: &mut Table, packet: Packet) -> Result<(), End> {
     };
     // when the packet before it came, when it comes, and when what is as old as the packet before it has ended
     let times = [at, packet.now, at.saturating_add(lasts * SECOND)];
-    let Ok(before) = rows_at(alloc, table, &times) else {
-        return Err(End::Before);
-    };
+    let before = rows_at(alloc, table, &times)?;
     match send(alloc, table, packet) {
         Ok(Some(number)) if number == packet.inside.number => Ok(()),
         Ok(_) => Err(End::Wrong("another answer")),
         Err(_) => {
-            let Ok(after) = rows_at(alloc, table, &times) else {
-                return Err(End::After);
-            };
+            let after = rows_at(alloc, table, &times).map_err(|_| End::After)?;
             if before.as_slice() != after.as_slice() {
                 return Err(End::Wrong("the list is changed"));
             }
@@ -161,21 +157,13 @@ fn sent_again(alloc: Global, table: &mut Table, packet: Packet) -> End {
 }
 
 /// Sends all packets of the kind.
-pub(crate) fn ended(alloc: Global, kind: Kind) -> End {
-    let Ok(config) = Config::read(alloc, CONFIGURATION.as_bytes()) else {
-        return End::Before;
-    };
-    let Ok(table) = Table::new(alloc, EXTERNAL, &config) else {
-        return End::Before;
-    };
+pub(crate) fn ended(alloc: Global, kind: Kind) -> Result<(), End> {
+    let config = Config::read(alloc, CONFIGURATION.as_bytes()).map_err(|_| End::Before)?;
+    let table = Table::new(alloc, EXTERNAL, &config)?;
     // behind a box: a function that owns a table as it stands takes minutes to prove
-    let Ok(mut table) = Box::new(alloc, table) else {
-        return End::Before;
-    };
+    let mut table = Box::new(alloc, table).map_err(|_| End::Before)?;
     for place in 0..PACKETS {
-        if let Err(end) = step(alloc, &mut table, packet_of(kind, place)) {
-            return end;
-        }
+        step(alloc, &mut table, packet_of(kind, place))?;
     }
-    End::Done
+    Ok(())
 }

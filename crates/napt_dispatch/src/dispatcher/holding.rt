@@ -1,8 +1,7 @@
 //! What is held for a worker and what it owes, and the progress of the inputs.
 
 ghost use Rattle.std.specs.Prelude.{◌≡◌, ◌↔◌, ◌^◌, ◌<◌, true, false, [], length, IsOk, OnOk};
-ghost use Rattle.napt_dispatch.specs.Windows.{progress_in};
-ghost use Rattle.napt_dispatch.specs.Standing.{Noted, Resolves, waits, IsDone};
+ghost use Rattle.napt_dispatch.specs.{Windows.progress_in, Standing.{Noted, Resolves, waits, IsDone}};
 
 use crate::dispatcher::Dispatcher;
 use crate::dispatcher::progress::Progress;

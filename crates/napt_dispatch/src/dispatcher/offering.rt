@@ -2,8 +2,7 @@
 
 ghost use Rattle.std.specs.Prelude.{◌≡◌, ◌⊎◌, ◌+◌, ◌<◌, ◌≤◌, ◌++◌, true, length, slice_set, vec_len, IfOk, IfErr, OnOk, OnErr, MatchBool};
 ghost use Rattle.napt_pool.specs.Pools.{starts, accepts, takes, capacity_of};
-ghost use Rattle.napt_dispatch.specs.Dispatch.{of_worker, IsDispatchFault};
-ghost use Rattle.napt_dispatch.specs.QueueStates.{queue_of};
+ghost use Rattle.napt_dispatch.specs.{Dispatch.{of_worker, IsDispatchFault}, QueueStates.queue_of};
 ghost use Rattle.napt_dispatch.specs.Standing.{waits_behind, IsSizedFor, ContinuesOr, Readies, HasOffered, HasOfferedAll, OffersOnlyTo};
 
 use crate::Worker;
@@ -43,10 +42,12 @@ impl<P: Telling> Dispatcher<P> {
         ensures all { OnOk result ((waits_behind self.new w ≡ true)
             ⊎ (most ≤ length (queue_of self.new.queues w).ready)) }
     {
+        self.queues.ready_legs(w, most)?;
         while self.queues.many_ready(w) < most {
             if !self.ready_next(w)? {
                 return Ok(());
             }
+            self.queues.ready_legs(w, most)?;
         }
         Ok(())
     }

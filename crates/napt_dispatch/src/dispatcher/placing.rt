@@ -1,18 +1,13 @@
 //! Placing the legs of an input: the first one and a placeholder for the second are held for their workers.
 
 ghost use Rattle.std.specs.Prelude.{◌≡◌, ◌+◌, ◌<◌, ◌≤◌, ◌∷◌, ◌++◌, [], Bool, length, slice_get, Ok, Err, Some, None, IfOk, IfErr, IfSome, OnOk};
-ghost use Rattle.napt_wire.specs.declared.Side.TheVariants.{Inside as InsideSide};
-ghost use Rattle.napt_wire.specs.Fields.{destination};
-ghost use Rattle.napt_wire.specs.Packet.{IsPacket};
-ghost use Rattle.napt_wire.specs.Reading.{reading};
+ghost use Rattle.napt_wire.specs.{declared.Side.TheVariants.Inside as InsideSide, Fields.destination, Packet.IsPacket, Reading.reading};
 ghost use Rattle.napt_config.specs.Rules.{KeepsRules, place_of};
 ghost use Rattle.napt_rules.specs.Prelude.{way_from, served_at, admission_as};
-ghost use Rattle.napt_dispatch.specs.declared.dispatcher.holding.Held.TheVariants.{Ready};
-ghost use Rattle.napt_sequential.specs.declared.passage.Passage.TheVariants.{Nothing as NoPassage};
-ghost use Rattle.napt_dispatch.specs.Dispatch.{IsDispatchFault};
-ghost use Rattle.napt_dispatch.specs.QueueStates.{AllHold, many_held, only_at, place_at};
-ghost use Rattle.napt_dispatch.specs.Windows.{progress_in, refused, IsUnmarked, IsWritten};
+ghost use Rattle.napt_dispatch.specs.{declared.dispatcher.holding.Held.TheVariants.Ready, Dispatch.IsDispatchFault};
+ghost use Rattle.napt_dispatch.specs.{QueueStates.{AllHold, many_held, only_at, place_at}, Windows.{progress_in, refused, IsUnmarked, IsWritten}};
 ghost use Rattle.napt_dispatch.specs.Standing.{journal_of, Admits};
+ghost use Rattle.napt_sequential.specs.declared.passage.Passage.TheVariants.{Nothing as NoPassage};
 
 use crate::dispatcher::Dispatcher;
 use crate::dispatcher::holding::Held;

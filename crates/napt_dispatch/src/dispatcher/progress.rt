@@ -1,9 +1,8 @@
 //! The progress of an input.
 
-ghost use Rattle.std.specs.Prelude.{◌≡◌, false, Some};
+ghost use Rattle.std.specs.Prelude.{◌≡◌, true, false, Some};
 ghost use Rattle.napt_sequential.specs.declared.passage.Passage.TheVariants.{Nothing as NoPassage};
-ghost use Rattle.napt_dispatch.specs.Standing.{IsSecondOf};
-ghost use Rattle.napt_dispatch.specs.Windows.{has_ended, departed_in, passages_after, refused, is_unknown};
+ghost use Rattle.napt_dispatch.specs.{Standing.IsSecondOf, Windows.{has_ended, departed_in, passages_after, refused, is_unknown}};
 
 use crate::departures::Departed;
 use crate::dispatcher::holding::Owed;
@@ -72,25 +71,27 @@ impl<P: Telling> Progress<P> {
         }
     }
 
-    /// Returns what the input came to, if it is known.
-    pub(crate) fn into_departed(self) -> Option<Departed<P>>
-        ensures { result ≡ departed_in self }
+    /// Returns what the input came to, which is known.
+    #[inline(always)]
+    pub(crate) fn into_departed(self) -> Departed<P>
+        requires { has_ended self ≡ true }
+        ensures { departed_in self ≡ Some result }
     {
         let Progress::Answered(Owed { now, .. }, end, first, second) = self else {
-            return None;
+            unreachable!();
         };
         let outcome = match end {
             End::ToOutside(packet) => Outcome::ToOutside(packet),
             End::ToInside(packet) => Outcome::ToInside(packet),
             End::Dropped(cause) => Outcome::Dropped(cause),
-            End::Onward(..) => return None,
+            End::Onward(..) => unreachable!(),
         };
-        Some(Departed {
+        Departed {
             outcome,
             now,
             first,
             second,
-        })
+        }
     }
 }
 

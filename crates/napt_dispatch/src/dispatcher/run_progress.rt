@@ -1,12 +1,10 @@
 //! The progress of the inputs that were read.
 
 ghost use Rattle.std.specs.Prelude.{◌≡◌, ◌↔◌, ◌⊎◌, ◌+◌, ◌^◌, ◌<◌, ◌≤◌, Bool, [], length, slice_get, true, false, IfOk, IfErr, IfSome, OnOk, OnErr, MatchOption, MatchResult};
-ghost use Rattle.napt_sequential.specs.declared.fault.RunFault.TheVariants.{Memory};
-ghost use Rattle.napt_sequential.specs.declared.passage.Passage.TheVariants.{Nothing as NoPassage};
+ghost use Rattle.napt_sequential.specs.declared.{fault.RunFault.TheVariants.Memory, passage.Passage.TheVariants.Nothing as NoPassage};
 ghost use Rattle.napt_dispatch.specs.Dispatch.{IsDispatchFault};
 ghost use Rattle.napt_dispatch.specs.Windows.{progress_in, marks_in, expecting, is_unknown, FirstMayLeave, IsWritten, IsMarked, Leaves};
-ghost use Rattle.napt_dispatch.specs.Passing.{HandsOver, FailsOver};
-ghost use Rattle.napt_dispatch.specs.Standing.{IsSecond, AnswersTo};
+ghost use Rattle.napt_dispatch.specs.{Passing.{HandsOver, FailsOver}, Standing.{IsSecond, AnswersTo}};
 
 use crate::departures::{Departed, Departures};
 use crate::dispatcher::progress::{OpenInput, Progress};
@@ -240,19 +238,19 @@ impl<P: Telling> RunProgress<P> {
         }
     }
 
-    /// Takes out what the first open input came to with its arrival time, if it may leave.
-    fn take_first(&mut self) -> Option<(u64, Departed<P>)>
-        ensures { MatchOption result ((self.new ≡ self.old) × ¬ FirstMayLeave self.old.under_way)
-            (λ pair. Leaves pair self.old self.new) }
+    /// Takes out what the first open input, which may leave, came to, with its arrival time.
+    #[inline(always)]
+    fn take_first(&mut self) -> (u64, Departed<P>)
+        requires { FirstMayLeave self.old.under_way }
+        ensures { Leaves result self.old self.new }
     {
-        if !self.may_leave() {
-            return None;
-        }
-        let OpenInput { time, progress, .. } = self.under_way.pop_front()?;
-        let departed = progress.into_departed()?;
+        let Some(OpenInput { time, progress, .. }) = self.under_way.pop_front() else {
+            unreachable!();
+        };
+        let departed = progress.into_departed();
         self.first += 1;
         self.past = self.past.and(&time, &departed);
-        Some((time, departed))
+        (time, departed)
     }
 
     /// Lets the outcomes of the first open inputs leave, up to the first that may not leave yet.
@@ -265,7 +263,8 @@ impl<P: Telling> RunProgress<P> {
             (λ _. HandsOver D.takes departures.old self.old departures.new self.new)
             (FailsOver D.takes D.fails departures.old self.old departures.new self.new) }
     {
-        while let Some((time, departed)) = self.take_first() {
+        while self.may_leave() {
+            let (time, departed) = self.take_first();
             match departures.leave(time, departed) {
                 Ok(vector) => self.keep_spare(vector),
                 Err(fault) => return Err(fault),

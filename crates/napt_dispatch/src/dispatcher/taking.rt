@@ -2,8 +2,7 @@
 
 ghost use Rattle.std.specs.Prelude.{◌≡◌, ◌↔◌, ◌+◌, ◌⊎◌, ◌^◌, ◌<◌, [], length, true, IfOk, IfSome, OnOk};
 ghost use Rattle.napt_pool.specs.Pools.{starts};
-ghost use Rattle.napt_dispatch.specs.Passing.{LetsGoUnlessFault};
-ghost use Rattle.napt_dispatch.specs.QueueStates.{many_owed};
+ghost use Rattle.napt_dispatch.specs.{Passing.LetsGoUnlessFault, QueueStates.many_owed};
 ghost use Rattle.napt_dispatch.specs.Standing.{IsSizedFor, ContinuesOr, NotesAll, HasTaken, HasOffered, HasOfferedAll, HasRoom, HasReached, IsDone};
 
 use crate::Worker;

@@ -1,7 +1,8 @@
 //! The queues of one worker.
 
-ghost use Rattle.std.specs.Prelude.{◌≡◌, ◌+◌, ◌≤◌, ◌∷◌, ◌++◌, Bool, [], length, map, take, drop, vec_len, IfOk, IfErr, OnOk, OnErr, MatchOption};
-ghost use Rattle.napt_dispatch.specs.Dispatch.{IsDispatchFault};
+ghost use Rattle.std.specs.Prelude.{◌≡◌, ◌+◌, ◌≤◌, ◌∷◌, ◌++◌, Bool, List, [], length, map, take, drop, vec_len, IfOk, IfErr, OnOk, OnErr, MatchOption};
+ghost use Rattle.napt_rules.specs.Prelude.{Act};
+ghost use Rattle.napt_dispatch.specs.{Dispatch.IsDispatchFault, Standing.{MovesLegs, turned}};
 ghost use Rattle.napt_dispatch.specs.QueueStates.{Holds, count_held, front_of, owed_of, readied, unused, with_offers};
 
 use crate::dispatcher::holding::{Front, Held, Owed};
@@ -119,6 +120,14 @@ impl WorkerQueue {
         Ok(())
     }
 
+    /// Puts the legs that are first behind those of the next message there too, up to the first placeholder, or until there are
+    /// `most`.
+    pub(crate) fn ready_legs(&mut self, most: usize) -> Result<(), AllocError>
+        ensures { MovesLegs self.old self.new }
+    {
+        move_legs(&mut self.held, &mut self.ready, most)
+    }
+
     /// Returns the number of legs of the next message.
     pub(crate) fn many_ready(&self) -> usize
         ensures { result ≡ length self.now.ready }
@@ -185,6 +194,27 @@ fn note_owed(owed: &mut VecDeque<Owed>, legs: &[Leg]) -> Result<(), AllocError>
             way: leg.way,
             now: leg.now,
         })?;
+    }
+    Ok(())
+}
+
+/// Moves the legs that are held first behind those that are ready, up to the first placeholder, or until `most` are ready.
+fn move_legs(held: &mut VecDeque<Held>, ready: &mut Vec<Leg>, most: usize) -> Result<(), AllocError>
+    ensures legs { (acts : List Act) → turned acts ready.new.items held.new.items
+        ≡ turned acts ready.old.items held.old.items }
+    ensures count { length ready.new.items + length held.new.items
+        ≡ length ready.old.items + length held.old.items }
+    ensures shorter { length held.new.items ≤ length held.old.items }
+{
+    while ready.len() < most {
+        let Some(Held::Ready(_)) = held.front() else {
+            return Ok(());
+        };
+        ready.reserve(1)?;
+        let Some(Held::Ready(leg)) = held.pop_front() else {
+            unreachable!();
+        };
+        ready.push_reserved(leg);
     }
     Ok(())
 }

@@ -1,7 +1,7 @@
 //! The queues of all workers.
 
 ghost use Rattle.std.specs.Prelude.{◌≡◌, ◌↔◌, ◌+◌, ◌<◌, ◌≤◌, ℕ, Bool, [], ◌∷◌, length, replicate, take, true, vec_len, IfOk, IfErr, OnOk, MatchOption};
-ghost use Rattle.napt_dispatch.specs.Dispatch.{IsDispatchFault};
+ghost use Rattle.napt_dispatch.specs.{Dispatch.IsDispatchFault, Standing.MovesLegsAt};
 ghost use Rattle.napt_dispatch.specs.QueueStates.{AllHold, AnswersAt, count_held, counts_in, front_of, many_held, only_at, queue_of, readied, unused, with_offers, with_queue};
 
 use crate::dispatcher::holding::{Front, Held, Owed};
@@ -97,6 +97,17 @@ impl WorkerQueues {
         let done = queue.ready_first(second);
         self.many -= (before - queue.many_held()) as u64;
         done
+    }
+
+    /// Puts the legs that are first for worker `w` behind those of its next message there too, up to the first placeholder, or until
+    /// there are `most`.
+    pub(crate) fn ready_legs(&mut self, w: u32, most: usize) -> Result<(), AllocError>
+        requires { w < length self.old }
+        ensures many { length self.new ≡ length self.old }
+        ensures moves { MovesLegsAt w self.old self.new }
+    {
+        let queue = &mut self.queues[w as usize];
+        queue.ready_legs(most)
     }
 
     /// Returns the number of legs of the next message of worker `w`.

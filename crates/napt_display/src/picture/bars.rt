@@ -1,12 +1,12 @@
 //! The picture of a run of few bindings: the bar of each, the packets on it, and the drops below.
 
+use crate::picture::axis::Axis;
 use crate::picture::frame::{draw_axis, draw_lanes, draw_legend, draw_page, name_at};
-use crate::picture::layout::{Bar, Cause, Layout, Mark, MarkKind, Packets};
-use crate::picture::scene::{Binding, BindingKind, Scene};
+use crate::picture::layout::{Bar, CauseRow, Layout, Mark, MarkKind, Packets};
+use crate::picture::scene::{BindingKind, Scene};
 use crate::picture::shapes::{
     Area, Point, draw_area, draw_words, open_words, push_escaped, push_moment,
 };
-use crate::picture::span::Span;
 use std::alloc::{AllocError, Global};
 
 /// The words above the lanes.
@@ -29,22 +29,22 @@ const TIP: u64 = 5;
 pub fn draw_bars(
     alloc: Global,
     text: &mut String,
-    span: Span,
+    axis: Axis,
     scene: &Scene,
 ) -> Result<(), AllocError> {
-    let layout = Layout::of(alloc, span, scene)?;
+    let layout = Layout::of(alloc, axis, scene)?;
     draw_page(text, &scene.head, layout.bottom)?;
     draw_legend(text, LEGEND)?;
     draw_lanes(text, &scene.lanes, &layout.lanes)?;
     draw_causes(text, &scene.causes, &layout.causes)?;
-    draw_axis(text, span, layout.bottom)?;
-    draw_bindings(text, &scene.bindings, &layout.bars)?;
+    draw_axis(text, axis, layout.bottom)?;
+    draw_bindings(text, &layout.bars)?;
     draw_marks(text, &layout)?;
-    draw_labels(text, &scene.bindings, &layout.bars)
+    draw_labels(text, &layout.bars)
 }
 
 /// The names of the causes, each with how many packets were dropped for it.
-fn draw_causes(text: &mut String, names: &[String], causes: &[Cause]) -> Result<(), AllocError> {
+fn draw_causes(text: &mut String, names: &[String], causes: &[CauseRow]) -> Result<(), AllocError> {
     for (name, cause) in names.iter().zip(causes.iter()) {
         open_words(text, "side", name_at(cause.top))?;
         push_escaped(text, name)?;
@@ -53,27 +53,21 @@ fn draw_causes(text: &mut String, names: &[String], causes: &[Cause]) -> Result<
     Ok(())
 }
 
-fn draw_bindings(text: &mut String, bindings: &[Binding], bars: &[Bar]) -> Result<(), AllocError> {
+fn draw_bindings(text: &mut String, bars: &[Bar<'_>]) -> Result<(), AllocError> {
     for bar in bars {
-        if let Some(binding) = bindings.get(bar.place) {
-            draw_binding(text, binding, *bar)?;
-        }
+        text.push_str("<g><title>")?;
+        push_escaped(text, &bar.binding.title)?;
+        text.push_str("</title>\n")?;
+        draw_bar(text, *bar)?;
+        text.push_str("</g>\n")?;
     }
     Ok(())
 }
 
-fn draw_binding(text: &mut String, binding: &Binding, bar: Bar) -> Result<(), AllocError> {
-    text.push_str("<g><title>")?;
-    push_escaped(text, &binding.title)?;
-    text.push_str("</title>\n")?;
-    draw_bar(text, binding.kind, bar)?;
-    text.push_str("</g>\n")
-}
-
 /// The bar up to its last packet, and a thin one from there to its end.
-fn draw_bar(text: &mut String, kind: BindingKind, bar: Bar) -> Result<(), AllocError> {
+fn draw_bar(text: &mut String, bar: Bar<'_>) -> Result<(), AllocError> {
     let top = bar.top.saturating_add(BAR_TOP);
-    let (class, rest) = classes_of(kind);
+    let (class, rest) = classes_of(bar.binding.kind);
     let thin = Area {
         left: bar.used,
         top: top.saturating_add(BAR_HEIGHT / 4),
@@ -101,47 +95,43 @@ fn classes_of(kind: BindingKind) -> (&'static str, &'static str) {
 }
 
 /// The labels of the bars, drawn over everything else.
-fn draw_labels(text: &mut String, bindings: &[Binding], bars: &[Bar]) -> Result<(), AllocError> {
+fn draw_labels(text: &mut String, bars: &[Bar<'_>]) -> Result<(), AllocError> {
     for bar in bars {
-        if let Some(binding) = bindings.get(bar.place) {
-            let at = Point {
-                column: bar.label_at,
-                line: bar.top.saturating_add(BAR_TOP - 4),
-            };
-            draw_words(text, "name", at, &binding.label)?;
-        }
+        let at = Point {
+            column: bar.label_at,
+            line: bar.top.saturating_add(BAR_TOP - 4),
+        };
+        draw_words(text, "name", at, &bar.binding.label)?;
     }
     Ok(())
 }
 
-fn draw_marks(text: &mut String, layout: &Layout) -> Result<(), AllocError> {
+fn draw_marks(text: &mut String, layout: &Layout<'_>) -> Result<(), AllocError> {
     for (mark, packets) in &layout.marks {
         match mark.kind {
-            MarkKind::Out | MarkKind::Into => draw_stroke(text, *mark)?,
-            MarkKind::Hairpin => {
-                draw_hairpin(text, *mark)?;
-                end_mark(text, layout.span, *packets)?;
+            MarkKind::Out | MarkKind::Into => {
+                draw_stroke(text, *mark)?;
+                continue;
             }
-            MarkKind::Dropped => {
-                draw_cross(text, *mark)?;
-                end_mark(text, layout.span, *packets)?;
-            }
+            MarkKind::Hairpin => draw_hairpin(text, *mark)?,
+            MarkKind::Dropped => draw_cross(text, *mark)?,
         }
+        end_mark(text, layout.axis, *packets)?;
     }
     Ok(())
 }
 
 /// The end of a mark, with a title that gives its packets and times.
-fn end_mark(text: &mut String, span: Span, packets: Packets) -> Result<(), AllocError> {
+fn end_mark(text: &mut String, axis: Axis, packets: Packets) -> Result<(), AllocError> {
     text.push_str("><title>")?;
-    if packets.many == 1 {
-        text.push_str("at ")?;
-        push_moment(text, span, packets.first)?;
-    } else {
-        write!(text, "{} packets from ", packets.many)?;
-        push_moment(text, span, packets.first)?;
+    match packets.many {
+        1 => text.push_str("at ")?,
+        many => write!(text, "{many} packets from ")?,
+    }
+    push_moment(text, axis, packets.first)?;
+    if packets.many != 1 {
         text.push_str(" to ")?;
-        push_moment(text, span, packets.last)?;
+        push_moment(text, axis, packets.last)?;
     }
     text.push_str("</title></path>\n")
 }

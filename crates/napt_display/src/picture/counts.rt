@@ -1,14 +1,14 @@
 //! The picture of a run of many bindings: how many live at each address, and below it the numbers of packets, of
 //! hairpins among them, and of drops for each cause.
 
+use crate::picture::axis::{Axis, BIN_WIDTH, HEAD, LEFT};
 use crate::picture::frame::{
     LANE_PAD, Lane, NAME_END, draw_axis, draw_lane, draw_lanes, draw_legend, draw_level, draw_page,
 };
 use crate::picture::lives::{LiveBin, Lives, Share, lives_of};
 use crate::picture::scene::Scene;
 use crate::picture::shapes::{Area, Point, open_area, open_words, push_moment, push_time};
-use crate::picture::span::{BIN_WIDTH, HEAD, LEFT, Span};
-use crate::picture::tallies::{Tallies, Tally, tallies_of};
+use crate::picture::tallies::{Tally, tallies_of};
 use std::alloc::{AllocError, Global};
 
 /// The words above the lanes, without the time of a bar, which follows.
@@ -30,15 +30,6 @@ const ROW_LANE: u64 = 40;
 /// The space above a lane's highest bar.
 const PAD: u64 = 6;
 
-/// A lane of packets.
-#[derive(Clone, Copy)]
-struct Row<'a> {
-    name: &'a str,
-    class: &'static str,
-    tally: &'a Tally,
-    lane: Lane,
-}
-
 /// Some neighbouring bins.
 #[derive(Clone, Copy)]
 struct Run {
@@ -50,98 +41,53 @@ struct Run {
 pub fn draw_counts(
     alloc: Global,
     text: &mut String,
-    span: Span,
+    axis: Axis,
     scene: &Scene,
 ) -> Result<(), AllocError> {
-    let lives = lives_of(alloc, span, scene.lanes.len(), &scene.bindings)?;
-    let tallies = tallies_of(alloc, span, scene)?;
-    let lanes = lanes_of(alloc, lives.len())?;
-    let rows = rows_of(alloc, scene, &tallies)?;
-    let bottom = row_lane(lives.len(), rows.len()).top;
+    let lives = lives_of(alloc, axis, scene.lanes.len(), &scene.bindings)?;
+    let tallies = tallies_of(alloc, axis, scene)?;
+    let (lanes, top) = lanes_of(alloc, HEAD, LIVE_LANE, lives.len())?;
+    let (rows, bottom) = lanes_of(alloc, top, ROW_LANE, tallies.len())?;
     draw_page(text, &scene.head, bottom)?;
     draw_legend(text, LEGEND)?;
-    draw_bin_time(text, span)?;
-    draw_lanes(text, &scene.lanes, &lanes)?;
-    draw_rows(text, &rows)?;
-    draw_axis(text, span, bottom)?;
-    draw_lives(text, span, &lives, &lanes)?;
-    draw_tallies(text, span, &rows)
-}
-
-/// The lanes of so many addresses.
-fn lanes_of(alloc: Global, addresses: usize) -> Result<Vec<Lane>, AllocError> {
-    let mut lanes = Vec::new(alloc);
-    for place in 0..addresses {
-        let top = HEAD.saturating_add(LIVE_LANE.saturating_mul(place as u64));
-        let bottom = top.saturating_add(LIVE_LANE);
-        lanes.push(Lane { top, bottom })?;
-    }
-    Ok(lanes)
-}
-
-/// The lane of packets at a place, below the lanes of this many addresses.
-fn row_lane(addresses: usize, place: usize) -> Lane {
-    let above = LIVE_LANE
-        .saturating_mul(addresses as u64)
-        .saturating_add(ROW_LANE.saturating_mul(place as u64));
-    let top = HEAD.saturating_add(above);
-    Lane {
-        top,
-        bottom: top.saturating_add(ROW_LANE),
-    }
-}
-
-/// The lanes of all packets, of the hairpins if there are any, and of each cause.
-fn rows_of<'a>(
-    alloc: Global,
-    scene: &'a Scene,
-    tallies: &'a Tallies,
-) -> Result<Vec<Row<'a>>, AllocError> {
-    let addresses = scene.lanes.len();
-    let mut rows = Vec::new(alloc);
-    rows.push(Row {
-        name: "packets",
-        class: "all",
-        tally: &tallies.packets,
-        lane: row_lane(addresses, 0),
-    })?;
-    if tallies.hairpins.all > 0 {
-        rows.push(Row {
-            name: "hairpins",
-            class: "hairpins",
-            tally: &tallies.hairpins,
-            lane: row_lane(addresses, 1),
-        })?;
-    }
-    for (name, tally) in scene.causes.iter().zip(tallies.drops.iter()) {
-        let lane = row_lane(addresses, rows.len());
-        rows.push(Row {
-            name,
-            class: "drops",
-            tally,
-            lane,
-        })?;
-    }
-    Ok(rows)
-}
-
-fn draw_bin_time(text: &mut String, span: Span) -> Result<(), AllocError> {
     let at = Point {
         column: 16,
         line: TIME_LINE,
     };
     open_words(text, "legend", at)?;
     text.push_str("A bar is ")?;
-    push_time(text, span, span.bin_time())?;
-    text.push_str(" s wide.</text>\n")
+    push_time(text, axis, axis.bin_time())?;
+    text.push_str(" s wide.</text>\n")?;
+    draw_lanes(text, &scene.lanes, &lanes)?;
+    draw_rows(text, &tallies, &rows)?;
+    draw_axis(text, axis, bottom)?;
+    draw_lives(text, axis, &lives, &lanes)?;
+    draw_tallies(text, axis, &tallies, &rows)
+}
+
+/// So many lanes of a height, the first of which begins at `top`, and the line where the last one ends.
+fn lanes_of(
+    alloc: Global,
+    top: u64,
+    height: u64,
+    many: usize,
+) -> Result<(Vec<Lane>, u64), AllocError> {
+    let mut lanes = Vec::new(alloc);
+    let mut top = top;
+    for _ in 0..many {
+        let bottom = top.saturating_add(height);
+        lanes.push(Lane { top, bottom })?;
+        top = bottom;
+    }
+    Ok((lanes, top))
 }
 
 /// The lanes of packets, with their total and the most in a bar.
-fn draw_rows(text: &mut String, rows: &[Row<'_>]) -> Result<(), AllocError> {
-    for row in rows {
-        draw_lane(text, row.name, row.lane)?;
-        open_words(text, "most", below_name(row.lane))?;
-        writeln!(text, "{} ({})</text>", row.tally.all, row.tally.most)?;
+fn draw_rows(text: &mut String, tallies: &[Tally<'_>], lanes: &[Lane]) -> Result<(), AllocError> {
+    for (tally, lane) in tallies.iter().zip(lanes) {
+        draw_lane(text, tally.name, *lane)?;
+        open_words(text, "most", below_name(*lane))?;
+        writeln!(text, "{} ({})</text>", tally.all, tally.most)?;
     }
     Ok(())
 }
@@ -156,7 +102,7 @@ fn below_name(lane: Lane) -> Point {
 
 fn draw_lives(
     text: &mut String,
-    span: Span,
+    axis: Axis,
     lives: &[Lives],
     lanes: &[Lane],
 ) -> Result<(), AllocError> {
@@ -165,7 +111,7 @@ fn draw_lives(
         writeln!(text, "at most {}</text>", lives.live.most)?;
         draw_share(text, *lane, lives.fullest())?;
         draw_scale(text, *lane, lives.live.most)?;
-        draw_live_bins(text, span, lives, *lane)?;
+        draw_live_bins(text, axis, lives, *lane)?;
     }
     Ok(())
 }
@@ -210,7 +156,7 @@ fn height_line(lane: Lane, number: u64, most: u64) -> u64 {
 /// A bar for each run of bins with the same bindings, if any are live.
 fn draw_live_bins(
     text: &mut String,
-    span: Span,
+    axis: Axis,
     lives: &Lives,
     lane: Lane,
 ) -> Result<(), AllocError> {
@@ -221,7 +167,12 @@ fn draw_live_bins(
                 many: lives.same_from(first),
             };
             open_area(text, "live", bar_of(lane, run, bin.most, lives.live.most))?;
-            draw_live_title(text, span, run, *bin)?;
+            open_title(text, axis, run)?;
+            let LiveBin { most, made, ended } = *bin;
+            writeln!(
+                text,
+                "at most {most} live, {made} made, {ended} ended</title></rect>"
+            )?;
         }
     }
     Ok(())
@@ -240,52 +191,43 @@ fn bar_of(lane: Lane, run: Run, number: u64, most: u64) -> Area {
     }
 }
 
-/// The title of a run of bins with the same bindings, and the end of its bar.
-fn draw_live_title(
-    text: &mut String,
-    span: Span,
-    run: Run,
-    bin: LiveBin,
-) -> Result<(), AllocError> {
-    open_title(text, span, run)?;
-    let LiveBin { most, made, ended } = bin;
-    writeln!(
-        text,
-        "at most {most} live, {made} made, {ended} ended</title></rect>"
-    )
-}
-
 /// The times of a run of bins, to begin its title.
-fn open_title(text: &mut String, span: Span, run: Run) -> Result<(), AllocError> {
+fn open_title(text: &mut String, axis: Axis, run: Run) -> Result<(), AllocError> {
     text.push_str("><title>")?;
-    push_moment(text, span, span.start_of(run.first))?;
+    push_moment(text, axis, axis.start_of(run.first))?;
     text.push_str(" to ")?;
     push_moment(
         text,
-        span,
-        span.start_of(run.first.saturating_add(run.many)),
+        axis,
+        axis.start_of(run.first.saturating_add(run.many)),
     )?;
     text.push_str(" s: ")
 }
 
-fn draw_tallies(text: &mut String, span: Span, rows: &[Row<'_>]) -> Result<(), AllocError> {
-    for row in rows {
-        draw_tally(text, span, *row)?;
+fn draw_tallies(
+    text: &mut String,
+    axis: Axis,
+    tallies: &[Tally<'_>],
+    lanes: &[Lane],
+) -> Result<(), AllocError> {
+    for (tally, lane) in tallies.iter().zip(lanes) {
+        draw_tally(text, axis, tally, *lane)?;
     }
     Ok(())
 }
 
 /// A bar for each bin that has packets.
-fn draw_tally(text: &mut String, span: Span, row: Row<'_>) -> Result<(), AllocError> {
-    for (first, many) in row.tally.bins.iter().enumerate() {
+fn draw_tally(
+    text: &mut String,
+    axis: Axis,
+    tally: &Tally<'_>,
+    lane: Lane,
+) -> Result<(), AllocError> {
+    for (first, many) in tally.bins.iter().enumerate() {
         if *many > 0 {
             let run = Run { first, many: 1 };
-            open_area(
-                text,
-                row.class,
-                bar_of(row.lane, run, *many, row.tally.most),
-            )?;
-            open_title(text, span, run)?;
+            open_area(text, tally.class, bar_of(lane, run, *many, tally.most))?;
+            open_title(text, axis, run)?;
             writeln!(text, "{many}</title></rect>")?;
         }
     }

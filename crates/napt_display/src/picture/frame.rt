@@ -1,7 +1,11 @@
 //! What both pictures have: the page, the legend, the lanes with their names, and the axis.
 
+use crate::picture::axis::{
+    Axis, DAY, HEAD, LEFT, MICROSECOND, MILLISECOND, RIGHT, SECOND, TIME_WIDTH,
+};
 use crate::picture::shapes::{Area, Point, draw_area, draw_words, open_words};
-use crate::picture::span::{HEAD, LEFT, MICROSECOND, MILLISECOND, RIGHT, SECOND, Span, TIME_WIDTH};
+use jiff::Timestamp;
+use jiff::tz::TimeZone;
 use std::alloc::AllocError;
 
 const STYLE: &str = "<style>
@@ -118,54 +122,84 @@ pub fn name_at(top: u64) -> Point {
     }
 }
 
-/// The times since the first packet, above and below the lanes, each with a line through all lanes.
-pub fn draw_axis(text: &mut String, span: Span, bottom: u64) -> Result<(), AllocError> {
-    let apart = span.time_between();
-    let begin = span.start.saturating_sub(span.zero);
+/// The times above and below the lanes, each with a line through all lanes.
+pub fn draw_axis(text: &mut String, axis: Axis, bottom: u64) -> Result<(), AllocError> {
+    let apart = axis.time_between();
+    let origin = axis.origin();
+    let begin = axis.start.saturating_sub(origin);
     let mut time = begin.div_ceil(apart.max(1)).saturating_mul(apart);
-    for line in [HEAD - 12, bottom.saturating_add(16)] {
-        draw_words(text, "time unit", Point { column: 16, line }, "seconds")?;
+    let lines = [HEAD - 12, bottom.saturating_add(16)];
+    let unit = if axis.is_clock { "UTC" } else { "seconds" };
+    for line in lines {
+        draw_words(text, "time unit", Point { column: 16, line }, unit)?;
     }
     for _ in 0..=(RIGHT - LEFT) / TIME_WIDTH {
-        let moment = span.zero.saturating_add(time);
-        if moment <= span.end {
-            let column = span.column_of(moment);
+        let moment = origin.saturating_add(time);
+        if moment <= axis.end {
+            let column = axis.column_of(moment);
             draw_line(text, column, bottom)?;
-            draw_time(text, above(column), time, apart)?;
-            draw_time(text, below(column, bottom), time, apart)?;
+            draw_time(
+                text,
+                axis,
+                Point {
+                    column,
+                    line: lines[0],
+                },
+                time,
+            )?;
+            draw_time(
+                text,
+                axis,
+                Point {
+                    column,
+                    line: lines[1],
+                },
+                time,
+            )?;
         }
         time = time.saturating_add(apart);
     }
     Ok(())
 }
 
-/// Where a time is written above the lanes.
-fn above(column: u64) -> Point {
-    Point {
-        column,
-        line: HEAD - 12,
-    }
-}
-
-/// Where a time is written below the lanes, which end at this line.
-fn below(column: u64, bottom: u64) -> Point {
-    Point {
-        column,
-        line: bottom.saturating_add(16),
-    }
-}
-
-/// A time of the axis in seconds, with the decimals that the times have.
-fn draw_time(text: &mut String, at: Point, time: u64, apart: u64) -> Result<(), AllocError> {
+/// A time of the axis: seconds since the first packet, with the decimals that the times have, or the time of day.
+fn draw_time(text: &mut String, axis: Axis, at: Point, time: u64) -> Result<(), AllocError> {
     open_words(text, "time", at)?;
+    let apart = axis.time_between();
     let (seconds, rest) = (time / SECOND, time % SECOND);
-    if apart % SECOND == 0 {
-        writeln!(text, "{seconds}</text>")
-    } else if apart % MILLISECOND == 0 {
-        writeln!(text, "{seconds}.{:03}</text>", rest / MILLISECOND)
-    } else {
-        writeln!(text, "{seconds}.{:06}</text>", rest / MICROSECOND)
+    match axis.is_clock {
+        true => push_clock(text, seconds, apart)?,
+        false => write!(text, "{seconds}")?,
     }
+    if apart % SECOND == 0 {
+        text.push_str("</text>\n")
+    } else if apart % MILLISECOND == 0 {
+        writeln!(text, ".{:03}</text>", rest / MILLISECOND)
+    } else {
+        writeln!(text, ".{:06}</text>", rest / MICROSECOND)
+    }
+}
+
+/// The time of day (UTC) so many seconds after 1970, of times so far apart: `10:02:07`, and at midnight the date; of a
+/// fraction of a second only what is left of the minute or the hour, so that there is room for it.
+fn push_clock(text: &mut String, seconds: u64, apart: u64) -> Result<(), AllocError> {
+    let (hours, minutes) = (seconds % DAY / 3600, seconds / 60 % 60);
+    let second = seconds % 60;
+    if apart % MILLISECOND != 0 {
+        return write!(text, "{second:02}");
+    }
+    if apart % SECOND != 0 {
+        return write!(text, "{minutes:02}:{second:02}");
+    }
+    if seconds % DAY == 0
+        && let Ok(midnight) = Timestamp::from_nanosecond(i128::from(seconds.saturating_mul(
+            SECOND,
+        )))
+    {
+        let date = TimeZone::UTC.to_datetime(midnight).date();
+        return write!(text, "{:02}-{:02}", date.month(), date.day());
+    }
+    write!(text, "{hours:02}:{minutes:02}:{second:02}")
 }
 
 /// A line through a lane.

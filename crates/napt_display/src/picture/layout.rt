@@ -1,8 +1,8 @@
 //! Where the bars, packets and drops of a picture are, in pixels.
 
+use crate::picture::axis::{Axis, HEAD, LEFT, RIGHT};
 use crate::picture::frame::Lane;
-use crate::picture::scene::{Binding, BindingKind, Pass, Scene};
-use crate::picture::span::{HEAD, LEFT, RIGHT, Span};
+use crate::picture::scene::{BindingKind, DrawnBinding, Pass, Scene};
 use std::alloc::{AllocError, Global};
 use std::collections::BTreeMap;
 
@@ -28,9 +28,8 @@ const LETTER: u64 = 7;
 
 /// The bar of a binding.
 #[derive(Clone, Copy)]
-pub struct Bar {
-    /// The binding's place in the scene.
-    pub place: usize,
+pub struct Bar<'a> {
+    pub binding: &'a DrawnBinding,
     /// The column where the label begins.
     pub label_at: u64,
     /// The columns of its making, its last packet and its end.
@@ -73,21 +72,21 @@ pub struct Packets {
 
 /// The row of a cause, with how many packets were dropped for it.
 #[derive(Clone, Copy)]
-pub struct Cause {
+pub struct CauseRow {
     pub top: u64,
     pub many: u64,
 }
 
 /// Where everything in a picture is.
 #[derive(Drop)]
-pub struct Layout {
-    pub span: Span,
+pub struct Layout<'a> {
+    pub axis: Axis,
     /// One for each lane of the scene.
     pub lanes: Vec<Lane>,
     /// The bars, lane by lane.
-    pub bars: Vec<Bar>,
+    pub bars: Vec<Bar<'a>>,
     /// The top of the row of each cause, and how many of the shown packets were dropped for it.
-    pub causes: Vec<Cause>,
+    pub causes: Vec<CauseRow>,
     /// The packets of each mark.
     pub marks: BTreeMap<Mark, Packets>,
     /// The line below all lanes and rows.
@@ -98,16 +97,16 @@ pub struct Layout {
     arrows: BTreeMap<u64, (u64, u64)>,
 }
 
-/// The bar of the binding at a place of the scene, at the top of the picture.
-fn bar_of(span: Span, place: usize, binding: &Binding) -> Bar {
-    let made = span.column_of(binding.made);
+/// The bar of a binding, at the top of the picture.
+fn bar_of<'a>(axis: Axis, binding: &'a DrawnBinding) -> Bar<'a> {
+    let made = axis.column_of(binding.made);
     let widest = RIGHT.saturating_sub(label_width(&binding.label));
     let mut bar = Bar {
-        place,
+        binding,
         label_at: made.min(widest),
         made,
-        used: span.column_of(binding.used),
-        end: span.column_of(binding.end),
+        used: axis.column_of(binding.used),
+        end: axis.column_of(binding.end),
         top: 0,
     };
     if binding.kind == BindingKind::Redirect {
@@ -122,8 +121,8 @@ fn label_width(label: &str) -> u64 {
 }
 
 /// The columns that a bar takes with its label and the space to the next bar.
-fn columns_of(bar: Bar, label: &str) -> (u64, u64) {
-    let label_end = bar.label_at.saturating_add(label_width(label));
+fn columns_of(bar: Bar<'_>) -> (u64, u64) {
+    let label_end = bar.label_at.saturating_add(label_width(&bar.binding.label));
     (
         bar.made.min(bar.label_at),
         bar.end.max(label_end).saturating_add(LETTER),
@@ -144,11 +143,11 @@ fn row_for(taken: &mut Vec<u64>, from: u64, to: u64) -> Result<usize, AllocError
     Ok(at)
 }
 
-impl Layout {
+impl<'a> Layout<'a> {
     /// The places of what a scene shows.
-    pub fn of(alloc: Global, span: Span, scene: &Scene) -> Result<Layout, AllocError> {
+    pub fn of(alloc: Global, axis: Axis, scene: &'a Scene) -> Result<Layout<'a>, AllocError> {
         let mut layout = Layout {
-            span,
+            axis,
             lanes: Vec::new(alloc),
             bars: Vec::new(alloc),
             causes: Vec::new(alloc),
@@ -157,30 +156,31 @@ impl Layout {
             tops: BTreeMap::new(alloc),
             arrows: BTreeMap::new(alloc),
         };
-        layout.add_all(alloc, scene)?;
+        for lane in 0..scene.lanes.len() {
+            layout.add_lane(alloc, lane, &scene.bindings)?;
+        }
+        layout.add_causes(scene.causes.len())?;
+        layout.add_marks(&scene.passes)?;
         Ok(layout)
     }
 
-    fn add_all(&mut self, alloc: Global, scene: &Scene) -> Result<(), AllocError> {
-        for lane in 0..scene.lanes.len() {
-            self.add_lane(alloc, lane, &scene.bindings)?;
-        }
-        self.add_causes(scene.causes.len())?;
-        self.add_marks(&scene.passes)
-    }
-
-    /// A lane, with the bars of its bindings.
+    /// A lane, with the bar of each of its bindings in the first row that is free for it.
     fn add_lane(
         &mut self,
         alloc: Global,
         lane: usize,
-        bindings: &[Binding],
+        bindings: &'a [DrawnBinding],
     ) -> Result<(), AllocError> {
         let top = self.bottom;
         let mut taken = Vec::new(alloc);
         for (place, binding) in bindings.iter().enumerate() {
-            if binding.lane == lane && self.span.shows(binding) {
-                self.add_bar(&mut taken, top, place, binding)?;
+            if binding.lane == lane && self.axis.shows(binding) {
+                let mut bar = bar_of(self.axis, binding);
+                let (from, to) = columns_of(bar);
+                let above = ROW.saturating_mul(row_for(&mut taken, from, to)? as u64);
+                bar.top = top.saturating_add(PAD).saturating_add(above);
+                self.tops.insert(place, bar.top)?;
+                self.bars.push(bar)?;
             }
         }
         let rows = ROW.saturating_mul((taken.len() as u64).max(1));
@@ -190,28 +190,10 @@ impl Layout {
         Ok(())
     }
 
-    /// The bar of a binding in the first row of its lane that is free for it; `taken` is as for `row_for`.
-    fn add_bar(
-        &mut self,
-        taken: &mut Vec<u64>,
-        lane_top: u64,
-        place: usize,
-        binding: &Binding,
-    ) -> Result<(), AllocError> {
-        let mut bar = bar_of(self.span, place, binding);
-        let (from, to) = columns_of(bar, &binding.label);
-        let row = row_for(taken, from, to)?;
-        let above = ROW.saturating_mul(row as u64);
-        bar.top = lane_top.saturating_add(PAD).saturating_add(above);
-        self.tops.insert(place, bar.top)?;
-        self.bars.push(bar)?;
-        Ok(())
-    }
-
     /// A row for each of `many` causes.
     fn add_causes(&mut self, many: usize) -> Result<(), AllocError> {
         for _ in 0..many {
-            self.causes.push(Cause {
+            self.causes.push(CauseRow {
                 top: self.bottom,
                 many: 0,
             })?;
@@ -222,7 +204,7 @@ impl Layout {
 
     fn add_marks(&mut self, passes: &[Pass]) -> Result<(), AllocError> {
         for pass in passes {
-            if self.span.has(pass.clock) {
+            if self.axis.has(pass.clock) {
                 self.add_pass(*pass)?;
             }
         }
@@ -245,7 +227,7 @@ impl Layout {
 
     /// The arrow of a hairpin at a time, beside others in its column.
     fn add_arrow(&mut self, clock: u64, top: u64, into: u64) -> Result<(), AllocError> {
-        let column = self.column_beside(self.span.column_of(clock), (top, into));
+        let column = self.column_beside(self.axis.column_of(clock), (top, into));
         self.arrows.insert(column, (top, into))?;
         let mark = Mark {
             kind: MarkKind::Hairpin,
@@ -276,7 +258,7 @@ impl Layout {
         };
         let mark = Mark {
             kind,
-            column: self.span.column_of(clock),
+            column: self.axis.column_of(clock),
             top,
             into: top,
         };
@@ -285,19 +267,13 @@ impl Layout {
 
     /// One more packet of a mark; those before it came earlier.
     fn count_packet(&mut self, mark: Mark, clock: u64) -> Result<(), AllocError> {
-        let packets = match self.marks.get(&mark) {
-            Some(before) => Packets {
-                many: before.many.saturating_add(1),
-                first: before.first,
-                last: clock,
-            },
-            None => Packets {
-                many: 1,
-                first: clock,
-                last: clock,
-            },
-        };
-        self.marks.insert(mark, packets)?;
+        let packets = self.marks.entry(mark)?.or_insert(Packets {
+            many: 0,
+            first: clock,
+            last: clock,
+        });
+        packets.many = packets.many.saturating_add(1);
+        packets.last = clock;
         Ok(())
     }
 

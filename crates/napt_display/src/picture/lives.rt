@@ -1,12 +1,12 @@
 //! How many bindings of each lane are live, in bins of the time shown, and how much of its numbers is in use.
 
-use crate::picture::scene::{Binding, BindingKind, NumberClass};
-use crate::picture::span::{BINS, Span};
+use crate::picture::axis::{Axis, BINS};
+use crate::picture::scene::{BindingKind, DrawnBinding, NumberClass};
 use std::alloc::{AllocError, Global};
 use std::collections::BTreeMap;
 
 /// The bindings of a lane in a bin.
-#[derive(Clone, Copy)]
+#[derive(Clone, Copy, Default)]
 pub struct LiveBin {
     /// The most that are live at one moment of it.
     pub most: u64,
@@ -29,7 +29,7 @@ pub struct Lives {
 }
 
 /// How many bindings are live now, and were at one moment of the time shown at most.
-#[derive(Clone, Copy)]
+#[derive(Clone, Copy, Default)]
 pub struct Level {
     now: u64,
     pub most: u64,
@@ -63,66 +63,65 @@ enum TurnKind {
 /// The bindings of each lane.
 pub fn lives_of(
     alloc: Global,
-    span: Span,
+    axis: Axis,
     lanes: usize,
-    bindings: &[Binding],
+    bindings: &[DrawnBinding],
 ) -> Result<Vec<Lives>, AllocError> {
     let mut turns = Vec::new(alloc);
-    add_turns(&mut turns, span, bindings)?;
+    add_turns(&mut turns, axis, bindings)?;
     turns.sort()?;
     let mut all = Vec::new(alloc);
     for _ in 0..lanes {
-        all.push(Lives::new(alloc, span)?)?;
+        all.push(Lives::new(alloc, axis)?)?;
     }
-    follow(&mut all, span, bindings, &turns)?;
-    end_all(&mut all, span);
+    follow(&mut all, axis, bindings, &turns)?;
+    end_all(&mut all, axis);
     Ok(all)
 }
 
 /// The turns of all bindings that are shown.
-fn add_turns(turns: &mut Vec<Turn>, span: Span, bindings: &[Binding]) -> Result<(), AllocError> {
+fn add_turns(
+    turns: &mut Vec<Turn>,
+    axis: Axis,
+    bindings: &[DrawnBinding],
+) -> Result<(), AllocError> {
     for (place, binding) in bindings.iter().enumerate() {
-        if span.shows(binding) {
-            turns.push(begin_of(span, place, binding))?;
-            if binding.kind != BindingKind::Redirect && span.has(binding.end) {
-                turns.push(Turn {
-                    moment: binding.end,
-                    kind: TurnKind::Ends,
-                    place,
-                })?;
-            }
+        if !axis.shows(binding) {
+            continue;
+        }
+        let is_redirect = binding.kind == BindingKind::Redirect;
+        let (moment, kind) = match is_redirect || binding.made < axis.start {
+            true => (axis.start, TurnKind::Stands),
+            false => (binding.made, TurnKind::Begins),
+        };
+        turns.push(Turn {
+            moment,
+            kind,
+            place,
+        })?;
+        if !is_redirect && axis.has(binding.end) {
+            turns.push(Turn {
+                moment: binding.end,
+                kind: TurnKind::Ends,
+                place,
+            })?;
         }
     }
     Ok(())
 }
 
-/// Where a binding begins in the time shown.
-fn begin_of(span: Span, place: usize, binding: &Binding) -> Turn {
-    let stands = binding.kind == BindingKind::Redirect || binding.made < span.start;
-    let (moment, kind) = if stands {
-        (span.start, TurnKind::Stands)
-    } else {
-        (binding.made, TurnKind::Begins)
-    };
-    Turn {
-        moment,
-        kind,
-        place,
-    }
-}
-
 /// Takes the turns, which are in order of time.
 fn follow(
     all: &mut Vec<Lives>,
-    span: Span,
-    bindings: &[Binding],
+    axis: Axis,
+    bindings: &[DrawnBinding],
     turns: &[Turn],
 ) -> Result<(), AllocError> {
     for turn in turns {
         if let Some(binding) = bindings.get(turn.place)
             && let Some(lives) = all.get_mut(binding.lane)
         {
-            lives.take_turn(span, *turn);
+            lives.take_turn(axis, *turn);
             lives.take_number(turn.kind, binding.class)?;
         }
     }
@@ -130,32 +129,27 @@ fn follow(
 }
 
 /// What is live stays so to the end of the time shown.
-fn end_all(all: &mut Vec<Lives>, span: Span) {
+fn end_all(all: &mut Vec<Lives>, axis: Axis) {
     for lives in all.iter_mut() {
-        lives.hold(span, span.end.saturating_add(1));
+        lives.hold(axis, axis.end.saturating_add(1));
     }
 }
 
 impl Lives {
     /// None is live when the time shown begins.
-    fn new(alloc: Global, span: Span) -> Result<Lives, AllocError> {
-        let none = LiveBin {
-            most: 0,
-            made: 0,
-            ended: 0,
-        };
+    fn new(alloc: Global, axis: Axis) -> Result<Lives, AllocError> {
         Ok(Lives {
-            bins: vec![in alloc; none; BINS]?,
-            live: Level::NONE,
+            bins: vec![in alloc; LiveBin::default(); BINS]?,
+            live: Level::default(),
             levels: BTreeMap::new(alloc),
-            since: span.start,
+            since: axis.start,
         })
     }
 
-    fn take_turn(&mut self, span: Span, turn: Turn) {
-        self.hold(span, turn.moment);
+    fn take_turn(&mut self, axis: Axis, turn: Turn) {
+        self.hold(axis, turn.moment);
         self.live.take(turn.kind);
-        if let Some(bin) = self.bins.get_mut(span.bin_of(turn.moment)) {
+        if let Some(bin) = self.bins.get_mut(axis.bin_of(turn.moment)) {
             match turn.kind {
                 TurnKind::Ends => bin.ended = bin.ended.saturating_add(1),
                 TurnKind::Begins => bin.made = bin.made.saturating_add(1),
@@ -170,12 +164,10 @@ impl Lives {
         kind: TurnKind,
         class: Option<NumberClass>,
     ) -> Result<(), AllocError> {
-        let Some(class) = class else {
-            return Ok(());
-        };
-        let mut level = self.levels.get(&class).copied().unwrap_or(Level::NONE);
-        level.take(kind);
-        self.levels.insert(class, level)?;
+        if let Some(class) = class {
+            let level = self.levels.entry(class)?.or_insert(Level::default());
+            level.take(kind);
+        }
         Ok(())
     }
 
@@ -197,12 +189,12 @@ impl Lives {
     }
 
     /// Up to a moment as many are live as now.
-    fn hold(&mut self, span: Span, until: u64) {
+    fn hold(&mut self, axis: Axis, until: u64) {
         if until <= self.since {
             return;
         }
         let now = self.live.now;
-        for at in span.bin_of(self.since)..=span.bin_of(until - 1) {
+        for at in axis.bin_of(self.since)..=axis.bin_of(until - 1) {
             if let Some(bin) = self.bins.get_mut(at) {
                 bin.most = bin.most.max(now);
             }
@@ -212,10 +204,8 @@ impl Lives {
 
     /// Whether a bin, and the one before it, have the same bindings at all moments.
     pub fn goes_on(&self, at: usize) -> bool {
-        let Some(before) = at.checked_sub(1) else {
-            return false;
-        };
-        match (self.bins.get(before), self.bins.get(at)) {
+        let before = at.checked_sub(1).and_then(|before| self.bins.get(before));
+        match (before, self.bins.get(at)) {
             (Some(one), Some(next)) => {
                 one.most == next.most && one.is_quiet() && next.is_quiet()
             }
@@ -225,20 +215,13 @@ impl Lives {
 
     /// How many bins from one on have the same bindings at all moments.
     pub fn same_from(&self, at: usize) -> usize {
-        let mut many = 1usize;
-        for next in at.saturating_add(1)..BINS {
-            if !self.goes_on(next) {
-                return many;
-            }
-            many = many.saturating_add(1);
-        }
-        many
+        let next = at.saturating_add(1)..BINS;
+        let more = next.take_while(|next| self.goes_on(*next)).count();
+        more.saturating_add(1)
     }
 }
 
 impl Level {
-    const NONE: Level = Level { now: 0, most: 0 };
-
     fn take(&mut self, kind: TurnKind) {
         self.now = match kind {
             TurnKind::Ends => self.now.saturating_sub(1),

@@ -8,10 +8,12 @@ pub struct Scene {
     /// The part of the time to show; if absent, the time of all packets.
     pub from: Option<u64>,
     pub until: Option<u64>,
+    /// Whether the axis tells the time of day (UTC): else the seconds since the first packet.
+    pub is_clock: bool,
     /// The names of the lanes.
     pub lanes: Vec<String>,
     /// The bindings, each a bar if they are few.
-    pub bindings: Vec<Binding>,
+    pub bindings: Vec<DrawnBinding>,
     /// The names of the rows of causes for which packets were dropped.
     pub causes: Vec<String>,
     /// The packets, in the order of their times.
@@ -40,7 +42,7 @@ pub enum BindingKind {
 
 /// A binding from its making to its end, with times in ns.
 #[derive(Drop)]
-pub struct Binding {
+pub struct DrawnBinding {
     pub kind: BindingKind,
     /// The place of its lane, from 0; if there is none, it is not shown.
     pub lane: usize,

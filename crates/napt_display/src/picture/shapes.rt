@@ -1,6 +1,6 @@
 //! The shapes and the words of a picture.
 
-use crate::picture::span::{MICROSECOND, SECOND, Span};
+use crate::picture::axis::{Axis, MICROSECOND, SECOND};
 use std::alloc::AllocError;
 
 /// A rectangle.
@@ -54,14 +54,14 @@ pub fn open_words(text: &mut String, class: &str, at: Point) -> Result<(), Alloc
 
 /// A moment in seconds since the first packet, with nine decimals if a column is less than a microsecond, else with
 /// six.
-pub fn push_moment(text: &mut String, span: Span, moment: u64) -> Result<(), AllocError> {
-    push_time(text, span, moment.saturating_sub(span.zero))
+pub fn push_moment(text: &mut String, axis: Axis, moment: u64) -> Result<(), AllocError> {
+    push_time(text, axis, moment.saturating_sub(axis.zero))
 }
 
 /// A time in seconds, with as many decimals as `push_moment`.
-pub fn push_time(text: &mut String, span: Span, time: u64) -> Result<(), AllocError> {
+pub fn push_time(text: &mut String, axis: Axis, time: u64) -> Result<(), AllocError> {
     let (seconds, rest) = (time / SECOND, time % SECOND);
-    if span.column < MICROSECOND {
+    if axis.column < MICROSECOND {
         write!(text, "{seconds}.{rest:09}")
     } else {
         write!(text, "{seconds}.{:06}", rest / MICROSECOND)

@@ -3,10 +3,10 @@
 ghost use Rattle.std.specs.Prelude.{IfOk, string_bytes};
 ghost use Rattle.napt_display.specs.Element.{IsElement};
 
+use crate::picture::axis::Axis;
 use crate::picture::bars::draw_bars;
 use crate::picture::counts::draw_counts;
 use crate::picture::scene::Scene;
-use crate::picture::span::Span;
 use std::alloc::{AllocError, Global};
 
 /// Up to this many bindings have a bar each; of more, only numbers are shown.
@@ -22,12 +22,12 @@ pub fn drawing_of(alloc: Global, scene: &Scene) -> Result<String, AllocError>
 
 /// What is between the name of the element and its end.
 fn inner_of(alloc: Global, scene: &Scene) -> Result<String, AllocError> {
-    let span = Span::of(scene);
+    let axis = Axis::of(scene);
     let mut text = String::new(alloc);
-    if span.count_shown(&scene.bindings) > MOST_BARS {
-        draw_counts(alloc, &mut text, span, scene)?;
+    if axis.count_shown(&scene.bindings) > MOST_BARS {
+        draw_counts(alloc, &mut text, axis, scene)?;
     } else {
-        draw_bars(alloc, &mut text, span, scene)?;
+        draw_bars(alloc, &mut text, axis, scene)?;
     }
     Ok(text)
 }

@@ -1,67 +1,65 @@
 //! How many packets there are, in bins of the time shown.
 
+use crate::picture::axis::{Axis, BINS};
 use crate::picture::scene::{Pass, Scene};
-use crate::picture::span::{BINS, Span};
 use std::alloc::{AllocError, Global};
 
 /// How many packets of a kind there are in each bin.
 #[derive(Drop)]
-pub struct Tally {
+pub struct Tally<'a> {
+    pub name: &'a str,
+    /// The class of its bars.
+    pub class: &'static str,
     pub bins: Vec<u64>,
     /// How many there are in all bins, and in the one with the most.
     pub all: u64,
     pub most: u64,
 }
 
-/// The packets of a scene by their kinds.
-#[derive(Drop)]
-pub struct Tallies {
-    pub packets: Tally,
-    pub hairpins: Tally,
-    /// Those dropped, one for each cause.
-    pub drops: Vec<Tally>,
-}
-
-/// The packets of a scene in the time shown.
-pub fn tallies_of(alloc: Global, span: Span, scene: &Scene) -> Result<Tallies, AllocError> {
-    let mut tallies = Tallies {
-        packets: Tally::new(alloc)?,
-        hairpins: Tally::new(alloc)?,
-        drops: Vec::new(alloc),
-    };
-    for _ in 0..scene.causes.len() {
-        tallies.drops.push(Tally::new(alloc)?)?;
+/// The packets of a scene in the time shown: all, the hairpins among them if there are any, and those dropped, for each
+/// cause.
+pub fn tallies_of<'a>(
+    alloc: Global,
+    axis: Axis,
+    scene: &'a Scene,
+) -> Result<Vec<Tally<'a>>, AllocError> {
+    let mut tallies = Vec::new(alloc);
+    tallies.push(Tally::new(alloc, "packets", "all")?)?;
+    tallies.push(Tally::new(alloc, "hairpins", "hairpins")?)?;
+    for name in &scene.causes {
+        tallies.push(Tally::new(alloc, name, "drops")?)?;
     }
-    tallies.count(span, &scene.passes);
+    count(&mut tallies, axis, &scene.passes);
+    tallies.retain(|tally| tally.all > 0 || tally.class != "hairpins");
     Ok(tallies)
 }
 
-impl Tallies {
-    fn count(&mut self, span: Span, passes: &[Pass]) {
-        for pass in passes {
-            if span.has(pass.clock) {
-                self.count_one(span.bin_of(pass.clock), *pass);
-            }
-        }
-    }
-
-    /// One more packet in a bin.
-    fn count_one(&mut self, bin: usize, pass: Pass) {
-        self.packets.count_one(bin);
-        if pass.out.is_some() && pass.into.is_some() {
-            self.hairpins.count_one(bin);
-        }
-        if let Some(place) = pass.dropped
-            && let Some(drops) = self.drops.get_mut(place)
-        {
-            drops.count_one(bin);
+fn count(tallies: &mut [Tally<'_>], axis: Axis, passes: &[Pass]) {
+    for pass in passes {
+        if axis.has(pass.clock) {
+            count_pass(tallies, axis.bin_of(pass.clock), *pass);
         }
     }
 }
 
-impl Tally {
-    fn new(alloc: Global) -> Result<Tally, AllocError> {
+/// One more packet in a bin.
+fn count_pass(tallies: &mut [Tally<'_>], bin: usize, pass: Pass) {
+    let is_hairpin = pass.out.is_some() && pass.into.is_some();
+    let dropped = pass.dropped.map(|place| place.saturating_add(2));
+    for place in [Some(0), is_hairpin.then_some(1), dropped] {
+        if let Some(place) = place
+            && let Some(tally) = tallies.get_mut(place)
+        {
+            tally.count_one(bin);
+        }
+    }
+}
+
+impl<'a> Tally<'a> {
+    fn new(alloc: Global, name: &'a str, class: &'static str) -> Result<Tally<'a>, AllocError> {
         Ok(Tally {
+            name,
+            class,
             bins: vec![in alloc; 0u64; BINS]?,
             all: 0,
             most: 0,

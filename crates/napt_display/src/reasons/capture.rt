@@ -31,11 +31,11 @@ enum Form {
     Unknown,
 }
 
-/// The four spellings of a libpcap capture.
+/// The four spellings of a libpcap capture: the order of its bytes, and its unit of time.
 #[derive(Clone, Copy)]
 struct Spelling {
-    is_big: bool,
-    is_nano: bool,
+    order: &'static str,
+    unit: &'static str,
 }
 
 /// The first four bytes, 0 if there are fewer.
@@ -56,26 +56,25 @@ fn form_of(bytes: &[u8], fault: CaptureFault) -> Form {
     match first_four(bytes) {
         [0x0a, 0x0d, 0x0d, 0x0a] => Form::Pcapng,
         [0x1f, 0x8b, _, _] => Form::Gzip,
-        [0xd4, 0xc3, 0xb2, 0xa1] => pcap(bytes, false, false),
-        [0x4d, 0x3c, 0xb2, 0xa1] => pcap(bytes, false, true),
-        [0xa1, 0xb2, 0xc3, 0xd4] => pcap(bytes, true, false),
-        [0xa1, 0xb2, 0x3c, 0x4d] => pcap(bytes, true, true),
+        [0xd4, 0xc3, 0xb2, 0xa1] => pcap(bytes, false, "microseconds"),
+        [0x4d, 0x3c, 0xb2, 0xa1] => pcap(bytes, false, "nanoseconds"),
+        [0xa1, 0xb2, 0xc3, 0xd4] => pcap(bytes, true, "microseconds"),
+        [0xa1, 0xb2, 0x3c, 0x4d] => pcap(bytes, true, "nanoseconds"),
         _ => Form::Unknown,
     }
 }
 
 /// A libpcap capture, with its link type at 20.
-fn pcap(bytes: &[u8], is_big: bool, is_nano: bool) -> Form {
+fn pcap(bytes: &[u8], is_big: bool, unit: &'static str) -> Form {
     let link = match bytes.get(20..24) {
         Some(rest) => first_four(rest),
         None => return Form::Unknown,
     };
-    let link = if is_big {
-        u32::from_be_bytes(link)
-    } else {
-        u32::from_le_bytes(link)
+    let (order, link) = match is_big {
+        true => ("big-endian", u32::from_be_bytes(link)),
+        false => ("little-endian", u32::from_le_bytes(link)),
     };
-    Form::Pcap(Spelling { is_big, is_nano }, link)
+    Form::Pcap(Spelling { order, unit }, link)
 }
 
 /// The name of a link type whose headers split cuts.
@@ -173,14 +172,7 @@ fn form_text(alloc: Global, form: Form) -> Result<String, AllocError> {
 }
 
 fn pcap_text(alloc: Global, spelling: Spelling, link: u32) -> Result<String, AllocError> {
-    let order = match spelling.is_big {
-        true => "big-endian",
-        false => "little-endian",
-    };
-    let unit = match spelling.is_nano {
-        true => "nanoseconds",
-        false => "microseconds",
-    };
+    let Spelling { order, unit } = spelling;
     match link_name(link) {
         Some(name) => {
             format!(in alloc; "a libpcap capture of {name} (link type {link}), {order}, {unit}")

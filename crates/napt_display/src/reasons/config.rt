@@ -3,10 +3,10 @@
 ghost use Rattle.std.specs.Prelude.{◌≤◌, ◌+◌, IfOk, OnOk, vec_len};
 
 use crate::reasons::expected::{expected_at, shape_of};
-use crate::reasons::part::{Entry, Place, Refused};
+use crate::reasons::part::{ListEntry, Place, Refused};
 use crate::reasons::reason::{Reason, add};
 use crate::reasons::room::Room;
-use crate::reasons::spelling::{line_of_name, meant};
+use crate::reasons::spelling::{line_of_name, meant, name_of};
 use napt_config::ConfigFault;
 use std::alloc::{AllocError, Global};
 use toml::Value;
@@ -109,8 +109,10 @@ fn add_for_place<'t>(
     if refused.fault == ConfigFault::UnknownKey {
         add_spelling(reasons, refused, place)?;
     }
-    let value = value_text(refused.alloc, refused.value(place));
-    add(reasons, "value", value)?;
+    if !is_secret(refused.alloc, place)? {
+        let value = value_text(refused.alloc, refused.value(place));
+        add(reasons, "value", value)?;
+    }
     add_other(reasons, refused, place)?;
     if let Some(room) = room_of(refused, place)? {
         return add(reasons, "expected", room.text(refused.alloc));
@@ -119,6 +121,11 @@ fn add_for_place<'t>(
         Some(text) => add(reasons, "expected", String::from_str(refused.alloc, text)),
         None => add_why(reasons, refused),
     }
+}
+
+/// Whether the value at a place is a seed, or was meant to be one: it is not shown.
+fn is_secret(alloc: Global, place: Place<'_>) -> Result<bool, AllocError> {
+    Ok(name_of(place) == "seed" || meant(alloc, place)? == Some("seed"))
 }
 
 /// What there is room for, if the fault is a block that is too large.
@@ -168,8 +175,8 @@ fn add_other<'t>(
 }
 
 /// Another entry as `redirect[0]`, with its value if that is a text.
-fn other_text<'t>(refused: Refused<'t>, other: Entry<'t>) -> Result<String, AllocError> {
-    let Entry { key, at } = other;
+fn other_text<'t>(refused: Refused<'t>, other: ListEntry<'t>) -> Result<String, AllocError> {
+    let ListEntry { key, at } = other;
     match refused.other_value(other) {
         Some(Value::String(text)) => format!(in refused.alloc; "{key}[{at}], {text:?}"),
         _ => format!(in refused.alloc; "{key}[{at}]"),
@@ -200,6 +207,7 @@ fn value_text(alloc: Global, value: Option<&Value>) -> Result<String, AllocError
 fn expected(fault: ConfigFault, place: Place<'_>) -> Option<&'static str> {
     let field = place.field.unwrap_or("");
     match fault {
+        ConfigFault::Missing if place.key == "numbers" => Some("a `seed` with `random`"),
         ConfigFault::BadShape | ConfigFault::Missing => {
             Some(shape_of(place.key, place.entry, field))
         }

@@ -28,13 +28,32 @@ fn shape_in_entry(key: &str, field: &str) -> &'static str {
 
 /// What was expected at a place, if that adds to the fault, and the RFC behind it.
 pub fn expected_at(fault: ConfigFault, key: &str, field: &str) -> Option<&'static str> {
-    match fault {
-        ConfigFault::TimerTooShort => Some(least_time(field)),
-        ConfigFault::TooMany => Some(most_entries(key)),
-        ConfigFault::BadAddress => Some(form_of_address(key)),
-        ConfigFault::BadNumber => Some(range_of(key)),
-        ConfigFault::BadWord => Some(words_of(key)),
-        ConfigFault::UnknownKey => Some(keys_of(key)),
+    match (fault, key) {
+        (ConfigFault::TimerTooShort, _) => Some(least_time(field)),
+        (ConfigFault::TooMany, "pool" | "inside") => Some("at most 16 entries"),
+        (ConfigFault::TooMany, _) => Some("at most 256 entries"),
+        (ConfigFault::BadAddress, "redirect") => Some("an endpoint, as `10.0.0.3:7000`"),
+        (ConfigFault::BadAddress, _) => Some("an IPv4 address, as `203.0.113.1`"),
+        (ConfigFault::BadNumber, "ring") => Some("1 to 4096"),
+        (ConfigFault::BadNumber, "quota") => Some("1 to 65535"),
+        (ConfigFault::BadNumber, "block") => Some("an even number, 64 to 32256"),
+        (ConfigFault::BadNumber, "redirect") => Some("a port, 1 to 65535"),
+        (ConfigFault::BadNumber, _) => Some("0 to 1000000000 seconds"),
+        (ConfigFault::BadWord, "filter") => Some("`independent`, `address` or `address-port`"),
+        (ConfigFault::BadWord, "refresh") => Some("`outbound` or `both` (RFC 4787, REQ-6)"),
+        (ConfigFault::BadWord, "parity") => Some("`kept` or `free` (RFC 7857, section 8)"),
+        (ConfigFault::BadWord, "numbers") => Some("`preserved` or `random` (RFC 7857, section 9)"),
+        (ConfigFault::BadWord, _) => Some("`udp` or `tcp`"),
+        (ConfigFault::UnknownKey, "timers") => Some(
+            "`udp`, `tcp-established`, `tcp-transitory` or `icmp`",
+        ),
+        (ConfigFault::UnknownKey, "pair") => Some("`host` or `external`"),
+        (ConfigFault::UnknownKey, "redirect") => Some("`protocol`, `inside` or `external`"),
+        (ConfigFault::UnknownKey, _) => Some(
+            "`pool`, `inside`, `filter`, `refresh`, `parity`, `numbers`, `seed`, `timers`, `ring`, `quota`, `block`, `pair` or `redirect`",
+        ),
+        (ConfigFault::BadSeed, _) => Some("32 hexadecimal digits"),
+        (ConfigFault::SeedUnused, _) => Some("no `seed` without `numbers = \"random\"`"),
         _ => None,
     }
 }
@@ -45,48 +64,5 @@ fn least_time(field: &str) -> &'static str {
         "tcp-established" => "at least 7440 seconds (RFC 5382, REQ-5)",
         "tcp-transitory" => "at least 240 seconds (RFC 5382, REQ-5)",
         _ => "at least 60 seconds (RFC 5508, REQ-2)",
-    }
-}
-
-fn most_entries(key: &str) -> &'static str {
-    match key {
-        "pool" | "inside" => "at most 16 entries",
-        _ => "at most 256 entries",
-    }
-}
-
-fn form_of_address(key: &str) -> &'static str {
-    match key {
-        "redirect" => "an endpoint, as `10.0.0.3:7000`",
-        _ => "an IPv4 address, as `203.0.113.1`",
-    }
-}
-
-fn range_of(key: &str) -> &'static str {
-    match key {
-        "ring" => "1 to 4096",
-        "quota" => "1 to 65535",
-        "block" => "an even number, 64 to 32256",
-        "redirect" => "a port, 1 to 65535",
-        _ => "0 to 1000000000 seconds",
-    }
-}
-
-fn words_of(key: &str) -> &'static str {
-    match key {
-        "filter" => "`independent`, `address` or `address-port`",
-        "refresh" => "`outbound` or `both` (RFC 4787, REQ-6)",
-        _ => "`udp` or `tcp`",
-    }
-}
-
-fn keys_of(key: &str) -> &'static str {
-    match key {
-        "timers" => "`udp`, `tcp-established`, `tcp-transitory` or `icmp`",
-        "pair" => "`host` or `external`",
-        "redirect" => "`protocol`, `inside` or `external`",
-        _ => {
-            "`pool`, `inside`, `filter`, `refresh`, `timers`, `ring`, `quota`, `block`, `pair` or `redirect`"
-        }
     }
 }

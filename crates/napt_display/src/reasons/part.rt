@@ -9,7 +9,8 @@ use toml::{Table, Value};
 
 /// The keys in the order they are checked.
 const KEYS: &[&str] = &[
-    "pool", "inside", "filter", "refresh", "timers", "ring", "quota", "block", "pair", "redirect",
+    "pool", "inside", "filter", "refresh", "parity", "numbers", "seed", "timers", "ring", "quota",
+    "block", "pair", "redirect",
 ];
 
 /// Those of which blocks are made.
@@ -74,12 +75,25 @@ struct Part<'t> {
     /// The fields of that entry, or of the table at the key; if absent, all.
     fields: Option<Kept<'t>>,
     /// Entries of a list up to this one are left out; if absent, none is.
-    left_out: Option<Entry<'t>>,
+    left_out: Option<ListEntry<'t>>,
+}
+
+impl<'t> Part<'t> {
+    /// All that is at these keys, of which this is the last.
+    fn of(keys: Kept<'t>, key: &'t str) -> Part<'t> {
+        Part {
+            keys,
+            key,
+            entry: None,
+            fields: None,
+            left_out: None,
+        }
+    }
 }
 
 /// An entry of a key's list, from 0.
 #[derive(Clone, Copy)]
-pub struct Entry<'t> {
+pub struct ListEntry<'t> {
     pub key: &'t str,
     pub at: usize,
 }
@@ -93,7 +107,7 @@ pub struct Place<'t> {
     /// The field of that entry, or of the table at the key.
     pub field: Option<&'t str>,
     /// The other entry, if the fault is about two.
-    pub other: Option<Entry<'t>>,
+    pub other: Option<ListEntry<'t>>,
 }
 
 /// A refused text, its table, and its fault.
@@ -153,54 +167,49 @@ impl<'t> Refused<'t> {
         }
     }
 
-    /// Whether a part has the fault, as `Config::read` reads it.
+    /// Whether a part has the fault, as `Config::read` reads it. The pool is checked with a prefix, so that none is missing.
     fn is_in(self, part: Part<'_>) -> Result<bool, AllocError> {
-        let Ok(mut table) = toml::table_from_str(self.alloc, self.text) else {
-            return Err(AllocError);
-        };
-        keep(&mut table, part.keys);
+        let mut table = self.kept(part.keys)?;
         if narrow(&mut table, part).is_none() {
             return Ok(false);
         }
-        match toml::table_to_string(self.alloc, &table) {
-            Ok(text) => self.is_fault_of(part, &text),
-            Err(_) => Err(AllocError),
-        }
-    }
-
-    /// Whether the text of a part has the fault. The pool is checked with a prefix, so that none is missing.
-    fn is_fault_of(self, part: Part<'_>, text: &str) -> Result<bool, AllocError> {
         let head = if part.key == "pool" { NO_PREFIX } else { "" };
-        let text = format!(in self.alloc; "{head}{text}")?;
-        match Config::read(self.alloc, text.as_bytes()) {
-            Ok(_) => Ok(false),
-            Err(fault) => Ok(fault == self.fault),
-        }
+        Ok(self.read(head, &table)?.err() == Some(self.fault))
     }
 
     /// The configuration of its pool and its prefixes alone, if they are allowed.
     pub fn unblocked(self) -> Result<Option<Config>, AllocError> {
+        let table = self.kept(Kept::First(BEFORE_BLOCKS))?;
+        Ok(self.read("", &table)?.ok())
+    }
+
+    /// What is kept of its table.
+    fn kept(self, kept: Kept<'_>) -> Result<Table, AllocError> {
         let Ok(mut table) = toml::table_from_str(self.alloc, self.text) else {
             return Err(AllocError);
         };
-        keep(&mut table, Kept::First(BEFORE_BLOCKS));
-        match toml::table_to_string(self.alloc, &table) {
-            Ok(text) => Ok(Config::read(self.alloc, text.as_bytes()).ok()),
-            Err(_) => Err(AllocError),
-        }
+        keep(&mut table, kept);
+        Ok(table)
+    }
+
+    /// Reads a table behind a text.
+    fn read(self, head: &str, table: &Table) -> Result<Result<Config, ConfigFault>, AllocError> {
+        let Ok(rest) = toml::table_to_string(self.alloc, table) else {
+            return Err(AllocError);
+        };
+        let text = format!(in self.alloc; "{head}{rest}")?;
+        Ok(Config::read(self.alloc, text.as_bytes()))
     }
 
     /// The part up to the first key that has the fault.
     fn known_key(self) -> Result<Option<Part<'t>>, AllocError> {
         for (at, key) in KEYS.iter().enumerate() {
-            let part = Part {
-                keys: Kept::up_to(KEYS, at),
-                key: *key,
-                entry: None,
-                fields: None,
-                left_out: None,
+            let part = Part::of(Kept::up_to(KEYS, at), *key);
+            let is_meant = match (self.fault, *key) {
+                (ConfigFault::PoolInside, "pool") => false,
+                (ConfigFault::Missing, "numbers") => !self.table.contains_key("seed"),
+                _ => true,
             };
-            let is_meant = at > 0 || self.fault != ConfigFault::PoolInside;
             if is_meant && self.is_in(part)? {
                 return Ok(Some(part));
             }
@@ -211,13 +220,7 @@ impl<'t> Refused<'t> {
     /// The first key of the table that is unknown, or has an unknown key inside.
     fn unknown_key(self) -> Result<Option<Part<'t>>, AllocError> {
         for key in self.table.keys() {
-            let part = Part {
-                keys: Kept::Alone(key.as_str()),
-                key: key.as_str(),
-                entry: None,
-                fields: None,
-                left_out: None,
-            };
+            let part = Part::of(Kept::Alone(key.as_str()), key.as_str());
             if self.is_in(part)? {
                 return Ok(Some(part));
             }
@@ -242,12 +245,12 @@ impl<'t> Refused<'t> {
     }
 
     /// The other entry of a part's fault: without it, and those before it, the fault goes away.
-    fn other(self, part: Part<'t>) -> Result<Option<Entry<'t>>, AllocError> {
+    fn other(self, part: Part<'t>) -> Result<Option<ListEntry<'t>>, AllocError> {
         let Some(key) = self.other_key(part.key) else {
             return Ok(None);
         };
         for at in 0..entry_count(self.table, key) {
-            let left_out = Some(Entry { key, at });
+            let left_out = Some(ListEntry { key, at });
             if !self.is_in(Part { left_out, ..part })? {
                 return Ok(left_out);
             }
@@ -309,7 +312,7 @@ impl<'t> Refused<'t> {
     }
 
     /// The value at another entry.
-    pub fn other_value(self, other: Entry<'t>) -> Option<&'t Value> {
+    pub fn other_value(self, other: ListEntry<'t>) -> Option<&'t Value> {
         value_at(self.table, other.key, Some(other.at))
     }
 }
@@ -346,7 +349,7 @@ fn last_entry(value: &mut Value, last: usize) -> Option<&mut Value> {
 }
 
 /// Removes the entries of a list up to one; returns `None` if that is missing.
-fn leave_out(table: &mut Table, last: Entry<'_>) -> Option<()> {
+fn leave_out(table: &mut Table, last: ListEntry<'_>) -> Option<()> {
     let entries = table.get_mut(last.key)?.as_array_mut()?;
     if last.at >= entries.len() {
         return None;
@@ -377,8 +380,5 @@ fn field_of<'a>(value: &'a Value, name: &str) -> Option<&'a Value> {
 }
 
 fn has_field(value: Option<&Value>, name: &str) -> bool {
-    match value {
-        Some(value) => field_of(value, name).is_some(),
-        None => false,
-    }
+    value.and_then(|value| field_of(value, name)).is_some()
 }

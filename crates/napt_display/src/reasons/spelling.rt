@@ -8,7 +8,7 @@ use strsim::levenshtein;
 const NEAR: usize = 2;
 
 /// The name of a place: that of its field, else its key.
-fn name_of<'t>(place: Place<'t>) -> &'t str {
+pub fn name_of<'t>(place: Place<'t>) -> &'t str {
     place.field.unwrap_or(place.key)
 }
 

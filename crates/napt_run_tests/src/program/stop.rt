@@ -92,6 +92,8 @@ fn names_faults_of_configurations(rt: HostRuntime) -> Result<(), Fail> {
         Stop::Config(ConfigFault::BadPrefix) => "config bad-prefix"
         Stop::Config(ConfigFault::BadNumber) => "config bad-number"
         Stop::Config(ConfigFault::BadWord) => "config bad-word"
+        Stop::Config(ConfigFault::BadSeed) => "config bad-seed"
+        Stop::Config(ConfigFault::SeedUnused) => "config seed-unused"
         Stop::Config(ConfigFault::DoubleAddress) => "config double-address"
         Stop::Config(ConfigFault::PoolInside) => "config pool-inside"
         Stop::Config(ConfigFault::PrefixesOverlap) => "config prefixes-overlap"

@@ -22,8 +22,12 @@ pub struct Figures {
     pub to_outside: u64,
     /// Packets that left for the inside.
     pub to_inside: u64,
-    #[serde(flatten)]
-    pub drops: Drops,
+    /// Packets dropped for the causes that a configuration decides, and those that a snapshot length cut.
+    pub no_port: u64,
+    pub over_quota: u64,
+    pub no_binding: u64,
+    pub filtered: u64,
+    pub truncated: u64,
     /// The most bindings at once, redirects included.
     pub bindings: u64,
     /// Half of the hosts had at most so many bindings at once.
@@ -35,16 +39,6 @@ pub struct Figures {
     /// The class of numbers of which the greatest share was used, if any was.
     #[serde(skip)]
     pub fullest: Option<Fullest>,
-}
-
-/// Packets dropped for the causes that a configuration decides, and those that a snapshot length cut.
-#[derive(Clone, Copy, Serialize)]
-pub struct Drops {
-    pub no_port: u64,
-    pub over_quota: u64,
-    pub no_binding: u64,
-    pub filtered: u64,
-    pub truncated: u64,
 }
 
 impl Figures {
@@ -61,13 +55,11 @@ impl Figures {
             block: config.block().map(u64::from),
             to_outside: counts.to_outside(),
             to_inside: counts.to_inside(),
-            drops: Drops {
-                no_port: counts.dropped(Cause::NoPort),
-                over_quota: counts.dropped(Cause::OverQuota),
-                no_binding: counts.dropped(Cause::NoBinding),
-                filtered: counts.dropped(Cause::Filtered),
-                truncated: counts.dropped(Cause::Truncated),
-            },
+            no_port: counts.dropped(Cause::NoPort),
+            over_quota: counts.dropped(Cause::OverQuota),
+            no_binding: counts.dropped(Cause::NoBinding),
+            filtered: counts.dropped(Cause::Filtered),
+            truncated: counts.dropped(Cause::Truncated),
             bindings: usage.bindings.most,
             median: percentile(&ranked, 50),
             percentile_99: percentile(&ranked, 99),
@@ -78,9 +70,9 @@ impl Figures {
 
     /// Whether packets left, and none was refused a binding.
     pub fn is_enough(self) -> bool
-        ensures { (result ≡ true) ↔ ((self.to_outside ≢ 0) × (self.drops.no_port ≡ 0)
-            × (self.drops.over_quota ≡ 0)) }
+        ensures { (result ≡ true) ↔ ((self.to_outside ≢ 0) × (self.no_port ≡ 0)
+            × (self.over_quota ≡ 0)) }
     {
-        self.to_outside != 0 && self.drops.no_port == 0 && self.drops.over_quota == 0
+        self.to_outside != 0 && self.no_port == 0 && self.over_quota == 0
     }
 }

@@ -1,5 +1,7 @@
 //! The class of external numbers that was used most.
 
+ghost use Rattle.std.specs.Prelude.{◌≡◌, ◌*◌, ◌/◌, ◌-◌, ◌^◌, min, max};
+
 use crate::sizes::spaces::{Class, Space};
 use napt_wire::Protocol;
 
@@ -15,17 +17,15 @@ pub struct Fullest {
 
 impl Fullest {
     /// Its share in hundredths of a percent, rounded down.
-    pub fn share(self) -> u64 {
+    pub fn share(self) -> u64
+        ensures { result ≡ min (self.used * 10000) (2 ^ 64 - 1) / max self.class.many 1 }
+    {
         self.used.saturating_mul(10_000) / self.class.many.max(1)
     }
 
     /// Whether a greater share of it was used than of another.
     fn is_fuller(self, other: Fullest) -> bool {
-        let (one, rest) = (
-            self.used.saturating_mul(other.class.many),
-            other.used.saturating_mul(self.class.many),
-        );
-        one > rest
+        self.used.saturating_mul(other.class.many) > other.used.saturating_mul(self.class.many)
     }
 }
 

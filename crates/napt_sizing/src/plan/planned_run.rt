@@ -4,7 +4,7 @@ use crate::coverage::Coverage;
 use crate::plan::figures::Figures;
 use crate::sizes::usage::Usage;
 use napt_account::KnownRun;
-use napt_commands::{Losses, Outside, Stop, copied};
+use napt_commands::{Exit, Losses, Outside, copied};
 use napt_config::Config;
 use napt_records::Counts;
 use napt_sequential::Input;
@@ -35,7 +35,7 @@ impl<'a> PlannedRun<'a> {
     }
 
     /// Takes the next packet.
-    pub fn take(&mut self, alloc: Global, input: &Input) -> Result<(), Stop> {
+    pub fn take(&mut self, alloc: Global, input: &Input) -> Result<(), Exit> {
         let config = self.run.config();
         let step = self.run.step(alloc, input)?;
         self.counts.count(&step.outcome);
@@ -51,7 +51,7 @@ impl<'a> PlannedRun<'a> {
         alloc: Global,
         outside: Outside,
         inputs: &[Input],
-    ) -> Result<(), Stop> {
+    ) -> Result<(), Exit> {
         let inputs = outside.inputs_under(alloc, self.run.config(), copied(alloc, inputs)?)?;
         for input in &inputs {
             self.take(alloc, input)?;
@@ -60,7 +60,7 @@ impl<'a> PlannedRun<'a> {
     }
 
     /// Reports what the captures lack of the lives of its bindings; `path` names its configuration.
-    pub fn tell_living<R: Eprint + AllocGlobal>(&self, rt: &R, path: &str) -> Result<(), Stop> {
+    pub fn tell_living<R: Eprint + AllocGlobal>(&self, rt: &R, path: &str) -> Result<(), Exit> {
         let living = self.run.living(rt.alloc())?;
         self.coverage.tell_living(rt, Some(path), &living);
         Ok(())

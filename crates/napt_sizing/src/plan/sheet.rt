@@ -1,9 +1,8 @@
 //! The table of a plan in CSV, for programs. docs/FORMATS.md describes its fields.
 
 use crate::plan::figures::Figures;
-use crate::plan::fullest::Fullest;
 use csv::{ErrorKind, Writer, WriterBuilder};
-use napt_commands::Stop;
+use napt_commands::Exit;
 use napt_config::Address;
 use napt_records::protocol_name;
 use serde::Serialize;
@@ -29,13 +28,13 @@ pub fn write_sheet<R: Print + AllocGlobal>(
     rt: &R,
     paths: &[String],
     lines: &[Figures],
-) -> Result<(), Stop> {
+) -> Result<(), Exit> {
     let writer = WriterBuilder::new().from_writer(io::writer(rt));
     match put_lines(rt.alloc(), writer, paths, lines) {
         Ok(()) => Ok(()),
         Err(error) => Err(match error.into_kind() {
-            ErrorKind::Io(error) => Stop::Output(error),
-            _ => Stop::from(AllocError),
+            ErrorKind::Io(error) => Exit::Output(error),
+            _ => Exit::from(AllocError),
         }),
     }
 }
@@ -59,16 +58,12 @@ fn record_of(alloc: Global, path: &str, figures: Figures) -> Result<Record, Allo
         configuration: String::from_str(alloc, path)?,
         figures,
         fullest_protocol: fullest.map(|it| protocol_name(it.protocol)),
-        fullest_address: address_of(alloc, fullest)?,
+        fullest_address: match fullest {
+            Some(it) => Some(format!(in alloc; "{}", Address(it.address))?),
+            None => None,
+        },
         fullest_class: fullest.map(|it| it.class.name),
         fullest_bindings: fullest.map(|it| it.used),
         fullest_numbers: fullest.map(|it| it.class.many),
     })
-}
-
-fn address_of(alloc: Global, fullest: Option<Fullest>) -> Result<Option<String>, AllocError> {
-    match fullest {
-        Some(fullest) => Ok(Some(format!(in alloc; "{}", Address(fullest.address))?)),
-        None => Ok(None),
-    }
 }

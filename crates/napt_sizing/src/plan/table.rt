@@ -2,7 +2,7 @@
 
 use crate::plan::figures::Figures;
 use crate::plan::fullest::Fullest;
-use napt_commands::Stop;
+use napt_commands::Exit;
 use napt_config::Address;
 use napt_records::protocol_name;
 use std::alloc::{AllocError, Global};
@@ -39,7 +39,7 @@ pub fn tell_table<R: Print + AllocGlobal>(
     rt: &R,
     paths: &[String],
     lines: &[Figures],
-) -> Result<(), Stop> {
+) -> Result<(), Exit> {
     let table = table_text(rt.alloc(), paths, lines)?;
     print!(rt; "{table}")?;
     let last = last_text(rt.alloc(), paths, lines)?;
@@ -49,88 +49,67 @@ pub fn tell_table<R: Print + AllocGlobal>(
 
 /// The head and the lines, with aligned columns.
 fn table_text(alloc: Global, paths: &[String], lines: &[Figures]) -> Result<String, AllocError> {
-    let widths = Widths::of(paths, lines);
+    let longest = paths.iter().map(|path| path.len()).max().unwrap_or(0);
+    let longest = longest.max(HEAD.len());
     let mut text = String::new(alloc);
-    widths.add_head(&mut text)?;
+    add_path(&mut text, HEAD, longest)?;
+    add_head(&mut text, lines)?;
     for (path, figures) in paths.iter().zip(lines) {
-        widths.add_line(&mut text, path, *figures)?;
+        add_path(&mut text, path, longest)?;
+        add_line(&mut text, lines, *figures)?;
     }
     Ok(text)
 }
 
-/// How wide the first column is, and each that has numbers.
-#[derive(Clone, Copy)]
-struct Widths {
-    path: usize,
-    numbers: [usize; NUMBERS],
+/// Appends the first column.
+fn add_path(text: &mut String, path: &str, longest: usize) -> Result<(), AllocError> {
+    let gap = longest.saturating_sub(path.len());
+    write!(text, "{path}{:gap$}", "")
 }
 
-impl Widths {
-    /// Those that the names and all lines need.
-    fn of(paths: &[String], lines: &[Figures]) -> Widths {
-        let longest = paths.iter().map(|path| path.len()).max().unwrap_or(0);
-        let mut widths = Widths {
-            path: longest.max(HEAD.len()),
-            numbers: [0; NUMBERS],
-        };
-        for figures in lines {
-            widths.take(*figures);
-        }
-        widths
-    }
+/// How wide a column of numbers is: as its name, or its greatest number in these lines.
+fn width_of(lines: &[Figures], column: usize) -> usize {
+    let numbers = lines
+        .iter()
+        .filter_map(|line| numbers_of(*line).get(column).copied().flatten());
+    let greatest = numbers.max().unwrap_or(0);
+    let tens = greatest.checked_ilog10().unwrap_or(0) as usize;
+    let name = NAMES.get(column).map_or(0, |name| name.len());
+    name.max(tens.saturating_add(1))
+}
 
-    /// Makes each column wide enough for its name, and for its number of a line.
-    fn take(&mut self, figures: Figures) {
-        let cells = NAMES.iter().zip(numbers_of(figures));
-        for (wide, (name, number)) in self.numbers.iter_mut().zip(cells) {
-            let tens = number
-                .and_then(|number| number.checked_ilog10())
-                .unwrap_or(0);
-            *wide = (*wide)
-                .max(name.len())
-                .max((tens as usize).saturating_add(1));
+fn add_head(text: &mut String, lines: &[Figures]) -> Result<(), AllocError> {
+    for (column, name) in NAMES.iter().enumerate() {
+        let wide = width_of(lines, column);
+        write!(text, "  {name:>wide$}")?;
+    }
+    writeln!(text, "  {FULLEST}")
+}
+
+/// Appends the other columns of one of these lines.
+fn add_line(text: &mut String, lines: &[Figures], figures: Figures) -> Result<(), AllocError> {
+    for (column, number) in numbers_of(figures).iter().enumerate() {
+        let wide = width_of(lines, column);
+        match number {
+            Some(number) => write!(text, "  {number:>wide$}")?,
+            None => write!(text, "  {:>wide$}", "-")?,
         }
     }
-
-    fn add_head(self, text: &mut String) -> Result<(), AllocError> {
-        self.add_path(text, HEAD)?;
-        for (name, wide) in NAMES.iter().zip(self.numbers) {
-            write!(text, "  {name:>wide$}")?;
-        }
-        writeln!(text, "  {FULLEST}")
-    }
-
-    fn add_line(self, text: &mut String, path: &str, figures: Figures) -> Result<(), AllocError> {
-        self.add_path(text, path)?;
-        for (number, wide) in numbers_of(figures).iter().zip(self.numbers) {
-            match number {
-                Some(number) => write!(text, "  {number:>wide$}")?,
-                None => write!(text, "  {:>wide$}", "-")?,
-            }
-        }
-        add_fullest(text, figures.fullest)
-    }
-
-    /// Appends the first column.
-    fn add_path(self, text: &mut String, path: &str) -> Result<(), AllocError> {
-        let gap = self.path.saturating_sub(path.len());
-        write!(text, "{path}{:gap$}", "")
-    }
+    add_fullest(text, figures.fullest)
 }
 
 /// The numbers of a line, in the order of the columns; a configuration may have no quota and no block.
 fn numbers_of(figures: Figures) -> [Option<u64>; NUMBERS] {
-    let drops = figures.drops;
     [
         figures.quota,
         figures.block,
         Some(figures.to_outside),
         Some(figures.to_inside),
-        Some(drops.no_port),
-        Some(drops.over_quota),
-        Some(drops.no_binding),
-        Some(drops.filtered),
-        Some(drops.truncated),
+        Some(figures.no_port),
+        Some(figures.over_quota),
+        Some(figures.no_binding),
+        Some(figures.filtered),
+        Some(figures.truncated),
         Some(figures.bindings),
         Some(figures.median),
         Some(figures.percentile_99),

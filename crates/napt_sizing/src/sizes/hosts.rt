@@ -41,29 +41,25 @@ impl Hosts {
 
     /// The binding of an entry, not a redirect, is made.
     pub fn make(&mut self, entry: &Entry) -> Result<(), AllocError> {
-        let address = entry.binding.inside.address;
-        if let Some(host) = self.host_at(address) {
-            host.bindings.rise(entry.made);
-            return Ok(());
+        let (address, many) = (entry.binding.inside.address, self.list.len());
+        let place = *self.places.entry(address)?.or_insert(many);
+        if place == many {
+            let bindings = Level::default();
+            self.list.push(Host { address, bindings })?;
         }
-        let mut bindings = Level::default();
-        bindings.rise(entry.made);
-        let place = self.list.len();
-        self.list.push(Host { address, bindings })?;
-        self.places.insert(address, place)?;
+        if let Some(host) = self.list.get_mut(place) {
+            host.bindings.rise(entry.made);
+        }
         Ok(())
     }
 
     /// It has expired.
     pub fn end(&mut self, entry: &Entry) {
-        if let Some(host) = self.host_at(entry.binding.inside.address) {
+        if let Some(place) = self.place_of(entry.binding.inside.address)
+            && let Some(host) = self.list.get_mut(place)
+        {
             host.bindings.fall();
         }
-    }
-
-    fn host_at(&mut self, address: u32) -> Option<&mut Host> {
-        let place = self.place_of(address)?;
-        self.list.get_mut(place)
     }
 
     /// The hosts, those with the most bindings at once first; at equal numbers the lower address first.

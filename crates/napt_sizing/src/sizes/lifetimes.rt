@@ -9,7 +9,7 @@ pub const SPANS: [u64; 8] = [60, 120, 240, 300, 600, 1800, 3600, 7440];
 const SECOND: u64 = 1_000_000_000;
 
 /// How many bindings had which lifetime. Redirects do not count.
-#[derive(Clone, Copy)]
+#[derive(Clone, Copy, Default)]
 pub struct Lifetimes {
     /// How many in each span.
     pub within: [u64; 8],
@@ -20,12 +20,6 @@ pub struct Lifetimes {
 }
 
 impl Lifetimes {
-    pub const NONE: Lifetimes = Lifetimes {
-        within: [0; 8],
-        longer: 0,
-        living: 0,
-    };
-
     /// Takes what a packet did.
     pub fn take(&mut self, step: &LoggedStep) {
         for listed in &step.ended {

@@ -33,6 +33,18 @@ const PORTS: &[Class] = &[
     },
 ];
 
+/// Where parity is free it keeps its side alone (RFC 7857, section 8).
+const SIDES: &[Class] = &[
+    Class {
+        name: "ports below 1024",
+        many: 1023,
+    },
+    Class {
+        name: "ports from 1024 on",
+        many: 64_512,
+    },
+];
+
 /// An ICMP identifier may become any other.
 const IDENTIFIERS: &[Class] = &[Class {
     name: "identifiers",
@@ -44,6 +56,8 @@ const IDENTIFIERS: &[Class] = &[Class {
 pub struct Space {
     pub address: u32,
     pub protocol: Protocol,
+    /// Whether ports keep their parity.
+    keeps_parity: bool,
     pub bindings: Level,
     /// Hosts with a binding there.
     pub hosts: Level,
@@ -55,10 +69,11 @@ pub struct Space {
 
 impl Space {
     /// Nothing is used.
-    pub fn new(alloc: Global, address: u32, protocol: Protocol) -> Space {
+    pub fn new(alloc: Global, address: u32, protocol: Protocol, keeps_parity: bool) -> Space {
         Space {
             address,
             protocol,
+            keeps_parity,
             bindings: Level::default(),
             hosts: Level::default(),
             used: [Level::default(); 4],
@@ -70,63 +85,63 @@ impl Space {
     pub fn classes(&self) -> &'static [Class] {
         match self.protocol {
             Protocol::Icmp => IDENTIFIERS,
-            Protocol::Tcp | Protocol::Udp => PORTS,
+            Protocol::Tcp | Protocol::Udp if self.keeps_parity => PORTS,
+            Protocol::Tcp | Protocol::Udp => SIDES,
+        }
+    }
+
+    /// The index of a number's class.
+    fn class_at(&self, number: u16) -> usize {
+        match (
+            self.protocol,
+            self.keeps_parity,
+            number < 1024,
+            number % 2 == 0,
+        ) {
+            (Protocol::Icmp, _, _, _) => 0,
+            (_, true, true, true) => 0,
+            (_, true, true, false) => 1,
+            (_, true, false, true) => 2,
+            (_, true, false, false) => 3,
+            (_, false, true, _) => 0,
+            (_, false, false, _) => 1,
         }
     }
 
     /// The binding of an entry is made.
     pub fn make(&mut self, entry: &Entry) -> Result<(), AllocError> {
-        let at = entry.made;
-        self.bindings.rise(at);
-        if let Some(level) = self
-            .used
-            .get_mut(class_at(self.protocol, entry.binding.external.number))
-        {
-            level.rise(at);
+        self.bindings.rise(entry.made);
+        if let Some(level) = self.level_of(entry) {
+            level.rise(entry.made);
         }
-        let host = entry.binding.inside.address;
-        if let Some(many) = self.now.get_mut(&host) {
-            *many = many.saturating_add(1);
-            return Ok(());
+        let many = self.now.entry(entry.binding.inside.address)?.or_insert(0);
+        *many = many.saturating_add(1);
+        if *many == 1 {
+            self.hosts.rise(entry.made);
         }
-        self.hosts.rise(at);
-        self.now.insert(host, 1)?;
         Ok(())
+    }
+
+    /// The bindings of its number's class.
+    fn level_of(&mut self, entry: &Entry) -> Option<&mut Level> {
+        let class = self.class_at(entry.binding.external.number);
+        self.used.get_mut(class)
     }
 
     /// The binding of an entry has expired.
     pub fn end(&mut self, entry: &Entry) {
         self.bindings.fall();
-        if let Some(level) = self
-            .used
-            .get_mut(class_at(self.protocol, entry.binding.external.number))
-        {
+        if let Some(level) = self.level_of(entry) {
             level.fall();
         }
-        self.leave(entry.binding.inside.address);
-    }
-
-    /// A host has one binding fewer.
-    fn leave(&mut self, host: u32) {
-        let Some(many) = self.now.get_mut(&host) else {
-            return;
-        };
-        *many = many.saturating_sub(1);
-        if *many == 0 {
-            self.now.remove(&host);
-            self.hosts.fall();
+        let host = entry.binding.inside.address;
+        if let Some(many) = self.now.get_mut(&host) {
+            *many = many.saturating_sub(1);
+            if *many == 0 {
+                self.now.remove(&host);
+                self.hosts.fall();
+            }
         }
-    }
-}
-
-/// The index of a number's class among those of its protocol.
-fn class_at(protocol: Protocol, number: u16) -> usize {
-    match (protocol, number < 1024, number % 2 == 0) {
-        (Protocol::Icmp, _, _) => 0,
-        (_, true, true) => 0,
-        (_, true, false) => 1,
-        (_, false, true) => 2,
-        (_, false, false) => 3,
     }
 }
 

@@ -55,16 +55,12 @@ impl Trials {
 
     /// Takes what a packet did; its host is one of these.
     pub fn take(&mut self, hosts: &Hosts, step: &LoggedStep) -> Result<(), AllocError> {
-        self.end_all(hosts, &step.ended);
-        self.make_all(hosts, &step.made)
-    }
-
-    fn end_all(&mut self, hosts: &Hosts, ended: &[Listed]) {
-        for listed in ended {
+        for listed in &step.ended {
             if let Some(holder) = holder_of(hosts, listed) {
                 self.end(holder, listed.number);
             }
         }
+        self.make_all(hosts, &step.made)
     }
 
     fn make_all(&mut self, hosts: &Hosts, made: &[Listed]) -> Result<(), AllocError> {

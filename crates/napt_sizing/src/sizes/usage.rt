@@ -37,65 +37,52 @@ impl Usage {
             over_quota: Refusals::new(alloc),
             no_number: Refusals::new(alloc),
         };
-        usage.make_all(config, opening)?;
+        usage.make(config, opening)?;
         Ok(usage)
     }
 
     /// Takes what a packet did. Bindings that ended leave before others are made.
     pub fn take(&mut self, config: &Config, step: &LoggedStep) -> Result<(), AllocError> {
-        self.end_all(config, &step.ended);
-        self.make_all(config, &step.made)?;
-        self.refuse_all(&step.refused)
+        self.end(config, &step.ended);
+        self.make(config, &step.made)?;
+        self.refuse(&step.refused)
     }
 
-    fn end_all(&mut self, config: &Config, ended: &[Listed]) {
-        for listed in ended {
-            self.end(config, &listed.entry);
+    /// The bindings of these entries expired.
+    fn end(&mut self, config: &Config, ended: &[Listed]) {
+        for Listed { entry, .. } in ended {
+            self.bindings.fall();
+            if let Some(space) = self.space_of(config, entry) {
+                space.end(entry);
+            }
+            self.hosts.end(entry);
         }
     }
 
-    fn make_all(&mut self, config: &Config, made: &[Listed]) -> Result<(), AllocError> {
-        for listed in made {
-            self.make(config, &listed.entry)?;
+    /// The bindings of these entries are made.
+    fn make(&mut self, config: &Config, made: &[Listed]) -> Result<(), AllocError> {
+        for Listed { entry, .. } in made {
+            self.bindings.rise(entry.made);
+            if let Some(space) = self.space_of(config, entry) {
+                space.make(entry)?;
+            }
+            if !entry.binding.fixed {
+                self.hosts.make(entry)?;
+            }
         }
         Ok(())
     }
 
-    fn refuse_all(&mut self, refused: &[Shortage]) -> Result<(), AllocError> {
+    /// Packets are refused a binding.
+    fn refuse(&mut self, refused: &[Shortage]) -> Result<(), AllocError> {
         for shortage in refused {
-            self.refuse(shortage)?;
+            self.refused.add(shortage.host)?;
+            match shortage.cause {
+                Cause::OverQuota => self.over_quota.add(shortage.host)?,
+                _ => self.no_number.add(shortage.host)?,
+            }
         }
         Ok(())
-    }
-
-    /// The binding of an entry expired.
-    fn end(&mut self, config: &Config, entry: &Entry) {
-        self.bindings.fall();
-        if let Some(space) = self.space_of(config, entry) {
-            space.end(entry);
-        }
-        self.hosts.end(entry);
-    }
-
-    /// The binding of an entry is made.
-    fn make(&mut self, config: &Config, entry: &Entry) -> Result<(), AllocError> {
-        self.bindings.rise(entry.made);
-        if let Some(space) = self.space_of(config, entry) {
-            space.make(entry)?;
-        }
-        if entry.binding.fixed {
-            return Ok(());
-        }
-        self.hosts.make(entry)
-    }
-
-    /// A packet is refused a binding.
-    fn refuse(&mut self, shortage: &Shortage) -> Result<(), AllocError> {
-        self.refused.add(shortage.host)?;
-        match shortage.cause {
-            Cause::OverQuota => self.over_quota.add(shortage.host),
-            _ => self.no_number.add(shortage.host),
-        }
     }
 
     /// The space of an entry's external address and protocol.
@@ -110,10 +97,11 @@ impl Usage {
 
 /// An empty space for each protocol at each address of the pool.
 fn spaces_of(alloc: Global, config: &Config) -> Result<Vec<Space>, AllocError> {
+    let keeps_parity = config.choosing().keeps_parity;
     let mut spaces = Vec::new(alloc);
     for address in config.pool() {
         for protocol in [Protocol::Icmp, Protocol::Tcp, Protocol::Udp] {
-            spaces.push(Space::new(alloc, *address, protocol))?;
+            spaces.push(Space::new(alloc, *address, protocol, keeps_parity))?;
         }
     }
     Ok(spaces)

@@ -14,20 +14,19 @@ use crate::host_counts::HostCounts;
 use indexmap::IndexMap;
 use napt_binding::{Binding, IdleTimers, is_live, send, take_in};
 use napt_config::Block;
-use napt_rules::{Inbound, Received, Row, Sent};
+use napt_rules::{Granting, Inbound, Received, Row, Sent};
 use napt_wire::{Cause, Endpoint, Protocol};
 use std::alloc::{AllocError, Global};
 use std::collections::HashMap;
 use std::marker::Model;
 
 /// The bindings that are held, found by either end. Contracts see them by the key of their external number, with their
-/// address, the quota, and how many more fit.
+/// address, how numbers are granted, and how many more fit.
 #[derive(Drop)]
 pub(crate) struct Held {
     /// The external address.
     address: u32,
-    /// How many bindings an inside host may have.
-    quota: Option<u16>,
+    granting: Granting,
     by_number: IndexMap<ExternalKey, Binding>,
     /// Where in `by_number` a number's binding may be.
     places: Places,
@@ -59,19 +58,19 @@ impl Held {
     ghost use Rattle.napt_table.specs.Holdings.{held, held_at, count_all, IsNumberOf, IsNamed, IsAbsent, IsSamePlace, HoldsSame};
 
     /// Nothing is held. It takes memory for the numbers in use.
-    pub(crate) fn new(alloc: Global, address: u32, quota: Option<u16>) -> Result<Held, AllocError>
+    pub(crate) fn new(alloc: Global, address: u32, granting: Granting) -> Result<Held, AllocError>
         ensures address { IfOk result (λ all. all.address ≡ address) }
-        ensures quota { IfOk result (λ all. all.quota ≡ quota) }
+        ensures granting { IfOk result (λ all. all.granting ≡ granting) }
         ensures none { IfOk result (λ all. (key : Key) → held all key ≡ None) }
     {
         Ok(Held {
             address,
-            quota,
+            granting,
             by_number: IndexMap::new(alloc),
             places: Places::new(alloc),
             by_inside: HashMap::new(alloc),
             numbers: NumbersInUse::new(alloc)?,
-            hosts: HostCounts::new(alloc, quota.is_some()),
+            hosts: HostCounts::new(alloc, granting.quota.is_some()),
         })
     }
 
@@ -128,19 +127,20 @@ impl Held {
         }
     }
 
-    /// The first candidate for an inside endpoint with this number, of a host with this block or none, that no binding
-    /// has; `None` if each has one.
+    /// The first candidate for an inside endpoint, of a host with this block or none, that no binding has; `None` if each
+    /// has one.
     pub(crate) fn choose(
         &self,
         block: Option<Block>,
         protocol: Protocol,
-        number: u16,
+        inside: Endpoint,
     ) -> Option<u16>
         requires { IfSome block IsBlock }
         ensures { result ≡ find (λ n. not (is_some (held_at self.now protocol n)))
-            (candidates block protocol number) }
+            (candidates self.now.granting.choosing block protocol inside) }
     {
-        self.numbers.choose(block, protocol, number)
+        self.numbers
+            .choose(self.granting.choosing, block, protocol, inside)
     }
 
     /// The least number of the protocol from 1 on that no binding has; `None` if each has one.
@@ -152,9 +152,9 @@ impl Held {
 
     /// Whether the host has all the bindings that the quota allows.
     pub(crate) fn reaches(&self, host: u32) -> bool
-        ensures { result ≡ reaches self.now.quota (count_all self.now host) }
+        ensures { result ≡ reaches self.now.granting.quota (count_all self.now host) }
     {
-        let Some(quota) = self.quota else {
+        let Some(quota) = self.granting.quota else {
             return false;
         };
         let count = self.hosts.count(host);

@@ -5,8 +5,8 @@ ghost use Rattle.napt_config.specs.Rules.{IsBlock};
 
 use crate::bindings::keys::ExternalKey;
 use crate::numbers::Numbers;
-use napt_config::Block;
-use napt_wire::Protocol;
+use napt_config::{Block, Choosing};
+use napt_wire::{Endpoint, Protocol};
 use std::alloc::{AllocError, Global};
 
 /// The numbers in use, by protocol.
@@ -36,23 +36,24 @@ impl NumbersInUse {
         })
     }
 
-    /// The external number for an inside endpoint with this number, of a host with this block or none: the first of its
-    /// candidates that is not in use; `None` if all are.
+    /// The external number for an inside endpoint, of a host with this block or none: the first of its candidates that is
+    /// not in use; `None` if all are.
     pub(crate) fn choose(
         &self,
+        choosing: Choosing,
         block: Option<Block>,
         protocol: Protocol,
-        number: u16,
+        inside: Endpoint,
     ) -> Option<u16>
         requires by_protocol { AreByProtocol self.now }
         requires block { IfSome block IsBlock }
         ensures { result ≡ find (λ n. not (is_in_use self.now (external_key protocol n)))
-            (candidates block protocol number) }
+            (candidates choosing block protocol inside) }
     {
         match protocol {
-            Protocol::Icmp => self.icmp.choose(block, number),
-            Protocol::Tcp => self.tcp.choose(block, number),
-            Protocol::Udp => self.udp.choose(block, number),
+            Protocol::Icmp => self.icmp.choose(choosing, block, inside),
+            Protocol::Tcp => self.tcp.choose(choosing, block, inside),
+            Protocol::Udp => self.udp.choose(choosing, block, inside),
         }
     }
 

@@ -1,7 +1,6 @@
 //! Bindings that begin, and packets that go out through them.
 
-ghost use Rattle.std.specs.Prelude.{◌≡◌, ◌≤◌, true, false, Some, None, Ok, OnOk, OnErr, IfOk, IfSome, cond};
-ghost use Rattle.std.specs.Option.{is_some};
+ghost use Rattle.std.specs.{Prelude.{◌≡◌, ◌≤◌, true, false, Some, None, Ok, OnOk, OnErr, IfOk, IfSome, cond}, Option.is_some};
 ghost use Rattle.napt_config.specs.Rules.{IsBlock};
 ghost use Rattle.napt_binding.specs.Slots.{NoneUsedAfter};
 
@@ -173,7 +172,7 @@ impl Bindings {
         self.timers.keep_limits();
         let chosen = self
             .held
-            .choose(packet.block, packet.protocol, packet.inside.number);
+            .choose(packet.block, packet.protocol, packet.inside);
         let Some(number) = chosen else {
             return Err(Cause::NoPort);
         };

@@ -1,7 +1,5 @@
-use Rattle.std.proofs.Common.{rules, map, ◌∙◌, ap}
-use Rattle.std.proofs.lemmas.List.Sorted.{answers_always, IsNonDecreasingBy-from_sort}
-use Rattle.napt_account.specs.declared.log.Listed.{Listed}
-use Rattle.napt_account.proofs.Numbers.{sorted_entries}
+use Rattle.std.proofs.{Common.{rules, map, ◌∙◌, ap}, lemmas.List.Sorted.{answers_always, IsNonDecreasingBy-from_sort}}
+use Rattle.napt_account.{specs.declared.log.Listed.Listed, proofs.Numbers.sorted_entries}
 use Rattle.napt_account.proofs.log.in_order_of_making.Goals as goal
 
 pub returns : goal.returns

@@ -1,5 +1,4 @@
-use Rattle.std.proofs.Common.{rules}
-use Rattle.std.proofs.lemmas.List.Sorted.{answers_always}
+use Rattle.std.proofs.{Common.rules, lemmas.List.Sorted.answers_always}
 use Rattle.napt_account.specs.OpenEntries.{end_key}
 use Rattle.napt_account.proofs.open_entries.sort_by_end.Goals as goal
 

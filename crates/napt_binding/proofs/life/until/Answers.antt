@@ -1,5 +1,4 @@
-use Rattle.std.proofs.Common.{◌≡◌, ℕ, ◌+◌, ◌*◌, ◌<◌, ◌||◌, true, false, min, subst, sym, ◌∙◌, ap, arith}
-use Rattle.std.proofs.lemmas.Bool.Decides.{nat_tests}
+use Rattle.std.proofs.{Common.{◌≡◌, ℕ, ◌+◌, ◌*◌, ◌<◌, ◌||◌, true, false, min, subst, sym, ◌∙◌, ap, arith}, lemmas.Bool.Decides.nat_tests}
 use Rattle.napt_rules.specs.Prelude.{Binding, second, is_recent, is_live_by, is_live, Protocol, Icmp, Tcp, Udp, Timers}
 use Rattle.napt_binding.specs.Ends.{least_timer}
 use Rattle.napt_binding.proofs.life.until.Goals as goal

@@ -1,8 +1,7 @@
 -- What a read puts behind what was filled is what it consumed.
+use Rattle.std.proofs.lemmas.{Grind.common_steps, Bool.Decides.nat_tests}
 use Rattle.std.proofs.Common.{◌≡◌, ℕ, ◌+◌, ◌-◌, ◌≤◌, List, ◌++◌, rules, arith, length, take, slice_range, sym, ap, ◌∙◌, subst, le_refl, drop_at, length-take-le}
-use Rattle.std.proofs.lemmas.Slice.{take-put_mid_below}
-use Rattle.std.specs.Io.KnownBytes.{Consumes}
-use Rattle.std.proofs.KnownBytes.{Consumes-trans}
+use Rattle.std.{proofs.{lemmas.Slice.take-put_mid_below, KnownBytes.Consumes-trans}, specs.Io.KnownBytes.Consumes}
 use borrow.Rule.Slice.PartMut.{put_mid, post_of}
 use lib.Seq.{take-add, take-append-le}
 use Rattle.napt_capture.proofs.reading.fill.Goals as goal
@@ -17,11 +16,7 @@ take_split a b old new h front =
 -- what was put from place a on stands there
 slice_range-put_mid : (a k n : ℕ) (xs ys : List ℕ) → a ≤ length xs → n ≤ length ys →
     slice_range (put_mid a k xs ys) a (a + n) ≡ take n ys
-slice_range-put_mid a k n xs ys within fits =
-    let same : (a + n) - a ≡ n = omega arith in
-    let after = post_of a k xs in
-    ap (take ((a + n) - a)) (drop_at (take a xs) (ys ++ after) a (length-take-le a xs within))
-    ∙ ap (λ m. take m (ys ++ after)) same ∙ take-append-le n ys after fits
+slice_range-put_mid a k n xs ys within fits = grind (arith, common_steps, nat_tests, drop_at, length-take-le)
 
 pub loop-filled-preserved : goal.loop-filled-preserved
 loop-filled-preserved g c =

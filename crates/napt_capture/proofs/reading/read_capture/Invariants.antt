@@ -1,7 +1,6 @@
 -- What was read so far is the front of the file, with these records, and no read failed.
 use Rattle.std.proofs.Common.{◌≡◌, ◌+◌, ◌-◌, ◌*◌, ◌≤◌, All, length}
-use Rattle.napt_capture.specs.Prelude.{MOST_ASKED, asked_records, Gives, IsWritable}
-use Rattle.napt_capture.proofs.Whole.{Progress}
+use Rattle.napt_capture.{specs.Prelude.{MOST_ASKED, asked_records, Gives, IsWritable}, proofs.Whole.Progress}
 use Rattle.napt_capture.proofs.reading.read_capture.Given as goal
 
 abbrev pub invariant-loop-records : goal.invariant-loop-records

@@ -1,18 +1,11 @@
 -- What was filled is the header, and then the bytes.
-use Rattle.std.proofs.Common.{◌≤◌, Err, length, arith}
-use Rattle.std.proofs.lemmas.Result.{err_from_is_err_and}
-use Rattle.std.proofs.lemmas.List.{with_items_is}
-use Rattle.napt_capture.specs.Prelude.{Next, TooLarge, ReadsNext}
-use Rattle.napt_capture.proofs.Filled.{Gives-both, Gives-known, Gives-map, Gives-same, Says-fact, filled_by}
+use Rattle.std.proofs.{lemmas.{Grind.common_steps, Bool.Decides.nat_tests, Result.err_from_is_err_and, List.with_items_is}, Common.{Err, arith}}
+use Rattle.napt_capture.{specs.Prelude.Next, proofs.Filled.{Gives-both, Gives-map, Says-fact, filled_by}}
 use Rattle.napt_capture.proofs.Header.{header_read, next_all, next_bad, next_early, next_large, next_none, next_part}
 use Rattle.napt_capture.proofs.reading.read_record.Goals as goal
 
 pub returns-then-asked-clause-next : goal.returns-then-asked-clause-next
-returns-then-asked-clause-next g c =
-    Gives-same (g.R.Source.remaining c.args.reader.now)
-    (ReadsNext c.args.spelling c.args.asked c.args.number (Err TooLarge))
-    (λ text. next_none c.args.spelling c.args.asked c.args.number text c.requires.within
-    (omega (arith, c.if-asked.true)))
+returns-then-asked-clause-next g c = grind (arith, common_steps, nat_tests, next_none)
 
 pub returns-then-filled-lt-RECORD_HEADER-clause-next : goal.returns-then-filled-lt-RECORD_HEADER-clause-next
 returns-then-filled-lt-RECORD_HEADER-clause-next g c =
@@ -76,25 +69,10 @@ returns-clause-next g c =
     (omega (arith, c.if-filled-len.false, c.len.ensures, c.in_ok-bytes.ensures.len)) q items) read body
 
 pub returns-in_err-fields-clause-memory : goal.returns-in_err-fields-clause-memory
-returns-in_err-fields-clause-memory g c taken =
-    let read = filled_by _ _ c.in_ok-filled.filled c.fill.new.buffer c.in_ok-filled.ensures.bound
-    c.in_ok-filled.ensures.bytes c.in_ok-filled.ensures.end in
-    Gives-known (λ text. 16 ≤ length text) _ _ (Gives-map _ _ (λ text left p.
-    (header_read c.in_ok-filled.filled c.fill.new.buffer text left (omega (arith, c.fill.auto.buffer))
-    (omega (arith, c.if-filled-lt-RECORD_HEADER.false)) p).long) read)
+returns-in_err-fields-clause-memory g c taken = grind (arith, common_steps, nat_tests, filled_by, header_read)
 
 pub returns-in_err-bytes-clause-memory : goal.returns-in_err-bytes-clause-memory
-returns-in_err-bytes-clause-memory g c taken =
-    let read = filled_by _ _ c.in_ok-filled.filled c.fill.new.buffer c.in_ok-filled.ensures.bound
-    c.in_ok-filled.ensures.bytes c.in_ok-filled.ensures.end in
-    Gives-known (λ text. 16 ≤ length text) _ _ (Gives-map _ _ (λ text left p.
-    (header_read c.in_ok-filled.filled c.fill.new.buffer text left (omega (arith, c.fill.auto.buffer))
-    (omega (arith, c.if-filled-lt-RECORD_HEADER.false)) p).long) read)
+returns-in_err-bytes-clause-memory g c taken = grind (arith, common_steps, nat_tests, filled_by, header_read)
 
 pub returns-clause-memory : goal.returns-clause-memory
-returns-clause-memory g c taken =
-    let read = filled_by _ _ c.in_ok-filled.filled c.fill.new.buffer c.in_ok-filled.ensures.bound
-    c.in_ok-filled.ensures.bytes c.in_ok-filled.ensures.end in
-    Gives-known (λ text. 16 ≤ length text) _ _ (Gives-map _ _ (λ text left p.
-    (header_read c.in_ok-filled.filled c.fill.new.buffer text left (omega (arith, c.fill.auto.buffer))
-    (omega (arith, c.if-filled-lt-RECORD_HEADER.false)) p).long) read)
+returns-clause-memory g c taken = grind (arith, common_steps, nat_tests, filled_by, header_read)

@@ -1,9 +1,7 @@
 -- After each step the text so far is written, or a front of it.
-use Rattle.std.proofs.Common.{◌+◌, sym, rules}
-use Rattle.std.proofs.lemmas.Result.{err_from_is_err_and}
-use Rattle.std.specs.List.{flat_map}
+use Rattle.std.{proofs.{Common.{arith, ◌+◌, sym, rules}, lemmas.{Grind.common_steps, Bool.Decides.nat_tests, Result.err_from_is_err_and}}, specs.List.flat_map}
 use Rattle.napt_capture.specs.Text.{file_header, record_text, text}
-use Rattle.napt_capture.proofs.Puts.{flushed_ok, flushed_err, PutsAll-append, PutsFront-append, PutsFront-longer, PutsFront-fault, PutsAll-same, PutsFront-same, text_of_first, text_of_first-more, text_of_first-all, text_of_first-room, text-split}
+use Rattle.napt_capture.proofs.Puts.{flushed_ok, flushed_err, PutsFront-append, PutsFront-longer, PutsFront-fault, PutsFront-same, text_of_first, text_of_first-more, text_of_first-all, text_of_first-room, text-split}
 use Rattle.napt_capture.proofs.writing.write_capture.Goals as goal
 
 pub returns-in_err-written-clause-err : goal.returns-in_err-written-clause-err
@@ -35,25 +33,10 @@ returns-in_err-written-2-clause-err g c =
     rw (p.1, p.2) (PutsFront-fault (text all) front)
 
 pub loop-packet-preserved : goal.loop-packet-preserved
-loop-packet-preserved g c =
-    let i = c.loop-packet.packet-index in
-    let all = c.args.records.now in
-    let both = PutsAll-append (text_of_first i all) (record_text c.packet-item.result) c.loop-packet.invariant.0
-    c.in_ok-written-2.ensures.puts in (
-      PutsAll-same (text_of_first-more i all c.packet-item.result c.loop-packet-test.true c.packet-item.is) both,
-      search rules,
-    )
+loop-packet-preserved g c = grind (arith, common_steps, nat_tests, text_of_first, text_of_first-more)
 
 pub returns-clause-ok : goal.returns-clause-ok
-returns-clause-ok g c =
-    let all = c.args.records.now in
-    let whole = PutsAll-same (text_of_first-all c.loop-packet.packet-index all c.loop-packet-test.false)
-    c.loop-packet.invariant.0 in
-    flushed_ok _ _ _ c.finish.result (text all) whole c.finish.ensures.bytes
+returns-clause-ok g c = grind (arith, common_steps, nat_tests, text_of_first-all, flushed_ok)
 
 pub returns-clause-err : goal.returns-clause-err
-returns-clause-err g c =
-    let all = c.args.records.now in
-    let whole = PutsAll-same (text_of_first-all c.loop-packet.packet-index all c.loop-packet-test.false)
-    c.loop-packet.invariant.0 in
-    flushed_err _ _ _ c.finish.result (text all) whole c.finish.ensures.bytes c.finish.ensures.fault
+returns-clause-err g c = grind (arith, common_steps, nat_tests, text_of_first-all, flushed_err)

@@ -1,7 +1,6 @@
 -- The header of the file and the records so far are written, and no write failed.
 use Rattle.std.proofs.Common.{◌≡◌}
-use Rattle.napt_capture.specs.Writing.{PutsAll}
-use Rattle.napt_capture.proofs.Puts.{text_of_first}
+use Rattle.napt_capture.{specs.Writing.PutsAll, proofs.Puts.text_of_first}
 use Rattle.napt_capture.proofs.writing.write_capture.Given as goal
 
 abbrev pub invariant-loop-packet : goal.invariant-loop-packet

@@ -1,6 +1,4 @@
-use Rattle.std.proofs.Common.{w64, ap}
-use Rattle.std.specs.Prelude.{◌==◌, ℕ}
-use Rattle.std.proofs.lemmas.Nat.Bits.{bit_at_set_same, bit_at_set_other}
+use Rattle.std.{proofs.{Common.{w64, ap}, lemmas.Nat.Bits.{bit_at_set_same, bit_at_set_other}}, specs.Prelude.{◌==◌, ℕ}}
 use Rattle.napt_collections.proofs.word.with_bit.Goals as goal
 
 pub returns-clause-set : goal.returns-clause-set

@@ -1,6 +1,4 @@
-use Rattle.std.proofs.Common.{refl, sym, ◌∙◌}
-use Rattle.std.proofs.lemmas.Bool.{false≢true}
-use Rattle.std.proofs.lemmas.Str.{is_utf8-from_IsUtf8}
+use Rattle.std.proofs.{Common.{refl, sym, ◌∙◌}, lemmas.{Bool.false≢true, Str.is_utf8-from_IsUtf8}}
 use Rattle.napt_config.proofs.Documents.{document_of-utf8, document_of-other}
 use Rattle.napt_config.proofs.config.document.Goals as goal
 

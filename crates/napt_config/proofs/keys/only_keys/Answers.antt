@@ -1,5 +1,4 @@
-use Rattle.std.proofs.Common.{sym, ◌∙◌, ◌≡◌, false, true, rules}
-use Rattle.std.specs.Map.{keys_of}
+use Rattle.std.{proofs.Common.{sym, ◌∙◌, ◌≡◌, false, true, rules}, specs.Map.keys_of}
 use Rattle.napt_config.proofs.KnownKeys.{all_among, only_keys_by_list}
 use Rattle.napt_config.proofs.keys.only_keys.Goals as goal
 

@@ -1,5 +1,4 @@
-use Rattle.std.proofs.Common.{◌≡◌}
-use Rattle.std.specs.Map.{keys_of}
+use Rattle.std.{proofs.Common.◌≡◌, specs.Map.keys_of}
 use Rattle.napt_config.proofs.KnownKeys.{all_among}
 use Rattle.napt_config.proofs.keys.only_keys.Given as goal
 

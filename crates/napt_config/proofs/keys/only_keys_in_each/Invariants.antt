@@ -1,7 +1,6 @@
 use Rattle.std.proofs.Common.{◌≡◌, drop}
 use Rattle.toml.specs.View.{items_view}
-use Rattle.napt_config.specs.Configured.{only_keys_in_each}
-use Rattle.napt_config.proofs.KnownKeys.{texts}
+use Rattle.napt_config.{specs.Configured.only_keys_in_each, proofs.KnownKeys.texts}
 use Rattle.napt_config.proofs.keys.only_keys_in_each.Given as goal
 
 abbrev pub invariant-loop-entry : goal.invariant-loop-entry

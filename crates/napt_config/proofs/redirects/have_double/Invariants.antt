@@ -1,5 +1,4 @@
-use Rattle.std.proofs.Common.{◌≡◌, drop}
-use Rattle.std.specs.List.{list_any}
+use Rattle.std.{proofs.Common.{◌≡◌, drop}, specs.List.list_any}
 use Rattle.napt_config.specs.Rules.{paired, is_double}
 use Rattle.napt_config.proofs.redirects.have_double.Given as goal
 

@@ -1,5 +1,4 @@
-use Rattle.std.proofs.Common.{◌∙◌, sym, ap, Some}
-use Rattle.std.specs.Net.Addr.{ipv4_bits}
+use Rattle.std.{proofs.Common.{◌∙◌, sym, ap, Some}, specs.Net.Addr.ipv4_bits}
 use Rattle.napt_config.proofs.Addresses.{address_of-dotted, address_of-none}
 use Rattle.napt_config.proofs.text.address.Goals as goal
 

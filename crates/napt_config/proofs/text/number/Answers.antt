@@ -1,6 +1,5 @@
 use Rattle.std.proofs.Common.{◌≡◌, true, sym, rules, arith}
-use Rattle.napt_config.specs.Text.{is_number}
-use Rattle.napt_config.proofs.Numbers.{number_of-unread}
+use Rattle.napt_config.{specs.Text.is_number, proofs.Numbers.number_of-unread}
 use Rattle.napt_config.proofs.text.number.Goals as goal
 
 pub returns-in_default-3-clause-value : goal.returns-in_default-3-clause-value

@@ -1,11 +1,8 @@
-use Rattle.std.proofs.Common.{◌≡◌, ◌∙◌, length, refl, subst}
-use Rattle.std.specs.Prelude.{⊤}
+use Rattle.std.{proofs.Common.{◌≡◌, ◌∙◌, length, refl, subst}, specs.Prelude.⊤}
 use Rattle.napt_config.specs.Rules.{Rules}
 use Rattle.napt_pool.specs.Pools.{starts, accepts, takes}
-use Rattle.napt_dispatch.specs.Dispatch.{started, IsDispatched}
+use Rattle.napt_dispatch.{specs.Dispatch.{started, IsDispatched}, proofs.{Ended.right_since, RunsThrough.dispatched_whole}}
 use Rattle.napt_sequential.specs.CountedTranslators.{nothing_told}
-use Rattle.napt_dispatch.proofs.Ended.{right_since}
-use Rattle.napt_dispatch.proofs.RunsThrough.{dispatched_whole}
 use Rattle.napt_dispatch.proofs.dispatcher.dispatch.Goals as goal
 
 pub returns-in-Whole-clause-run : goal.returns-in-Whole-clause-run

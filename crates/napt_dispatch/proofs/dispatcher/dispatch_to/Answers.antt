@@ -1,10 +1,6 @@
-use Rattle.std.proofs.Common.{◌≡◌, [], length, refl, ap, ◌∙◌, inl, rules}
-use Rattle.std.proofs.lemmas.List.{length-replicate}
-use Rattle.std.proofs.lemmas.Result.{err_from_is_err_and}
+use Rattle.std.proofs.{Common.{◌≡◌, [], length, refl, ap, ◌∙◌, inl, rules}, lemmas.{List.length-replicate, Result.err_from_is_err_and}}
 use Rattle.napt_pool.specs.Pools.{starts}
-use Rattle.napt_dispatch.specs.QueueStates.{unused}
-use Rattle.napt_dispatch.proofs.Ended.{length_started}
-use Rattle.napt_dispatch.proofs.Lanes.{front_empty}
+use Rattle.napt_dispatch.{specs.QueueStates.unused, proofs.{Ended.length_started, Lanes.front_empty}}
 use Rattle.napt_dispatch.proofs.Ending.{begun, ends_with, ends_early, ends_halted, ends_after, ends_by}
 use Rattle.napt_dispatch.proofs.dispatcher.dispatch_to.Goals as goal
 

@@ -1,5 +1,4 @@
-use Rattle.std.proofs.Common.{◌≡◌, ℕ, ◌+◌, max, List, [], ◌∷◌, ◌++◌, take, refl, ◌∙◌, ap}
-use Rattle.std.proofs.lemmas.List.{take_more}
+use Rattle.std.proofs.{Common.{◌≡◌, ℕ, ◌+◌, max, List, [], ◌∷◌, ◌++◌, take, refl, ◌∙◌, ap}, lemmas.List.take_more}
 use Rattle.napt_rules.specs.Prelude.{Arrival, last_clock}
 use Rattle.napt_laws.proofs.Grown.{clock_more}
 use Rattle.napt_dispatch.proofs.inputs.last_clock.Goals as goal

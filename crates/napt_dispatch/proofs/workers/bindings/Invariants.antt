@@ -1,5 +1,4 @@
-use Rattle.std.proofs.Common.{◌≡◌, take}
-use Rattle.std.specs.Prelude.{flat_map}
+use Rattle.std.{proofs.Common.{◌≡◌, take}, specs.Prelude.flat_map}
 use Rattle.napt_dispatch.specs.Dispatch.{rows_after}
 use Rattle.napt_dispatch.proofs.workers.bindings.Given as goal
 

@@ -1,14 +1,8 @@
-use Rattle.std.proofs.Common.{◌≡◌, ◌∙◌, [], inl, length, map, None, Some, refl, subst}
-use Rattle.std.proofs.lemmas.Result.{IfOk-at_ok, err_from_is_err_and}
+use Rattle.std.proofs.{Common.{◌≡◌, ◌∙◌, [], inl, length, map, None, Some, refl, subst}, lemmas.Result.{IfOk-at_ok, err_from_is_err_and}}
 use Rattle.napt_config.specs.Rules.{Rules}
 use Rattle.napt_pool.specs.Pools.{starts, accepts, takes}
-use Rattle.napt_dispatch.specs.Collecting.{outcome_of}
-use Rattle.napt_dispatch.specs.Dispatch.{started}
-use Rattle.napt_dispatch.specs.Passing.{EndsWith, EndsBy}
-use Rattle.napt_dispatch.proofs.Closed.{rows_shown, workers_shown}
-use Rattle.napt_dispatch.proofs.Ended.{right_begin}
-use Rattle.napt_dispatch.proofs.Lanes.{front_empty}
-use Rattle.napt_dispatch.proofs.RunsThrough.{passes_to, passes_well, passes_early, passes_ended, passes_closed}
+use Rattle.napt_dispatch.{specs.{Collecting.outcome_of, Dispatch.started, Passing.{EndsWith, EndsBy}}, proofs.Closed.{rows_shown, workers_shown}}
+use Rattle.napt_dispatch.proofs.{Ended.right_begin, Lanes.front_empty, RunsThrough.{passes_to, passes_well, passes_early, passes_ended, passes_closed}}
 use Rattle.napt_dispatch.proofs.workers.run_through.Goals as goal
 
 pub returns-in_err-pool-clause-passes : goal.returns-in_err-pool-clause-passes

@@ -1,13 +1,9 @@
-use Rattle.std.proofs.Common.{◌≡◌, List, length, map, refl, sym, ap, subst, ◌∙◌}
-use Rattle.std.specs.Prelude.{AllPairs}
-use Rattle.std.proofs.lemmas.Result.{IfOk-at_ok}
+use Rattle.std.{proofs.{Common.{◌≡◌, List, length, map, refl, sym, ap, subst, ◌∙◌}, lemmas.Result.IfOk-at_ok}, specs.Prelude.AllPairs}
 use Rattle.napt_config.specs.Rules.{Rules}
 use Rattle.napt_rules.specs.Prelude.{Arrival, Ran, AreRowsApart}
 use Rattle.napt_pool.specs.Pools.{starts, accepts}
-use Rattle.napt_laws.proofs.Rows.{rows_apart}
-use Rattle.napt_laws.proofs.Grown.{ran_long}
-use Rattle.napt_dispatch.specs.Dispatch.{started}
-use Rattle.napt_dispatch.proofs.Closed.{on_ok_at, rows_shown, workers_shown}
+use Rattle.napt_laws.proofs.{Rows.rows_apart, Grown.ran_long}
+use Rattle.napt_dispatch.{specs.Dispatch.started, proofs.Closed.{on_ok_at, rows_shown, workers_shown}}
 use Rattle.napt_dispatch.proofs.workers.run_workers.Goals as goal
 
 pub returns-clause-run : goal.returns-clause-run

@@ -1,7 +1,5 @@
 use Rattle.std.proofs.Common.{◌≡◌, length, ◌∙◌, ap, refl, arith}
-use Rattle.napt_dispatch.specs.Dispatch.{started}
-use Rattle.napt_dispatch.proofs.Ended.{length_started}
-use Rattle.napt_dispatch.proofs.Closed.{started_more}
+use Rattle.napt_dispatch.{specs.Dispatch.started, proofs.{Ended.length_started, Closed.started_more}}
 use Rattle.napt_dispatch.proofs.workers.workers.Goals as goal
 
 pub loop-index-preserved : goal.loop-index-preserved

@@ -1,5 +1,5 @@
 use Rattle.napt_laws.proofs.Classes.{candidates_begin, candidates_are_those, candidates_differ}
-use Rattle.napt_laws.proofs.Blocks.{block_begins, block_is_those, block_differs}
+use Rattle.napt_laws.proofs.Blocks.{block_begins, block_is_those, block_differs, block_keeps_parity}
 use Rattle.napt_laws.proofs.numbers.candidates_are_the_class.Goals as goal
 
 pub returns-clause-begin : goal.returns-clause-begin
@@ -19,3 +19,6 @@ returns-clause-block_is_those c = block_is_those
 
 pub returns-clause-block_differs : goal.returns-clause-block_differs
 returns-clause-block_differs c = block_differs
+
+pub returns-clause-block_parity : goal.returns-clause-block_parity
+returns-clause-block_parity c = block_keeps_parity

@@ -1,5 +1,4 @@
-use Rattle.napt_laws.proofs.Purges.{of_purge, purge_purge}
-use Rattle.napt_laws.proofs.StepsLocal.{out_local, out_other, in_local, in_other}
+use Rattle.napt_laws.proofs.{Purges.{of_purge, purge_purge}, StepsLocal.{out_local, out_other, in_local, in_other}}
 use Rattle.napt_laws.proofs.steps.steps_are_local.Goals as goal
 
 pub returns-clause-purge : goal.returns-clause-purge

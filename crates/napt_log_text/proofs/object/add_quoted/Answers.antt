@@ -1,6 +1,5 @@
 use Rattle.std.proofs.Common.{◌≡◌, ◌++◌, codes, string_bytes, append_assoc}
-use Rattle.napt_log_text.specs.Objects.{quoted, quoted_object}
-use Rattle.napt_log_text.proofs.Quoted.{quoted_behind}
+use Rattle.napt_log_text.{specs.Objects.{quoted, quoted_object}, proofs.Quoted.quoted_behind}
 use Rattle.napt_log_text.proofs.object.add_quoted.Goals as goal
 
 pub returns : goal.returns

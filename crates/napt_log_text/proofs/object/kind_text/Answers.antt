@@ -1,37 +1,21 @@
-use Rattle.std.proofs.Common.{ℕ, ◌≡◌, ◌==◌, ◌∙◌, Bool, true, false, List, codes, refl, sym, ap, subst, if◌then◌else◌, arith}
-use Rattle.std.proofs.lemmas.Bool.Decides.{nat_tests}
-use Rattle.napt_wire.specs.Bytes.{byte_at}
-use Rattle.napt_wire.specs.Fields.{form_at, kind, kind_of, protocol_number, transport}
-use Rattle.napt_wire.specs.declared.Flags.{Flags}
-use Rattle.napt_wire.specs.declared.Inner.{Inner}
-use Rattle.napt_wire.specs.declared.Kind.TheVariants as kinds
-use Rattle.napt_wire.specs.declared.form.Form.{Form}
+use Rattle.std.proofs.lemmas.{Grind.common_steps, Bool.Decides.nat_tests}
+use Rattle.std.proofs.Common.{ℕ, ◌≡◌, ◌==◌, ◌∙◌, Bool, true, false, List, codes, sym, ap, subst, if◌then◌else◌, arith}
+use Rattle.napt_wire.specs.{Bytes.byte_at, Fields.{form_at, kind, kind_of, protocol_number, transport}, declared.{Flags.Flags, Inner.Inner, form.Form.Form}}
 use Rattle.napt_wire.specs.declared.form.Form.TheVariants.{Udp, Tcp, Request, Reply, Error}
+use Rattle.napt_wire.specs.declared.Kind.TheVariants as kinds
 use Rattle.napt_log_text.specs.Objects.{form_name, quoted}
 use Rattle.napt_log_text.proofs.object.kind_text.Goals as goal
 
 udp : (form : Form) (bytes : List ℕ) → kind_of form bytes ≡ kinds.Udp → form_name form ≡ codes "udp"
-udp Udp bytes is = refl
-udp Tcp bytes is = cc
-udp Request bytes is = cc
-udp Reply bytes is = cc
-udp Error bytes is = cc
+udp form bytes h = grind (arith, common_steps, nat_tests)
 
 tcp : (form : Form) (bytes : List ℕ) (flags : Flags) → kind_of form bytes ≡ kinds.Tcp flags →
     form_name form ≡ codes "tcp"
-tcp Udp bytes flags is = cc
-tcp Tcp bytes flags is = refl
-tcp Request bytes flags is = cc
-tcp Reply bytes flags is = cc
-tcp Error bytes flags is = cc
+tcp form bytes flags h = grind (arith, common_steps, nat_tests)
 
 error : (form : Form) (bytes : List ℕ) (inner : Inner) → kind_of form bytes ≡ kinds.ErrorOf inner →
     form_name form ≡ codes "icmp-error"
-error Udp bytes inner is = cc
-error Tcp bytes inner is = cc
-error Request bytes inner is = cc
-error Reply bytes inner is = cc
-error Error bytes inner is = refl
+error form bytes inner h = grind (arith, common_steps, nat_tests)
 
 -- of an echo message the type alone tells the form
 echo : (is_udp is_tcp is_request is_reply : Bool) (bytes : List ℕ) →
@@ -40,11 +24,7 @@ echo : (is_udp is_tcp is_request is_reply : Bool) (bytes : List ℕ) →
     form_name (if is_udp then Udp else (if is_tcp then Tcp else (if is_request then Request
     else (if is_reply then Reply else Error))))
     ≡ (if is_request then codes "icmp-echo-request" else codes "icmp-echo-reply")
-echo true is_tcp is_request is_reply bytes is = cc
-echo false true is_request is_reply bytes is = cc
-echo false false true is_reply bytes is = refl
-echo false false false true bytes is = refl
-echo false false false false bytes is = cc
+echo is_udp is_tcp is_request is_reply bytes h = grind (arith, common_steps, nat_tests)
 
 echo_at : (bytes : List ℕ) → kind bytes ≡ kinds.Echo → form_name (form_at 0 bytes)
     ≡ (if byte_at (transport 0 bytes) bytes == 8 then codes "icmp-echo-request" else codes "icmp-echo-reply")

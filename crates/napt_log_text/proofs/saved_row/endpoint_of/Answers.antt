@@ -1,25 +1,16 @@
-use Rattle.std.proofs.Common.{ℕ, ◌≡◌, ◌∙◌, List, [], Some, Result, Ok, Err, sym, ap, subst, arith}
-use Rattle.std.specs.Result.{result_ok}
-use Rattle.std.specs.Str.Parse.{ParsesUnsigned}
-use Rattle.std.proofs.lemmas.Fmt.{parse-decimal}
-use Rattle.std.proofs.lemmas.Option.{none-some}
+use Rattle.std.proofs.{lemmas.{Grind.common_steps, Bool.Decides.nat_tests}, Common.{ℕ, ◌≡◌, ◌∙◌, List, [], Some, Result, Ok, Err, sym, ap, arith}}
+use Rattle.std.{specs.{Result.result_ok, Str.Parse.ParsesUnsigned}, proofs.lemmas.{Fmt.parse-decimal, Option.none-some}}
 use Rattle.napt_wire.specs.declared.Endpoint.{Endpoint}
 use Rattle.napt_config.specs.declared.address.Address.{Address}
 use Rattle.napt_log_text.proofs.saved_row.endpoint_of.Goals as goal
 
 both : (address : Address) (number : ℕ) (endpoint : Endpoint) → Some address ≡ Some (record { 0 = endpoint.address }) →
     Some number ≡ Some endpoint.number → Some (record { address = address.0; number = number }) ≡ Some endpoint
-both address number endpoint one other =
-    let same : address ≡ record { 0 = endpoint.address } = cc in
-    let first : address.0 ≡ endpoint.address = ap (λ (a : Address). a.0) same in
-    let second : number ≡ endpoint.number = cc in
-    rw (first, second)
+both address number endpoint one other = grind (arith, common_steps, nat_tests)
 
 unread : {E : Type 0} (text : List ℕ) (r : Result ℕ E) {number : ℕ} → result_ok r ≡ Some number → text ≡ [] →
     ParsesUnsigned 16 10 text r → ⊥
-unread {E = E} text (Ok number) read none parsed =
-    let some = subst (λ (l : List ℕ). ParsesUnsigned {E = E} 16 10 l (Ok number)) none parsed in
-    omega (arith, some.0.0.0)
+unread {E = E} text (Ok number) read none parsed = grind (arith, common_steps, nat_tests)
 unread text (Err e) read none parsed = cc
 
 pub returns-in_err-address-clause-some : goal.returns-in_err-address-clause-some

@@ -1,9 +1,5 @@
-use Rattle.std.proofs.Common.{◌≡◌, ◌∙◌, [], Option, Some, None, lit<, refl, ap}
-use Rattle.std.specs.Option.{option_map}
-use Rattle.std.specs.Prelude.{unwrap_or}
-use Rattle.std.proofs.lemmas.Option.{unwrap_or-slice_get}
-use Rattle.std.proofs.lemmas.Iterator.Consumers.{nth_from_yields_List}
-use Rattle.std.proofs.lemmas.Iterator.Splits.{YieldsList-from_str_split}
+use Rattle.std.{proofs.Common.{◌≡◌, ◌∙◌, [], Option, Some, None, lit<, refl, ap}, specs.{Option.option_map, Prelude.unwrap_or}}
+use Rattle.std.proofs.lemmas.{Option.unwrap_or-slice_get, Iterator.{Consumers.nth_from_yields_List, Splits.YieldsList-from_str_split}}
 use Rattle.napt_log_text.proofs.saved_row.field.Goals as goal
 
 mapped : {A B : Type 0} (v : A → B) (r : Option A) (d : A) → v (unwrap_or r d) ≡ unwrap_or (option_map v r) (v d)

@@ -1,7 +1,4 @@
-use Rattle.std.proofs.Common.{◌∙◌, length, lit<, sym, ap}
-use Rattle.std.proofs.lemmas.List.{length-map}
-use Rattle.std.proofs.lemmas.Iterator.{items_from_drains}
-use Rattle.std.proofs.lemmas.Iterator.Splits.{YieldsList-from_str_split}
+use Rattle.std.proofs.{Common.{◌∙◌, length, lit<, sym, ap}, lemmas.{List.length-map, Iterator.{items_from_drains, Splits.YieldsList-from_str_split}}}
 use Rattle.napt_log_text.proofs.saved_row.field_count.Goals as goal
 
 pub returns : goal.returns

@@ -1,9 +1,7 @@
-use Rattle.std.proofs.Common.{ℕ, ◌≡◌, ◌==◌, ◌∙◌, true, false, List, length, Option, Some, None, Result, Ok, Err, eqb-true, refl, sym, ap, arith}
-use Rattle.std.specs.Str.Parse.{ParsesUnsigned}
-use Rattle.std.proofs.lemmas.Fmt.{decimal_is_IsNumeral_wide, parse-decimal_wide}
-use Rattle.napt_log_text.specs.declared.saved_row.SavedField.{SavedField}
-use Rattle.napt_log_text.specs.declared.saved_row.SavedField.TheVariants.{Empty, Number, Other}
-use Rattle.napt_log_text.specs.Rows.{number_if_any}
+use Rattle.std.proofs.lemmas.{Grind.common_steps, Bool.Decides.nat_tests}
+use Rattle.std.proofs.Common.{ℕ, ◌≡◌, ◌==◌, ◌∙◌, true, false, List, length, Option, Some, None, Result, Ok, Err, sym, ap, arith}
+use Rattle.std.{specs.Str.Parse.ParsesUnsigned, proofs.lemmas.Fmt.{decimal_is_IsNumeral_wide, parse-decimal_wide}}
+use Rattle.napt_log_text.specs.{declared.saved_row.SavedField.{SavedField, TheVariants.{Empty, Number, Other}}, Rows.number_if_any}
 use Rattle.napt_log_text.specs.SavedRows.{IsTime, number_field}
 use Rattle.napt_log_text.proofs.saved_row.number_at.Goals as goal
 
@@ -13,10 +11,7 @@ as_field (Err _) = Other
 
 empty : (number : Option ℕ) (text : List ℕ) → IsTime number → text ≡ number_if_any number →
     (length text == 0) ≡ true → Empty ≡ number_field number
-empty None text fits is none = refl
-empty (Some number) text fits is none =
-    let some = (decimal_is_IsNumeral_wide number (omega arith)).0.0 in
-    absurd (omega (arith, eqb-true (length text) 0 none, ap length is, some))
+empty number text h k g = grind (arith, common_steps, nat_tests, decimal_is_IsNumeral_wide)
 
 read : {E : Type 0} (number : Option ℕ) (text : List ℕ) (r : Result ℕ E) → IsTime number →
     text ≡ number_if_any number → (length text == 0) ≡ false → ParsesUnsigned 128 10 text r →

@@ -1,6 +1,4 @@
-use Rattle.std.proofs.Common.{◌≡◌, ◌+◌, ◌≤◌, ◌++◌, map, vec_items, vec_len}
-use Rattle.std.specs.Prelude.{vec_capacity, Ok}
-use Rattle.std.specs.Vec.Iter.{into_iter_items, into_iter_len}
+use Rattle.std.{proofs.Common.{◌≡◌, ◌+◌, ◌≤◌, ◌++◌, map, vec_items, vec_len}, specs.{Prelude.{vec_capacity, Ok}, Vec.Iter.{into_iter_items, into_iter_len}}}
 use Rattle.napt_pool.proofs.joining.all_ended.Given as goal
 
 abbrev pub invariant-loop-end : goal.invariant-loop-end

@@ -1,5 +1,4 @@
-use Rattle.std.proofs.Common.{rules, ◌≡◌, ◌++◌, ◌∷◌, [], vec_items}
-use Rattle.std.specs.Vec.Iter.{into_iter_items}
+use Rattle.std.{proofs.Common.{rules, ◌≡◌, ◌++◌, ◌∷◌, [], vec_items}, specs.Vec.Iter.into_iter_items}
 use Rattle.napt_pool.proofs.Joins.{AreEnds-push, split-step}
 use Rattle.napt_pool.proofs.joining.join_all.Goals as goal
 

@@ -1,6 +1,4 @@
-use Rattle.std.proofs.Common.{◌≡◌, ◌+◌, ◌≤◌, ◌++◌, vec_items, vec_len}
-use Rattle.std.specs.Prelude.{vec_capacity}
-use Rattle.std.specs.Vec.Iter.{into_iter_items, into_iter_len}
+use Rattle.std.{proofs.Common.{◌≡◌, ◌+◌, ◌≤◌, ◌++◌, vec_items, vec_len}, specs.{Prelude.vec_capacity, Vec.Iter.{into_iter_items, into_iter_len}}}
 use Rattle.napt_pool.specs.Workers.{AreEnds}
 use Rattle.napt_pool.proofs.joining.join_all.Given as goal
 

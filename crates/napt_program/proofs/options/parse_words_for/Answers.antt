@@ -1,7 +1,6 @@
 use Rattle.std.proofs.Common.{rules, ◌∙◌, ap}
 use Rattle.clap.specs.Words.{app_of, found_of, rows_of}
-use Rattle.napt_program.specs.CommandLine.{files}
-use Rattle.napt_program.proofs.LineLemmas.{help_line, log_read, mistaken_line, taken_line, version_line}
+use Rattle.napt_program.{specs.CommandLine.files, proofs.LineLemmas.{help_line, log_read, mistaken_line, taken_line, version_line}}
 use Rattle.napt_program.proofs.options.parse_words_for.Goals as goal
 
 pub returns-in-Ok-clause-ok : goal.returns-in-Ok-clause-ok

@@ -1,8 +1,7 @@
 use Rattle.std.proofs.Common.{◌≡◌, ℕ, ◌++◌, ◌∙◌, ap, codes, count_by, flat_map, length, slice_index, string_bytes}
 use Rattle.napt_wire.specs.declared.Cause.{Cause}
-use Rattle.napt_records.specs.Counts.{place_of}
+use Rattle.napt_records.{specs.Counts.place_of, proofs.Texts.{four_pieces, same_pieces}}
 use Rattle.napt_records.specs.Report as model
-use Rattle.napt_records.proofs.Texts.{four_pieces, same_pieces}
 use Rattle.napt_records.proofs.report.push_counts.Goals as goal
 
 pub returns : goal.returns

@@ -1,7 +1,5 @@
 use Rattle.std.proofs.Common.{◌≡◌, List, IfOk, ◌∙◌, ap, string_bytes, subst}
-use Rattle.napt_rules.specs.declared.Row.{Row}
-use Rattle.napt_rules.specs.declared.Outcome.{Outcome}
-use Rattle.napt_rules.specs.Prelude.{Ran}
+use Rattle.napt_rules.specs.{declared.{Row.Row, Outcome.Outcome}, Prelude.Ran}
 use Rattle.napt_records.specs.Report as model
 use Rattle.napt_records.specs.Report.{report_text}
 use Rattle.napt_records.proofs.report.report_text.Goals as goal

@@ -1,12 +1,9 @@
 use Rattle.std.proofs.Common.{◌≡◌, IfOk, string_bytes, refl, ap₂, ◌∙◌, subst}
 use Rattle.napt_wire.specs.declared.Side.TheVariants as sides
-use Rattle.napt_capture.specs.Contents.{Contents}
-use Rattle.napt_capture.specs.Watched.{device_of}
-use Rattle.napt_records.specs.Report.{report_of, report_text}
-use Rattle.napt_records.specs.Taking.{merged}
+use Rattle.napt_capture.specs.{Contents.Contents, Watched.device_of}
+use Rattle.napt_records.specs.{Report.{report_of, report_text}, Taking.merged}
 use Rattle.napt_rules.specs.Prelude.{ran}
-use Rattle.napt_run.specs.Captures.{arrivals_of}
-use Rattle.napt_run.proofs.PassesAll.{kept_text, told_report}
+use Rattle.napt_run.{specs.Captures.arrivals_of, proofs.PassesAll.{kept_text, told_report}}
 use Rattle.napt_run.proofs.captures.make_outputs.Goals as goal
 
 pub returns-clause-ok : goal.returns-clause-ok

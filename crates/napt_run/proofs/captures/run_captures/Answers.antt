@@ -1,13 +1,9 @@
-use Rattle.std.proofs.Common.{◌≡◌, ℕ, List, Option, Err, refl}
-use Rattle.std.proofs.lemmas.Result.{err_from_is_err_and}
-use Rattle.napt_records.specs.declared.Fault.{Fault}
-use Rattle.napt_records.specs.declared.Which.{Which}
-use Rattle.napt_records.specs.declared.Which.TheVariants.{Outside, Inside, Report}
+use Rattle.std.proofs.{Common.{◌≡◌, ℕ, List, Option, Err, refl}, lemmas.Result.err_from_is_err_and}
+use Rattle.napt_records.specs.declared.{Fault.Fault, Which.{Which, TheVariants.{Outside, Inside, Report}}}
 use Rattle.napt_run.specs.Captures.{Gets, IsWriteFaultOf, Receives, Share, whole}
 use Rattle.napt_run.proofs.Received.{Answered, AreMade, answered_inside, answered_outside, answered_run, answered_write, answers_ok, before_inside, before_report, received, text_of, texts_known}
-use Rattle.napt_run.proofs.captures.run_captures.Given.{Over}
+use Rattle.napt_run.proofs.captures.run_captures.{Given.Over, Goals.In_ok-outputs}
 use Rattle.napt_run.proofs.captures.run_captures.Goals as goal
-use Rattle.napt_run.proofs.captures.run_captures.Goals.{In_ok-outputs}
 
 -- WHAT THE RETURNS SHARE
 

@@ -1,6 +1,5 @@
 use Rattle.std.proofs.Common.{rules, sym, subst}
-use Rattle.napt_wire.specs.Packet.{IsPacket}
-use Rattle.napt_wire.proofs.Carried.{length-packet}
+use Rattle.napt_wire.{specs.Packet.IsPacket, proofs.Carried.length-packet}
 use Rattle.napt_run.proofs.leaving.bytes_of.Goals as goal
 
 pub returns-clause-short : goal.returns-clause-short

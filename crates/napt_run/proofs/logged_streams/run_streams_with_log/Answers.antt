@@ -1,11 +1,8 @@
-use Rattle.std.proofs.Common.{◌∙◌, ap, inr, refl, sym}
-use Rattle.std.proofs.lemmas.Result.{err_from_is_err_and}
-use Rattle.napt_run.specs.LoggedStreams.{besides_log}
-use Rattle.napt_run.proofs.Endings.{Ends, ends_and, reads_by, report_by}
+use Rattle.std.proofs.{Common.{◌∙◌, ap, inr, refl, sym}, lemmas.Result.err_from_is_err_and}
+use Rattle.napt_run.{specs.LoggedStreams.besides_log, proofs.Endings.{Ends, ends_and, reads_by, report_by}}
 use Rattle.napt_run.proofs.LoggedEndings.{before, besides_and, err_besides, explains, gate, inside_gets, log_gets, ok_besides, on_besides, outside_gets, unbegun_log, unbegun_report}
-use Rattle.napt_run.proofs.logged_streams.run_streams_with_log.Given.{Over}
+use Rattle.napt_run.proofs.logged_streams.run_streams_with_log.{Given.Over, Goals.After-with_report}
 use Rattle.napt_run.proofs.logged_streams.run_streams_with_log.Goals as goal
-use Rattle.napt_run.proofs.logged_streams.run_streams_with_log.Goals.{After-with_report}
 
 ends : (g : Over) (c : After-with_report g) → Ends (besides_log c.stream_logged-told.result) (besides_log
     c.with_report.result)

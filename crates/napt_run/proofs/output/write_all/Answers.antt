@@ -1,13 +1,9 @@
 -- What a write takes stands behind what is done.
 use Rattle.std.proofs.Common.{◌≡◌, ℕ, zero, suc, nat_eq, false, rules, ◌+◌, ◌-◌, ◌≤◌, List, ◌++◌, length, take, drop, Option, Result, Ok, Err, refl, sym, ap, ◌∙◌, subst, arith, length-drop}
-use Rattle.std.proofs.lemmas.List.{take_rest}
-use lib.Seq.{take-add}
-use Rattle.std.specs.Io.{WritesAtMost}
-use Rattle.std.specs.Io.KnownBytes.{Appends, WriteAppends}
-use Rattle.std.specs.Result.{result_unwrap_or}
+use Rattle.std.{proofs.lemmas.List.take_rest, specs.{Io.{WritesAtMost, KnownBytes.{Appends, WriteAppends}}, Result.result_unwrap_or}}
 use Rattle.std.proofs.KnownBytes.{Appends-trans}
-use Rattle.napt_capture.specs.Device.{failed_writes}
-use Rattle.napt_capture.specs.declared.device.DeviceFault.{DeviceFault}
+use lib.Seq.{take-add}
+use Rattle.napt_capture.specs.{Device.failed_writes, declared.device.DeviceFault.DeviceFault}
 use Rattle.napt_run.proofs.output.write_all.Goals as goal
 
 -- a write of the rest that took some bytes

@@ -1,11 +1,9 @@
 use Rattle.std.proofs.Common.{subst, sym}
 use Rattle.napt_records.specs.declared.Which.TheVariants.{Inside, Outside}
-use Rattle.napt_run.specs.Runs.{ResultSays}
-use Rattle.napt_run.specs.Streams.{DeviceGets, HasRead, IsOfRun}
+use Rattle.napt_run.specs.{Runs.ResultSays, Streams.{DeviceGets, HasRead, IsOfRun}}
 use Rattle.napt_run.proofs.Endings.{Ends, closed, ends_and, explains_ends, few_ends, gate_ends, inside_by, outside_by, reads_by, report_by}
-use Rattle.napt_run.proofs.streams.run_streams.Given.{Over}
+use Rattle.napt_run.proofs.streams.run_streams.{Given.Over, Goals.After-and}
 use Rattle.napt_run.proofs.streams.run_streams.Goals as goal
-use Rattle.napt_run.proofs.streams.run_streams.Goals.{After-and}
 
 ends : (g : Over) (c : After-and g) → Ends c.unlogged-told.result c.and.result
 ends g c = ends_and c.unlogged-told.result c.reported-written.result c.and.result c.and.ensures

@@ -1,5 +1,4 @@
-use Rattle.napt_wire.specs.declared.Side.TheVariants.{Outside}
-use Rattle.napt_wire.proofs.Readings.{reads_again}
+use Rattle.napt_wire.{specs.declared.Side.TheVariants.Outside, proofs.Readings.reads_again}
 use Rattle.napt_sequential.proofs.Later.{all_unchanged}
 use Rattle.napt_sequential.proofs.following.sent.Goals as goal
 

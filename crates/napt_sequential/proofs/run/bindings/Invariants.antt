@@ -1,5 +1,4 @@
-use Rattle.std.proofs.Common.{◌≡◌, take}
-use Rattle.std.specs.Prelude.{flat_map}
+use Rattle.std.{proofs.Common.{◌≡◌, take}, specs.Prelude.flat_map}
 use Rattle.napt_sequential.specs.CountedTranslators.{rows_at}
 use Rattle.napt_sequential.proofs.run.bindings.Given as goal
 

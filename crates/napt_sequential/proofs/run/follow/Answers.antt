@@ -1,17 +1,10 @@
-use Rattle.std.proofs.Common.{◌≡◌, ℕ, List, Some, refl, sym, ◌∙◌, ap, subst, arith}
-use Rattle.std.specs.List.{slice_get}
-use Rattle.std.proofs.lemmas.Option.{slice_get_within}
+use Rattle.std.{proofs.{Common.{◌≡◌, ℕ, List, Some, refl, sym, ◌∙◌, ap, subst, arith}, lemmas.Option.slice_get_within}, specs.List.slice_get}
 use Rattle.napt_wire.specs.Fields.{destination}
 use Rattle.napt_config.specs.Rules.{Rules}
-use Rattle.napt_rules.specs.declared.End.TheVariants.{ToOutside, ToInside, Onward, Dropped}
-use Rattle.napt_rules.specs.declared.Leg.{Leg}
-use Rattle.napt_rules.specs.Prelude.{act}
-use Rattle.napt_sequential.specs.declared.passage.Passage.{Passage}
-use Rattle.napt_sequential.specs.declared.telling.Told.{Told}
-use Rattle.napt_sequential.specs.CountedTranslators.{CanTake, Takes, state_after}
-use Rattle.napt_laws.proofs.Pools.{stands_at}
-use Rattle.napt_laws.proofs.Onward.{onward_place}
+use Rattle.napt_rules.specs.{declared.{End.TheVariants.{ToOutside, ToInside, Onward, Dropped}, Leg.Leg}, Prelude.act}
+use Rattle.napt_sequential.specs.{declared.{passage.Passage.Passage, telling.Told.Told}, CountedTranslators.{CanTake, Takes, state_after}}
 use Rattle.napt_sequential.proofs.Passed.{goes_onward, steps_once, steps_twice}
+use Rattle.napt_laws.proofs.{Pools.stands_at, Onward.onward_place}
 use Rattle.napt_sequential.proofs.run.follow.Goals as goal
 
 pub take-requires-in-Onward-clause-within : goal.take-requires-in-Onward-clause-within

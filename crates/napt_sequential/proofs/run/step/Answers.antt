@@ -1,14 +1,8 @@
-use Rattle.std.proofs.Common.{◌≡◌, ℕ, List, Ok, Err, Some, None, sym, ◌∙◌, ap, subst}
-use Rattle.std.specs.Prelude.{IfOk}
-use Rattle.std.proofs.lemmas.Option.{slice_get_within}
-use Rattle.napt_wire.specs.Reading.{reading}
-use Rattle.napt_wire.specs.declared.Side.{Side}
-use Rattle.napt_wire.specs.declared.Way.{Way}
+use Rattle.std.{proofs.{Common.{◌≡◌, ℕ, List, Ok, Err, Some, None, sym, ◌∙◌, ap, subst}, lemmas.Option.slice_get_within}, specs.Prelude.IfOk}
+use Rattle.napt_wire.specs.{Reading.reading, declared.{Side.Side, Way.Way}}
 use Rattle.napt_rules.specs.Prelude.{refusal, way_from, served_at, route, Arrival, Course, refused, admitted, step}
-use Rattle.napt_sequential.specs.CountedTranslators.{Steps}
-use Rattle.napt_sequential.proofs.Steps.{arrival_of, reads_as, side_as}
+use Rattle.napt_sequential.{specs.CountedTranslators.Steps, proofs.{Steps.{arrival_of, reads_as, side_as}, Passed.steps_none}}
 use Rattle.napt_laws.proofs.Routes.{route_ok, route_err, step_unread, step_refused, step_admitted}
-use Rattle.napt_sequential.proofs.Passed.{steps_none}
 use Rattle.napt_sequential.proofs.run.step.Goals as goal
 
 pub returns-in-Err : goal.returns-in-Err

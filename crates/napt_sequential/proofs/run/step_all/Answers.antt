@@ -1,8 +1,6 @@
-use Rattle.std.proofs.Common.{◌≡◌, ℕ, ◌+◌, List, [], ◌∷◌, ◌++◌, take, length, sym, ◌∙◌, ap, subst, arith}
-use Rattle.std.proofs.lemmas.List.{take_more, length-take-le}
+use Rattle.std.proofs.{Common.{◌≡◌, ℕ, ◌+◌, List, [], ◌∷◌, ◌++◌, take, length, sym, ◌∙◌, ap, subst, arith}, lemmas.List.{take_more, length-take-le}}
 use Rattle.napt_config.specs.Rules.{Rules}
-use Rattle.napt_rules.specs.Prelude.{opening, Arrival, run}
-use Rattle.napt_rules.specs.declared.Outcome.{Outcome}
+use Rattle.napt_rules.specs.{Prelude.{opening, Arrival, run}, declared.Outcome.Outcome}
 use Rattle.napt_sequential.specs.SequentialRuns.{StandsAfter}
 use Rattle.napt_sequential.proofs.run.step_all.Goals as goal
 

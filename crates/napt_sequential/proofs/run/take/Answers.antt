@@ -1,11 +1,7 @@
-use Rattle.std.proofs.Common.{◌≡◌, sym, ◌∙◌, subst, arith, get_or, set}
-use Rattle.std.proofs.lemmas.Option.{slice_get-get_or}
+use Rattle.std.proofs.{Common.{◌≡◌, sym, ◌∙◌, subst, arith, get_or, set}, lemmas.Option.slice_get-get_or}
 use Rattle.napt_config.specs.Rules.{Rules}
-use Rattle.napt_sequential.specs.declared.passage.Passage.{Passage}
-use Rattle.napt_sequential.specs.declared.telling.Told.{Told}
-use Rattle.napt_sequential.specs.declared.counted_translator.CountedTranslator.{CountedTranslator}
-use Rattle.napt_sequential.specs.CountedTranslators.{AreCountedTranslators, Takes, state_after, told_at, counted_after}
-use Rattle.napt_sequential.proofs.Results.{if_both}
+use Rattle.napt_sequential.specs.declared.{passage.Passage.Passage, telling.Told.Told, counted_translator.CountedTranslator.CountedTranslator}
+use Rattle.napt_sequential.{specs.CountedTranslators.{AreCountedTranslators, Takes, state_after, told_at, counted_after}, proofs.Results.if_both}
 use Rattle.napt_sequential.proofs.CountedTranslators.{few_legs, told_same, translators_after}
 use Rattle.napt_sequential.proofs.run.take.Goals as goal
 

@@ -1,5 +1,4 @@
-use Rattle.std.proofs.Common.{◌≡◌, ◌<◌, ◌+◌, ◌*◌, true, refl, sym, ◌∙◌, subst}
-use Rattle.std.proofs.lemmas.Option.{same_Some}
+use Rattle.std.proofs.{Common.{◌≡◌, ◌<◌, ◌+◌, ◌*◌, true, refl, sym, ◌∙◌, subst}, lemmas.Option.same_Some}
 use Rattle.napt_rules.specs.Prelude.{Binding, second, is_live}
 use Rattle.napt_binding.specs.Ends.{least_timer}
 use Rattle.napt_table.proofs.Queues.{entered_due, none_more}

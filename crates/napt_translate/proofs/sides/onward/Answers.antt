@@ -1,6 +1,5 @@
 use Rattle.std.proofs.Common.{◌≡◌, ◌∙◌, ap, subst, sym}
-use Rattle.napt_wire.specs.declared.Endpoint.{Endpoint}
-use Rattle.napt_wire.specs.Fields.{destination}
+use Rattle.napt_wire.specs.{declared.Endpoint.Endpoint, Fields.destination}
 use Rattle.napt_config.specs.Rules.{place_of}
 use Rattle.napt_rules.specs.Prelude.{Foresees}
 use Rattle.napt_laws.proofs.Foreseen.{foresees}

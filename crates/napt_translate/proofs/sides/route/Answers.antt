@@ -1,7 +1,5 @@
 use Rattle.std.proofs.Common.{◌≡◌, ℕ, List, Option, Some, Result, IfOk, ok_or, slice_get, sym, ◌∙◌, ap, subst}
-use Rattle.napt_wire.specs.declared.Cause.{Cause}
-use Rattle.napt_wire.specs.declared.Cause.TheVariants.{NotOurs}
-use Rattle.napt_wire.specs.declared.Way.{Way}
+use Rattle.napt_wire.specs.declared.{Cause.{Cause, TheVariants.NotOurs}, Way.Way}
 use Rattle.napt_config.specs.Rules.{place_of}
 use Rattle.napt_rules.specs.Sides as sides
 use Rattle.napt_laws.proofs.Pools.{place_has}

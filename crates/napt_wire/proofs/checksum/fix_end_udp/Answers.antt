@@ -1,6 +1,4 @@
-use Rattle.std.proofs.Common.{arith, ◌≡◌, ◌==◌, false, refl}
-use Rattle.std.proofs.lemmas.Grind.{common_steps}
-use Rattle.std.proofs.lemmas.Bool.Decides.{nat_tests}
+use Rattle.std.proofs.{Common.{arith, ◌≡◌, ◌==◌, false, refl}, lemmas.{Grind.common_steps, Bool.Decides.nat_tests}}
 use Rattle.napt_wire.specs.Prelude.{canon, canon_udp, end_words}
 use Rattle.napt_wire.proofs.checksum.fix_end_udp.Goals as goal
 

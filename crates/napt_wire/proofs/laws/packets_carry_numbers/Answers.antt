@@ -1,5 +1,4 @@
-use Rattle.napt_wire.proofs.Carried.{source-carried}
-use Rattle.napt_wire.proofs.Readings.{reads_again}
+use Rattle.napt_wire.proofs.{Carried.source-carried, Readings.reads_again}
 use Rattle.napt_wire.proofs.laws.packets_carry_numbers.Goals as goal
 
 pub returns : goal.returns

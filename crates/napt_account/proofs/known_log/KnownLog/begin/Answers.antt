@@ -1,7 +1,6 @@
 use Rattle.std.proofs.Common.{List, refl, sym, ap, subst, arith}
 use Rattle.napt_sequential.specs.declared.passage.Trace.{Trace}
-use Rattle.napt_account.specs.KnownLogs.{IsOpenAfter, traces_in}
-use Rattle.napt_account.proofs.TraceLogs.{first_long}
+use Rattle.napt_account.{specs.KnownLogs.{IsOpenAfter, traces_in}, proofs.TraceLogs.first_long}
 use Rattle.napt_account.proofs.known_log.KnownLog.begin.Goals as goal
 
 pub invariant_of-result : goal.invariant_of-result

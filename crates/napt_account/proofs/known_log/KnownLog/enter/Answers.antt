@@ -1,13 +1,7 @@
-use Rattle.std.proofs.Common.{◌≡◌, ℕ, ◌+◌, ◌*◌, List, [], ◌∷◌, ◌++◌, length, length-append, refl, sym, ◌∙◌, ap, subst, arith}
-use Rattle.std.specs.Prelude.{filter}
+use Rattle.std.{proofs.Common.{◌≡◌, ℕ, ◌+◌, ◌*◌, List, [], ◌∷◌, ◌++◌, length, length-append, refl, sym, ◌∙◌, ap, subst, arith}, specs.Prelude.filter}
 use Rattle.napt_sequential.specs.declared.passage.Trace.{Trace}
-use Rattle.napt_account.specs.declared.log.Entry.{Entry}
-use Rattle.napt_account.specs.Book.{use_by_trace}
-use Rattle.napt_account.specs.KnownLogs.{IsOpenAfter, KnownTraces, traces_in}
-use Rattle.napt_account.specs.OpenEntries.{Shows}
-use Rattle.napt_account.specs.Telling.{Told, numbered, ends_within, in_order_of_end}
-use Rattle.napt_account.specs.TraceLogs.{entries_after, told_with}
-use Rattle.napt_account.proofs.MadeLegs.{trace_few}
+use Rattle.napt_account.specs.{declared.log.Entry.Entry, Book.use_by_trace, KnownLogs.{IsOpenAfter, KnownTraces, traces_in}, OpenEntries.Shows}
+use Rattle.napt_account.{specs.{Telling.{Told, numbered, ends_within, in_order_of_end}, TraceLogs.{entries_after, told_with}}, proofs.MadeLegs.trace_few}
 use Rattle.napt_account.proofs.TraceLogs.{entries_more, time_more, told_as, traces_more}
 use Rattle.napt_account.proofs.known_log.KnownLog.enter.Goals as goal
 

@@ -1,8 +1,5 @@
-use Rattle.std.proofs.Common.{◌≡◌, ◌*◌, ℕ, length, ◌∙◌, ap, subst}
-use Rattle.std.specs.Prelude.{filter}
-use Rattle.napt_account.specs.KnownLogs.{KnownTraces, traces_in}
-use Rattle.napt_account.specs.Telling.{in_order_of_end, is_open, numbered}
-use Rattle.napt_account.specs.TraceLogs.{entries_after, living_with}
+use Rattle.std.{proofs.Common.{◌≡◌, ◌*◌, ℕ, length, ◌∙◌, ap, subst}, specs.Prelude.filter}
+use Rattle.napt_account.specs.{KnownLogs.{KnownTraces, traces_in}, Telling.{in_order_of_end, is_open, numbered}, TraceLogs.{entries_after, living_with}}
 use Rattle.napt_account.proofs.known_log.KnownLog.living.Goals as goal
 
 pub returns : goal.returns

@@ -1,22 +1,13 @@
-use Rattle.std.proofs.Common.{◌≡◌, ◌↔◌, ◌+◌, ◌^◌, ◌<◌, ◌≤◌, inl, inr, refl, List, [], ◌∷◌, ◌++◌, length, Result, Err, sym, ◌∙◌, ap, subst, arith}
-use Rattle.std.proofs.lemmas.Bool.{cases_lt}
-use Rattle.std.proofs.lemmas.Result.{err_from_is_err_and}
+use Rattle.std.proofs.lemmas.{Grind.common_steps, Bool.Decides.nat_tests}
+use Rattle.std.proofs.Common.{◌≡◌, ◌↔◌, ◌+◌, ◌^◌, ◌<◌, ◌≤◌, inl, inr, List, [], ◌∷◌, ◌++◌, length, Result, Err, sym, ◌∙◌, ap, subst, arith}
+use Rattle.std.proofs.lemmas.{Bool.cases_lt, Result.err_from_is_err_and}
 use Rattle.napt_config.specs.Rules.{Rules}
-use Rattle.napt_rules.specs.Prelude.{Arrival, opening}
-use Rattle.napt_sequential.specs.SequentialRuns.{StandsAfter}
+use Rattle.napt_rules.specs.Prelude.{Arrival}
+use Rattle.napt_sequential.specs.{SequentialRuns.StandsAfter, Traces.traces, declared.fault.RunFault.{RunFault, TheVariants.{TooMany, Memory}}}
+use Rattle.napt_sequential.{specs.declared.passage.Trace.Trace, proofs.Joined.traces_long}
 use Rattle.napt_sequential.specs.SequentialRuns as sequential
-use Rattle.napt_sequential.specs.Traces.{traces}
-use Rattle.napt_sequential.specs.declared.fault.RunFault.{RunFault}
-use Rattle.napt_sequential.specs.declared.fault.RunFault.TheVariants.{TooMany, Memory, Pool}
-use Rattle.napt_sequential.specs.declared.passage.Trace.{Trace}
-use Rattle.napt_sequential.proofs.Joined.{traces_long}
-use Rattle.napt_account.specs.declared.account.Use.{Use}
-use Rattle.napt_account.specs.declared.known_run.LoggedStep.{LoggedStep}
-use Rattle.napt_account.specs.Book.{use_by_trace}
-use Rattle.napt_account.specs.KnownLogs.{KnownTraces}
-use Rattle.napt_account.specs.KnownRuns.{KnownState, IsLogged, IsOfInputs, TellsLast, inputs_in}
-use Rattle.napt_account.specs.TraceLogs.{IsNext, IsOfTraces, entries_after, told_with}
-use Rattle.napt_account.specs.Uses.{uses_of}
+use Rattle.napt_account.specs.{declared.{account.Use.Use, known_run.LoggedStep.LoggedStep}, Book.use_by_trace, KnownLogs.KnownTraces}
+use Rattle.napt_account.specs.{KnownRuns.{KnownState, IsOfInputs, TellsLast, inputs_in}, TraceLogs.{IsNext, IsOfTraces, entries_after, told_with}, Uses.uses_of}
 use Rattle.napt_account.proofs.LoggedRuns.{inputs_more, uses_next}
 use Rattle.napt_account.proofs.known_run.KnownRun.step.Goals as goal
 
@@ -24,23 +15,14 @@ use Rattle.napt_account.proofs.known_run.KnownRun.step.Goals as goal
 log_fault : (rules : Rules) (before : List Arrival) (log : KnownTraces) → log.traces ≡ traces rules before →
     (trace : Trace) → IsNext (traces rules before) trace → length before + 1 < 2 ^ 32 → (fault : RunFault) →
     IsOfTraces log.traces trace fault → fault ≡ Memory
-log_fault rules before log taken trace next few TooMany many =
-    let long = traces_long rules 0 0 before (opening rules) in
-    let same = ap length taken in absurd (omega (arith, many, few, long, same))
-log_fault rules before log taken trace next few Memory p = refl
-log_fault rules before log taken trace next few (Pool fault) p =
-    absurd (p.1 (subst (λ (ts : List Trace). IsNext ts trace) (sym taken) next))
+log_fault rules before log h trace k g fault j = grind (arith, common_steps, nat_tests, traces_long)
 
 not_many : {T : Type 0} (inputs : List Arrival) → length inputs + 1 < 2 ^ 32 → (fault : RunFault) → fault ≡ Memory →
     ((let r : Result T RunFault = Err fault in r ≡ Err TooMany) ↔ (2 ^ 32 ≤ length inputs + 1))
 not_many inputs few fault memory = (λ e. cc (e, memory), λ many. absurd (omega (arith, many, few)))
 
 pub step-requires : goal.step-requires
-step-requires c =
-    let it = c.self.inside in
-    let is = c.self.invariant c.if-self.false in
-    let before : List Arrival = inputs_in it.past.items in
-    (before, subst (λ (r : Rules). StandsAfter r before it.run) (sym c.config-config.ensures) is.stands)
+step-requires c = grind (arith, common_steps, nat_tests)
 
 pub returns-in_err-told : goal.returns-in_err-told
 returns-in_err-told c =
@@ -98,22 +80,4 @@ returns-clause-tells c = λ going.
     })
 
 pub invariant_of-self-2 : goal.invariant_of-self-2
-invariant_of-self-2 c = λ going.
-    let it = c.self.inside in
-    let before : List Arrival = inputs_in it.past.items in
-    let input : Arrival = c.args.input.now in
-    let trace : Trace = c.in_ok-stepped.stepped.trace in
-    let is = c.self.invariant c.if-self.false in
-    let stands = subst (λ (r : Rules). StandsAfter r before it.run) (sym c.config-config.ensures) is.stands in
-    let tells = subst (λ (r : Rules). sequential.TellsLast r before input c.in_ok-stepped.stepped)
-    c.config-config.ensures (c.in_ok-stepped.ensures.tells before stands) in
-    subst (λ (xs : List Arrival). IsLogged xs c.step.new.self c.enter.new.self)
-    (sym (ap inputs_in c.and-self-inside.ensures ∙ inputs_more it.past.items 0 input))
-    (subst (λ (l : KnownTraces). IsLogged (before ++ input ∷ []) c.step.new.self l)
-    (sym (c.in_ok-told.ensures.goes is.goes_on)) (record {
-      keeps = is.keeps;
-      stands = subst (λ (r : Rules). StandsAfter r (before ++ input ∷ []) c.step.new.self) c.config-config.ensures
-          (c.in_ok-stepped.ensures.stands before stands);
-      taken = ap (λ (ts : List Trace). ts ++ trace ∷ []) is.taken ∙ sym tells.trace;
-      goes_on = is.goes_on;
-    }))
+invariant_of-self-2 c = grind (arith, common_steps, nat_tests, inputs_more)

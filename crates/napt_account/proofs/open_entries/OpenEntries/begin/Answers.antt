@@ -1,16 +1,10 @@
+use Rattle.std.proofs.lemmas.{Grind.common_steps, Bool.Decides.nat_tests}
 use Rattle.std.proofs.Common.{◌≡◌, ℕ, ◌<◌, false, List, [], ◌∷◌, ◌++◌, length, map, take, get_or, sym, ◌∙◌, ap, subst, arith}
-use Rattle.napt_config.specs.Rules.{Rules, pair_of}
-use Rattle.napt_config.specs.declared.settings.Redirect.{Redirect}
+use Rattle.napt_config.specs.{Rules.{Rules, pair_of}, declared.settings.Redirect.Redirect}
 use Rattle.napt_binding.specs.Ends.{is_before}
 use Rattle.napt_rules.specs.Prelude.{Binding, redirected, opening, row}
-use Rattle.napt_account.specs.declared.log.Entry.{Entry}
-use Rattle.napt_account.specs.Book.{of_redirect}
-use Rattle.napt_account.specs.Log.{begun}
-use Rattle.napt_account.specs.OpenEntries.{external_key, open_at, Shows}
-use Rattle.napt_account.proofs.Begun.{begin_next, begin_free, begun_few}
-use Rattle.napt_account.proofs.EndOrder.{none_shows}
-use Rattle.napt_account.proofs.Lists.{map_joined}
-use Rattle.napt_account.proofs.OpenEntries.{row_free}
+use Rattle.napt_account.specs.{declared.log.Entry.Entry, Book.of_redirect, Log.begun, OpenEntries.{external_key, open_at, Shows}}
+use Rattle.napt_account.proofs.{Begun.{begin_next, begin_free, begun_few}, EndOrder.none_shows, Lists.map_joined, OpenEntries.row_free}
 use Rattle.napt_account.proofs.open_entries.OpenEntries.begin.Goals as goal
 
 pub loop-redirect-init : goal.loop-redirect-init
@@ -18,15 +12,7 @@ loop-redirect-init c =
     none_shows c.new-all.result c.new-all.ensures.open c.new-all.ensures.queue c.new-all.ensures.made
 
 pub put-requires : goal.put-requires
-put-requires c =
-    let rules : Rules = c.args.config.now in
-    let few = begun_few rules.timers c.loop-redirect.redirect-index (opening rules) in
-    let made = c.loop-redirect.invariant.made in
-    let below = c.loop-redirect-test.true in
-    let same : length c.redirects-redirect-items.result.now ≡ length rules.redirects =
-    ap length c.redirects-redirect-items.ensures.redirects in
-    let short = c.redirects-redirect-items.ensures.kept.redirects_few in
-    omega (arith, few, made, below, same, short)
+put-requires c = grind (arith, common_steps, nat_tests, begun_few)
 
 pub loop-redirect-preserved : goal.loop-redirect-preserved
 loop-redirect-preserved c =

@@ -1,7 +1,6 @@
 use Rattle.std.proofs.Common.{map, take}
 use Rattle.napt_rules.specs.Prelude.{opening}
-use Rattle.napt_account.specs.Log.{begun}
-use Rattle.napt_account.specs.OpenEntries.{Shows}
+use Rattle.napt_account.specs.{Log.begun, OpenEntries.Shows}
 use Rattle.napt_account.proofs.open_entries.OpenEntries.begin.Given as goal
 
 -- it has the redirects so far

@@ -1,13 +1,6 @@
-use Rattle.std.proofs.Common.{◌+◌, List, map, Some, refl, sym, ◌∙◌, ap, subst, arith}
-use Rattle.std.specs.Prelude.{IsSome}
-use Rattle.std.specs.Option.{option_map}
-use Rattle.napt_account.specs.declared.log.Entry.{Entry}
-use Rattle.napt_account.specs.declared.open_entries.Open.{Open}
-use Rattle.napt_account.specs.declared.open_entries.OpenEntries.{OpenEntries}
-use Rattle.napt_account.specs.Book.{use_at}
-use Rattle.napt_account.specs.Log.{counted, through}
-use Rattle.napt_account.specs.OpenEntries.{open_at, Shows}
-use Rattle.napt_account.proofs.Books.{map_unmoved, no_place}
+use Rattle.std.{proofs.Common.{◌+◌, List, map, Some, refl, sym, ◌∙◌, ap, subst, arith}, specs.{Prelude.IsSome, Option.option_map}}
+use Rattle.napt_account.specs.{declared.{log.Entry.Entry, open_entries.{Open.Open, OpenEntries.OpenEntries}}, Book.use_at, Log.{counted, through}}
+use Rattle.napt_account.{specs.OpenEntries.{open_at, Shows}, proofs.Books.{map_unmoved, no_place}}
 use Rattle.napt_account.proofs.OpenEntries.{counted_shows, counted_used, open_listed, row_none, shows_more}
 use Rattle.napt_account.proofs.open_entries.OpenEntries.count.Goals as goal
 

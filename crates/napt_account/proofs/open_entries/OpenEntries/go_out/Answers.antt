@@ -1,18 +1,10 @@
 use Rattle.std.proofs.Common.{◌≡◌, ℕ, ◌+◌, List, [], ◌∷◌, ◌++◌, length, cond, map, Option, Some, None, sym, ◌∙◌, ap, subst, unwrap_or, Ok, rules, arith}
 use Rattle.std.specs.Option.{option_map}
 use Rattle.napt_wire.specs.declared.Way.TheVariants.{Outgoing}
-use Rattle.napt_account.specs.declared.account.Note.TheVariants.{Made}
-use Rattle.napt_account.specs.declared.account.Use.{Use}
+use Rattle.napt_account.specs.declared.{account.{Note.TheVariants.Made, Use.Use}, log.Entry.Entry, open_entries.{Open.Open, OpenEntries.OpenEntries}}
+use Rattle.napt_account.specs.{Book.{made_by, out_at}, Log.{counted, through}, OpenEntries.{external_key, open_at, Shows}, Uses.used}
+use Rattle.napt_account.proofs.{Books.{any_used, no_place}, OpenEntries.{row_none, shows_more}}
 use Rattle.napt_binding.specs.Ends.{is_before}
-use Rattle.napt_account.specs.declared.log.Entry.{Entry}
-use Rattle.napt_account.specs.declared.open_entries.Open.{Open}
-use Rattle.napt_account.specs.declared.open_entries.OpenEntries.{OpenEntries}
-use Rattle.napt_account.specs.Book.{made_by, out_at}
-use Rattle.napt_account.specs.Log.{counted, through}
-use Rattle.napt_account.specs.OpenEntries.{external_key, open_at, Shows}
-use Rattle.napt_account.specs.Uses.{used}
-use Rattle.napt_account.proofs.Books.{any_used, no_place}
-use Rattle.napt_account.proofs.OpenEntries.{row_none, shows_more}
 use Rattle.napt_account.proofs.open_entries.OpenEntries.go_out.Goals as goal
 
 pub returns-in-Some-clause-shows : goal.returns-in-Some-clause-shows

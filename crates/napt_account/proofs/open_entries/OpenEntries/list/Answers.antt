@@ -1,7 +1,5 @@
-use Rattle.std.proofs.Common.{List, subst}
-use Rattle.std.specs.List.Sorted.{IsPermutation}
-use Rattle.napt_account.specs.declared.log.Listed.{Listed}
-use Rattle.napt_account.proofs.EndOrder.{list_is}
+use Rattle.std.{proofs.Common.{List, subst}, specs.List.Sorted.IsPermutation}
+use Rattle.napt_account.{specs.declared.log.Listed.Listed, proofs.EndOrder.list_is}
 use Rattle.napt_account.proofs.open_entries.OpenEntries.list.Goals as goal
 
 pub returns : goal.returns

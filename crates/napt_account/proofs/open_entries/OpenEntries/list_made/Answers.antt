@@ -1,7 +1,6 @@
 use Rattle.std.proofs.Common.{◌≡◌, true, sym, ◌∙◌, ap, subst}
 use Rattle.napt_table.specs.declared.TimedRow.{TimedRow}
-use Rattle.napt_account.specs.Log.{is_of}
-use Rattle.napt_account.proofs.MadeLegs.{timed_of}
+use Rattle.napt_account.{specs.Log.is_of, proofs.MadeLegs.timed_of}
 use Rattle.napt_account.proofs.open_entries.OpenEntries.list_made.Goals as goal
 
 pub returns-in_ok-list_row-clause-one : goal.returns-in_ok-list_row-clause-one

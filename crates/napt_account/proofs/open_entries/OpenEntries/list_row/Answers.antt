@@ -1,10 +1,6 @@
 use Rattle.std.proofs.Common.{◌++◌, ◌∷◌, [], sym, ◌∙◌, ap}
-use Rattle.napt_account.specs.declared.log.Listed.{Listed}
-use Rattle.napt_account.specs.declared.open_entries.ExternalKey.{ExternalKey}
-use Rattle.napt_account.specs.declared.open_entries.Open.{Open}
-use Rattle.napt_account.specs.OpenEntries.{external_key}
-use Rattle.napt_account.proofs.MadeLegs.{found_is}
-use Rattle.napt_account.proofs.OpenEntries.{open_listed}
+use Rattle.napt_account.specs.{declared.{log.Listed.Listed, open_entries.{ExternalKey.ExternalKey, Open.Open}}, OpenEntries.external_key}
+use Rattle.napt_account.proofs.{MadeLegs.found_is, OpenEntries.open_listed}
 use Rattle.napt_account.proofs.open_entries.OpenEntries.list_row.Goals as goal
 
 pub returns : goal.returns

@@ -1,9 +1,6 @@
 use Rattle.std.proofs.Common.{◌≡◌, cond, true, false, Some, None, refl, sym, ◌∙◌, subst}
-use Rattle.napt_account.specs.declared.open_entries.ExternalKey.{ExternalKey}
-use Rattle.napt_account.specs.declared.open_entries.Open.{Open}
-use Rattle.napt_account.specs.declared.open_entries.OpenEntries.{OpenEntries}
-use Rattle.napt_account.specs.OpenEntries.{external_eq, open_at, is_queued, IsIndexedBut}
-use Rattle.napt_account.proofs.OpenEntries.{moved, queued_at}
+use Rattle.napt_account.specs.declared.open_entries.{ExternalKey.ExternalKey, Open.Open, OpenEntries.OpenEntries}
+use Rattle.napt_account.{specs.OpenEntries.{external_eq, open_at, is_queued, IsIndexedBut}, proofs.OpenEntries.{moved, queued_at}}
 use Rattle.napt_account.proofs.open_entries.OpenEntries.look_at.Goals as goal
 
 pub returns-then-is_before-clause-indexed : goal.returns-then-is_before-clause-indexed

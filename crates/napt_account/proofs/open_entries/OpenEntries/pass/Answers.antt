@@ -1,10 +1,6 @@
-use Rattle.std.proofs.Common.{◌+◌, ◌≡◌, ◌∙◌, ap, Option, unwrap_or, sym, subst}
-use Rattle.std.specs.Prelude.{OnOk, IfOk}
+use Rattle.std.{proofs.Common.{◌+◌, ◌≡◌, ◌∙◌, ap, Option, unwrap_or, sym, subst}, specs.Prelude.{OnOk, IfOk}}
 use Rattle.napt_sequential.specs.declared.passage.Passage.{Passage}
-use Rattle.napt_account.specs.Book.{after, use_told}
-use Rattle.napt_account.specs.OpenEntries.{Shows, LeavesOpen}
-use Rattle.napt_account.specs.Uses.{no_use}
-use Rattle.napt_account.specs.declared.account.Use.{Use}
+use Rattle.napt_account.specs.{Book.{after, use_told}, OpenEntries.{Shows, LeavesOpen}, Uses.no_use, declared.account.Use.Use}
 use Rattle.napt_account.proofs.open_entries.OpenEntries.pass.Goals as goal
 
 pub returns-in-Out-clause-shows : goal.returns-in-Out-clause-shows

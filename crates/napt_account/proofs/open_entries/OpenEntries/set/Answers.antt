@@ -1,10 +1,6 @@
-use Rattle.std.proofs.Common.{ℕ, cond, Option, Some, refl, sym, ◌∙◌, ap, subst}
-use Rattle.std.proofs.lemmas.Option.{same_Some}
-use Rattle.napt_account.specs.declared.open_entries.ExternalKey.{ExternalKey}
-use Rattle.napt_account.specs.declared.open_entries.Open.{Open}
-use Rattle.napt_account.specs.declared.open_entries.OpenEntries.{OpenEntries}
-use Rattle.napt_account.specs.OpenEntries.{external_key, external_eq, open_at, is_queued, is_at, IsPlaced}
-use Rattle.napt_account.proofs.OpenEntries.{moved, queued_at}
+use Rattle.std.proofs.{Common.{ℕ, cond, Option, Some, refl, sym, ◌∙◌, ap, subst}, lemmas.Option.same_Some}
+use Rattle.napt_account.specs.declared.open_entries.{ExternalKey.ExternalKey, Open.Open, OpenEntries.OpenEntries}
+use Rattle.napt_account.{specs.OpenEntries.{external_key, external_eq, open_at, is_queued, is_at, IsPlaced}, proofs.OpenEntries.{moved, queued_at}}
 use Rattle.napt_account.proofs.open_entries.OpenEntries.set.Goals as goal
 
 pub returns-clause-indexed : goal.returns-clause-indexed

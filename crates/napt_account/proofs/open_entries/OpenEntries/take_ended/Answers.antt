@@ -1,11 +1,6 @@
-use Rattle.std.proofs.Common.{◌≡◌, ℕ, ◌&&◌, false, cond, Option, Some, None, refl, sym, ◌∙◌, ap, subst}
-use Rattle.std.specs.Option.{option_map, is_some, IfSome}
-use Rattle.napt_account.specs.declared.log.Listed.{Listed}
-use Rattle.napt_account.specs.declared.open_entries.ExternalKey.{ExternalKey}
-use Rattle.napt_account.specs.declared.open_entries.Open.{Open}
-use Rattle.napt_account.specs.declared.open_entries.OpenEntries.{OpenEntries}
-use Rattle.napt_account.specs.OpenEntries.{external_eq, listed_at}
-use Rattle.napt_account.specs.Telling.{is_open}
+use Rattle.std.{proofs.Common.{◌≡◌, ℕ, ◌&&◌, false, cond, Option, Some, None, refl, sym, ◌∙◌, ap, subst}, specs.Option.{option_map, is_some, IfSome}}
+use Rattle.napt_account.specs.declared.{log.Listed.Listed, open_entries.{ExternalKey.ExternalKey, Open.Open, OpenEntries.OpenEntries}}
+use Rattle.napt_account.specs.{OpenEntries.{external_eq, listed_at}, Telling.is_open}
 use Rattle.napt_account.proofs.EndOrder.{IsParted, parted_none, parted_same, parted_taken, ended_is}
 use Rattle.napt_account.proofs.open_entries.OpenEntries.take_ended.Goals as goal
 

@@ -1,6 +1,5 @@
 use Rattle.std.proofs.Common.{◌≡◌}
-use Rattle.napt_account.specs.OpenEntries.{due_within, IsIndexed}
-use Rattle.napt_account.proofs.EndOrder.{IsParted}
+use Rattle.napt_account.{specs.OpenEntries.{due_within, IsIndexed}, proofs.EndOrder.IsParted}
 use Rattle.napt_account.proofs.open_entries.OpenEntries.take_ended.Given as goal
 
 -- what was taken out has ended, and the rest is still there

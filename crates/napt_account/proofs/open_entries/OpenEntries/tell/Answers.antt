@@ -1,9 +1,5 @@
 use Rattle.std.proofs.Common.{◌≡◌, ℕ, ◌+◌, List, length, ◌∙◌, ap, subst, arith}
-use Rattle.napt_account.specs.declared.account.Use.{Use}
-use Rattle.napt_account.specs.declared.log.Entry.{Entry}
-use Rattle.napt_account.specs.Book.{after, after_trace, use_told}
-use Rattle.napt_account.specs.OpenEntries.{Shows}
-use Rattle.napt_account.specs.Uses.{both_uses}
+use Rattle.napt_account.specs.{declared.{account.Use.Use, log.Entry.Entry}, Book.{after, after_trace, use_told}, OpenEntries.Shows, Uses.both_uses}
 use Rattle.napt_account.proofs.MadeLegs.{pass_few, made_is, not_less, less}
 use Rattle.napt_account.proofs.open_entries.OpenEntries.tell.Goals as goal
 

@@ -1,9 +1,7 @@
-use Rattle.std.proofs.Common.{◌∙◌, List, length, ap, sym, rules, tests}
-use Rattle.std.proofs.lemmas.Iterator.{YieldsList-from_slice}
+use Rattle.std.proofs.{Common.{◌∙◌, List, length, ap, sym, rules, tests}, lemmas.Iterator.YieldsList-from_slice}
 use Rattle.std.proofs.lemmas.Iterator.Consumers.{count_from_yields_List, YieldsList-from_filter}
 use Rattle.napt_rules.specs.declared.Flow.{Flow}
-use Rattle.napt_binding.specs.Standing.{is_standing}
-use Rattle.napt_binding.proofs.Few.{all_standing}
+use Rattle.napt_binding.{specs.Standing.is_standing, proofs.Few.all_standing}
 use Rattle.napt_binding.proofs.flows.few.count_standing.Goals as goal
 
 pub returns : goal.returns

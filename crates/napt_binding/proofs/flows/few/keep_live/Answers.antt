@@ -1,5 +1,4 @@
-use Rattle.std.proofs.Common.{rules}
-use Rattle.std.proofs.lemmas.Fn.{filter_same}
+use Rattle.std.proofs.{Common.rules, lemmas.Fn.filter_same}
 use Rattle.napt_binding.proofs.flows.few.keep_live.Goals as goal
 
 pub returns-clause-flows : goal.returns-clause-flows

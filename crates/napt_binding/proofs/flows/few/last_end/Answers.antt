@@ -1,6 +1,5 @@
 use Rattle.std.proofs.Common.{sym, ◌∙◌, ap, max, take}
-use Rattle.napt_binding.specs.Ends.{last_end}
-use Rattle.napt_binding.proofs.FirstEnds.{last_end_more}
+use Rattle.napt_binding.{specs.Ends.last_end, proofs.FirstEnds.last_end_more}
 use Rattle.napt_binding.proofs.flows.few.last_end.Goals as goal
 
 pub loop-flow-preserved : goal.loop-flow-preserved

@@ -1,20 +1,11 @@
-use Rattle.std.proofs.Common.{◌≡◌, ◌≤◌, ◌<◌, ⊎_elim, true, false, ltb, refl, sym, ◌∙◌, arith}
-use Rattle.std.specs.List.{list_any}
-use Rattle.std.proofs.lemmas.Bool.{or_cases}
-use Rattle.std.proofs.lemmas.Bool.Decides.{nat_tests}
-use Rattle.std.proofs.lemmas.List.Folds.{list_any_at, list_any_more}
+use Rattle.std.{proofs.{lemmas.Grind.common_steps, Common.{◌≡◌, ◌≤◌, ◌<◌, ⊎_elim, true, false, ltb, refl, sym, ◌∙◌, arith}}, specs.List.list_any}
+use Rattle.std.proofs.lemmas.{Bool.{or_cases, Decides.nat_tests}, List.Folds.{list_any_at, list_any_more}}
 use Rattle.napt_rules.specs.Life as life
-use Rattle.napt_rules.proofs.Lists.{any_weaker}
-use Rattle.napt_rules.proofs.Life.{lived_flow}
+use Rattle.napt_rules.proofs.{Lists.any_weaker, Life.lived_flow}
 use Rattle.napt_binding.proofs.flows.few.last_moment_of.Goals as goal
 
 pub loop-flow-init : goal.loop-flow-init
-loop-flow-init c = record {
-  later = omega arith;
-  lives = λ t le. any_weaker (life.is_live_flow c.args.timers t) (life.is_live_flow c.args.timers c.args.now)
-      c.args.flows.now (lived_flow c.args.timers t c.args.now le) c.requires.live;
-  far = λ t lt h. cc;
-}
+loop-flow-init c = grind (arith, common_steps, nat_tests, any_weaker, lived_flow)
 
 pub loop-flow-preserved : goal.loop-flow-preserved
 loop-flow-preserved c =

@@ -1,5 +1,4 @@
-use Rattle.std.proofs.Common.{◌≡◌, ℕ, ◌≤◌, ◌<◌, ◌^◌, true, take}
-use Rattle.std.specs.List.{list_any}
+use Rattle.std.{proofs.Common.{◌≡◌, ℕ, ◌≤◌, ◌<◌, ◌^◌, true, take}, specs.List.list_any}
 use Rattle.napt_rules.specs.Life as life
 use Rattle.napt_binding.proofs.flows.few.last_moment_of.Given as goal
 

@@ -1,9 +1,7 @@
 use Rattle.std.proofs.Common.{ap, sym}
-use Rattle.napt_rules.specs.Prelude.{Tcp, Incoming}
-use Rattle.napt_rules.specs.declared.Flow.{Flow}
+use Rattle.napt_rules.specs.{Prelude.{Tcp, Incoming}, declared.Flow.Flow}
 use Rattle.napt_rules.specs.Traffic as traffic
-use Rattle.napt_binding.proofs.Distinct.{distinct_set}
-use Rattle.napt_binding.proofs.Lists.{change_at, change_nowhere, any_nowhere}
+use Rattle.napt_binding.proofs.{Distinct.distinct_set, Lists.{change_at, change_nowhere, any_nowhere}}
 use Rattle.napt_binding.proofs.flows.few.refresh_flow.Goals as goal
 
 pub returns-in-Some-clause-distinct : goal.returns-in-Some-clause-distinct

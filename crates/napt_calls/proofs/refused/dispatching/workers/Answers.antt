@@ -1,9 +1,7 @@
 use Rattle.std.proofs.Common.{◌≡◌, List, [], ◌∷◌, ◌++◌, length, sym, ◌∙◌, ap, arith}
 use Rattle.napt_config.specs.Rules.{Rules}
 use Rattle.napt_translate.specs.Translators.{TranslatorState, begun}
-use Rattle.napt_dispatch.specs.Dispatch.{started}
-use Rattle.napt_dispatch.proofs.Ended.{length_started}
-use Rattle.napt_dispatch.proofs.Closed.{started_more}
+use Rattle.napt_dispatch.{specs.Dispatch.started, proofs.{Ended.length_started, Closed.started_more}}
 use Rattle.napt_calls.proofs.refused.dispatching.workers.Goals as goal
 
 pub loop-index-preserved : goal.loop-index-preserved

@@ -1,10 +1,6 @@
 -- What a write takes stands behind what is done.
-use Rattle.std.proofs.Common.{◌≡◌, ◌+◌, ◌-◌, length, take, drop, subst}
-use Rattle.std.proofs.lemmas.List.{take_rest}
-use Rattle.std.specs.Io.{WritesAtMost}
-use Rattle.std.specs.Io.KnownBytes.{WriteAppends}
-use Rattle.napt_capture.specs.Device.{failed_writes}
-use Rattle.napt_capture.proofs.Puts.{takes_more}
+use Rattle.std.{proofs.{Common.{◌≡◌, ◌+◌, ◌-◌, length, take, drop, subst}, lemmas.List.take_rest}, specs.Io.{WritesAtMost, KnownBytes.WriteAppends}}
+use Rattle.napt_capture.{specs.Device.failed_writes, proofs.Puts.takes_more}
 use Rattle.napt_capture.proofs.written.Written.put_rest.Goals as goal
 
 pub loop-done-preserved : goal.loop-done-preserved

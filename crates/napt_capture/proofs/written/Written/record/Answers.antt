@@ -1,7 +1,6 @@
 -- The header of a record, and then its bytes.
 use Rattle.std.proofs.lemmas.Result.{err_from_is_err_and}
-use Rattle.napt_capture.specs.Text.{record_text}
-use Rattle.napt_capture.proofs.Puts.{Puts-append, PutsFront-longer}
+use Rattle.napt_capture.{specs.Text.record_text, proofs.Puts.{Puts-append, PutsFront-longer}}
 use Rattle.napt_capture.proofs.written.Written.record.Goals as goal
 
 pub returns-in_err-written-clause-puts : goal.returns-in_err-written-clause-puts

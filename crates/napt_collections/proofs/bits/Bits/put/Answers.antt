@@ -1,6 +1,5 @@
 use Rattle.std.proofs.Common.{ℕ, ◌∙◌, ap, arith}
-use Rattle.napt_collections.specs.Sets.{has_bit}
-use Rattle.napt_collections.proofs.Rows.{marked}
+use Rattle.napt_collections.{specs.Sets.has_bit, proofs.Rows.marked}
 use Rattle.napt_collections.proofs.bits.Bits.put.Goals as goal
 
 pub invariant_of-self : goal.invariant_of-self

@@ -1,7 +1,5 @@
 use Rattle.std.proofs.Common.{ℕ, ◌∙◌, sym, ap, arith}
-use Rattle.napt_collections.specs.Sets.{has_bit}
-use Rattle.napt_collections.proofs.Rows.{marked}
-use Rattle.napt_collections.proofs.Words.{open_word}
+use Rattle.napt_collections.{specs.Sets.has_bit, proofs.{Rows.marked, Words.open_word}}
 use Rattle.napt_collections.proofs.bits.Bits.take.Goals as goal
 
 pub invariant_of-self : goal.invariant_of-self

@@ -1,6 +1,5 @@
 use Rattle.std.proofs.Common.{◌≡◌, ℕ, true, sym, subst, rules}
-use Rattle.napt_config.specs.Rules.{has, paired}
-use Rattle.napt_config.proofs.Pools.{paired_in_pool, position_of_member}
+use Rattle.napt_config.{specs.Rules.{has, paired}, proofs.Pools.{paired_in_pool, position_of_member}}
 use Rattle.napt_config.proofs.config.Config.pair.Goals as goal
 
 pub returns-clause-in_pool : goal.returns-clause-in_pool

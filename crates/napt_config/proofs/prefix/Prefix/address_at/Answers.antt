@@ -1,6 +1,5 @@
 use Rattle.std.proofs.Common.{◌<◌, ◌+◌, ◌^◌, subst, sym, arith}
-use Rattle.napt_config.specs.Network.{Network, network_size}
-use Rattle.napt_config.proofs.Indices.{address_fits}
+use Rattle.napt_config.{specs.Network.{Network, network_size}, proofs.Indices.address_fits}
 use Rattle.napt_config.proofs.prefix.Prefix.address_at.Goals as goal
 
 pub overflow_cast-result : goal.overflow_cast-result

@@ -1,6 +1,5 @@
 use Rattle.std.proofs.Common.{sym, ap, ◌∙◌, subst, ok_or}
-use Rattle.napt_config.specs.Prelude.{BadPrefix, IsNetwork, network_text, IsReadBack}
-use Rattle.napt_config.proofs.Spellings.{networks_read_back}
+use Rattle.napt_config.{specs.Prelude.{BadPrefix, IsNetwork, network_text, IsReadBack}, proofs.Spellings.networks_read_back}
 use Rattle.napt_config.proofs.prefix.PrefixFromStr.from_str.Goals as goal
 
 pub returns : goal.returns

@@ -1,7 +1,5 @@
-use Rattle.std.proofs.Common.{◌≡◌, length, sym, rules}
-use Rattle.std.specs.List.{position_or_len}
-use Rattle.napt_config.specs.Text.{is_colon}
-use Rattle.napt_config.proofs.Splits.{socket_of-whole}
+use Rattle.std.{proofs.Common.{◌≡◌, length, sym, rules}, specs.List.position_or_len}
+use Rattle.napt_config.{specs.Text.is_colon, proofs.Splits.socket_of-whole}
 use Rattle.napt_config.proofs.transport_address.TransportAddress.read.Goals as goal
 
 pub returns-in_err-address : goal.returns-in_err-address

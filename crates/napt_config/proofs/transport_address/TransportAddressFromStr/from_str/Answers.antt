@@ -1,6 +1,5 @@
 use Rattle.std.proofs.Common.{sym, ap, ◌∙◌, subst, ok_or}
-use Rattle.napt_config.specs.Prelude.{BadAddress, IsSocket, socket_text, IsReadBack}
-use Rattle.napt_config.proofs.Spellings.{sockets_read_back}
+use Rattle.napt_config.{specs.Prelude.{BadAddress, IsSocket, socket_text, IsReadBack}, proofs.Spellings.sockets_read_back}
 use Rattle.napt_config.proofs.transport_address.TransportAddressFromStr.from_str.Goals as goal
 
 pub returns : goal.returns

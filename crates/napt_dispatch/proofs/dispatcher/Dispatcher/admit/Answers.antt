@@ -1,5 +1,4 @@
-use Rattle.std.proofs.Common.{◌≡◌, Ok, Some, slice_get}
-use Rattle.std.proofs.lemmas.Result.{IfOk-at_ok}
+use Rattle.std.proofs.{Common.{◌≡◌, Ok, Some, slice_get}, lemmas.Result.IfOk-at_ok}
 use Rattle.napt_config.specs.Rules.{Rules}
 use Rattle.napt_rules.specs.Prelude.{way_from, served_at, Arrival, admission}
 use Rattle.napt_dispatch.proofs.Standing.{admitted_admits, refused_admits}

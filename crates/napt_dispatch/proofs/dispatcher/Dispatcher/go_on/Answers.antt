@@ -1,6 +1,5 @@
-use Rattle.napt_dispatch.proofs.Passing.{continues_both, continues_then}
+use Rattle.napt_dispatch.proofs.{Passing.{continues_both, continues_then}, Lanes.halts_after}
 use Rattle.std.proofs.lemmas.Result.{err_from_is_err_and}
-use Rattle.napt_dispatch.proofs.Lanes.{halts_after}
 use Rattle.napt_dispatch.proofs.dispatcher.Dispatcher.go_on.Goals as goal
 
 pub returns-clause-state : goal.returns-clause-state

@@ -1,5 +1,4 @@
-use Rattle.std.proofs.Common.{[]}
-use Rattle.std.proofs.lemmas.Result.{err_from_is_err_and}
+use Rattle.std.proofs.{Common.[], lemmas.Result.err_from_is_err_and}
 use Rattle.napt_dispatch.proofs.Passing.{goes_none, lets_more, lets_halt, lets_turn, lets_stop}
 use Rattle.napt_dispatch.proofs.dispatcher.Dispatcher.go_on_until.Goals as goal
 

@@ -1,6 +1,5 @@
 use Rattle.std.proofs.Common.{refl}
-use Rattle.napt_dispatch.specs.declared.dispatcher.Dispatcher.{Dispatcher}
-use Rattle.napt_dispatch.proofs.Passing.{goes_over}
+use Rattle.napt_dispatch.{specs.declared.dispatcher.Dispatcher.Dispatcher, proofs.Passing.goes_over}
 use Rattle.napt_dispatch.proofs.dispatcher.Dispatcher.hand_over.Goals as goal
 
 pub returns-in-Ok : goal.returns-in-Ok

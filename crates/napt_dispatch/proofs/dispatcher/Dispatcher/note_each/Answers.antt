@@ -1,5 +1,4 @@
-use Rattle.std.proofs.Common.{◌≡◌, ◌+◌, ◌<◌, ◌++◌, [], ◌∷◌, length, ◌∙◌, arith, refl}
-use Rattle.std.proofs.lemmas.List.{length_push}
+use Rattle.std.proofs.{Common.{◌≡◌, ◌+◌, ◌<◌, ◌++◌, [], ◌∷◌, length, ◌∙◌, arith, refl}, lemmas.List.length_push}
 use Rattle.napt_pool.proofs.Joins.{split-step}
 use Rattle.napt_dispatch.proofs.Offering.{notes_none, notes_more, noted_less}
 use Rattle.napt_dispatch.proofs.dispatcher.Dispatcher.note_each.Goals as goal

@@ -1,7 +1,5 @@
-use Rattle.std.proofs.Common.{◌≡◌, ◌+◌, ◌++◌, length}
-use Rattle.std.specs.Vec.Iter.{drain_items}
-use Rattle.napt_dispatch.specs.QueueStates.{many_owed}
-use Rattle.napt_dispatch.specs.Standing.{NotesAll}
+use Rattle.std.{proofs.Common.{◌≡◌, ◌+◌, ◌++◌, length}, specs.Vec.Iter.drain_items}
+use Rattle.napt_dispatch.specs.{QueueStates.many_owed, Standing.NotesAll}
 use Rattle.napt_dispatch.proofs.dispatcher.Dispatcher.note_each.Given as goal
 
 abbrev pub invariant-loop-answer : goal.invariant-loop-answer

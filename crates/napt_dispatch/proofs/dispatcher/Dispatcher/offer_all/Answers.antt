@@ -1,9 +1,5 @@
-use Rattle.std.proofs.Common.{inl, inr, arith}
-use Rattle.std.proofs.lemmas.Bool.{cases_eq}
-use Rattle.napt_dispatch.proofs.Offering.{offered_still}
-use Rattle.napt_dispatch.proofs.Passing.{continues_both}
-use Rattle.std.proofs.lemmas.Result.{err_from_is_err_and}
-use Rattle.napt_dispatch.proofs.Lanes.{halts_after}
+use Rattle.std.proofs.{Common.{inl, inr, arith}, lemmas.{Bool.cases_eq, Result.err_from_is_err_and}}
+use Rattle.napt_dispatch.proofs.{Offering.offered_still, Passing.continues_both, Lanes.halts_after}
 use Rattle.napt_dispatch.proofs.dispatcher.Dispatcher.offer_all.Goals as goal
 
 pub loop-w-preserved : goal.loop-w-preserved

@@ -1,7 +1,5 @@
-use Rattle.std.proofs.Common.{◌<◌, length, refl, sym, ap, ◌∙◌}
-use Rattle.std.proofs.lemmas.Result.{err_from_is_err_and}
-use Rattle.napt_dispatch.specs.declared.dispatcher.Dispatcher.{Dispatcher}
-use Rattle.napt_dispatch.proofs.Lanes.{grows_not, grows_none, grows_offered}
+use Rattle.std.proofs.{Common.{◌<◌, length, refl, sym, ap, ◌∙◌}, lemmas.Result.err_from_is_err_and}
+use Rattle.napt_dispatch.{specs.declared.dispatcher.Dispatcher.Dispatcher, proofs.Lanes.{grows_not, grows_none, grows_offered}}
 use Rattle.napt_dispatch.proofs.Offering.{over_pool, none_sent, none_continue, none_alone, sent_keeps, only_sent, sent_all}
 use Rattle.napt_dispatch.proofs.dispatcher.Dispatcher.offer_held.Goals as goal
 

@@ -1,5 +1,4 @@
-use Rattle.std.proofs.Common.{inr}
-use Rattle.std.proofs.lemmas.Result.{err_from_is_err_and}
+use Rattle.std.proofs.{Common.inr, lemmas.Result.err_from_is_err_and}
 use Rattle.napt_dispatch.proofs.Passing.{reads_halt, reads_over}
 use Rattle.napt_dispatch.proofs.dispatcher.Dispatcher.pass_all.Goals as goal
 

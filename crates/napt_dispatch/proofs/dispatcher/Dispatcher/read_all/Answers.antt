@@ -1,5 +1,4 @@
-use Rattle.std.proofs.Common.{◌≡◌, ◌∙◌, List, [], ◌∷◌, ◌++◌, inl, refl, sym, ap, subst}
-use Rattle.std.proofs.lemmas.Result.{err_from_is_err_and}
+use Rattle.std.proofs.{Common.{◌≡◌, ◌∙◌, List, [], ◌∷◌, ◌++◌, inl, refl, sym, ap, subst}, lemmas.Result.err_from_is_err_and}
 use Rattle.napt_rules.specs.Prelude.{Arrival, last_clock}
 use Rattle.napt_dispatch.proofs.Passing.{clock_on, reads_none, reads_on, reads_more, reads_halt, reads_over}
 use Rattle.napt_dispatch.proofs.dispatcher.Dispatcher.read_all.Goals as goal

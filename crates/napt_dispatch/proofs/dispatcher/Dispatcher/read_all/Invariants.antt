@@ -1,7 +1,6 @@
 use Rattle.std.proofs.Common.{◌≡◌, ℕ, List}
-use Rattle.napt_dispatch.specs.declared.departures.Departed.{Departed}
+use Rattle.napt_dispatch.specs.{declared.departures.Departed.Departed, Passing.Reads}
 use Rattle.napt_rules.specs.Prelude.{Arrival, last_clock}
-use Rattle.napt_dispatch.specs.Passing.{Reads}
 use Rattle.napt_dispatch.proofs.dispatcher.Dispatcher.read_all.Given as goal
 
 abbrev pub invariant-loop : goal.invariant-loop

@@ -1,10 +1,6 @@
-use Rattle.std.proofs.Common.{◌≡◌, ◌∙◌, ap}
-use Rattle.std.proofs.lemmas.Result.{err_from_is_err_and}
+use Rattle.std.proofs.{Common.{◌≡◌, ◌∙◌, ap}, lemmas.Result.err_from_is_err_and}
 use Rattle.napt_rules.specs.Prelude.{Arrival, way_from}
-use Rattle.napt_dispatch.specs.Windows.{expecting}
-use Rattle.napt_dispatch.proofs.Lanes.{grows_none, halts_after}
-use Rattle.napt_dispatch.proofs.Passing.{serves_as, continues_both}
-use Rattle.napt_dispatch.proofs.Windows.{expecting_unmarked}
+use Rattle.napt_dispatch.{specs.Windows.expecting, proofs.{Lanes.{grows_none, halts_after}, Passing.{serves_as, continues_both}, Windows.expecting_unmarked}}
 use Rattle.napt_dispatch.proofs.dispatcher.Dispatcher.serve.Goals as goal
 
 pub admit-requires-clause-open : goal.admit-requires-clause-open

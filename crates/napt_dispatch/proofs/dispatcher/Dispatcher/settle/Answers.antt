@@ -1,7 +1,5 @@
-use Rattle.std.proofs.Common.{refl}
-use Rattle.napt_dispatch.proofs.Passing.{room_idle, lets_settle}
-use Rattle.std.proofs.lemmas.Result.{err_from_is_err_and}
-use Rattle.napt_dispatch.proofs.Lanes.{grows_none}
+use Rattle.std.proofs.{Common.refl, lemmas.Result.err_from_is_err_and}
+use Rattle.napt_dispatch.proofs.{Passing.{room_idle, lets_settle}, Lanes.grows_none}
 use Rattle.napt_dispatch.proofs.dispatcher.Dispatcher.settle.Goals as goal
 
 pub returns-in-Ok-clause-state : goal.returns-in-Ok-clause-state

@@ -1,8 +1,5 @@
-use Rattle.std.proofs.Common.{◌<◌, [], ◌∷◌, length, rules, refl}
-use Rattle.std.proofs.lemmas.Result.{err_from_is_err_and}
-use Rattle.napt_dispatch.specs.Standing.{NotesAll}
-use Rattle.napt_dispatch.proofs.Lanes.{grows_taken}
-use Rattle.napt_dispatch.proofs.Offering.{notes_none, notes_more, over_pool, answered_keeps}
+use Rattle.std.proofs.{Common.{◌<◌, [], ◌∷◌, length, rules, refl}, lemmas.Result.err_from_is_err_and}
+use Rattle.napt_dispatch.{specs.Standing.NotesAll, proofs.{Lanes.grows_taken, Offering.{notes_none, notes_more, over_pool, answered_keeps}}}
 use Rattle.napt_dispatch.proofs.dispatcher.Dispatcher.take_reply.Goals as goal
 
 pub returns-in_ok-note-in-Some-One-clause-state : goal.returns-in_ok-note-in-Some-One-clause-state

@@ -1,7 +1,5 @@
-use Rattle.napt_dispatch.proofs.Offering.{taken_none}
-use Rattle.napt_dispatch.proofs.Passing.{continues_both}
+use Rattle.napt_dispatch.proofs.{Offering.taken_none, Passing.continues_both, Lanes.halts_after}
 use Rattle.std.proofs.lemmas.Result.{err_from_is_err_and}
-use Rattle.napt_dispatch.proofs.Lanes.{halts_after}
 use Rattle.napt_dispatch.proofs.dispatcher.Dispatcher.take_some.Goals as goal
 
 pub returns-then-branch-clause-state : goal.returns-then-branch-clause-state

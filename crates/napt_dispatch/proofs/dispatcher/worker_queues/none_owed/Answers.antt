@@ -1,6 +1,5 @@
 use Rattle.std.proofs.Common.{◌≡◌, ◌∙◌, length, sym, ap, arith, below_more}
-use Rattle.napt_dispatch.specs.QueueStates.{QueueState, queue_of}
-use Rattle.napt_dispatch.proofs.QueueStates.{queue_is, nothing}
+use Rattle.napt_dispatch.{specs.QueueStates.{QueueState, queue_of}, proofs.QueueStates.{queue_is, nothing}}
 use Rattle.napt_dispatch.proofs.dispatcher.worker_queues.none_owed.Goals as goal
 
 pub loop-queue-preserved : goal.loop-queue-preserved

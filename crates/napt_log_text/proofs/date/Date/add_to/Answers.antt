@@ -1,15 +1,7 @@
-use Rattle.std.proofs.Common.{append_assoc}
+use Rattle.std.proofs.{Common.{arith, append_assoc}, lemmas.{Grind.common_steps, Bool.Decides.nat_tests}}
 use Rattle.napt_log_text.specs.Times.{day_text}
 use Rattle.napt_log_text.proofs.date.Date.add_to.Goals as goal
 
 pub returns : goal.returns
 unfolding day_text
-returns c =
-    rw (
-      c.in_ok-add_padded-3.ensures,
-      c.in_ok-push_str-2.ensures.bytes,
-      c.in_ok-add_padded-2.ensures,
-      c.in_ok-push_str.ensures.bytes,
-      c.in_ok-add_padded.ensures,
-    )
-    (simp append_assoc)
+returns c = grind (arith, common_steps, nat_tests, append_assoc)

@@ -1,7 +1,6 @@
 use Rattle.std.proofs.Common.{◌≡◌, ◌++◌, codes, string_bytes, append_assoc}
 use Rattle.napt_config.specs.Text.{address_text}
-use Rattle.napt_log_text.specs.Objects.{end_members, quoted}
-use Rattle.napt_log_text.proofs.Quoted.{quoted_between}
+use Rattle.napt_log_text.{specs.Objects.{end_members, quoted}, proofs.Quoted.quoted_between}
 use Rattle.napt_log_text.proofs.object.Ends.add_to.Goals as goal
 
 pub returns : goal.returns

@@ -1,5 +1,4 @@
-use Rattle.std.proofs.Common.{ℕ, ◌≡◌, ◌≢◌, ◌∙◌, List, [], ◌∷◌, ◌++◌, Option, MatchOption, Ok, Bor, sym, ap, subst, lit<}
-use Rattle.std.proofs.lemmas.Str.Pattern.{strip_suffix_char}
+use Rattle.std.proofs.{Common.{ℕ, ◌≡◌, ◌≢◌, ◌∙◌, List, [], ◌∷◌, ◌++◌, Option, MatchOption, Ok, Bor, sym, ap, subst, lit<}, lemmas.Str.Pattern.strip_suffix_char}
 use Rattle.napt_log_text.proofs.SavedRows.{csv_row-line, line_left, line_read, torn_read}
 use Rattle.napt_log_text.proofs.saved_log.SavedLog.next.Goals as goal
 

@@ -1,7 +1,5 @@
 use Rattle.std.proofs.Common.{ℕ, ◌∙◌, [], List, Some, None, get_or, ap, arith}
-use Rattle.napt_log_text.specs.Rows.{protocol_number, shortage_number}
-use Rattle.napt_log_text.specs.SavedRows.{flag_number}
-use Rattle.napt_log_text.specs.Times.{Text}
+use Rattle.napt_log_text.specs.{Rows.{protocol_number, shortage_number}, SavedRows.flag_number, Times.Text}
 use Rattle.napt_log_text.proofs.SavedRows.{flag_text-decimal, small_flag, small_protocol, small_shortage}
 use Rattle.napt_log_text.proofs.saved_row.SavedRow.of_fields.Goals as goal
 

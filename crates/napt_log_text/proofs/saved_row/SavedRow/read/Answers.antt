@@ -1,7 +1,6 @@
 use Rattle.std.proofs.Common.{◌∙◌, Some, None, ap, lit<, arith}
 use Rattle.napt_config.specs.Rules.{pair_of}
-use Rattle.napt_log_text.specs.declared.event.Event.TheVariants.{Made, Ended, Living, Refused}
-use Rattle.napt_log_text.proofs.SavedRows.{fields_read, fields_read-many}
+use Rattle.napt_log_text.{specs.declared.event.Event.TheVariants.{Made, Ended, Living, Refused}, proofs.SavedRows.{fields_read, fields_read-many}}
 use Rattle.napt_log_text.proofs.saved_row.SavedRow.read.Goals as goal
 
 pub returns-then-field_count-eq-FIELDS : goal.returns-then-field_count-eq-FIELDS

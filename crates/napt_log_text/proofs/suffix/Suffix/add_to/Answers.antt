@@ -1,5 +1,4 @@
-use Rattle.std.proofs.Common.{◌-◌, drop, arith, take_all, length-drop}
-use Rattle.std.proofs.lemmas.Str.{IsUtf8-from_ascii}
+use Rattle.std.proofs.{Common.{◌-◌, drop, arith, take_all, length-drop}, lemmas.Str.IsUtf8-from_ascii}
 use Rattle.napt_log_text.proofs.suffix.Suffix.add_to.Goals as goal
 
 pub unreachable-requires : goal.unreachable-requires

@@ -1,7 +1,5 @@
-use Rattle.std.proofs.Common.{◌≡◌, ◌-◌, ◌≤◌, length, decimal, sym, ap, ◌∙◌, arith, length-append}
-use Rattle.std.proofs.lemmas.Fmt.{length-decimal-le, IsAscii-decimal}
-use Rattle.std.proofs.lemmas.List.{length-drop}
-use Rattle.std.proofs.lemmas.Str.{IsAscii-append}
+use Rattle.std.proofs.{Common.{◌≡◌, ◌-◌, ◌≤◌, length, decimal, sym, ap, ◌∙◌, arith, length-append}, lemmas.Fmt.{length-decimal-le, IsAscii-decimal}}
+use Rattle.std.proofs.lemmas.{List.length-drop, Str.IsAscii-append}
 use Rattle.napt_log_text.proofs.suffix.Suffix.put_number.Goals as goal
 
 pub write_digits-self-inside-requires : goal.write_digits-self-inside-requires

@@ -1,4 +1,4 @@
-use Rattle.std.proofs.Common.{vec_items}
+use Rattle.std.proofs.Common.{arith, vec_items}
 use Rattle.napt_pool.proofs.Joins.{machines_if_ok, taken_at, least_if_err, answers_if_ok, settled_at, fault_if_err, gate_if_err, told_is, received_on_ok}
 use Rattle.napt_pool.proofs.pool.Pool.close.Goals as goal
 
@@ -25,11 +25,7 @@ returns-clause-settled g c = λ same.
     c.close_all-closing.ensures.taken same c.all_ended.ensures.ended
 
 pub returns-clause-least : goal.returns-clause-least
-returns-clause-least g c =
-    least_if_err g.M.Machine g.G.Gate.is_open _ _ _ c.close_all-closing.ensures.machines
-    c.close_all-closing.ensures.accepted c.close_all-closing.ensures.taken
-    c.close_all-closing.ensures.heard c.close_all-closing.ensures.thread_states c.join_all-ends.ensures.ends
-    c.all_ended.result c.all_ended.ensures.least
+returns-clause-least g c = grind (arith, least_if_err)
 
 pub returns-clause-fault : goal.returns-clause-fault
 returns-clause-fault g c =

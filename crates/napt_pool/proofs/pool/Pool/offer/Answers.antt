@@ -1,8 +1,5 @@
-use Rattle.std.proofs.Common.{arith, ◌≡◌, ◌<◌, length}
-use Rattle.std.proofs.lemmas.Grind.{common_steps}
-use Rattle.napt_pool.specs.Faults.{item_back}
-use Rattle.napt_pool.specs.Workers.{machine_of, accepted_of, taken_of, heard_of}
-use Rattle.napt_pool.proofs.Lists.{map-kept, grown_on_ok, kept_if_err}
+use Rattle.std.proofs.{lemmas.{Bool.Decides.nat_tests, Grind.common_steps}, Common.{arith, ◌≡◌}}
+use Rattle.napt_pool.{specs.{Faults.item_back, Workers.{machine_of, accepted_of, taken_of, heard_of}}, proofs.Lists.{map-kept, grown_on_ok, kept_if_err}}
 use Rattle.napt_pool.proofs.pool.Pool.offer.Goals as goal
 
 pub returns-clause-starts : goal.returns-clause-starts
@@ -15,11 +12,7 @@ pub returns-clause-heard : goal.returns-clause-heard
 returns-clause-heard g c = map-kept heard_of _ _ _ _ c.index_mut-worker.ensures.value c.offer.ensures.heard
 
 pub returns-clause-accepted : goal.returns-clause-accepted
-returns-clause-accepted g c =
-    let below : c.args.w < length c.args.self.now.workers.items = grind (arith, common_steps) in
-    grown_on_ok accepted_of c.args.self.now.workers.items c.args.w c.offer.new.self c.index_mut-worker.result.now
-    c.index_mut-worker.ensures.value
-    c.offer.result c.args.item below c.offer.ensures.accepted
+returns-clause-accepted g c = grind (arith, common_steps, nat_tests, grown_on_ok)
 
 pub returns-clause-refused : goal.returns-clause-refused
 returns-clause-refused g c =

@@ -1,7 +1,5 @@
-use Rattle.std.proofs.Common.{arith, ◌<◌, length}
-use Rattle.std.proofs.lemmas.Grind.{common_steps}
-use Rattle.napt_pool.specs.declared.message.Reply.TheVariants.{Done}
-use Rattle.napt_pool.specs.Workers.{machine_of, accepted_of, taken_of, heard_of}
+use Rattle.std.proofs.{lemmas.{Bool.Decides.nat_tests, Grind.common_steps}, Common.{arith, ◌<◌, length}}
+use Rattle.napt_pool.specs.{declared.message.Reply.TheVariants.Done, Workers.{machine_of, accepted_of, taken_of, heard_of}}
 use Rattle.napt_pool.proofs.Lists.{map-kept, map-grown, grown_if_some}
 use Rattle.napt_pool.proofs.pool.Pool.take.Goals as goal
 
@@ -36,12 +34,4 @@ pub returns-in-Err-clause-err : goal.returns-in-Err-clause-err
 returns-in-Err-clause-err g c = map-kept taken_of _ _ _ _ c.index_mut-worker.ensures.value c.in-Err.ensures.err
 
 pub returns-in-Err-clause-told : goal.returns-in-Err-clause-told
-returns-in-Err-clause-told g c =
-    let below : c.args.w < length c.args.self.now.workers.items = grind (arith, common_steps) in
-    record {
-      stop = c.in-Err.stop;
-      heard_is = map-grown heard_of c.args.self.now.workers.items c.args.w c.take.new.self c.index_mut-worker.result.now
-          _ below
-          c.index_mut-worker.ensures.value c.in-Err.ensures.told;
-      fault_is = c.of_worker.ensures;
-    }
+returns-in-Err-clause-told g c = grind (arith, common_steps, nat_tests, map-grown)

@@ -1,6 +1,4 @@
-use Rattle.std.proofs.Common.{◌≡◌, ◌<◌, ◌≤◌, ◌^◌, ◌++◌, arith, flat_map, length, take, ap, subst}
-use Rattle.std.specs.Prelude.{get_or}
-use Rattle.std.proofs.lemmas.Result.{err_from_is_err_and}
+use Rattle.std.{proofs.{Common.{◌≡◌, ◌<◌, ◌≤◌, ◌^◌, ◌++◌, arith, flat_map, length, take, ap, subst}, lemmas.Result.err_from_is_err_and}, specs.Prelude.get_or}
 use Rattle.std.specs.Io.KnownBytes.{Appends}
 use Rattle.napt_capture.specs.Writing.{PutsFront}
 use Rattle.napt_run.proofs.Pieces.{last_fails, more_fails, room_for_last, room_for_more}

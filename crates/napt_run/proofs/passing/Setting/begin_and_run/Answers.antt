@@ -1,9 +1,5 @@
-use Rattle.std.proofs.Common.{Ok, sym, add-zero}
-use Rattle.std.proofs.lemmas.Result.{err_from_is_err_and}
-use Rattle.napt_run.specs.Logging.{as_run}
-use Rattle.napt_run.specs.declared.passing.Totals.{Totals}
-use Rattle.napt_run.proofs.BothPassed.{unbegun_logs}
-use Rattle.napt_run.proofs.Headed.{headed, none_read, unheaded}
+use Rattle.std.proofs.{Common.{Ok, sym, add-zero}, lemmas.Result.err_from_is_err_and}
+use Rattle.napt_run.{specs.{Logging.as_run, declared.passing.Totals.Totals}, proofs.{BothPassed.unbegun_logs, Headed.{headed, none_read, unheaded}}}
 use Rattle.napt_run.proofs.passing.Setting.begin_and_run.Goals as goal
 
 pub returns-in_err-begin-clause-runs : goal.returns-in_err-begin-clause-runs

@@ -1,16 +1,9 @@
 use Rattle.std.proofs.Common.{◌≡◌, ℕ, ◌+◌, List, Option, None, Some, sym, ◌∙◌, ap, subst}
-use Rattle.napt_records.specs.Begun.{AreBegun, IsBegun}
-use Rattle.napt_records.specs.Merged.{AreLive}
+use Rattle.napt_records.specs.{Begun.{AreBegun, IsBegun}, Merged.AreLive}
 use Rattle.napt_wire.specs.declared.Side.TheVariants as sides
-use Rattle.napt_run.specs.Captures.{failed_readings}
-use Rattle.napt_run.specs.Logging.{as_run}
-use Rattle.napt_run.specs.Streams.{IsBehindHeader}
-use Rattle.napt_run.proofs.Begun.{begun_live, none_is, stream_begun}
-use Rattle.napt_run.proofs.Behind.{reads_of, runs_to}
-use Rattle.napt_run.proofs.BothPassed.{logs_to}
-use Rattle.napt_run.proofs.passing.Setting.run_behind_headers.Given.{Over}
+use Rattle.napt_run.{specs.{Captures.failed_readings, Logging.as_run, Streams.IsBehindHeader}, proofs.Begun.{begun_live, none_is, stream_begun}}
+use Rattle.napt_run.proofs.{Behind.{reads_of, runs_to}, BothPassed.logs_to, passing.Setting.run_behind_headers.{Given.Over, Goals.After-pass-passed}}
 use Rattle.napt_run.proofs.passing.Setting.run_behind_headers.Goals as goal
-use Rattle.napt_run.proofs.passing.Setting.run_behind_headers.Goals.{After-pass-passed}
 
 live : (g : Over) (c : After-pass-passed g) → AreLive c.new-inputs.result
 live g c =

@@ -1,5 +1,4 @@
-use Rattle.std.proofs.Common.{[], List, ℕ, Option, rules, inl, inr, refl}
-use Rattle.std.proofs.lemmas.Result.{err_from_is_err_and}
+use Rattle.std.proofs.{Common.{[], List, ℕ, Option, rules, inl, inr, refl}, lemmas.Result.err_from_is_err_and}
 use Rattle.napt_config.specs.Rules.{Rules}
 use Rattle.napt_records.specs.declared.Which.TheVariants as outputs
 use Rattle.napt_sequential.specs.Traces.{traces}

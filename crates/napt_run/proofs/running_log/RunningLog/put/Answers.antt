@@ -1,7 +1,5 @@
-use Rattle.std.proofs.Common.{List, ℕ, [], subst, append-nil}
-use Rattle.std.proofs.lemmas.Result.{err_from_is_err_and}
-use Rattle.napt_run.specs.LeavingLaws.{breaks_more}
-use Rattle.napt_run.specs.Outputs.{Breaks, Grows}
+use Rattle.std.proofs.{Common.{List, ℕ, [], subst, append-nil}, lemmas.Result.err_from_is_err_and}
+use Rattle.napt_run.specs.{LeavingLaws.breaks_more, Outputs.{Breaks, Grows}}
 use Rattle.napt_run.proofs.running_log.RunningLog.put.Goals as goal
 
 pub returns-in_err-flush : goal.returns-in_err-flush

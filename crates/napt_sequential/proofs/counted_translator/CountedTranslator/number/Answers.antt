@@ -1,9 +1,7 @@
-use Rattle.std.proofs.Common.{ℕ, max, sym, ◌∙◌}
-use Rattle.std.specs.Option.{is_some}
+use Rattle.std.{proofs.Common.{ℕ, max, sym, ◌∙◌}, specs.Option.is_some}
 use Rattle.napt_rules.specs.Prelude.{by_inside, by_number}
 use Rattle.napt_translate.specs.Translators.{TranslatorState}
-use Rattle.napt_sequential.proofs.Later.{unchanged, without_ended}
-use Rattle.napt_sequential.proofs.Numbers.{least_is, none_by}
+use Rattle.napt_sequential.proofs.{Later.{unchanged, without_ended}, Numbers.{least_is, none_by}}
 use Rattle.napt_sequential.proofs.counted_translator.CountedTranslator.number.Goals as goal
 
 pub returns-in-Some-clause-left : goal.returns-in-Some-clause-left

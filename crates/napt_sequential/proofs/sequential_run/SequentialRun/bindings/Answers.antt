@@ -1,8 +1,5 @@
-use Rattle.std.proofs.Common.{◌∙◌, ap}
-use Rattle.std.specs.Prelude.{flat_map}
-use Rattle.napt_sequential.specs.CountedTranslators.{rows_at}
-use Rattle.napt_sequential.proofs.Results.{if_ok}
-use Rattle.napt_sequential.proofs.SequentialRuns.{bindings_shown}
+use Rattle.std.{proofs.Common.{◌∙◌, ap}, specs.Prelude.flat_map}
+use Rattle.napt_sequential.{specs.CountedTranslators.rows_at, proofs.{Results.if_ok, SequentialRuns.bindings_shown}}
 use Rattle.napt_sequential.proofs.sequential_run.SequentialRun.bindings.Goals as goal
 
 pub returns : goal.returns

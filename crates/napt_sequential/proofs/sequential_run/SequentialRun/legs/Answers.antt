@@ -1,7 +1,5 @@
 use Rattle.std.proofs.Common.{◌∙◌, ap, map}
-use Rattle.napt_sequential.specs.declared.counted_translator.CountedTranslator.{CountedTranslator}
-use Rattle.napt_sequential.proofs.Results.{if_ok}
-use Rattle.napt_sequential.proofs.SequentialRuns.{legs_shown}
+use Rattle.napt_sequential.{specs.declared.counted_translator.CountedTranslator.CountedTranslator, proofs.{Results.if_ok, SequentialRuns.legs_shown}}
 use Rattle.napt_sequential.proofs.sequential_run.SequentialRun.legs.Goals as goal
 
 pub returns : goal.returns

@@ -1,20 +1,11 @@
-use Rattle.std.proofs.Common.{◌≡◌, ◌∙◌, ℕ, [], None, Some, Ok, cond, sym, ap, subst, not, true, false}
-use Rattle.napt_wire.specs.declared.Way.TheVariants.{Outgoing}
-use Rattle.napt_table.specs.declared.bindings.keys.ExternalKey.{ExternalKey}
-use Rattle.napt_table.specs.Held.{seen}
-use Rattle.std.specs.Prelude.{ok_or}
-use Rattle.std.specs.Option.{is_some}
+use Rattle.std.{proofs.Common.{◌≡◌, ◌∙◌, ℕ, [], None, Some, Ok, cond, sym, ap, subst, not, true, false}, specs.{Prelude.ok_or, Option.is_some}}
 use Rattle.std.proofs.lemmas.Bool.{not-true}
-use Rattle.napt_wire.specs.declared.Cause.TheVariants.{NoPort}
+use Rattle.napt_wire.specs.declared.{Way.TheVariants.Outgoing, Cause.TheVariants.NoPort}
+use Rattle.napt_table.specs.{declared.bindings.keys.ExternalKey.ExternalKey, Held.seen, Bindings.{BindingsState, Begins}, Holdings.{held, held_at}}
+use Rattle.napt_table.{specs.Keys.{key_eq, external_key, key_of}, proofs.{Granted.made_all, Sends.{none_from, choice_is, made_live, made_used, made_seen}}}
 use Rattle.napt_config.specs.Rules.{AreTimers}
-use Rattle.napt_rules.specs.Prelude.{Binding, candidates, change_first, is_live, live_flows, is_flow_of, used, with_flow, sent_by, fresh}
-use Rattle.napt_rules.specs.declared.Row.{Row}
+use Rattle.napt_rules.specs.{Prelude.{Binding, candidates, change_first, is_live, live_flows, is_flow_of, used, with_flow, sent_by, fresh}, declared.Row.Row}
 use Rattle.napt_laws.proofs.Finds.{passes}
-use Rattle.napt_table.specs.Bindings.{BindingsState, Begins}
-use Rattle.napt_table.specs.Holdings.{held, held_at}
-use Rattle.napt_table.specs.Keys.{key_eq, external_key, key_of}
-use Rattle.napt_table.proofs.Granted.{made_all}
-use Rattle.napt_table.proofs.Sends.{none_from, choice_is, made_live, made_used, made_seen}
 use Rattle.napt_table.proofs.bindings.Bindings.begin.Goals as goal
 
 pub returns-in_default-clause-begins : goal.returns-in_default-clause-begins
@@ -25,7 +16,7 @@ returns-in_default-clause-begins c =
       sym (ap (λ o. ok_or o NoPort) (choice_is s.timers s.held.address p (held_at s.held p.protocol) list
           (shows p.protocol) (λ n b h. subst (λ (x : BindingsState). held x.held (external_key p.protocol n) ≡ Some b →
           is_live x.timers p.now b ≡ true) (sym c.self.view_is) (c.requires.live (external_key p.protocol n) b) h)
-          ∙ sym c.in_default.ensures)),
+          s.held.granting.choosing ∙ sym c.in_default.ensures)),
       shows,
     ))
 
@@ -54,7 +45,9 @@ insert-requires-clause-free c =
     let number = c.in-Some.number in
     let free : held_at s.held p.protocol number ≡ None = none_from (held_at s.held p.protocol number)
     (not-true (is_some (held_at s.held p.protocol number))
-    (passes (λ n. not (is_some (held_at s.held p.protocol n))) (candidates p.block p.protocol p.inside.number) number
+    (passes (λ n. not (is_some (held_at s.held p.protocol n))) (candidates s.held.granting.choosing p.block p.protocol
+    p.inside)
+    number
     (sym c.in-Some.ensures))) in
     rw c.new.ensures (subst (λ (x : BindingsState). held_at x.held p.protocol number ≡ None) c.self.view_is free)
 
@@ -65,7 +58,9 @@ returns-clause-begins c =
     let number = c.in-Some.number in
     let free : held_at s.held p.protocol number ≡ None = none_from (held_at s.held p.protocol number)
     (not-true (is_some (held_at s.held p.protocol number))
-    (passes (λ n. not (is_some (held_at s.held p.protocol n))) (candidates p.block p.protocol p.inside.number) number
+    (passes (λ n. not (is_some (held_at s.held p.protocol n))) (candidates s.held.granting.choosing p.block p.protocol
+    p.inside)
+    number
     (sym c.in-Some.ensures))) in
     let row : Row = record {
       protocol = p.protocol;
@@ -93,7 +88,7 @@ returns-clause-begins c =
       sym (ap (λ o. ok_or o NoPort) (choice_is s.timers s.held.address p (held_at s.held p.protocol) list
           (shows p.protocol) (λ n b h. subst (λ (x : BindingsState). held x.held (external_key p.protocol n) ≡ Some b →
           is_live x.timers p.now b ≡ true) (sym c.self.view_is) (c.requires.live (external_key p.protocol n) b) h)
-          ∙ sym c.in-Some.ensures)),
+          s.held.granting.choosing ∙ sym c.in-Some.ensures)),
       made_all s.timers s.held.address p s.held new.held number binding list shows holds free is,
     ) in
     subst (λ (x : BindingsState). Begins p x new (Ok number)) c.self.view_is begins

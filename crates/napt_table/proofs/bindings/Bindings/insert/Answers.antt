@@ -1,10 +1,7 @@
 use Rattle.std.proofs.Common.{◌≡◌, Some, None, cond, sym, subst}
-use Rattle.napt_table.specs.declared.bindings.keys.ExternalKey.{ExternalKey}
-use Rattle.napt_table.specs.Bindings.{BindingsState}
-use Rattle.napt_binding.specs.Slots.{NoneUsedAfter}
-use Rattle.napt_table.specs.Holdings.{held}
-use Rattle.napt_table.specs.Keys.{key_eq, key_of}
+use Rattle.napt_table.specs.{declared.bindings.keys.ExternalKey.ExternalKey, Bindings.BindingsState, Holdings.held, Keys.{key_eq, key_of}}
 use Rattle.napt_table.proofs.Queues.{inserted_due}
+use Rattle.napt_binding.specs.Slots.{NoneUsedAfter}
 use Rattle.napt_table.proofs.bindings.Bindings.insert.Goals as goal
 
 pub invariant_of-self : goal.invariant_of-self

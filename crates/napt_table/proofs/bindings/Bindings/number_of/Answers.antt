@@ -1,8 +1,5 @@
-use Rattle.std.proofs.Common.{sym, ap, ◌∙◌}
-use Rattle.std.specs.Option.{option_copied}
-use Rattle.napt_table.specs.Held.{seen}
-use Rattle.napt_table.proofs.Seen.{seen_dead}
-use Rattle.napt_table.proofs.LiveNumbers.{live_none, live_dead, live_found}
+use Rattle.std.{proofs.Common.{sym, ap, ◌∙◌}, specs.Option.option_copied}
+use Rattle.napt_table.{specs.Held.seen, proofs.{Seen.seen_dead, LiveNumbers.{live_none, live_dead, live_found}}}
 use Rattle.napt_table.proofs.bindings.Bindings.number_of.Goals as goal
 
 pub returns-in_err-number : goal.returns-in_err-number

@@ -1,12 +1,6 @@
-use Rattle.std.proofs.Common.{◌≡◌, ◌≤◌, None, sym, ap, subst, ◌∙◌}
-use Rattle.std.proofs.lemmas.List.Elements.{All-nil}
-use Rattle.napt_rules.specs.declared.Flow.{Flow}
-use Rattle.napt_rules.specs.Prelude.{Binding}
-use Rattle.napt_rules.specs.declared.Row.{Row}
-use Rattle.napt_table.specs.Bindings.{BindingsState}
-use Rattle.napt_table.specs.Holdings.{held}
-use Rattle.napt_table.specs.Keys.{external_key, key_of}
-use Rattle.napt_table.proofs.Queues.{fixed_due}
+use Rattle.std.proofs.{Common.{◌≡◌, ◌≤◌, None, sym, ap, subst, ◌∙◌}, lemmas.List.Elements.All-nil}
+use Rattle.napt_rules.specs.{declared.{Flow.Flow, Row.Row}, Prelude.Binding}
+use Rattle.napt_table.{specs.{Bindings.BindingsState, Holdings.held, Keys.{external_key, key_of}}, proofs.Queues.fixed_due}
 use Rattle.napt_table.proofs.bindings.Bindings.open.Goals as goal
 
 pub invariant_of-self : goal.invariant_of-self

@@ -1,10 +1,7 @@
 use Rattle.std.proofs.Common.{◌≡◌, ℕ, ◌≤◌, true, All, subst, sym, ◌∙◌}
 use Rattle.napt_config.specs.declared.settings.Timers.{Timers}
 use Rattle.napt_rules.specs.Prelude.{is_live}
-use Rattle.napt_table.specs.declared.bindings.keys.ExternalKey.{ExternalKey}
-use Rattle.napt_table.specs.Holdings.{KeepsSeen}
-use Rattle.napt_table.proofs.Queues.{all_live}
-use Rattle.napt_table.proofs.Granted.{keeps_then}
+use Rattle.napt_table.{specs.{declared.bindings.keys.ExternalKey.ExternalKey, Holdings.KeepsSeen}, proofs.{Queues.all_live, Granted.keeps_then}}
 use Rattle.napt_table.proofs.bindings.Bindings.purge.Goals as goal
 
 pub returns : goal.returns

@@ -1,6 +1,5 @@
 use Rattle.std.proofs.Common.{◌≡◌}
-use Rattle.napt_table.specs.Holdings.{KeepsSeen}
-use Rattle.napt_table.specs.Bindings.{HasRoom, come_up}
+use Rattle.napt_table.specs.{Holdings.KeepsSeen, Bindings.{HasRoom, come_up}}
 use Rattle.napt_table.proofs.bindings.Bindings.purge.Given as goal
 
 abbrev pub invariant-loop : goal.invariant-loop

@@ -1,6 +1,5 @@
 use Rattle.std.proofs.Common.{◌≤◌, sym, subst}
-use Rattle.napt_table.specs.Bindings.{BindingsState}
-use Rattle.napt_table.proofs.Queues.{due_later}
+use Rattle.napt_table.{specs.Bindings.BindingsState, proofs.Queues.due_later}
 use Rattle.napt_table.proofs.bindings.Bindings.purge_at.Goals as goal
 
 pub invariant_of-self : goal.invariant_of-self

@@ -1,7 +1,5 @@
-use Rattle.std.proofs.Common.{ℕ, ◌≤◌, arith}
-use Rattle.std.proofs.lemmas.List.Elements.{All-contains}
-use Rattle.napt_table.specs.declared.bindings.keys.ExternalKey.{ExternalKey}
-use Rattle.napt_table.proofs.Queues.{popped_due, one_less}
+use Rattle.std.proofs.{Common.{ℕ, ◌≤◌, arith}, lemmas.List.Elements.All-contains}
+use Rattle.napt_table.{specs.declared.bindings.keys.ExternalKey.ExternalKey, proofs.Queues.{popped_due, one_less}}
 use Rattle.napt_table.proofs.bindings.Bindings.purge_first.Goals as goal
 
 pub requeue_or_remove-requires-clause-due : goal.requeue_or_remove-requires-clause-due

@@ -1,7 +1,5 @@
 use Rattle.std.proofs.Common.{◌≤◌, sym, subst}
-use Rattle.napt_table.specs.Bindings.{BindingsState}
-use Rattle.napt_table.proofs.Queues.{due_later}
-use Rattle.napt_table.proofs.Enters.{all_received, all_received_due}
+use Rattle.napt_table.{specs.Bindings.BindingsState, proofs.{Queues.due_later, Enters.{all_received, all_received_due}}}
 use Rattle.napt_table.proofs.bindings.Bindings.receive.Goals as goal
 
 pub receive-requires : goal.receive-requires

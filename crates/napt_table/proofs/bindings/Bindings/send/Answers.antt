@@ -1,8 +1,6 @@
-use Rattle.std.proofs.Common.{◌≡◌, ℕ, true, false, cond, Option, sym, subst, ◌∙◌}
-use Rattle.std.specs.Option.{is_some}
+use Rattle.std.{proofs.Common.{◌≡◌, ℕ, true, false, cond, Option, sym, subst, ◌∙◌}, specs.Option.is_some}
 use Rattle.napt_rules.specs.Prelude.{reaches}
-use Rattle.napt_table.specs.Holdings.{count_all, WentThrough, HasNone, WentOut}
-use Rattle.napt_table.specs.Bindings.{BindingsState, Stands}
+use Rattle.napt_table.specs.{Holdings.{count_all, WentThrough, HasNone, WentOut}, Bindings.{BindingsState, Stands}}
 use Rattle.napt_table.proofs.Granted.{stands_then, went_answer, went_shows, over_sends, begun_sends}
 use Rattle.napt_table.proofs.bindings.Bindings.send.Goals as goal
 
@@ -13,9 +11,9 @@ returns-in-Some-clause-sends c list apart shows =
     let new = c.send_held.new.self in
     let went : WentThrough old.timers p old.held new.held c.in-Some.number =
     subst (WentOut old.timers p old.held new.held) c.in-Some.is c.in_ok-number.ensures.went in (
-      went_answer old.timers old.held.quota p old.held new.held c.keep_names.ensures c.in-Some.number went list apart
+      went_answer old.timers old.held.granting p old.held new.held c.keep_names.ensures c.in-Some.number went list apart
           shows,
-      went_shows old.timers old.held.quota p old.held new.held c.keep_names.ensures c.in-Some.number went list apart
+      went_shows old.timers old.held.granting p old.held new.held c.keep_names.ensures c.in-Some.number went list apart
           shows,
     )
 
@@ -32,8 +30,9 @@ returns-then-reaches-clause-sends c list apart shows =
     let first : Stands old c.send_held.new.self =
     record { timers_is = c.send_held.ensures.timers; at_is = at; same = none.same } in
     let same = stands_then old c.send_held.new.self mid first c.prepare.ensures.same in
-    let over : reaches gone.held.quota (count_all gone.held p.inside.address) ≡ true =
-    subst (λ (x : BindingsState). reaches x.held.quota (count_all x.held p.inside.address) ≡ true) c.self.view_is
+    let over : reaches gone.held.granting.quota (count_all gone.held p.inside.address) ≡ true =
+    subst (λ (x : BindingsState). reaches x.held.granting.quota (count_all x.held p.inside.address)
+    ≡ true) c.self.view_is
     (sym c.reaches.ensures ∙ c.if-reaches.true) in
     over_sends old mid gone p same c.purge_at.ensures none.none c.keep_names.ensures c.keep_names-2.ensures list apart
     shows over
@@ -51,8 +50,9 @@ returns-clause-sends c list apart shows =
     let first : Stands old c.send_held.new.self =
     record { timers_is = c.send_held.ensures.timers; at_is = at; same = none.same } in
     let same = stands_then old c.send_held.new.self mid first c.prepare.ensures.same in
-    let under : reaches gone.held.quota (count_all gone.held p.inside.address) ≡ false =
-    subst (λ (x : BindingsState). reaches x.held.quota (count_all x.held p.inside.address) ≡ false) c.self.view_is
+    let under : reaches gone.held.granting.quota (count_all gone.held p.inside.address) ≡ false =
+    subst (λ (x : BindingsState). reaches x.held.granting.quota (count_all x.held p.inside.address)
+    ≡ false) c.self.view_is
     (sym c.reaches.ensures ∙ c.if-reaches.false) in
     begun_sends old mid gone p same c.purge_at.ensures none.none c.keep_names.ensures c.keep_names-2.ensures list apart
     shows under c.begin.new.self c.begin.result c.begin.ensures.begins

@@ -1,8 +1,5 @@
 use Rattle.std.proofs.Common.{◌≤◌, sym, subst}
-use Rattle.napt_table.specs.Holdings.{HasNone, WentOut}
-use Rattle.napt_table.specs.Bindings.{BindingsState}
-use Rattle.napt_table.proofs.Queues.{same_due, due_later}
-use Rattle.napt_table.proofs.Sends.{sent_due}
+use Rattle.napt_table.{specs.{Holdings.{HasNone, WentOut}, Bindings.BindingsState}, proofs.{Queues.{same_due, due_later}, Sends.sent_due}}
 use Rattle.napt_table.proofs.bindings.Bindings.send_held.Goals as goal
 
 pub send-requires : goal.send-requires

@@ -1,10 +1,7 @@
-use Rattle.std.proofs.Common.{◌≡◌, ℕ, Option, Some, None, Result, Ok, Err, cond, subst}
-use Rattle.std.specs.Prelude.{IfOk, IfSome}
-use Rattle.std.specs.Option.{is_some}
+use Rattle.std.{proofs.Common.{◌≡◌, ℕ, Option, Some, None, Result, Ok, Err, cond, subst}, specs.{Prelude.{IfOk, IfSome}, Option.is_some}}
 use Rattle.std.specs.declared.alloc.AllocError.{AllocError}
 use Rattle.napt_rules.specs.declared.Sent.{Sent}
-use Rattle.napt_table.specs.Holdings.{IsNamed, HasNone, WentOut}
-use Rattle.napt_table.specs.Bindings.{BindingsState, SendsKnown}
+use Rattle.napt_table.specs.{Holdings.{IsNamed, HasNone, WentOut}, Bindings.{BindingsState, SendsKnown}}
 use Rattle.napt_table.proofs.Granted.{went_answer, went_any_block, went_shows}
 use Rattle.napt_table.proofs.bindings.Bindings.send_known.Goals as goal
 
@@ -18,10 +15,10 @@ known p old new named (Ok (Some number)) went at = record {
   place = went.one.place;
   at = at;
   sends = λ list apart shows. (
-    went_answer old.timers old.held.quota p old.held new.held named number went list apart shows,
-    went_shows old.timers old.held.quota p old.held new.held named number went list apart shows,
+    went_answer old.timers old.held.granting p old.held new.held named number went list apart shows,
+    went_shows old.timers old.held.granting p old.held new.held named number went list apart shows,
   );
-  any_block = λ list apart shows. went_any_block old.timers old.held.quota p old.held new.held named number went list
+  any_block = λ list apart shows. went_any_block old.timers old.held.granting p old.held new.held named number went list
       apart shows;
 }
 

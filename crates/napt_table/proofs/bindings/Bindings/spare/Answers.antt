@@ -1,10 +1,5 @@
-use Rattle.std.proofs.Common.{◌≡◌, ◌∙◌, sym, ap}
-use Rattle.std.specs.Option.{is_some}
-use Rattle.napt_table.specs.Bindings.{BindingsState}
-use Rattle.napt_table.specs.Held.{seen}
-use Rattle.napt_table.specs.Holdings.{Holdings, held_at}
-use Rattle.napt_table.specs.Keys.{external_key}
-use Rattle.napt_table.proofs.LeastFree.{first_agrees}
+use Rattle.std.{proofs.Common.{◌≡◌, ◌∙◌, sym, ap}, specs.Option.is_some}
+use Rattle.napt_table.{specs.{Bindings.BindingsState, Held.seen, Holdings.{Holdings, held_at}, Keys.external_key}, proofs.LeastFree.first_agrees}
 use Rattle.napt_table.proofs.Seen.{live_is_seen}
 use Rattle.napt_table.proofs.bindings.Bindings.spare.Goals as goal
 

@@ -1,13 +1,8 @@
-use Rattle.std.proofs.Common.{◌≡◌, Option, Some, None, cond, sym, ◌∙◌, ap}
-use Rattle.std.specs.Option.{option_map}
+use Rattle.std.{proofs.Common.{◌≡◌, Option, Some, None, cond, sym, ◌∙◌, ap}, specs.Option.option_map}
 use Rattle.napt_config.specs.declared.settings.Timers.{Timers}
 use Rattle.napt_rules.specs.Prelude.{Binding, with_live_flows, row}
-use Rattle.napt_binding.specs.Ends.{end_of}
-use Rattle.napt_binding.proofs.FirstEnds.{end_without_dead}
-use Rattle.napt_table.specs.declared.TimedRow.{TimedRow}
-use Rattle.napt_table.specs.TimedRows.{timed}
-use Rattle.napt_table.specs.Held.{seen}
-use Rattle.napt_table.specs.Holdings.{held_at}
+use Rattle.napt_binding.{specs.Ends.end_of, proofs.FirstEnds.end_without_dead}
+use Rattle.napt_table.specs.{declared.TimedRow.TimedRow, TimedRows.timed, Held.seen, Holdings.held_at}
 use Rattle.napt_table.proofs.bindings.Bindings.timed.Goals as goal
 
 pub returns-in-Some : goal.returns-in-Some

@@ -1,8 +1,6 @@
-use Rattle.std.proofs.Common.{rules, ◌≤◌, sym, ap, ◌∙◌, subst}
-use Rattle.std.proofs.lemmas.List.Sorted.{answers_always, IsNonDecreasingBy-from_sort}
+use Rattle.std.proofs.{Common.{rules, ◌≤◌, sym, ap, ◌∙◌, subst}, lemmas.List.Sorted.{answers_always, IsNonDecreasingBy-from_sort}}
 use Rattle.napt_rules.specs.Prelude.{rank, in_order, rows}
-use Rattle.napt_table.specs.Tables.{TableState}
-use Rattle.napt_table.proofs.Listed.{made_in_order}
+use Rattle.napt_table.{specs.Tables.TableState, proofs.Listed.made_in_order}
 use Rattle.napt_laws.proofs.Orders.{in_order-from_sort}
 use Rattle.napt_table.proofs.table.Table.bindings.Goals as goal
 

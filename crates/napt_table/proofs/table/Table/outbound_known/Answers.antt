@@ -1,14 +1,9 @@
-use Rattle.std.proofs.Common.{◌≤◌, ◌∙◌, ℕ, Option, Result, ap, refl, sym, subst}
-use Rattle.std.specs.Prelude.{IfOk, IfSome}
+use Rattle.std.{proofs.Common.{◌≤◌, ◌∙◌, ℕ, Option, Result, ap, refl, sym, subst}, specs.Prelude.{IfOk, IfSome}}
 use Rattle.napt_wire.specs.declared.Cause.{Cause}
 use Rattle.napt_rules.specs.Prelude.{Out, IsNumber}
-use Rattle.napt_table.specs.declared.event.Event.TheVariants.{Sent}
-use Rattle.napt_table.specs.Bindings.{SendsKnown}
-use Rattle.napt_table.specs.Shown.{shown}
-use Rattle.napt_table.specs.Tables.{TableState}
-use Rattle.napt_table.proofs.TableSteps.{live, live_sound, show_now, shown_after, keeps_after, keeps_same}
+use Rattle.napt_table.specs.{declared.event.Event.TheVariants.Sent, Bindings.SendsKnown, Shown.shown, Tables.TableState}
+use Rattle.napt_table.proofs.{TableSteps.{live, live_sound, show_now, shown_after, keeps_after, keeps_same}, Tables.table_out}
 use Rattle.napt_laws.proofs.Named.{out_named}
-use Rattle.napt_table.proofs.Tables.{table_out}
 use Rattle.napt_table.proofs.table.Table.outbound_known.Goals as goal
 
 pub invariant_of-self : goal.invariant_of-self
@@ -61,5 +56,6 @@ returns-in-Some-clause-named c =
     let list = live t c.self.invariant packet.now le in
     subst (λ (r : Result ℕ Cause). IfOk r (IsNumber packet.protocol))
     (sym (k.sends list sound.apart (show_now t c.self.invariant packet.now le)).0)
-    (out_named (λ host. t.bindings.held.address) t.bindings.held.address t.bindings.held.quota packet c.requires.block
+    (out_named (λ host. t.bindings.held.address) t.bindings.held.address t.bindings.held.granting packet
+    c.requires.block
     list sound)

@@ -1,10 +1,7 @@
 use Rattle.std.proofs.Common.{◌≤◌, refl, sym, subst}
-use Rattle.napt_table.specs.declared.event.Event.TheVariants.{Sent}
-use Rattle.napt_table.specs.Shown.{shown}
-use Rattle.napt_table.specs.Tables.{TableState}
-use Rattle.napt_table.proofs.TableSteps.{live, live_sound, show_now, shown_after, keeps_after, keeps_same}
+use Rattle.napt_table.specs.{declared.event.Event.TheVariants.Sent, Shown.shown, Tables.TableState}
+use Rattle.napt_table.proofs.{TableSteps.{live, live_sound, show_now, shown_after, keeps_after, keeps_same}, Tables.table_out}
 use Rattle.napt_laws.proofs.Named.{out_named}
-use Rattle.napt_table.proofs.Tables.{table_out}
 use Rattle.napt_table.proofs.table.Table.outbound_of.Goals as goal
 
 pub invariant_of-self : goal.invariant_of-self
@@ -48,5 +45,6 @@ returns-clause-named c =
     let sound = live_sound t c.self.invariant packet.now le in
     rw (c.in_ok-answer.ensures.sends (live t c.self.invariant packet.now le) sound.apart
     (show_now t c.self.invariant packet.now le)).0
-    (out_named (λ host. t.bindings.held.address) t.bindings.held.address t.bindings.held.quota packet c.requires.block
+    (out_named (λ host. t.bindings.held.address) t.bindings.held.address t.bindings.held.granting packet
+    c.requires.block
     (live t c.self.invariant packet.now le) sound)

@@ -1,16 +1,7 @@
-use Rattle.std.proofs.Common.{◌≤◌, ◌∙◌, ap, refl, sym, subst}
-use Rattle.std.specs.Option.{is_some}
+use Rattle.std.{proofs.Common.{◌≤◌, ◌∙◌, ap, refl, sym, subst}, specs.Option.is_some}
 use Rattle.napt_rules.specs.Prelude.{by_number}
-use Rattle.napt_table.specs.declared.event.Event.TheVariants.{Purged}
-use Rattle.napt_table.specs.Held.{seen}
-use Rattle.napt_table.specs.Holdings.{held_at}
-use Rattle.napt_table.specs.Keys.{external_key}
-use Rattle.napt_table.specs.Shown.{shown}
-use Rattle.napt_table.specs.Tables.{TableState}
-use Rattle.napt_table.proofs.LeastFree.{first_agrees}
-use Rattle.napt_table.specs.Shown.{list_of}
-use Rattle.napt_table.proofs.TableSteps.{show_now, shown_after, keeps_after}
-use Rattle.napt_table.proofs.Tables.{table_purged}
+use Rattle.napt_table.specs.{declared.event.Event.TheVariants.Purged, Held.seen, Holdings.held_at, Keys.external_key, Shown.{shown, list_of}, Tables.TableState}
+use Rattle.napt_table.proofs.{LeastFree.first_agrees, TableSteps.{show_now, shown_after, keeps_after}, Tables.table_purged}
 use Rattle.napt_table.proofs.table.Table.spare.Goals as goal
 
 pub invariant_of-self : goal.invariant_of-self

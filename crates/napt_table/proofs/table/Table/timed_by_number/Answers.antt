@@ -1,6 +1,5 @@
 use Rattle.std.proofs.Common.{◌≤◌, ◌∙◌, sym, subst}
-use Rattle.napt_table.specs.Tables.{TableState}
-use Rattle.napt_table.proofs.TableSteps.{timed_number}
+use Rattle.napt_table.{specs.Tables.TableState, proofs.TableSteps.timed_number}
 use Rattle.napt_table.proofs.table.Table.timed_by_number.Goals as goal
 
 pub returns-clause-answer : goal.returns-clause-answer

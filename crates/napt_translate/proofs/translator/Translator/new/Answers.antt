@@ -1,5 +1,4 @@
-use Rattle.std.proofs.Common.{ℕ, List, ◌∙◌, ap}
-use Rattle.std.specs.Prelude.{slice_index}
+use Rattle.std.{proofs.Common.{ℕ, List, ◌∙◌, ap}, specs.Prelude.slice_index}
 use Rattle.napt_table.specs.Tables.{TableState}
 use Rattle.napt_translate.proofs.translator.Translator.new.Goals as goal
 
@@ -13,6 +12,6 @@ invariant_of-result c =
       address = ap (λ (t : TableState). t.address) shown
           ∙ ap (λ (p : List ℕ). slice_index p c.args.index) c.pool.ensures.addresses;
       timers = ap (λ (t : TableState). t.timers) shown;
-      quota = ap (λ (t : TableState). t.quota) shown;
+      granting = ap (λ (t : TableState). t.granting) shown;
       inbound = ap (λ (t : TableState). t.inbound) shown;
     }

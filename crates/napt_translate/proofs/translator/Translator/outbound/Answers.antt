@@ -1,5 +1,4 @@
-use Rattle.std.proofs.Common.{◌∙◌, ℕ, Option, None, Ok, ap, subst}
-use Rattle.std.specs.Prelude.{IfSome}
+use Rattle.std.{proofs.Common.{◌∙◌, ℕ, Option, None, Ok, ap, subst}, specs.Prelude.IfSome}
 use Rattle.napt_config.specs.declared.settings.Block.{Block}
 use Rattle.napt_table.specs.Tables.{TableState, GoesOut}
 use Rattle.napt_translate.proofs.translator.Translator.outbound.Goals as goal
@@ -17,6 +16,6 @@ invariant_of-self-in-Some c =
       rules = is.rules;
       address = ap (λ (t : TableState). t.address) left ∙ is.address;
       timers = ap (λ (t : TableState). t.timers) left ∙ is.timers;
-      quota = ap (λ (t : TableState). t.quota) left ∙ is.quota;
+      granting = ap (λ (t : TableState). t.granting) left ∙ is.granting;
       inbound = ap (λ (t : TableState). t.inbound) left ∙ is.inbound;
     }

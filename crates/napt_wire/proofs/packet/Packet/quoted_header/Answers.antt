@@ -1,7 +1,5 @@
 use Rattle.std.proofs.Common.{◌≡◌, ℕ, List, ap, ◌∙◌, refl}
-use Rattle.napt_wire.specs.Prelude.{inner_at, quoted_of, Quoted}
-use Rattle.napt_wire.proofs.Readings.{passes_of_read}
-use Rattle.napt_wire.proofs.WithInner.{error_of, inner_room, passes_error}
+use Rattle.napt_wire.{specs.Prelude.{inner_at, quoted_of, Quoted}, proofs.{Readings.passes_of_read, WithInner.{error_of, inner_room, passes_error}}}
 use Rattle.napt_wire.proofs.packet.Packet.quoted_header.Goals as goal
 
 pub returns : goal.returns

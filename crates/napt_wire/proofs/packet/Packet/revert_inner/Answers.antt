@@ -1,11 +1,8 @@
 use Rattle.std.proofs.Common.{◌≡◌, Ok, sym, ◌∙◌, ap, refl, take, drop, length, ◌++◌, List, ℕ}
-use Rattle.napt_wire.proofs.Changes.{vec-changed}
-use Rattle.napt_wire.proofs.Readings.{passes_of_read, reads_of_passes}
-use Rattle.napt_wire.proofs.RightKept.{error_right}
+use Rattle.napt_wire.proofs.{Changes.vec-changed, Readings.{passes_of_read, reads_of_passes}, RightKept.error_right}
 use Rattle.napt_wire.proofs.WithInner.{passes_error, KeepsError, error_kept_of, error_there, error_of, carries_inner, not_error, error_found, quoted_form}
-use Rattle.napt_wire.specs.Prelude.{reading, changed, reverted, reverted_changes, Side}
+use Rattle.napt_wire.{specs.Prelude.{reading, changed, reverted, reverted_changes, Side}, proofs.packet.Packet.revert_inner.Goals.After-self-1}
 use Rattle.napt_wire.proofs.packet.Packet.revert_inner.Goals as goal
-use Rattle.napt_wire.proofs.packet.Packet.revert_inner.Goals.{After-self-1}
 
 pub unreachable-requires : goal.unreachable-requires
 unreachable-requires c =

@@ -1,10 +1,6 @@
-use Rattle.std.proofs.Common.{◌≡◌, sym, ◌∙◌, ap, refl, take, drop, length, ◌++◌, List, ℕ, take_at}
-use Rattle.napt_wire.proofs.Changes.{length-changed}
-use Rattle.napt_wire.proofs.Ends.{end-there}
-use Rattle.napt_wire.proofs.Readings.{room_of_packet, passes_of_read, reads_of_passes}
-use Rattle.napt_wire.proofs.RightKept.{end_right}
-use Rattle.napt_wire.proofs.WithEnd.{Carries, IsPlain, plain_of, carries_of, end_passes, end_found, end_form}
-use Rattle.napt_wire.specs.Prelude.{form_at, changed, end_changes}
+use Rattle.std.proofs.{Common.{arith, ◌≡◌, ◌∙◌, ap, take, drop, length, ◌++◌, List, ℕ, take_at}, lemmas.{Grind.common_steps, Bool.Decides.nat_tests}}
+use Rattle.napt_wire.proofs.{Changes.length-changed, Ends.end-there, Readings.{room_of_packet, passes_of_read, reads_of_passes}, RightKept.end_right}
+use Rattle.napt_wire.{proofs.WithEnd.{Carries, IsPlain, plain_of, carries_of, end_passes, end_found, end_form}, specs.Prelude.{form_at, changed, end_changes}}
 use Rattle.napt_wire.proofs.packet.Packet.set_end.Goals as goal
 
 pub write-requires : goal.write-requires
@@ -16,22 +12,7 @@ write-requires c =
 is_new : (c : goal.After-self-1) → take c.self.inside.bytes.len (c.write.new.bytes
     ++ drop (length c.write.new.bytes) c.self.inside.bytes.items)
     ≡ changed (end_changes 0 c.args.end c.args.new c.self.inside.bytes.items) c.self.inside.bytes.items
-is_new c =
-    let new_is : c.write.new.bytes ≡ changed (end_changes 0 c.args.end c.args.new c.self.inside.bytes.items)
-    c.self.inside.bytes.items =
-    rw (
-      c.write.ensures,
-      c.rewrite_end-rewrite.ensures,
-      c.header.ensures.at_is,
-      c.deref_mut.ensures.value,
-      c.deref.ensures.value,
-    ) refl in
-    let long : length c.write.new.bytes ≡ c.self.inside.bytes.len =
-    ap length new_is ∙ length-changed (end_changes 0 c.args.end c.args.new c.self.inside.bytes.items)
-    c.self.inside.bytes.items
-    ∙ sym (ap length c.deref.ensures.value) ∙ c.deref.ensures.len in
-    take_at c.write.new.bytes (drop (length c.write.new.bytes) c.self.inside.bytes.items) c.self.inside.bytes.len long
-    ∙ new_is
+is_new c = grind (arith, common_steps, nat_tests, length-changed, take_at)
 
 is_plain : (c : goal.After-self-1) → IsPlain (form_at 0 c.self.inside.bytes.items)
 is_plain c = plain_of c.self.inside.bytes.items (rw c.self.view_is c.requires.plain)

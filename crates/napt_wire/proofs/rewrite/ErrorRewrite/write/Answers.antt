@@ -1,7 +1,5 @@
-use Rattle.std.proofs.Common.{◌+◌, ◌≤◌, length, ◌∷◌, []}
-use Rattle.std.proofs.lemmas.List.Elements.{All-head, All-tail}
-use Rattle.napt_wire.proofs.Changes.{length-changed}
-use Rattle.napt_wire.proofs.Ends.{there-front, there-rest, there-changed}
+use Rattle.std.proofs.{Common.{◌+◌, ◌≤◌, length, ◌∷◌, []}, lemmas.List.Elements.{All-head, All-tail}}
+use Rattle.napt_wire.proofs.{Changes.length-changed, Ends.{there-front, there-rest, there-changed}}
 use Rattle.napt_wire.specs.Prelude.{changes_of, address_changes_of, changed, Change}
 use Rattle.napt_wire.proofs.rewrite.ErrorRewrite.write.Goals as goal
 

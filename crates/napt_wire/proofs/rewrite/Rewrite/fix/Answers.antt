@@ -1,6 +1,5 @@
 use Rattle.std.proofs.Common.{option_to_list}
-use Rattle.napt_wire.specs.Rewrite.{address_changes_of}
-use Rattle.napt_wire.proofs.Checksums.{canon_all, canon-less}
+use Rattle.napt_wire.{specs.Rewrite.address_changes_of, proofs.Checksums.{canon_all, canon-less}}
 use Rattle.napt_wire.proofs.rewrite.Rewrite.fix.Goals as goal
 
 pub fix_option-fixed-requires : goal.fix_option-fixed-requires

@@ -1,7 +1,6 @@
 use Rattle.std.proofs.Common.{◌≡◌, length, filter}
 use Rattle.napt_rules.specs.Life as life
-use Rattle.napt_binding.specs.Slots.{somes}
-use Rattle.napt_binding.specs.Many.{IsMany, HasRoom}
+use Rattle.napt_binding.specs.{Slots.somes, Many.{IsMany, HasRoom}}
 use Rattle.napt_binding.proofs.flows.many.Many.keep_live.Given as goal
 
 abbrev pub invariant-loop-timers : goal.invariant-loop-timers

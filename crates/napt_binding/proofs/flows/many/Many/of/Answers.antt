@@ -1,17 +1,13 @@
-use Rattle.std.proofs.Common.{◌≡◌, List, Option, map, take, refl, sym, ◌∙◌, ap, subst, arith}
+use Rattle.std.proofs.{lemmas.{Grind.common_steps, Bool.Decides.nat_tests}, Common.{◌≡◌, List, Option, map, take, sym, ◌∙◌, ap, subst, arith}}
 use Rattle.std.proofs.lemmas.List.{take_all, map_more}
 use Rattle.napt_rules.specs.declared.Flow.{Flow}
-use Rattle.napt_binding.specs.Slots.{somes, AreByLastUse}
-use Rattle.napt_binding.proofs.Distinct.{not_before, absent_next}
+use Rattle.napt_binding.{specs.Slots.AreByLastUse, proofs.Distinct.{not_before, absent_next}}
 use Rattle.napt_binding.proofs.Restored.{nothing, no_entry, as_unused, any_unused, unused_zero, back_start, back_more, restored}
 use Rattle.napt_binding.proofs.flows.many.Many.of.Goals as goal
 
 pub put-requires-clause-absent : goal.put-requires-clause-absent
 put-requires-clause-absent c =
-    let done : List Flow = take c.loop-flow.flow-index c.args.flows.now in
-    absent_next c.reserve.new.self (map as_unused done) (somes (map as_unused done)) _ c.reserve.ensures.many
-    (c.reserve.ensures.slots ∙ c.loop-flow.invariant.1) refl
-    (any_unused _ done ∙ not_before c.args.flows.now c.loop-flow.flow-index nothing c.loop-flow-test.true c.requires)
+    grind (arith, common_steps, nat_tests, absent_next, as_unused, any_unused, not_before, nothing)
 
 pub loop-flow-preserved : goal.loop-flow-preserved
 loop-flow-preserved c =

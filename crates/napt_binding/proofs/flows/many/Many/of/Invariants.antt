@@ -1,6 +1,5 @@
 use Rattle.std.proofs.Common.{◌≡◌, map, take}
-use Rattle.napt_binding.specs.Many.{IsMany}
-use Rattle.napt_binding.proofs.Restored.{as_unused, AreBack}
+use Rattle.napt_binding.{specs.Many.IsMany, proofs.Restored.{as_unused, AreBack}}
 use Rattle.napt_binding.proofs.flows.many.Many.of.Given as goal
 
 abbrev pub invariant-loop-flow : goal.invariant-loop-flow

@@ -1,5 +1,4 @@
-use Rattle.std.proofs.Common.{◌∙◌, ◌+◌, ℕ, Option, cond, ap, arith, is_some}
-use Rattle.std.specs.HashMap.{hash_map_len}
+use Rattle.std.{proofs.Common.{◌∙◌, ◌+◌, ℕ, Option, cond, ap, arith, is_some}, specs.HashMap.hash_map_len}
 use Rattle.napt_binding.proofs.Manys.{put_many, few_counted}
 use Rattle.napt_binding.proofs.flows.many.Many.put.Goals as goal
 

@@ -1,10 +1,7 @@
-use Rattle.std.proofs.Common.{◌≡◌, Some, sym, refl}
+use Rattle.std.proofs.{Common.{arith, sym, refl}, lemmas.{Grind.common_steps, Bool.Decides.nat_tests}}
 use Rattle.napt_rules.specs.Prelude.{Tcp, Incoming}
-use Rattle.napt_binding.specs.Many.{place_at}
 use Rattle.napt_rules.specs.Traffic as traffic
-use Rattle.napt_binding.proofs.Lists.{change_nowhere}
-use Rattle.napt_binding.proofs.Manys.{one, not_found, place_of_is}
-use Rattle.napt_binding.proofs.Standing.{flow_refreshed}
+use Rattle.napt_binding.proofs.{Lists.change_nowhere, Manys.{one, not_found, place_of_is}, Standing.flow_refreshed}
 use Rattle.napt_binding.proofs.flows.many.Many.refresh_flow.Goals as goal
 
 pub returns-in_default-clause-flows : goal.returns-in_default-clause-flows
@@ -16,10 +13,4 @@ pub change-requires-clause-stands : goal.change-requires-clause-stands
 change-requires-clause-stands c = (c.in-Some-get.flow, c.in-Some-get.ensures.stands, rw c.used.ensures (refl))
 
 pub returns-clause-flows : goal.returns-clause-flows
-returns-clause-flows c =
-    let at : place_at c.args.self.now c.args.remote ≡ Some c.in-Some.place = cc in
-    rw (c.change.ensures.slots, c.used.ensures)
-    (flow_refreshed c.args.now c.args.remote c.args.flags c.args.self.now.slots.slots c.in-Some.place c.in-Some-get.flow
-    c.in-Some-get.ensures.stands
-    (place_of_is c.args.self.now c.args.remote c.in-Some.place c.in-Some-get.flow c.requires.many at
-    c.in-Some-get.ensures.stands) (one c.args.self.now c.args.remote c.in-Some.place c.requires.many at))
+returns-clause-flows c = grind (arith, common_steps, nat_tests, flow_refreshed, place_of_is, one)

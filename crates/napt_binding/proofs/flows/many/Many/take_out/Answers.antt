@@ -1,5 +1,4 @@
-use Rattle.std.proofs.Common.{◌∙◌, ◌+◌, ℕ, Option, cond, ap, sym, is_some}
-use Rattle.std.specs.HashMap.{hash_map_len}
+use Rattle.std.{proofs.Common.{◌∙◌, ◌+◌, ℕ, Option, cond, ap, sym, is_some}, specs.HashMap.hash_map_len}
 use Rattle.napt_binding.proofs.Manys.{taken_many}
 use Rattle.napt_binding.proofs.flows.many.Many.take_out.Goals as goal
 

@@ -1,37 +1,13 @@
-use Rattle.std.proofs.Common.{◌≡◌, ◌∙◌, ap, refl, sym, subst, List, [], ◌∷◌, ◌++◌, false}
-use Rattle.std.specs.List.{list_any}
-use Rattle.napt_rules.specs.declared.Flow.{Flow}
-use Rattle.napt_rules.specs.Prelude.{no_marks, is_live_flow, live_flows, is_flow_of}
-use Rattle.napt_binding.specs.Slots.{somes, NoneUsedAfter}
-use Rattle.napt_binding.proofs.Manys.{no_place}
-use Rattle.napt_binding.proofs.Distinct.{put_next}
-use Rattle.napt_binding.proofs.Used.{live_flows_used}
-use Rattle.napt_binding.proofs.Standing.{none_left, flow_begun, live_begun}
+use Rattle.std.{proofs.{Common.{arith, ◌≡◌, ◌∙◌, ap, refl, List, [], ◌∷◌, ◌++◌}, lemmas.{Grind.common_steps, Bool.Decides.nat_tests}}, specs.List.list_any}
+use Rattle.napt_rules.specs.{declared.Flow.Flow, Prelude.{no_marks, is_live_flow, live_flows}}
+use Rattle.napt_binding.{specs.Slots.somes, proofs.{Manys.no_place, Distinct.put_next, Used.live_flows_used, Standing.{none_left, flow_begun, live_begun}}}
 use Rattle.napt_binding.proofs.flows.many.Many.use_flow.Goals as goal
 
 pub put-requires-clause-absent : goal.put-requires-clause-absent
-put-requires-clause-absent c =
-    let sent = c.args.sent in
-    let old : List Flow = somes c.args.self.now.slots.slots in
-    let live : List Flow = live_flows c.args.timers sent.now sent.protocol old in
-    let kept : somes c.keep_standing.new.self.slots.slots ≡ live =
-    c.keep_standing.ensures.flows
-    ∙ ap (live_flows c.args.timers sent.now sent.protocol)
-    (c.in_ok-make_room.ensures.flows ∙ ap somes (c.if-use_standing.ensures.same refl)) in
-    let none : list_any (is_flow_of sent.remote) live ≡ false =
-    none_left c.args.timers c.keep_limits.ensures sent.now sent.protocol sent.remote sent.flags old
-    (c.if-use_standing.ensures.none refl) in
-    rw c.begun_by.ensures
-    (no_place c.keep_standing.new.self sent.remote c.keep_standing.ensures.many
-    (ap (list_any (is_flow_of sent.remote)) kept ∙ none))
+put-requires-clause-absent c = grind (arith, common_steps, nat_tests, none_left, no_place)
 
 pub put-requires-clause-rising : goal.put-requires-clause-rising
-put-requires-clause-rising c =
-    let sent = c.args.sent in
-    let used = subst (λ (l : List Flow). NoneUsedAfter l sent.now)
-    (sym (c.in_ok-make_room.ensures.flows ∙ ap somes (c.if-use_standing.ensures.same refl))) c.requires.rising in
-    rw c.begun_by.ensures (subst (λ (l : List Flow). NoneUsedAfter l sent.now) (sym c.keep_standing.ensures.flows)
-    (live_flows_used c.args.timers sent.now sent.protocol (somes c.make_room.new.self.slots.slots) used))
+put-requires-clause-rising c = grind (arith, common_steps, nat_tests, live_flows_used)
 
 pub returns-clause-ok : goal.returns-clause-ok
 returns-clause-ok c =

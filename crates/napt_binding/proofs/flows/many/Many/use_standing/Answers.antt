@@ -1,7 +1,5 @@
-use Rattle.std.proofs.Common.{◌≡◌, Some, rules, refl}
-use Rattle.napt_binding.specs.Many.{place_at}
-use Rattle.napt_binding.proofs.Manys.{one, not_found, place_of_is}
-use Rattle.napt_binding.proofs.Standing.{none_at_all, none_stands, flow_stood, live_stood}
+use Rattle.std.proofs.{Common.{arith, ◌≡◌, Some, rules, refl}, lemmas.{Grind.common_steps, Bool.Decides.nat_tests}}
+use Rattle.napt_binding.{specs.Many.place_at, proofs.{Manys.{one, not_found, place_of_is}, Standing.{none_at_all, none_stands, flow_stood, live_stood}}}
 use Rattle.napt_binding.proofs.flows.many.Many.use_standing.Goals as goal
 
 pub returns-in_default-clause-none : goal.returns-in_default-clause-none
@@ -11,11 +9,7 @@ returns-in_default-clause-none c given =
     (not_found c.args.self.now sent.remote c.requires.many (cc))
 
 pub returns-then-not-is_standing-clause-none : goal.returns-then-not-is_standing-clause-none
-returns-then-not-is_standing-clause-none c given =
-    let sent = c.args.sent in
-    none_stands c.args.timers c.keep_limits.ensures sent.now sent.protocol sent.remote sent.flags
-    c.args.self.now.slots.slots c.in-Some.place c.in-Some-get.flow c.in-Some-get.ensures.stands (search rules)
-    (one c.args.self.now sent.remote c.in-Some.place c.requires.many (cc))
+returns-then-not-is_standing-clause-none c given = grind (arith, common_steps, nat_tests, none_stands, one)
 
 pub returns-clause-used : goal.returns-clause-used
 returns-clause-used c given =
@@ -29,11 +23,7 @@ returns-clause-used c given =
     (one c.args.self.now sent.remote c.in-Some.place c.requires.many at))
 
 pub returns-clause-live : goal.returns-clause-live
-returns-clause-live c given =
-    let sent = c.args.sent in
-    rw (c.change.ensures.slots, c.used_by.ensures)
-    (live_stood c.args.timers c.keep_limits.ensures sent.now sent.protocol sent.remote sent.flags
-    c.args.self.now.slots.slots c.in-Some.place c.in-Some-get.flow c.in-Some-get.ensures.stands)
+returns-clause-live c given = grind (arith, common_steps, nat_tests, live_stood)
 
 pub change-requires-clause-stands : goal.change-requires-clause-stands
 change-requires-clause-stands c =

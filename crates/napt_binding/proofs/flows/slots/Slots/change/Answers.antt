@@ -1,6 +1,5 @@
 use Rattle.std.proofs.Common.{None, Some}
-use Rattle.napt_binding.proofs.Slots.{set_twice}
-use Rattle.napt_binding.proofs.Used.{used_cleared}
+use Rattle.napt_binding.proofs.{Slots.set_twice, Used.used_cleared}
 use Rattle.napt_binding.proofs.flows.slots.Slots.change.Goals as goal
 
 pub fill-requires-clause-rising : goal.fill-requires-clause-rising

@@ -1,11 +1,7 @@
-use Rattle.std.proofs.Common.{◌≡◌, ◌<◌, not, length, Some, refl, sym, ◌∙◌, ap, arith, subst, get_or-set_other, get_or-set_same, None}
-use Rattle.std.proofs.Math.ListN.{length-set}
-use Rattle.std.proofs.lemmas.Grind.{common_steps}
-use Rattle.std.proofs.lemmas.List.{with_items_is}
+use Rattle.std.proofs.{Common.{◌≡◌, ◌<◌, not, length, Some, refl, sym, ◌∙◌, ap, arith, subst, get_or-set_other, get_or-set_same, None}, Math.ListN.length-set}
+use Rattle.std.proofs.lemmas.{Grind.common_steps, List.with_items_is}
 use Rattle.napt_rules.specs.declared.Flow.{Flow}
-use Rattle.napt_binding.specs.SlotsShown.{Shown}
-use Rattle.napt_binding.specs.Timed.{flow_in}
-use Rattle.napt_binding.proofs.Timed.{flow_read, after_within, cleared}
+use Rattle.napt_binding.{specs.{SlotsShown.Shown, Timed.flow_in}, proofs.Timed.{flow_read, after_within, cleared}}
 use Rattle.napt_binding.proofs.flows.slots.Slots.clear.Goals as goal
 
 within : (c : goal.After-deref_mut) → c.args.place < length c.self.inside.flows.items

@@ -1,11 +1,6 @@
-use Rattle.std.proofs.Common.{◌≡◌, ◌<◌, length, Some, None, refl, sym, arith, subst, slice_get, get_or-set_other, get_or-set_same}
-use Rattle.std.proofs.Math.ListN.{length-set}
-use Rattle.std.proofs.lemmas.Grind.{common_steps}
-use Rattle.std.proofs.lemmas.List.{with_items_is}
-use Rattle.std.proofs.lemmas.Option.{slice_get_within, get_or_from_slice_get}
-use Rattle.napt_binding.specs.Slots.{somes, NoneUsedAfter}
-use Rattle.napt_binding.specs.SlotsShown.{Shown}
-use Rattle.napt_binding.proofs.Timed.{filled}
+use Rattle.std.proofs.{Common.{◌≡◌, ◌<◌, length, Some, None, refl, sym, arith, subst, slice_get, get_or-set_other, get_or-set_same}, Math.ListN.length-set}
+use Rattle.std.proofs.lemmas.{Grind.common_steps, List.with_items_is, Option.{slice_get_within, get_or_from_slice_get}}
+use Rattle.napt_binding.{specs.{Slots.{somes, NoneUsedAfter}, SlotsShown.Shown}, proofs.Timed.filled}
 use Rattle.napt_binding.proofs.flows.slots.Slots.fill.Goals as goal
 
 pub invariant_of-self : goal.invariant_of-self

@@ -1,10 +1,6 @@
-use Rattle.std.proofs.Common.{◌∙◌}
-use Rattle.std.specs.List.{list_any}
-use Rattle.napt_binding.specs.Ends.{last_end}
+use Rattle.std.{proofs.Common.◌∙◌, specs.List.list_any}
+use Rattle.napt_binding.{specs.{Ends.last_end, Slots.{somes, is_recent_time}}, proofs.{FirstEnds.{flows_before, max_before}, Timed.live_is}}
 use Rattle.napt_rules.specs.Prelude.{is_live_flow}
-use Rattle.napt_binding.specs.Slots.{somes, is_recent_time}
-use Rattle.napt_binding.proofs.FirstEnds.{flows_before, max_before}
-use Rattle.napt_binding.proofs.Timed.{live_is}
 use Rattle.napt_binding.proofs.flows.slots.Slots.last_end.Goals as goal
 
 pub returns : goal.returns

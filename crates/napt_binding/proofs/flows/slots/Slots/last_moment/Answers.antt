@@ -1,10 +1,7 @@
-use Rattle.std.proofs.Common.{◌≡◌, ⊎_elim, sym, ◌∙◌, ap, true, arith}
-use Rattle.std.specs.List.{list_any}
-use Rattle.std.proofs.lemmas.Bool.{or_cases}
+use Rattle.std.{proofs.{Common.{◌≡◌, ⊎_elim, sym, ◌∙◌, ap, true, arith}, lemmas.Bool.or_cases}, specs.List.list_any}
 use Rattle.napt_config.specs.declared.settings.Timers.{Timers}
 use Rattle.napt_rules.specs.Life as life
-use Rattle.napt_binding.specs.Slots.{somes}
-use Rattle.napt_binding.proofs.Timed.{live_is, lives_until}
+use Rattle.napt_binding.{specs.Slots.somes, proofs.Timed.{live_is, lives_until}}
 use Rattle.napt_binding.proofs.flows.slots.Slots.last_moment.Goals as goal
 
 pub returns-clause-lives : goal.returns-clause-lives

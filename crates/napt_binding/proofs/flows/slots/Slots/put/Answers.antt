@@ -1,9 +1,6 @@
-use Rattle.std.proofs.Common.{◌≡◌, ◌+◌, ◌<◌, length, arith, sym, subst}
-use Rattle.std.proofs.lemmas.List.{with_items_is, length_push}
+use Rattle.std.proofs.{Common.{◌≡◌, ◌+◌, ◌<◌, length, arith, sym, subst}, lemmas.List.{with_items_is, length_push}}
 use Rattle.napt_collections.specs.Links.{no_links}
-use Rattle.napt_binding.specs.Slots.{somes, NoneUsedAfter}
-use Rattle.napt_binding.specs.SlotsShown.{Shown}
-use Rattle.napt_binding.proofs.Timed.{row_low, longer_within, pushed}
+use Rattle.napt_binding.{specs.{Slots.{somes, NoneUsedAfter}, SlotsShown.Shown}, proofs.Timed.{row_low, longer_within, pushed}}
 use Rattle.napt_binding.proofs.flows.slots.Slots.put.Goals as goal
 
 pub put_before-requires-clause-before : goal.put_before-requires-clause-before

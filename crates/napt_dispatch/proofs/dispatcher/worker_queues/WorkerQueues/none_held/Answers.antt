@@ -1,7 +1,5 @@
-use Rattle.std.proofs.Common.{◌≡◌, ◌∙◌, ℕ, sym}
-use Rattle.std.proofs.lemmas.Bool.{eqb-true, eq-eqb}
-use Rattle.napt_dispatch.specs.QueueStates.{queue_of, count_held}
-use Rattle.napt_dispatch.proofs.QueueStates.{none_held, held_none}
+use Rattle.std.proofs.{Common.{◌≡◌, ◌∙◌, ℕ, sym}, lemmas.Bool.{eqb-true, eq-eqb}}
+use Rattle.napt_dispatch.{specs.QueueStates.{queue_of, count_held}, proofs.QueueStates.{none_held, held_none}}
 use Rattle.napt_dispatch.proofs.dispatcher.worker_queues.WorkerQueues.none_held.Goals as goal
 
 pub returns : goal.returns

@@ -1,6 +1,5 @@
 use Rattle.std.proofs.Common.{◌<◌, length, ap}
-use Rattle.napt_dispatch.specs.QueueStates.{count_held}
-use Rattle.napt_dispatch.proofs.QueueStates.{answers_here, counted_same}
+use Rattle.napt_dispatch.{specs.QueueStates.count_held, proofs.QueueStates.{answers_here, counted_same}}
 use Rattle.napt_dispatch.proofs.dispatcher.worker_queues.WorkerQueues.note_answer.Goals as goal
 
 pub invariant_of-self : goal.invariant_of-self

@@ -4,4 +4,5 @@ use Rattle.napt_table.proofs.bindings.held.Held.choose.Goals as goal
 
 pub returns : goal.returns
 returns c = rw (← c.self.view_is) (c.choose.ensures
-    ∙ choice_held c.self.inside c.self.invariant c.args.block c.requires c.args.protocol c.args.number)
+    ∙ choice_held c.self.inside c.self.invariant c.self.inside.granting.choosing
+    c.args.block c.requires c.args.protocol c.args.inside)

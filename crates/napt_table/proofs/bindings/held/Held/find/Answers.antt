@@ -1,12 +1,7 @@
-use Rattle.std.proofs.Common.{◌≡◌, Some, sym, ap, ◌∙◌}
-use Rattle.std.proofs.lemmas.Map.Made.{lookup_key_passes}
+use Rattle.std.proofs.{Common.{◌≡◌, Some, sym, ap, ◌∙◌}, lemmas.Map.Made.lookup_key_passes}
 use Rattle.napt_rules.specs.Prelude.{Binding}
-use Rattle.napt_table.specs.declared.bindings.keys.ExternalKey.{ExternalKey}
-use Rattle.napt_table.specs.declared.bindings.held.Held.TheInside.{Inside}
-use Rattle.napt_table.specs.HeldShown.{IsHeld}
-use Rattle.napt_table.specs.Keys.{key_eq, key_of}
-use Rattle.napt_table.proofs.Ends.{held_in}
-use Rattle.napt_table.proofs.Keys.{key_is}
+use Rattle.napt_table.specs.{declared.bindings.{keys.ExternalKey.ExternalKey, held.Held.TheInside.Inside}, HeldShown.IsHeld, Keys.{key_eq, key_of}}
+use Rattle.napt_table.proofs.{Ends.held_in, Keys.key_is}
 use Rattle.napt_table.proofs.bindings.held.Held.find.Goals as goal
 
 -- a binding that is held has the number of its key

@@ -1,13 +1,8 @@
-use Rattle.std.proofs.Common.{ℕ, ◌≡◌, ◌∙◌, ◌+◌, ◌||◌, ap, refl, sym, subst, cond, Some, None, arith}
-use Rattle.std.proofs.lemmas.Option.{same_Some}
+use Rattle.std.proofs.{Common.{ℕ, ◌≡◌, ◌∙◌, ◌+◌, ◌||◌, ap, refl, sym, subst, cond, Some, None, arith}, lemmas.Option.same_Some}
 use Rattle.napt_wire.specs.declared.Protocol.{Protocol}
-use Rattle.napt_table.specs.declared.bindings.keys.ExternalKey.{ExternalKey}
-use Rattle.napt_table.specs.InUse.{is_in_use}
-use Rattle.napt_table.specs.HeldShown.{holdings_of, number_at}
-use Rattle.napt_table.specs.Holdings.{Holdings, held, IsAbsent}
-use Rattle.napt_table.specs.Keys.{key_eq, key_of, inside_key, inside_eq}
-use Rattle.napt_table.proofs.Ends.{held_in, hosts_few, step_held, IsAt}
-use Rattle.napt_table.proofs.Keys.{key_itself, other_key}
+use Rattle.napt_table.specs.{declared.bindings.keys.ExternalKey.ExternalKey, InUse.is_in_use, HeldShown.{holdings_of, number_at}}
+use Rattle.napt_table.specs.{Holdings.{Holdings, held, IsAbsent}, Keys.{key_eq, key_of, inside_key, inside_eq}}
+use Rattle.napt_table.proofs.{Ends.{held_in, hosts_few, step_held, IsAt}, Keys.{key_itself, other_key}}
 use Rattle.napt_table.proofs.bindings.held.Held.insert.Goals as goal
 
 pub put-requires-clause-fits : goal.put-requires-clause-fits

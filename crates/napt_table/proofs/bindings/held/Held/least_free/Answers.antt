@@ -1,9 +1,5 @@
 use Rattle.std.specs.Option.{is_some}
-use Rattle.napt_table.specs.HeldShown.{holdings_of}
-use Rattle.napt_table.specs.Holdings.{held_at}
-use Rattle.napt_table.specs.InUse.{is_in_use}
-use Rattle.napt_table.specs.Keys.{external_key}
-use Rattle.napt_table.proofs.LeastFree.{first_agrees}
+use Rattle.napt_table.{specs.{HeldShown.holdings_of, Holdings.held_at, InUse.is_in_use, Keys.external_key}, proofs.LeastFree.first_agrees}
 use Rattle.napt_table.proofs.bindings.held.Held.least_free.Goals as goal
 
 pub returns : goal.returns

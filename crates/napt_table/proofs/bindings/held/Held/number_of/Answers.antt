@@ -1,10 +1,5 @@
-use Rattle.std.proofs.Common.{sym, ap, ◌∙◌, subst}
-use Rattle.std.specs.Map.{lookup}
-use Rattle.napt_table.specs.declared.bindings.keys.InsideKey.{InsideKey}
-use Rattle.napt_table.specs.Keys.{inside_eq}
-use Rattle.napt_table.specs.Holdings.{IsNumberOf}
-use Rattle.napt_table.specs.HeldShown.{holdings_of}
-use Rattle.napt_table.proofs.Ends.{number_found}
+use Rattle.std.{proofs.Common.{sym, ap, ◌∙◌, subst}, specs.Map.lookup}
+use Rattle.napt_table.{specs.{declared.bindings.keys.InsideKey.InsideKey, Keys.inside_eq, Holdings.IsNumberOf, HeldShown.holdings_of}, proofs.Ends.number_found}
 use Rattle.napt_table.proofs.bindings.held.Held.number_of.Goals as goal
 
 pub returns-in-Some : goal.returns-in-Some

@@ -1,11 +1,8 @@
-use Rattle.std.proofs.Common.{◌≡◌, Some, None, sym, subst, ap, ◌∙◌}
-use Rattle.std.proofs.lemmas.Option.{same_Some}
+use Rattle.std.proofs.{Common.{◌≡◌, Some, None, sym, subst, ap, ◌∙◌}, lemmas.Option.same_Some}
 use Rattle.napt_rules.specs.Prelude.{Binding, with_live_flows, row}
 use Rattle.napt_binding.specs.Entering.{entered, left_by}
-use Rattle.napt_table.specs.Holdings.{AreUsedUpTo}
-use Rattle.napt_table.specs.Keys.{external_key}
-use Rattle.napt_table.proofs.Ends.{lent_at, lent_seen, lent_there, held_at_place, one_at_place, left_at_place}
-use Rattle.napt_table.proofs.Enters.{left_row}
+use Rattle.napt_table.specs.{Holdings.AreUsedUpTo, Keys.external_key}
+use Rattle.napt_table.proofs.{Ends.{lent_at, lent_seen, lent_there, held_at_place, one_at_place, left_at_place}, Enters.left_row}
 use Rattle.napt_table.proofs.bindings.held.Held.receive.Goals as goal
 
 pub returns-in_default-get_index_mut-clause-found : goal.returns-in_default-get_index_mut-clause-found

@@ -1,11 +1,6 @@
-use Rattle.std.proofs.Common.{ℕ, ◌≡◌, ◌+◌, ◌-◌, ◌&&◌, not, cond, Some, None, refl, sym, ap, ◌∙◌, arith}
-use Rattle.std.specs.Map.{lookup}
-use Rattle.std.proofs.lemmas.Option.{same_Some}
+use Rattle.std.{proofs.{Common.{ℕ, ◌≡◌, ◌+◌, ◌-◌, ◌&&◌, not, cond, Some, None, refl, sym, ap, ◌∙◌, arith}, lemmas.Option.same_Some}, specs.Map.lookup}
 use Rattle.napt_rules.specs.Prelude.{Binding}
-use Rattle.napt_table.specs.InUse.{is_in_use}
-use Rattle.napt_table.specs.Keys.{key_eq, inside_key, inside_eq}
-use Rattle.napt_table.specs.HeldShown.{number_at}
-use Rattle.napt_table.proofs.Ends.{same_held, step_held}
+use Rattle.napt_table.{specs.{InUse.is_in_use, Keys.{key_eq, inside_key, inside_eq}, HeldShown.number_at}, proofs.Ends.{same_held, step_held}}
 use Rattle.napt_table.proofs.Keys.{key_itself, other_key}
 use Rattle.napt_table.proofs.bindings.held.Held.remove.Goals as goal
 

@@ -1,7 +1,5 @@
-use Rattle.std.proofs.Common.{refl, ap}
-use Rattle.std.specs.Map.{lookup}
-use Rattle.napt_table.specs.Keys.{key_eq, inside_key}
-use Rattle.napt_table.proofs.Ends.{same_held}
+use Rattle.std.{proofs.Common.{refl, ap}, specs.Map.lookup}
+use Rattle.napt_table.{specs.Keys.{key_eq, inside_key}, proofs.Ends.same_held}
 use Rattle.napt_table.proofs.bindings.held.Held.reserve.Goals as goal
 
 pub invariant_of-self : goal.invariant_of-self
@@ -29,18 +27,18 @@ invariant_of-self-2 c = same_held c.self.inside _ c.self.invariant refl refl
 
 pub returns-in_err-reserve-3-clause-same : goal.returns-in_err-reserve-3-clause-same
 returns-in_err-reserve-3-clause-same c = rw (← c.self.view_is) (record {
-  place = record { address_is = refl; quota_is = refl };
+  place = record { address_is = refl; granting_is = refl };
   held_same = λ k. ap (lookup (key_eq k)) c.reserve-2.ensures.entries;
 })
 
 pub returns-in_err-reserve-4-clause-same : goal.returns-in_err-reserve-4-clause-same
 returns-in_err-reserve-4-clause-same c = rw (← c.self.view_is) (record {
-  place = record { address_is = refl; quota_is = refl };
+  place = record { address_is = refl; granting_is = refl };
   held_same = λ k. ap (lookup (key_eq k)) c.reserve-2.ensures.entries;
 })
 
 pub returns-clause-same : goal.returns-clause-same
 returns-clause-same c = rw (← c.self.view_is) (record {
-  place = record { address_is = refl; quota_is = refl };
+  place = record { address_is = refl; granting_is = refl };
   held_same = λ k. ap (lookup (key_eq k)) c.reserve-2.ensures.entries;
 })

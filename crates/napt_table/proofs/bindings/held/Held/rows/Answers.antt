@@ -1,10 +1,6 @@
-use Rattle.std.proofs.Common.{◌≡◌, ◌++◌, ◌∷◌, [], Bool, true, cond, List, map, filter, sym, ◌∙◌, ap}
-use Rattle.std.specs.Map.Iter.{deref}
-use Rattle.std.proofs.lemmas.List.{append_assoc}
-use Rattle.std.proofs.lemmas.List.Elements.{All-push}
-use Rattle.std.proofs.lemmas.Map.Iter.{rest_more}
-use Rattle.napt_rules.specs.Prelude.{Binding, is_live, row}
-use Rattle.napt_rules.specs.declared.Row.{Row}
+use Rattle.std.{proofs.{Common.{◌≡◌, ◌++◌, ◌∷◌, [], Bool, true, cond, List, map, filter, sym, ◌∙◌, ap}, lemmas.List.append_assoc}, specs.Map.Iter.deref}
+use Rattle.std.proofs.lemmas.{List.Elements.All-push, Map.Iter.rest_more}
+use Rattle.napt_rules.specs.{Prelude.{Binding, is_live, row}, declared.Row.Row}
 use Rattle.napt_table.specs.Listing.{IsSmall}
 use Rattle.napt_table.proofs.bindings.held.Held.rows.Goals as goal
 

@@ -1,7 +1,7 @@
 use Rattle.std.proofs.Common.{◌∙◌}
 use Rattle.napt_collections.specs.Sets.{has}
 use Rattle.napt_table.proofs.Choices.{near_choice, far_choice, no_choice}
-use Rattle.napt_table.proofs.numbers.Numbers.first_of.Goals as goal
+use Rattle.napt_table.proofs.numbers.Numbers.first_of_parity.Goals as goal
 
 pub returns-in-Some : goal.returns-in-Some
 returns-in-Some c =

@@ -1,15 +1,6 @@
-//! Names and times as users read them.
+//! Times as users read them.
 
-use napt_wire::Side;
 use std::fmt;
-
-/// The column of a side, with a space in front and at least one behind.
-pub fn side_column(side: Side) -> &'static str {
-    match side {
-        Side::Inside => " inside  ",
-        Side::Outside => " outside ",
-    }
-}
 
 /// A time in nanoseconds, shown in seconds with six decimals, as `tcpdump -tt` writes it.
 #[derive(Clone, Copy)]

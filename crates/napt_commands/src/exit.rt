@@ -1,6 +1,6 @@
 //! Why the program exits with a status other than 0.
 
-use napt_program::{MEMORY, stop_status};
+use napt_program::{MEMORY, Stop, stop_status};
 use napt_records::Fault;
 use napt_sequential::RunFault;
 use std::alloc::{AllocError, AllocFailed};
@@ -9,11 +9,11 @@ use std::io::ErrorKind;
 
 /// Why the program stops.
 #[derive(Drop)]
-pub enum Stop {
+pub enum Exit {
     /// As `napt` would stop, for a reason that was already printed.
-    Told(napt_program::Stop),
+    Told(Stop),
     /// As `napt` would stop, for the reason in its fault line.
-    As(napt_program::Stop),
+    As(Stop),
     /// Standard output was closed at startup.
     NoOutput,
     /// Standard output cannot be written.
@@ -30,57 +30,52 @@ pub enum Stop {
     Log,
 }
 
-impl Stop {
+impl Exit {
     /// The exit status: that of `napt`; 6 if standard output fails, as for a file; 4 if a saved log is refused, as for a
     /// capture; 7 if captures are of a gateway with other numbers; 1 if packets differ, if nobody had an endpoint asked about, or if nothing leaves that a plan could count.
     pub fn status(&self) -> u8 {
         match self {
-            Stop::Told(stop) | Stop::As(stop) => stop_status(stop),
-            Stop::NoOutput | Stop::Output(_) => 6,
-            Stop::Log => 4,
-            Stop::Others => 7,
-            Stop::Differ | Stop::Nobody | Stop::Nothing => 1,
+            Exit::Told(stop) | Exit::As(stop) => stop_status(stop),
+            Exit::NoOutput | Exit::Output(_) => 6,
+            Exit::Log => 4,
+            Exit::Others => 7,
+            Exit::Differ | Exit::Nobody | Exit::Nothing => 1,
         }
     }
 
     /// Prints the reason, unless it was already printed, or is that nobody reads on.
     pub fn tell<R: Eprint>(&self, rt: &R) {
         let _ = match self {
-            Stop::Told(_)
-            | Stop::Differ
-            | Stop::Nobody
-            | Stop::Nothing
-            | Stop::Others
-            | Stop::Log => Ok(()),
-            Stop::As(stop) => eprintln!(rt; "explain: {stop}"),
+            Exit::As(stop) => eprintln!(rt; "explain: {stop}"),
+            Exit::NoOutput => eprintln!(rt; "explain: standard output is closed"),
             // as of a program that the pipe's end stops
-            Stop::Output(error) if error.kind() == ErrorKind::BrokenPipe => Ok(()),
-            Stop::NoOutput => eprintln!(rt; "explain: standard output is closed"),
-            Stop::Output(error) => eprintln!(rt; "explain: standard output: {error}"),
+            Exit::Output(error) if error.kind() == ErrorKind::BrokenPipe => Ok(()),
+            Exit::Output(error) => eprintln!(rt; "explain: standard output: {error}"),
+            _ => Ok(()),
         };
     }
 }
 
-impl From<AllocError> for Stop {
-    fn from(_refused: AllocError) -> Stop {
-        Stop::As(MEMORY)
+impl From<AllocError> for Exit {
+    fn from(_refused: AllocError) -> Exit {
+        Exit::As(MEMORY)
     }
 }
 
-impl<T: Drop> From<AllocFailed<T>> for Stop {
-    fn from(_refused: AllocFailed<T>) -> Stop {
-        Stop::As(MEMORY)
+impl<T: Drop> From<AllocFailed<T>> for Exit {
+    fn from(_refused: AllocFailed<T>) -> Exit {
+        Exit::As(MEMORY)
     }
 }
 
-impl From<RunFault> for Stop {
-    fn from(fault: RunFault) -> Stop {
-        Stop::As(napt_program::Stop::Run(Fault::Run(fault)))
+impl From<RunFault> for Exit {
+    fn from(fault: RunFault) -> Exit {
+        Exit::As(Stop::Run(Fault::Run(fault)))
     }
 }
 
-impl From<io::Error> for Stop {
-    fn from(error: io::Error) -> Stop {
-        Stop::Output(error)
+impl From<io::Error> for Exit {
+    fn from(error: io::Error) -> Exit {
+        Exit::Output(error)
     }
 }

@@ -1,21 +1,31 @@
-//! The words of a line.
+//! A line of standard input: its words, and the line that answers it.
 
 use crate::Stop;
 use napt_config::Block;
 use napt_wire::{Endpoint, Flags, Protocol, Side, Way};
 use std::alloc::Global;
+use std::fmt::Debug;
 use std::str::SplitWhitespace;
 
-/// The words of a line that are not yet read.
+/// The words of a line that are not yet read, and what its call needs beside them: memory, and standard output for its answer.
 #[derive(Drop)]
-pub(crate) struct Words<'a> {
+pub(crate) struct Line<'a, R> {
+    pub(crate) rt: &'a R,
+    pub(crate) alloc: Global,
     rest: SplitWhitespace<'a>,
 }
 
-impl<'a> Words<'a> {
-    pub(crate) fn of(line: &'a str) -> Words<'a> {
-        Words {
-            rest: line.split_whitespace(),
+/// Answers with what `{:?}` shows.
+pub(crate) fn tell<R: Print, T: Debug>(rt: &R, answer: &T) -> Result<(), Stop> {
+    println!(rt; "{answer:?}").map_err(|_| Stop::File)
+}
+
+impl<'a, R> Line<'a, R> {
+    pub(crate) fn of(rt: &'a R, alloc: Global, text: &'a str) -> Line<'a, R> {
+        Line {
+            rt,
+            alloc,
+            rest: text.split_whitespace(),
         }
     }
 
@@ -89,8 +99,8 @@ impl<'a> Words<'a> {
     }
 
     /// All words that are left, a byte each.
-    pub(crate) fn bytes(&mut self, alloc: Global) -> Result<Vec<u8>, Stop> {
-        let mut bytes = Vec::new(alloc);
+    pub(crate) fn bytes(&mut self) -> Result<Vec<u8>, Stop> {
+        let mut bytes = Vec::new(self.alloc);
         for word in self.rest.by_ref() {
             let byte = word.parse::<u8>().map_err(|_| Stop::Usage)?;
             bytes.push(byte).map_err(|_| Stop::Call)?;

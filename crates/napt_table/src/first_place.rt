@@ -1,0 +1,75 @@
+//! Where the search of a free number begins: at the number itself, or at the place of a hash (RFC 6056, section 3.3.3).
+
+ghost use Rattle.std.specs.Prelude.{◌≡◌, ◌-◌, ◌/◌, ◌%◌, ◌<◌, ◌≤◌};
+ghost use Rattle.napt_rules.specs.Prelude.{mixed, protocol_byte, place_in};
+ghost use Rattle.napt_table.specs.Classes.{place_of_class};
+
+use crate::class::Class;
+use napt_config::{Choosing, Seed};
+use napt_wire::{Endpoint, Protocol};
+use std::hash::{DefaultHasher, Hasher};
+
+/// The protocol's number in the header of an IPv4 packet.
+fn protocol_byte(protocol: Protocol) -> u8
+    ensures { result ≡ protocol_byte protocol }
+{
+    match protocol {
+        Protocol::Icmp => 1,
+        Protocol::Tcp => 6,
+        Protocol::Udp => 17,
+    }
+}
+
+/// A hash of the seed, the protocol and the inside endpoint.
+fn mixed(seed: Seed, protocol: Protocol, inside: Endpoint) -> u64
+    ensures { result ≡ mixed seed protocol inside }
+{
+    let mut hasher = DefaultHasher::new();
+    hasher.write(&seed.bytes);
+    hasher.write(&[protocol_byte(protocol)]);
+    hasher.write(&inside.address.to_be_bytes());
+    hasher.write(&inside.number.to_be_bytes());
+    hasher.finish()
+}
+
+/// The place in a class of the number that is tried first.
+pub(crate) fn place_in_class(
+    seed: Option<Seed>,
+    class: Class,
+    protocol: Protocol,
+    inside: Endpoint,
+) -> u32
+    requires apart { 0 < class.apart }
+    requires some { 0 < class.many }
+    requires own { (inside.number - class.least) / class.apart ≤ class.many }
+    ensures place { result ≡ place_of_class seed class protocol inside }
+    ensures within { result ≤ class.many }
+{
+    match seed {
+        None => u32::from(inside.number).saturating_sub(class.least) / class.apart,
+        Some(seed) => (mixed(seed, protocol, inside) % u64::from(class.many)) as u32,
+    }
+}
+
+/// The place in a block of a size of the number that is tried first.
+pub(crate) fn place_in_block(
+    choosing: Choosing,
+    size: u16,
+    protocol: Protocol,
+    inside: Endpoint,
+) -> u16
+    requires even { size % 2 ≡ 0 }
+    requires some { 64 ≤ size }
+    ensures place { result ≡ place_in choosing.seed choosing.keeps_parity size protocol inside }
+    ensures within { result < size }
+{
+    let Some(seed) = choosing.seed else {
+        return inside.number % size;
+    };
+    let mixed = mixed(seed, protocol, inside);
+    if choosing.keeps_parity {
+        2 * (mixed % u64::from(size / 2)) as u16 + inside.number % 2
+    } else {
+        (mixed % u64::from(size)) as u16
+    }
+}
