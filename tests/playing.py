@@ -149,8 +149,7 @@ def step_pattern(wanted):
         note, _, out, _, into = told["used"].split()
         used = re.escape(f"Use {{ note: {note.capitalize()}, out: Some({out}), into: Some({into}) }}")
     shown = ((shown_listed, "ended"), (shown_listed, "made"), (shown_shortage, "refused"))
-    lists = (shown_list(map(how, items_of(told.get(name, "none")))) for how, name in shown)
-    return " ".join([*map(re.escape, lists), used])
+    return " ".join([*map(re.escape, (shown_list(map(how, items_of(told.get(name, "none")))) for how, name in shown)), used])
 
 
 def capture_of(text):
@@ -219,7 +218,6 @@ class Run:
         self.called.add(call)
 
     def data(self, words):
-        """The bytes that words say."""
         return texts.packet(words, self.names)
 
     def shown_data(self, words):
@@ -236,7 +234,6 @@ class Run:
         return f"read {side} {told_bytes(self.data(words))}", shown
 
     def on_outbound(self, words, wanted):
-        """Of a host that has a block where words as `in 1088 64` stand behind."""
         words, block = (words[:-3], words[-2:]) if words[-3] == "in" else (words, [])
         protocol, inside, remote, flags = flow(words)
         asked = f"outbound {self.time} {protocol} {endpoint(inside)} {endpoint(remote)} {flags} {' '.join(block)}"
@@ -249,11 +246,9 @@ class Run:
         return asked, shown_result(wanted, shown_endpoint)
 
     def place(self, address):
-        """The place of an address in the pool."""
         return str(tomllib.loads(self.config)["pool"].index(address))
 
     def on_translate(self, words, wanted):
-        """A leg, known by the line's number."""
         address, way, *packet = words
         if packet != ["current"]:
             self.read("inside" if way == "outgoing" else "outside", packet)
@@ -294,11 +289,9 @@ class Run:
         return f"read_capture {told_bytes(self.data(words))}", shown
 
     def on_write_capture(self, words, wanted):
-        asked = f"write_capture {nanoseconds(words[0])} {told_bytes(self.data(words[1:]))}"
-        return asked, f"Ok(()) {self.shown_data(wanted.split())}"
+        return f"write_capture {nanoseconds(words[0])} {told_bytes(self.data(words[1:]))}", f"Ok(()) {self.shown_data(wanted.split())}"
 
     def on_settings(self, words, wanted):
-        """Reads the run's configuration with lines behind it, between which stands ` | `, or bytes."""
         self.steps = []
         text = f"{self.config}{' '.join(words)}".replace(" | ", "\n").encode()
         text = bytes.fromhex(words[1]) if words[:1] == ["bytes"] else text
@@ -306,42 +299,21 @@ class Run:
         return f"settings {told_bytes(text)}", "None" if wanted == "taken" else f"Some({shown_name(wanted)})"
 
     def on_setting(self, words, wanted):
-        """A setting by its name."""
-        name = words[0]
-        if name == "pool":
-            shown = shown_list(texts.endpoint(it)[0] for it in items_of(wanted))
-        elif name == "redirects":
-            shown = wanted_redirects(wanted)
-        elif name == "timers":
-            names = ("udp", "established", "transitory", "icmp")
-            shown = f"Timers {{ {', '.join(map('{}: {}'.format, names, wanted.split()))} }}"
-        elif name == "choosing":
-            parity, numbers = wanted.split()
-            seed = "Some(Seed)" if numbers == "random" else "None"
-            shown = f"Choosing {{ keeps_parity: {str(parity == 'kept').lower()}, seed: {seed} }}"
-        elif name in ("quota", "block"):
-            shown = shown_option(wanted, str)
-        else:
-            shown = shown_name(wanted)
-        return name, shown
+        return words[0], SETTINGS.get(words[0], shown_name)(wanted)
 
     def on_step(self, words, wanted):
-        """An input of the run that `living` logs, and what the log tells with it."""
         self.steps.append(step_pattern(wanted))
         return f"input {words[0]} {self.time} {told_bytes(self.data(words[1:]))}", "taken"
 
     def on_living(self, _words, wanted):
-        """Behind the last step, the entries that have not ended."""
         pattern = "".join(f"{it}; " for it in (*self.steps, re.escape(shown_list(map(shown_listed, items_of(wanted))))))
         return "logged", re.compile(f"{pattern}.*")
 
     def on_log(self, _words, wanted):
-        """Behind the last step, all entries in order of making."""
         pattern = "".join(f"{it}; " for it in self.steps)
         return "logged", re.compile(f"{pattern}.*; {re.escape(shown_list(map(shown_entry, items_of(wanted))))}")
 
     def on_merged(self, words, wanted):
-        """The inputs of two captures, whole and as they are read."""
         inputs = [shown_input(it) for it in items_of(wanted) if not it.startswith("cut ")]
         self.calls.append(Call(self.line, f"merge {told_captures(words)}", shown_list(inputs)))
         return self.on_streamed(words, wanted)
@@ -350,16 +322,19 @@ class Run:
         return self.on_broken(["65535", "0", *words], wanted)
 
     def on_broken(self, words, wanted):
-        """Of the outside at most so many bytes are read at a time, and a call fails, counted from 1."""
         return f"streams {words[0]} {words[1]} {told_captures(words[2:])}", inputs_pattern(wanted)
 
     def on_alone(self, words, wanted):
         return f"stream {told_bytes(capture_of(' '.join(words)))}", inputs_pattern(wanted)
 
     def on_asks(self, words, wanted):
-        """Whether a device is asked before each input, and then at the end."""
         asks = "".join({"yes": "true [^;]*; ", "no": "false [^;]*; "}[it] for it in wanted.split())
         return f"streams 65535 0 {told_captures(words)}", re.compile(f"{asks}(false [^;]*; )*")
+
+
+def shown_choosing(wanted):
+    parity, numbers = wanted.split()
+    return f"Choosing {{ keeps_parity: {str(parity == 'kept').lower()}, seed: {'Some(Seed)' if numbers == 'random' else 'None'} }}"
 
 
 def number_in(address):
@@ -370,6 +345,14 @@ def option_of(shown):
     return lambda wanted: shown_option(wanted, shown)
 
 
+# how settings are shown that are no names
+SETTINGS = {
+    "pool": lambda wanted: shown_list(map(number_in, items_of(wanted))),
+    "redirects": wanted_redirects,
+    "timers": lambda wanted: "Timers {{ udp: {}, established: {}, transitory: {}, icmp: {} }}".format(*wanted.split()),
+    "choosing": shown_choosing,
+    **dict.fromkeys(("quota", "block"), option_of(str)),
+}
 # what a field of a line for the player is of the word behind the call at the place that the field ends with
 FIELDS = {
     "word": str, "end": endpoint, "address": number_in, "number": lambda it: texts.endpoint(it)[1], "protocol": protocol_of,
@@ -413,7 +396,6 @@ def plain(call, run, words, wanted):
 
 
 def runs_of(text):
-    """The runs of a text."""
     return [Run(lines) for _, lines in texts.runs_of(text)]
 
 
@@ -440,8 +422,7 @@ def readable(text):
 
 def differences(program, run):
     """Plays a run, and returns the line of each call that is not answered as it says, with what is wrong."""
-    told = "".join(f"{call.asked}\n" for call in run.calls)
-    played = called([program, "play"], input=told, text=True)
+    played = called([program, "play"], input="".join(f"{call.asked}\n" for call in run.calls), text=True)
     answers = played.stdout.splitlines()
     found = []
     for call, answer in zip(run.calls, answers):

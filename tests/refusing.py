@@ -16,12 +16,11 @@ EVERY_WITH_LOG = (*EVERY, "log")
 EXAMPLE = {option: GATEWAY / name for option, name in INPUTS.items()}
 
 
-def built(name, folder):
-    """A library of tests/NAME.c, to stand before the C library."""
-    kit = os.path.dirname(ran(["rt", "doc"], text=True).strip())
-    made = folder / f"{name}.so"
+def built(folder):
+    """The library of tests/refuse.c, to stand before the C library."""
+    kit, made = os.path.dirname(ran(["rt", "doc"], text=True).strip()), folder / "refuse.so"
     words = ["-O2", "-shared", "-fPIC", "-nostdlib", "-ffreestanding", f"--ld-path={kit}/toolchain/bin/ld.lld", "-o", made]
-    ran([f"{kit}/toolchain/bin/clang", *words, TESTS / f"{name}.c"])
+    ran([f"{kit}/toolchain/bin/clang", *words, TESTS / "refuse.c"])
     return made
 
 
@@ -29,9 +28,9 @@ class Sweep:
     """Runs of a program over files, of which each is refused something. Of the options that are not named the standard
     streams are used, and nothing is written."""
 
-    def __init__(self, program, folder, refuser, named, inputs=EXAMPLE):
+    def __init__(self, program, folder, named, inputs=EXAMPLE):
         self.program, self.name, self.folder = program, os.path.basename(program), folder
-        self.refuser, self.named, self.inputs = built(refuser, folder), named, inputs
+        self.refuser, self.named, self.inputs = built(folder), named, inputs
         self.outputs = (*OUTPUTS, "log") if "log" in named else OUTPUTS
         self.whole = self.run({})[2]
 
@@ -39,15 +38,14 @@ class Sweep:
         """A run: its status, its line, its outputs, and what was refused, which is nothing where none was."""
         for name in ("mark", "left", *self.outputs):
             self.at(name).unlink(missing_ok=True)
-        given = {"LD_PRELOAD": self.refuser, "REFUSED_MARK": self.at("mark"), "REFUSED_LEFT": self.at("left"), **refusal}
+        given = {"LD_PRELOAD": self.refuser, "REFUSED_MARK": self.at("mark"), **refusal}
         words = words_of({name: self.inputs.get(name, self.at(name)) for name in self.named})
         with open(self.inputs["inside"], "rb") as source, open(self.at("standard"), "wb") as target:
             how = {"stdin": source, "stdout": target, "stderr": subprocess.PIPE, "capture_output": False}
             answer = called([self.program, *words], env=given, **how)
         if "to-outside" not in self.named:
             os.rename(self.at("standard"), self.at("to-outside"))
-        outputs = {name: content(self.at(name)) for name in self.outputs}
-        return answer.returncode, answer.stderr.decode(), outputs, content(self.at("mark"))
+        return answer.returncode, answer.stderr.decode(), {name: content(self.at(name)) for name in self.outputs}, content(self.at("mark"))
 
     def at(self, name):
         return self.folder / name
@@ -62,9 +60,6 @@ class Sweep:
 class Growths(Sweep):
     """The k-th growth is refused, for each k, or each from the k-th on. The growths of all threads are counted
     together, and their order is not the same in each run, so that a sweep over k ends where three runs meet none."""
-
-    def __init__(self, program, folder, named, inputs=EXAMPLE):
-        super().__init__(program, folder, "refuse_growth", named, inputs)
 
     def sweep(self, is_each_later):
         """Sweeps over the growths, and returns how many were refused."""
@@ -83,8 +78,7 @@ class Growths(Sweep):
         self.judge(what, status, outputs)
         if status != 0:
             want(self.at("mark").exists(), f"{what}: status {status} without a refusal")
-            is_told = status in MEMORY and re.fullmatch(f"{self.name}: {MEMORY[status]}\n", line)
-            want(is_told, f"{what}: status {status}, {line!r}")
+            want(status in MEMORY and re.fullmatch(f"{self.name}: {MEMORY[status]}\n", line), f"{what}: status {status}, {line!r}")
             self.judge_refused(what, outputs)
         return line
 
@@ -104,9 +98,6 @@ class AllOrNothing(Growths):
 class Calls(Sweep):
     """The k-th read or write is refused, for each k."""
 
-    def __init__(self, program, folder, named, inputs=EXAMPLE):
-        super().__init__(program, folder, "refuse_call", named, inputs)
-
     def sweep(self, name):
         """Sweeps over the calls of this name, and returns how many were refused."""
         call, roles = 1, set()
@@ -119,7 +110,7 @@ class Calls(Sweep):
     def try_call(self, name, call, roles):
         """A run; returns whether a call was refused."""
         what = f"refused {name} {call}"
-        status, line, outputs, mark = self.run({"REFUSED_NAME": name, "REFUSED_CALL": str(call)})
+        status, line, outputs, mark = self.run({"REFUSED_NAME": name, "REFUSED_CALL": str(call), "REFUSED_LEFT": self.at("left")})
         self.judge(what, status, outputs)
         want(self.at("left").read_bytes() == b"", f"{what}: {content(self.at('left'))!r} threads are left")
         if not self.at("mark").exists():
@@ -134,11 +125,6 @@ class Calls(Sweep):
         return True
 
 
-def sweep_all(program, room):
-    """All sweeps of stream without a log. Returns how many growths and calls were refused."""
-    return swept(program, room, (), EVERY)
-
-
 def swept(program, room, *choices):
     """Sweeps over growths with each choice of options, and over calls with the last one. Returns how many were refused."""
     folder = room / "refused"
@@ -146,5 +132,4 @@ def swept(program, room, *choices):
     growths = 0
     for options in choices:
         growths += sum(Growths(program, folder, options).sweep(is_each_later) for is_each_later in (False, True))
-    calls = sum(Calls(program, folder, choices[-1]).sweep(name) for name in CALLS)
-    return growths, calls
+    return growths, sum(Calls(program, folder, choices[-1]).sweep(name) for name in CALLS)

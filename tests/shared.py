@@ -14,6 +14,8 @@ import tempfile
 TESTS = pathlib.Path(__file__).resolve().parent
 TOP = TESTS.parent
 GATEWAY = TOP / "examples/gateway"
+# the number of this version
+VERSION = (TOP / "CHANGES").read_text().splitlines()[2]
 NAME = os.path.basename(sys.argv[0])
 # of the built-in configuration what runs need (docs/FORMATS.md)
 BUILT_IN = b'pool = ["203.0.113.1"]\ninside = ["10.0.0.0/8"]\n'
@@ -23,6 +25,15 @@ OUTPUTS = ("to-outside", "to-inside", "report")
 INPUTS = {"config": "napt.toml", "inside": "inside.pcap", "outside": "outside.pcap"}
 FILES = dict(zip(OUTPUTS, ("to-outside.pcap", "to-inside.pcap", "report.txt")))
 MOST_SECONDS = 120
+# what explain says of packets from outside that find no binding, with the configuration's name if there are two
+WARNING = re.compile(
+    r"explain: (?:under (\S+): )?(\d+) of (\d+) packets from outside are dropped as no-binding or not-ours\n(?:  .*\n){2}"
+)
+# what who and log say of captures that are not of the configuration's numbers
+OTHER_NUMBERS = (
+    "explain: these captures are of a gateway with other numbers: {} of {} answers from outside, packet {} the first, do not find here "
+    "who asked for them (--as-napt tells of the run of napt)\n"
+)
 
 
 class Wrong(Exception):
@@ -78,6 +89,13 @@ def ran(words, *statuses, says="", **how):
     return answer.stdout
 
 
+def want_ends(words, status, said="", output="", **how):
+    """Wants a call to end with a status, and to write just this on standard error and on standard output."""
+    answer = called(words, **{"text": True} | how)
+    found = (answer.returncode, answer.stderr, answer.stdout)
+    want(found == (status, said, output), f"{' '.join(map(str, words))}: {found} and not {(status, said, output)}")
+
+
 def words_of(named, folder=""):
     """Words that give each option its file, in a folder where one is given."""
     return [word for option, name in named.items() for word in (f"--{option}", os.path.join(folder, name))]
@@ -101,7 +119,6 @@ def content(path):
 
 
 def write_files(folder, named):
-    """Writes files into a folder, each by its name."""
     for name, data in named.items():
         (pathlib.Path(folder) / name).write_bytes(data)
 
@@ -194,18 +211,21 @@ def is_left_out(what, *tools):
 
 def is_no_clone():
     """Whether a test of the commit has to be left out, and says so: where git is missing, or the tree is no clone."""
-    words = "git rev-parse --git-dir"
-    try:
-        is_clone = called(words.split(), cwd=TOP).returncode == 0
-    except FileNotFoundError:
-        is_clone = False
-    if not is_clone:
-        left_out("all", f"refused: {words}")
-    return not is_clone
+    return is_refused("all", "git rev-parse --git-dir", cwd=TOP)
+
+
+def is_refused(what, command, **how):
+    """Whether something is left out since the system refuses a command, and says so."""
+    with contextlib.suppress(FileNotFoundError):
+        if called(command.split(), **how).returncode == 0:
+            return False
+    left_out(what, f"refused: {command}")
+    return True
+
+
 
 
 def loaded(path):
-    """A script as a module."""
     loader = importlib.machinery.SourceFileLoader(f"{path.name}_script", str(path))
     module = importlib.util.module_from_spec(importlib.util.spec_from_loader(loader.name, loader))
     # its classes look themselves up
@@ -225,8 +245,7 @@ def help_text(names):
     """What this script says of itself: its calls stand behind the first paragraph of its doc."""
     first, _, rest = sys.modules["__main__"].__doc__.partition("\n\n")
     usage = f"usage: {' '.join([f'tests/{NAME}', *names])}\n       tests/{NAME} --help\n"
-    parts = [first.rstrip("\n") + "\n", usage, *([rest] if rest else [])]
-    return "\n".join(parts) + ENDS.format(name=NAME)
+    return "\n".join([first.rstrip("\n") + "\n", usage, *([rest] if rest else [])]) + ENDS.format(name=NAME)
 
 
 def refuse_words(complaint):

@@ -137,8 +137,7 @@ def described(words):
     if kind == "udp":
         return bytes(packets.udp(source, destination))
     if kind == "tcp":
-        flags = sum(FLAGS[letter] for letter in rest[0])
-        return bytes(packets.tcp(source, destination, flags, acknowledged=0, window=8192))
+        return bytes(packets.tcp(source, destination, sum(FLAGS[letter] for letter in rest[0]), acknowledged=0, window=8192))
     of_type, number = (8, source[1]) if kind == "echo" else (0, destination[1])
     return bytes(packets.echo(source[0], destination[0], of_type, number))
 
@@ -210,12 +209,6 @@ def told(lines):
     return config.encode(), rows, packets
 
 
-def capture(records, spelling, cut):
-    """A capture of records, as `spelled` and `cut` say."""
-    made = savefile(records, SPELLINGS[frozenset(spelling)])
-    return made[: len(made) - int(cut)]
-
-
 def told_run(name, lines):
     """The run that lines tell packet by packet."""
     said, rest = {word: {} for word in SAID}, []
@@ -227,8 +220,8 @@ def told_run(name, lines):
             rest.append(line)
     config, rows, packets = told(rest)
     records = {side: [(came[0], came[1:]) for first, (came, _) in packets if first == side] for side in SIDES}
-    how = {side: (said["spelled"].get(side, ()), *said["cut"].get(side, "0")) for side in SIDES}
-    inputs = {side: capture(records[side], *how[side]) for side in SIDES if side not in said["without"]}
+    inputs = {it: savefile(records[it], SPELLINGS[frozenset(said["spelled"].get(it, ()))]) for it in SIDES if it not in said["without"]}
+    inputs |= {it: inputs[it][: -int(many)] for it, (many,) in said["cut"].items()}
     cut = {first for first, (_, end) in packets if end == ["cut"]}
     ends = [f"drop {left[0]}" if way == "drop" else f"to {way}" for _, (_, (way, *left)) in packets if way != "cut"]
     left = {side: [(came[0], end[1:]) for _, (came, end) in packets if end[0] == side] for side in SIDES}
@@ -238,6 +231,21 @@ def told_run(name, lines):
     for status, words in said["fault"].items():
         return Run(name, config or None, inputs, dict.fromkeys(OUTPUTS, b""), f"napt: {' '.join(words)}", int(status))
     return Run(name, config or None, inputs, wanted)
+
+
+def followed_runs():
+    """The runs of tests/followed, each with its name: its configuration, the rows of its report, and of each packet the first word and
+    those between arrows."""
+    for path in sorted((TESTS / "followed").iterdir()):
+        yield from ((f"{path.stem}, {words}", *told(lines)) for words, lines in runs_of(path.read_text()))
+
+
+def front_of(given):
+    """The captures of the packets that are merged before one is needed that has a fault, and that fault behind its side."""
+    read = {side: captures.read(captures.savefile([]) if given.get(side) is None else given[side]) for side in SIDES}
+    *many, faulty = captures.merged_before(*read.values())
+    front = {side: captures.savefile(it.packets[:count]) for (side, it), count in zip(read.items(), many)}
+    return front, f"{faulty} {read[faulty].fault}"
 
 
 def run_names():
