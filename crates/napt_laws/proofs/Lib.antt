@@ -40,8 +40,12 @@ pub mod Alone
 pub mod RunsSound
 pub mod RunsQuota
 pub mod RunsBlocks
+pub mod Taken
+pub mod Owned
+pub mod OwnStates
 pub mod Rows
 pub mod Grown
+pub mod GoingOn
 pub mod EachLeg
 pub mod Dispatched
 pub mod OneInput

@@ -1,5 +1,5 @@
 -- Words on lists against one another.
-use Rattle.std.proofs.Common.{◌≡◌, Bool, true, false, ◌&&◌, ◌||◌, cond, List, [], ◌∷◌, ◌++◌, map, Some, None, refl, sym, ◌∙◌, ap, subst, arith, suc, ◌<◌, length, filter, find}
+use Rattle.std.proofs.Common.{◌≡◌, Bool, true, false, ◌&&◌, ◌||◌, cond, List, [], ◌∷◌, ◌++◌, map, Option, Some, None, refl, sym, ◌∙◌, ap, subst, arith, suc, ◌<◌, length, filter, find}
 use Rattle.std.{specs.List.list_any, proofs.lemmas.Bool.or_parts}
 use Rattle.napt_rules.specs.Prelude.{change_first, Each}
 
@@ -121,3 +121,24 @@ each_true (x ∷ xs) = (tt, each_true xs)
 pub each_append : {X : Type 0} (P : X → Type 0) (xs ys : List X) → Each P xs → Each P ys → Each P (xs ++ ys)
 each_append P [] ys h g = g
 each_append P (x ∷ xs) ys h g = (h.0, each_append P xs ys h.1 g)
+
+-- a test that would have an answer, and has none
+pub passed : {X : Type 0} (t : Bool) (x : X) (others : Option X) → cond t (Some x) others ≡ None → (t ≡ false)
+    × (others ≡ None)
+passed true x others h = cc
+passed false x others h = (refl, h)
+
+pub each_less : {X : Type 0} (P : X → Type 0) (p : X → Bool) (xs : List X) → Each P xs → Each P (filter p xs)
+each_less P p [] h = tt
+each_less P p (x ∷ xs) h = elim (p x) as (λ v. Each P (cond v (x ∷ filter p xs) (filter p xs)))
+    [ true ↦ (h.0, each_less P p xs h.1) | false ↦ each_less P p xs h.1 ]
+
+-- what each has, and one among them
+pub each_mid : {X : Type 0} (P : X → Type 0) (xs ys : List X) (x : X) → Each P (xs ++ x ∷ ys) → P x × Each P (xs ++ ys)
+each_mid P [] ys x h = h
+each_mid P (z ∷ xs) ys x h = let mid = each_mid P xs ys x h.1 in (mid.0, (h.0, mid.1))
+
+pub each_with : {X : Type 0} (P : X → Type 0) (xs ys : List X) (x : X) → P x → Each P (xs ++ ys) →
+    Each P (xs ++ x ∷ ys)
+each_with P [] ys x p h = (p, h)
+each_with P (z ∷ xs) ys x p h = (h.0, each_with P xs ys x p h.1)

@@ -15,7 +15,7 @@ found_in_block choosing (Some block) is free protocol inside n e =
     (each_of_block (IsOfBlock block) choosing block is protocol inside (λ m h. h)) e).1
 
 -- redirects keep the numbers that the configuration gives them
-opening_in_blocks : (rules : Rules) (pair : ℕ → ℕ) (redirects : List Redirect) →
+pub opening_in_blocks : (rules : Rules) (pair : ℕ → ℕ) (redirects : List Redirect) →
     Each (IsInItsBlock rules) (map row (map (redirected pair) redirects))
 opening_in_blocks rules pair [] = tt
 opening_in_blocks rules pair (redirect ∷ redirects) = (λ loose. cc, opening_in_blocks rules pair redirects)
@@ -52,7 +52,7 @@ module _ (rules : Rules) (keeps : KeepsRules rules) where
         of_act rules address leg list (λ (a : Acted). AreInBlocks (map row a.list)) blocks_sent blocks_entered
         (λ end. h) way kind
 
-  blocks_run : (number clock : ℕ) (inputs : List Arrival) (list : List Binding) → AreInBlocks (map row list) →
+  pub blocks_run : (number clock : ℕ) (inputs : List Arrival) (list : List Binding) → AreInBlocks (map row list) →
       AreInBlocks (map row (run_from rules number clock inputs list).list)
   blocks_run = run_keeps rules (λ (l : List Binding). AreInBlocks (map row l)) (λ address leg list served h.
       blocks_leg address leg list h leg.way (kind leg.packet))
