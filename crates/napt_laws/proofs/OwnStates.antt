@@ -3,11 +3,11 @@
 use Rattle.std.proofs.Common.{◌≡◌, ℕ, Bool, true, false, not, ◌&&◌, ◌||◌, cond, List, [], ◌∷◌, ◌++◌, map, Option, Some, None, refl, sym, ◌∙◌, ap, subst, arith, append-nil, filter, nat_lt, ◌≤◌, le-leb, eq-eqb, IfSome}
 use Rattle.std.{specs.List.list_any, proofs.lemmas.{List.map-append, Bool.{and_from, not-true, Decides.nat_tests}}}
 use Rattle.napt_rules.specs.declared.{Flow.Flow, Row.Row, Inbound.Inbound, Sent.Sent, Received.Received, Leg.Leg, Misfit.Misfit}
-use Rattle.napt_rules.specs.Prelude.{Binding, Each, change_first, same_protocol, same_endpoint, purge, redirected, opening, inbound_of, granting_of, of_source, sent_by, fresh, of_destination, received_by, Acted, sent_of, received_of, act_out, act_in, act, Arrival, last_clock, State, purged_at_clock, course_from, loose, under, row, AreRowsApart, Apart, IsNumber, IsPaired, IsSound, IsOfBlock, IsInItsBlock, is_number, is_its_number, clashes, clashes_with_any, misfit_of, misfit_or, misfit_in, Takes, OwnStatesStay, OwnStatesAreTaken, Protocol, Icmp, Tcp, Udp, Flags, kind, Endpoint, PacketsCarryNumbers, Timers, Rules, KeepsRules, pair_of, block_of, Block, Redirect}
+use Rattle.napt_rules.specs.Prelude.{Binding, Each, change_first, same_protocol, same_endpoint, purge, redirected, opening, inbound_of, granting_of, of_source, sent_by, fresh, of_destination, received_by, Acted, sent_of, received_of, act_out, act_in, act, Arrival, last_clock, State, purged_at_clock, course_from, loose, under, row, AreRowsApart, Apart, IsNumber, IsPaired, IsSound, IsOfBlock, IsInItsBlock, is_number, is_its_number, clashes, clashes_with_any, misfit_of, misfit_or, misfit_in, Takes, IsOwn, AreAllOwn, OwnStatesStay, OwnStatesAreTaken, Protocol, Icmp, Tcp, Udp, Flags, kind, Endpoint, PacketsCarryNumbers, Timers, Rules, KeepsRules, pair_of, block_of, Block, Redirect}
 use Rattle.napt_rules.proofs.Lists.{each_filter, filter_all}
 use Rattle.napt_laws.proofs.{Acts.of_act, Endpoints.{end_is, protocol_is}, Opened.redirect_stays, Passes.{of_out, of_in}, Purges.{purge_purge, each_purged}, StepRows.purge_keeps, Turns.run_keeps}
 use Rattle.napt_laws.proofs.{Lists.{each_changed, each_pushed, each_kept, each_less, each_mid, each_append, each_weaker}, StepsSound.{out_stays_sound, in_stays_sound, purge_stays_sound}}
-use Rattle.napt_laws.proofs.{RunsSound.run_sound, RunsBlocks.blocks_run, Owned.{or_none, AreAllOwn, owned_purged, owned_run}, Taken.{IsOwned, turned, all, state_sound, state_blocks}}
+use Rattle.napt_laws.proofs.{RunsSound.run_sound, RunsBlocks.blocks_run, Owned.{or_none, IsKept, owned_purged, taken_own}, Taken.{turned, state_sound, state_blocks}}
 
 -- REDIRECTS FIRST
 
@@ -62,11 +62,6 @@ module _ (pair : ℕ → ℕ) where
       filter (λ b. not b.row.fixed) (purge timers now (map (redirected pair) redirects)) ≡ []
   opening_stays timers now [] = refl
   opening_stays timers now (r ∷ redirects) = opening_stays timers now redirects
-
-  all_fixed : (rules : Rules) (clock : ℕ) (redirects : List Redirect) →
-      Each (λ b. b.row.fixed ≡ false → IsOwned rules clock b) (map (redirected pair) redirects)
-  all_fixed rules clock [] = tt
-  all_fixed rules clock (r ∷ redirects) = ((λ is. cc), all_fixed rules clock redirects)
 
   received_stays : (inbound : Inbound) (packet : Received) (r : Redirect) →
       received_by inbound packet (redirected pair r) ≡ redirected pair r
@@ -181,7 +176,7 @@ apart_mid (x ∷ xs) ys r h =
     ((turned r x mid.0, rest.0), rest.1, (mid.1, rest.2))
 
 module _ (rules : Rules) (clock : ℕ) where
-  fit : (b : Binding) (rest : List Binding) → IsOwned rules clock b → IsPaired (pair_of rules) b.row →
+  fit : (b : Binding) (rest : List Binding) → IsOwn rules clock b → IsPaired (pair_of rules) b.row →
       IfSome (block_of rules b.row.inside.address) (λ block. IsOfBlock block b.row.external.number) →
       Each (AreRowsApart b.row) (map row (opening rules)) → Each (AreRowsApart b.row) (map row rest) →
       misfit_of rules clock b rest ≡ None
@@ -225,18 +220,14 @@ module _ (carry : PacketsCarryNumbers) (rules : Rules) (keeps : KeepsRules rules
       (blocks_run rules keeps 0 state.clock inputs (under rules state).list (state_blocks rules keeps state takes))
 
   own : AreAllOwn rules clock left
-  own = owned_purged rules clock clock _ (owned_run rules 0 state.clock inputs (under rules state).list
-      (each_append (λ b. b.row.fixed ≡ false → IsOwned rules state.clock b) (opening rules) (loose rules state)
-      (all_fixed (pair_of rules) rules state.clock rules.redirects)
-      (each_weaker (IsOwned rules state.clock) (λ b. b.row.fixed ≡ false → IsOwned rules state.clock b)
-      (λ b own is. own) (loose rules state) (all rules keeps state takes).owned)))
+  own = owned_purged rules clock clock _ (taken_own rules keeps state takes inputs)
 
   left_is_taken : Takes rules (record { clock = clock; list = left })
   left_is_taken =
       let free : List Binding = filter (λ b. not b.row.fixed) left in
       ap (λ (l : List Binding). misfit_in rules clock (filter (λ b. not b.row.fixed) l)) (twice rules state inputs)
       ∙ all_fit rules clock free (each_filter (λ b. not b.row.fixed) left)
-      (each_less (λ b. b.row.fixed ≡ false → IsOwned rules clock b) (λ b. not b.row.fixed) left own)
+      (each_less (IsKept rules clock) (λ b. not b.row.fixed) left own)
       (each_kept (IsPaired (pair_of rules)) row (λ b. not b.row.fixed) left sound.each)
       (each_kept (IsInItsBlock rules) row (λ b. not b.row.fixed) left blocks)
       (subst Apart (ap (map row) (left_is rules state inputs) ∙ map-append row (opening rules) free) sound.apart)

@@ -1,12 +1,12 @@
 -- A run keeps of each binding that is no redirect what its configuration asks of a state's: its host is inside, it was
 -- not used after the clock, and no two of its flows are of one remote.
-use Rattle.std.proofs.Common.{◌≡◌, ℕ, ◌≤◌, Bool, true, false, ◌||◌, cond, List, [], ◌∷◌, ◌++◌, refl, sym, ◌∙◌, ap, subst, arith, filter}
+use Rattle.std.proofs.Common.{◌≡◌, ℕ, ◌≤◌, Bool, true, false, ◌||◌, cond, List, [], ◌∷◌, ◌++◌, map, refl, sym, ◌∙◌, ap, subst, arith, filter}
 use Rattle.std.{specs.List.list_any, proofs.lemmas.Bool.{or_parts, true≢false}}
 use Rattle.napt_wire.specs.declared.Kind.TheVariants as kinds
 use Rattle.napt_rules.specs.declared.{Flow.Flow, Inbound.Inbound, Sent.Sent, Received.Received, Leg.Leg}
-use Rattle.napt_rules.specs.Prelude.{Binding, no_marks, Each, change_first, same_endpoint, is_tcp, is_live_flow, live_flows, purge, is_flow_of, used, with_flow, refreshes, inbound_of, granting_of, no_flags, of_source, sent_by, fresh, of_destination, received_by, sent_of, received_of, act_out, act_in, act_by, Arrival, run_from, last_clock, flows_share, Protocol, Icmp, Tcp, Udp, Way, Outgoing, Incoming, Flags, Endpoint, Kind, source, kind, Timers, Rules, is_inside}
-use Rattle.napt_laws.proofs.{Endpoints.{end_itself, end_is}, Lists.{each_changed, each_pushed, each_weaker, each_less}, Passes.{of_out, of_in}, Purges.each_purged}
-use Rattle.napt_laws.proofs.{Taken.{AreOwn, IsOwned}, Turns.run_keeps_at}
+use Rattle.napt_rules.specs.Prelude.{Binding, no_marks, Each, change_first, same_endpoint, is_tcp, is_live_flow, live_flows, purge, is_flow_of, used, with_flow, refreshes, inbound_of, granting_of, no_flags, of_source, sent_by, fresh, of_destination, received_by, sent_of, received_of, act_out, act_in, act_by, Arrival, run_from, last_clock, flows_share, redirected, opening, State, loose, under, AreOwn, IsOwn, AreAllOwn, TakenAreOwn, Protocol, Icmp, Tcp, Udp, Way, Outgoing, Incoming, Flags, Endpoint, Kind, source, kind, Timers, Rules, pair_of, is_inside, Redirect}
+use Rattle.napt_laws.proofs.{Endpoints.{end_itself, end_is}, Lists.{each_changed, each_pushed, each_weaker, each_less, each_append}, Passes.{of_out, of_in}, Purges.each_purged}
+use Rattle.napt_laws.proofs.{Taken.all, Turns.run_keeps_at}
 
 -- FLOWS
 
@@ -93,33 +93,28 @@ own_with remote now flows h =
 -- BINDINGS
 
 module _ (rules : Rules) where
-  abbrev pub AreAllOwn : ℕ → List Binding → Type 0
-  AreAllOwn clock list = Each (λ b. b.row.fixed ≡ false → IsOwned rules clock b) list
+  abbrev pub IsKept : ℕ → Binding → Type 0
+  IsKept clock b = b.row.fixed ≡ false → IsOwn rules clock b
 
-  later : (n m : ℕ) → n ≤ m → (list : List Binding) → AreAllOwn n list → AreAllOwn m list
-  later n m le list h = each_weaker (λ b. b.row.fixed ≡ false → IsOwned rules n b) (λ b. b.row.fixed ≡ false →
-      IsOwned rules m b) (λ b own is. let o = own is in record {
-        host = o.host;
-        last = omega (arith, le, o.last);
-        flows = record {
-          by = each_weaker (λ f. f.last ≤ n) (λ f. f.last ≤ m) (λ f by. omega (arith, le, by)) b.flows o.flows.by;
-          single = o.flows.single;
-        };
-      }) list h
+  later : (n m : ℕ) → n ≤ m → (list : List Binding) → AreAllOwn rules n list → AreAllOwn rules m list
+  later n m le list h = each_weaker (IsKept n) (IsKept m) (λ b own is. let o = own is in record {
+    host = o.host;
+    last = omega (arith, le, o.last);
+    flows = record {
+      by = each_weaker (λ f. f.last ≤ n) (λ f. f.last ≤ m) (λ f by. omega (arith, le, by)) b.flows o.flows.by;
+      single = o.flows.single;
+    };
+  }) list h
 
-  module _ (clock : ℕ) where
-    abbrev IsOwn : Binding → Type 0
-    IsOwn b = b.row.fixed ≡ false → IsOwned rules clock b
+  pub owned_purged : (clock now : ℕ) (list : List Binding) → AreAllOwn rules clock list →
+      AreAllOwn rules clock (purge rules.timers now list)
+  owned_purged clock now list h = each_purged (IsKept clock) rules.timers now (λ b own is. let o = own is in record {
+    host = o.host;
+    last = o.last;
+    flows = own_live rules.timers now clock b.row.protocol b.flows o.flows;
+  }) list h
 
-    pub owned_purged : (now : ℕ) (list : List Binding) → AreAllOwn clock list →
-        AreAllOwn clock (purge rules.timers now list)
-    owned_purged now list h = each_purged IsOwn rules.timers now (λ b own is. let o = own is in record {
-      host = o.host;
-      last = o.last;
-      flows = own_live rules.timers now clock b.row.protocol b.flows o.flows;
-    }) list h
-
-  owned_sent : (packet : Sent) (b : Binding) → IsOwn packet.now b → IsOwn packet.now (sent_by packet b)
+  owned_sent : (packet : Sent) (b : Binding) → IsKept packet.now b → IsKept packet.now (sent_by packet b)
   owned_sent packet b own is =
       let o = own is in
       record {
@@ -132,8 +127,8 @@ module _ (rules : Rules) where
             (with_flow packet.remote packet.now b.flows) (own_with packet.remote packet.now b.flows o.flows));
       }
 
-  owned_received : (inbound : Inbound) (packet : Received) (b : Binding) → IsOwn packet.now b →
-      IsOwn packet.now (received_by inbound packet b)
+  owned_received : (inbound : Inbound) (packet : Received) (b : Binding) → IsKept packet.now b →
+      IsKept packet.now (received_by inbound packet b)
   owned_received inbound packet b own is =
       let o = own is in
       record {
@@ -151,18 +146,18 @@ module _ (rules : Rules) where
 
   -- ONE LEG
 
-  module _ (address : ℕ) (leg : Leg) (list : List Binding) (h : AreAllOwn leg.now list) where
-    kept : AreAllOwn leg.now (purge rules.timers leg.now list)
+  module _ (address : ℕ) (leg : Leg) (list : List Binding) (h : AreAllOwn rules leg.now list) where
+    kept : AreAllOwn rules leg.now (purge rules.timers leg.now list)
     kept = owned_purged leg.now leg.now list h
 
     owned_out : (protocol : Protocol) (flags : Flags) → is_inside rules (source leg.packet).address ≡ true →
-        AreAllOwn leg.now (act_out rules address leg list protocol flags).list
+        AreAllOwn rules leg.now (act_out rules address leg list protocol flags).list
     owned_out protocol flags host =
         let packet : Sent = sent_of rules protocol flags leg.now leg.packet in
         let live : List Binding = purge rules.timers leg.now list in
-        of_out (AreAllOwn leg.now) address live kept (granting_of rules) packet
-        (each_changed (IsOwn leg.now) (of_source address packet) (sent_by packet) (owned_sent packet) live kept)
-        (λ n none is. each_pushed (IsOwn leg.now) live (sent_by packet (fresh address packet n)) kept
+        of_out (AreAllOwn rules leg.now) address live kept (granting_of rules) packet
+        (each_changed (IsKept leg.now) (of_source address packet) (sent_by packet) (owned_sent packet) live kept)
+        (λ n none is. each_pushed (IsKept leg.now) live (sent_by packet (fresh address packet n)) kept
         (owned_sent packet (fresh address packet n) (λ loose. record {
           host = host;
           last = omega arith;
@@ -170,16 +165,16 @@ module _ (rules : Rules) where
         })))
 
     owned_in : (protocol : Protocol) (flags : Flags) →
-        AreAllOwn leg.now (act_in rules address leg list protocol flags).list
+        AreAllOwn rules leg.now (act_in rules address leg list protocol flags).list
     owned_in protocol flags =
         let packet : Received = received_of protocol flags leg.now leg.packet in
         let live : List Binding = purge rules.timers leg.now list in
-        of_in (AreAllOwn leg.now) address live kept (inbound_of rules) packet
-        (each_changed (IsOwn leg.now) (of_destination address packet) (received_by (inbound_of rules) packet)
+        of_in (AreAllOwn rules leg.now) address live kept (inbound_of rules) packet
+        (each_changed (IsKept leg.now) (of_destination address packet) (received_by (inbound_of rules) packet)
         (owned_received (inbound_of rules) packet) live kept)
 
     owned_by : (way : Way) (kind : Kind) → (way ≡ Outgoing → is_inside rules (source leg.packet).address ≡ true) →
-        AreAllOwn leg.now (act_by rules address leg list way kind).list
+        AreAllOwn rules leg.now (act_by rules address leg list way kind).list
     owned_by Outgoing kinds.Udp ours = owned_out Udp no_flags (ours refl)
     owned_by Outgoing (kinds.Tcp flags) ours = owned_out Tcp flags (ours refl)
     owned_by Outgoing kinds.Echo ours = owned_out Icmp no_flags (ours refl)
@@ -189,7 +184,20 @@ module _ (rules : Rules) where
     owned_by Incoming kinds.Echo ours = owned_in Icmp no_flags
     owned_by Incoming (kinds.ErrorOf inner) ours = h
 
-  pub owned_run : (number clock : ℕ) (inputs : List Arrival) (list : List Binding) → AreAllOwn clock list →
-      AreAllOwn (last_clock clock inputs) (run_from rules number clock inputs list).list
-  owned_run = run_keeps_at rules AreAllOwn later (λ address leg list served h.
+  pub owned_run : (number clock : ℕ) (inputs : List Arrival) (list : List Binding) → AreAllOwn rules clock list →
+      AreAllOwn rules (last_clock clock inputs) (run_from rules number clock inputs list).list
+  owned_run = run_keeps_at rules (AreAllOwn rules) later (λ address leg list served h.
       owned_by address leg list h leg.way (kind leg.packet) served.ours)
+
+all_fixed : (rules : Rules) (clock : ℕ) (pair : ℕ → ℕ) (redirects : List Redirect) →
+    AreAllOwn rules clock (map (redirected pair) redirects)
+all_fixed rules clock pair [] = tt
+all_fixed rules clock pair (r ∷ redirects) = ((λ is. cc), all_fixed rules clock pair redirects)
+
+pub taken_own : TakenAreOwn
+taken_own rules keeps state takes inputs =
+    owned_run rules 0 state.clock inputs (under rules state).list
+    (each_append (IsKept rules state.clock) (opening rules) (loose rules state)
+    (all_fixed rules state.clock (pair_of rules) rules.redirects)
+    (each_weaker (IsOwn rules state.clock) (IsKept rules state.clock) (λ b own is. own) (loose rules state)
+    (all rules keeps state takes).owned))

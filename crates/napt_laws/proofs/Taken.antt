@@ -1,7 +1,7 @@
 -- A state that a configuration takes is sound under it, and so is every run from it.
 use Rattle.std.proofs.Common.{◌≡◌, ℕ, ◌≤◌, max, true, false, not, ◌&&◌, ◌||◌, List, [], ◌∷◌, ◌++◌, map, Option, Some, None, refl, sym, ◌∙◌, ap, subst, arith, append-nil, eqb-true, nat_lt, IfSome}
 use Rattle.std.proofs.lemmas.{List.map-append, Bool.{and_parts, or_parts, not-false, true≢false, leb-true, Decides.nat_tests}}
-use Rattle.napt_rules.specs.Prelude.{Binding, Each, same_protocol, same_endpoint, row, opening, State, AreRowsApart, Apart, IsNumber, IsPaired, IsSound, count_for, IsOfBlock, IsInItsBlock, loose, under, is_number, is_its_number, is_numbered, flows_share, clashes, clashes_with_any, misfit_of, misfit_or, misfit_in, Takes, TakenAreSound, TakenKeepToBlocks, TakenKeepQuota, Protocol, Icmp, Tcp, Udp, PacketsCarryNumbers, Rules, KeepsRules, pair_of, block_of, is_inside, Block}
+use Rattle.napt_rules.specs.Prelude.{Binding, Each, same_protocol, same_endpoint, row, opening, State, AreRowsApart, Apart, IsNumber, IsPaired, IsSound, count_for, IsOfBlock, IsInItsBlock, loose, under, is_number, is_its_number, is_numbered, flows_share, clashes, clashes_with_any, misfit_of, misfit_or, misfit_in, Takes, TakenAreSound, TakenKeepToBlocks, TakenKeepQuota, IsOwn, Protocol, Icmp, Tcp, Udp, PacketsCarryNumbers, Rules, KeepsRules, pair_of, block_of, is_inside, Block}
 use Rattle.napt_rules.specs.declared.{Flow.Flow, Row.Row, Misfit.Misfit}
 use Rattle.napt_laws.proofs.{Endpoints.{same_itself, end_itself}, Lists.{passed, any_none, each_weaker, each_append, each_with}, Opened.opening_sound}
 use Rattle.napt_laws.proofs.{StepsSound.{out_stays_sound, in_stays_sound}, StepsQuota.in_keeps_quota, RunsSound.run_sound, RunsBlocks.{blocks_run, opening_in_blocks}, RunsQuota.within_run}
@@ -40,17 +40,6 @@ clash_none a (b ∷ list) h =
 used_by : (clock n : ℕ) → nat_lt clock n ≡ false → n ≤ clock
 used_by clock n h = grind (arith, nat_tests, h)
 
--- flows last used by a time, no two of one remote
-pub record AreOwn (clock : ℕ) (flows : List Flow) : Type 0 where
-  pub by : Each (λ f. f.last ≤ clock) flows
-  pub single : flows_share flows ≡ false
-
--- what is kept of a binding that is no redirect, beside its row
-pub record IsOwned (rules : Rules) (clock : ℕ) (b : Binding) : Type 0 where
-  pub host : is_inside rules b.row.inside.address ≡ true
-  pub last : b.last ≤ clock
-  pub flows : AreOwn clock b.flows
-
 -- rows that are apart, with one among them
 
 pub turned : (a b : Row) → AreRowsApart b a → AreRowsApart a b
@@ -64,7 +53,7 @@ apart_with (x ∷ xs) ys r before behind h =
 
 module _ (rules : Rules) (clock : ℕ) where
   record Fits (rest : List Binding) (b : Binding) : Type 0 where
-    pub owned : IsOwned rules clock b
+    pub owned : IsOwn rules clock b
     pub paired : IsPaired (pair_of rules) b.row
     pub block : IsInItsBlock rules b.row
     pub redirects : Each (AreRowsApart b.row) (map row (opening rules))
@@ -109,7 +98,7 @@ module _ (rules : Rules) (clock : ℕ) where
   none_of row None others h = (refl, h)
 
   pub record AllFit (list : List Binding) : Type 0 where
-    pub owned : Each (IsOwned rules clock) list
+    pub owned : Each (IsOwn rules clock) list
     pub paired : Each (IsPaired (pair_of rules)) (map row list)
     pub blocks : Each (IsInItsBlock rules) (map row list)
     pub apart : Apart (map row (opening rules) ++ map row list)

@@ -1,7 +1,7 @@
 //! Laws of runs.
 
 ghost use Rattle.napt_rules.specs.Prelude.{RunsGoOn, DeadChangeNothing, EarlierClocksAreTheStates, RunsAreSound, RunsStayApart, RunsKeepQuota, RunsKeepToBlocks};
-ghost use Rattle.napt_rules.specs.Prelude.{TakenAreSound, TakenKeepToBlocks, TakenKeepQuota, OwnStatesStay, OwnStatesAreTaken, TranslatorsAnswerFrom, TranslatorsKeepFrom};
+ghost use Rattle.napt_rules.specs.Prelude.{TakenAreSound, TakenKeepToBlocks, TakenKeepQuota, TakenAreOwn, OwnStatesStay, OwnStatesAreTaken, TranslatorsAnswerFrom, TranslatorsKeepFrom};
 
 use crate::steps::{no_host_exceeds_its_quota, opening_is_sound, steps_stay_sound};
 use napt_wire::packets_carry_numbers;
@@ -37,11 +37,13 @@ pub fn runs_keep_to_blocks()
 {}
 
 /// From each state that a configuration takes, runs keep what they keep from its redirects on; a host that has more bindings
-/// than the quota gets no further one.
+/// than the quota gets no further one. Each binding is an inside host's, no use of it is after the clock, and no two of its
+/// flows are of one remote.
 pub fn taken_states_are_kept()
     ensures sound { TakenAreSound }
     ensures blocks { TakenKeepToBlocks }
     ensures quota { TakenKeepQuota }
+    ensures own { TakenAreOwn }
 {
     packets_carry_numbers();
 }
