@@ -18,5 +18,5 @@ pub use numbers::candidates_are_the_class;
 pub use runs::{runs_are_sound, runs_keep_the_quota, runs_keep_to_blocks, translators_are_local};
 pub use steps::{
     no_host_exceeds_its_quota, opening_is_sound, rows_are_in_order, steps_are_local,
-    steps_leave_live, steps_stay_sound,
+    steps_hold_numbers, steps_leave_taken, steps_stay_sound,
 };
