@@ -1,11 +1,11 @@
--- A run that goes on, from what another left: what is dead never counts, and the numbers go on.
-use Rattle.std.proofs.Common.{◌≡◌, ℕ, ◌+◌, ◌≤◌, max, List, [], ◌∷◌, ◌++◌, map, length, flat_map, None, Result, Ok, Err, refl, sym, ◌∙◌, ap, subst, arith, find}
+-- A run that goes on, from what another left: what has gone never counts, and the numbers go on.
+use Rattle.std.proofs.Common.{◌≡◌, ℕ, ◌+◌, ◌≤◌, max, List, [], ◌∷◌, ◌++◌, map, length, flat_map, Bool, Option, None, Result, Ok, Err, refl, sym, ◌∙◌, ap, subst, arith, find}
 use Rattle.std.proofs.lemmas.List.{map-append}
 use Rattle.napt_wire.specs.declared.Protocol.TheVariants as protocols
 use Rattle.napt_wire.specs.declared.Kind.TheVariants.{Udp, Tcp, Echo, ErrorOf}
-use Rattle.napt_rules.specs.Prelude.{Binding, of, purge, rows_of, rows, is_of_inside, has_number, granting_of, out_purged, in_purged, inbound_of, Out, In, end_out, end_in, error_out, error_in, no_flags, sent_of, received_of, act_out, act_in, act_by, served_at, Acted, act, Arrival, admission, Act, Course, ahead, once, follow_by, refused, first_leg, step_as, step, run_from, last_clock, legs_at, ran_of, State, course_from, left_by, ran_from, behind, added, and_then, GoesOn, RunsGoOn, DeadChangeNothing, from_clock, EarlierClocksAreTheStates, Protocol, Way, Outgoing, Incoming, Flags, Cause, Kind, kind, destination, Rules}
+use Rattle.napt_rules.specs.Prelude.{Binding, of, purge, hold_ago, taken, rows_of, rows, is_of_inside, has_number, granting_of, out_taken, in_taken, inbound_of, Out, In, end_out, end_in, error_out, error_in, no_flags, sent_of, received_of, act_out, act_in, act_by, served_at, Acted, act, Arrival, admission, Act, Course, ahead, once, follow_by, refused, first_leg, step_as, step, run_from, last_clock, legs_at, ran_of, State, course_from, left_by, ran_from, behind, added, and_then, GoesOn, RunsGoOn, GoneChangeNothing, from_clock, EarlierClocksAreTheStates, Protocol, Way, Outgoing, Incoming, Flags, Cause, Kind, kind, destination, Rules}
 use Rattle.napt_rules.specs.declared.{Row.Row, Leg.Leg, End.{End, TheVariants.{ToOutside, ToInside, Onward, Dropped}}}
-use Rattle.napt_laws.proofs.{Grown.{run_append, clock_on}, Purges.{of_purge, purge_purge}}
+use Rattle.napt_laws.proofs.{Grown.{run_append, clock_on}, Purges.of_purge, Living.{taken_later, taken_twice, purge_taken}}
 
 -- THE NUMBERS
 
@@ -51,68 +51,80 @@ run_behind rules before number at clock (input ∷ inputs) list e =
     (run_behind rules before (number + 1) (at + 1) now inputs first.list (omega (arith, e)))
     ∙ ahead_behind before first (run_from rules (number + 1) now inputs first.list))
 
--- WHAT IS DEAD
+-- WHAT HAS GONE
 
--- lists that are one, purged at a time
+-- lists that are one in what is taken at a time
 abbrev AreAsOne : Rules → ℕ → List Binding → List Binding → Type 0
-AreAsOne rules now a b = purge rules.timers now a ≡ purge rules.timers now b
+AreAsOne rules now a b = taken rules.timers now a ≡ taken rules.timers now b
 
 as_one_later : (rules : Rules) (n m : ℕ) → n ≤ m → (a b : List Binding) → AreAsOne rules n a b → AreAsOne rules m a b
-as_one_later rules n m le a b same = sym (purge_purge rules.timers n m le a)
-    ∙ (ap (purge rules.timers m) same ∙ purge_purge rules.timers n m le b)
+as_one_later rules n m le a b same = sym (taken_later rules.timers n m le a)
+    ∙ (ap (taken rules.timers m) same ∙ taken_later rules.timers n m le b)
 
--- a leg, and the list that it leaves purged at its time
-abbrev acted_purged : Rules → ℕ → Acted → Acted
-acted_purged rules now acted = record acted { list = purge rules.timers now acted.list }
+-- a leg, and what is taken at its time of the list that it leaves
+abbrev acted_taken : Rules → ℕ → Acted → Acted
+acted_taken rules now acted = record acted { list = taken rules.timers now acted.list }
 
-abbrev purged : Rules → ℕ → Course → Course
-purged rules now course = record course { list = purge rules.timers now course.list }
+-- one that leaves the list as it is
+abbrev unmoved : End → List Binding → Acted
+unmoved end list = record { end = end; through = None; list = list }
+
+abbrev course_taken : Rules → ℕ → Course → Course
+course_taken rules now course = record course { list = taken rules.timers now course.list }
 
 module _ (rules : Rules) (address : ℕ) (leg : Leg) (a b : List Binding) (same : AreAsOne rules leg.now a b) where
-  same_out : (protocol : Protocol) (flags : Flags) → acted_purged rules leg.now
+  same_out : (protocol : Protocol) (flags : Flags) → acted_taken rules leg.now
       (act_out rules address leg a protocol flags)
-      ≡ acted_purged rules leg.now (act_out rules address leg b protocol flags)
+      ≡ acted_taken rules leg.now (act_out rules address leg b protocol flags)
   same_out protocol flags = ap (λ (l : List Binding).
-      let out : Out = out_purged (granting_of rules) address (sent_of rules protocol flags leg.now leg.packet) l in
-      acted_purged rules leg.now
+      let out : Out = out_taken rules.timers (granting_of rules) address
+      (sent_of rules protocol flags leg.now leg.packet) l in
+      acted_taken rules leg.now
       (record { end = end_out rules address leg.packet out.number; through = out.through; list = out.list })) same
 
-  same_in : (protocol : Protocol) (flags : Flags) → acted_purged rules leg.now
+  same_in : (protocol : Protocol) (flags : Flags) → acted_taken rules leg.now
       (act_in rules address leg a protocol flags)
-      ≡ acted_purged rules leg.now (act_in rules address leg b protocol flags)
+      ≡ acted_taken rules leg.now (act_in rules address leg b protocol flags)
   same_in protocol flags = ap (λ (l : List Binding).
-      let came : In = in_purged (inbound_of rules) address (received_of protocol flags leg.now leg.packet) l in
-      acted_purged rules leg.now
+      let came : In = in_taken rules.timers (inbound_of rules) address
+      (received_of protocol flags leg.now leg.packet) l in
+      acted_taken rules leg.now
       (record { end = end_in leg.packet came.inside; through = came.through; list = came.list })) same
 
-  same_by : (way : Way) (kind : Kind) → acted_purged rules leg.now (act_by rules address leg a way kind)
-      ≡ acted_purged rules leg.now (act_by rules address leg b way kind)
+  -- an error finds a binding that lives, and leaves the list as it is
+  seen : purge rules.timers leg.now a ≡ purge rules.timers leg.now b
+  seen = sym (purge_taken rules.timers leg.now a)
+      ∙ (ap (purge rules.timers leg.now) same ∙ purge_taken rules.timers leg.now b)
+
+  same_error : (end_of : Option Binding → End) (test : Binding → Bool) → acted_taken rules leg.now
+      (unmoved (end_of (find test (purge rules.timers leg.now a))) a)
+      ≡ acted_taken rules leg.now (unmoved (end_of (find test (purge rules.timers leg.now b))) b)
+  same_error end_of test = ap (λ (l : List Binding).
+      unmoved (end_of (find test l)) (taken rules.timers leg.now a)) seen
+      ∙ ap (unmoved (end_of (find test (purge rules.timers leg.now b)))) same
+
+  same_by : (way : Way) (kind : Kind) → acted_taken rules leg.now (act_by rules address leg a way kind)
+      ≡ acted_taken rules leg.now (act_by rules address leg b way kind)
   same_by Outgoing Udp = same_out protocols.Udp no_flags
   same_by Outgoing (Tcp flags) = same_out protocols.Tcp flags
   same_by Outgoing Echo = same_out protocols.Icmp no_flags
-  same_by Outgoing (ErrorOf inner) = ap (λ (l : List Binding). record {
-    end = error_out rules leg.packet
-        (find (λ b. is_of_inside address inner.protocol inner.destination b.row) l);
-    through = None;
-    list = l;
-  }) same
+  same_by Outgoing (ErrorOf inner) = same_error (error_out rules leg.packet)
+      (λ b. is_of_inside address inner.protocol inner.destination b.row)
   same_by Incoming Udp = same_in protocols.Udp no_flags
   same_by Incoming (Tcp flags) = same_in protocols.Tcp flags
   same_by Incoming Echo = same_in protocols.Icmp no_flags
-  same_by Incoming (ErrorOf inner) = ap (λ (l : List Binding). record {
-    end = error_in leg.packet (find (λ b. has_number address inner.protocol inner.source.number b.row) l);
-    through = None;
-    list = l;
-  }) same
+  same_by Incoming (ErrorOf inner) = same_error (error_in leg.packet)
+      (λ b. has_number address inner.protocol inner.source.number b.row)
 
-  act_same : acted_purged rules leg.now (act rules address leg a) ≡ acted_purged rules leg.now (act rules address leg b)
+  act_same : acted_taken rules leg.now (act rules address leg a) ≡ acted_taken rules leg.now (act rules address leg b)
   act_same = same_by leg.way (kind leg.packet)
 
 -- a step
 module _ (rules : Rules) (now : ℕ) where
   follow_same : (address : ℕ) (leg : Leg) → leg.now ≡ now → (a b : Acted) →
-      acted_purged rules now a ≡ acted_purged rules now b → (end : End) →
-      purged rules now (follow_by rules address leg a end) ≡ purged rules now (follow_by rules address leg b end)
+      acted_taken rules now a ≡ acted_taken rules now b → (end : End) →
+      course_taken rules now (follow_by rules address leg a end)
+      ≡ course_taken rules now (follow_by rules address leg b end)
   follow_same address leg is a b same (ToOutside packet) =
       ap (λ (x : Acted). once address leg x) same
   follow_same address leg is a b same (ToInside packet) =
@@ -122,35 +134,36 @@ module _ (rules : Rules) (now : ℕ) where
   follow_same address leg is a b same (Onward place packet) =
       let next : Leg = record leg { way = Incoming; packet = packet } in
       let to : ℕ = (destination packet).address in
-      let second : acted_purged rules now (act rules to next a.list)
-      ≡ acted_purged rules now (act rules to next b.list) =
-      subst (λ (t : ℕ). acted_purged rules t (act rules to next a.list)
-      ≡ acted_purged rules t (act rules to next b.list))
+      let second : acted_taken rules now (act rules to next a.list)
+      ≡ acted_taken rules now (act rules to next b.list) =
+      subst (λ (t : ℕ). acted_taken rules t (act rules to next a.list)
+      ≡ acted_taken rules t (act rules to next b.list))
       is (act_same rules to next a.list b.list
       (subst (λ (t : ℕ). AreAsOne rules t a.list b.list) (sym is) (ap (λ (x : Acted). x.list) same))) in
       ap (λ (x : Acted). ahead (record (once address leg x) { outcomes = [] })
-      (once to next (acted_purged rules now (act rules to next a.list)))) same
+      (once to next (acted_taken rules now (act rules to next a.list)))) same
       ∙ ap (λ (y : Acted). ahead (record (once address leg b) { outcomes = [] }) (once to next y)) second
 
   step_same : (number : ℕ) (input : Arrival) (a b : List Binding) → AreAsOne rules now a b →
       (comes_to : Result (List ℕ) Cause) →
-      purged rules now (step_as rules (first_leg number now input.side) comes_to a)
-      ≡ purged rules now (step_as rules (first_leg number now input.side) comes_to b)
+      course_taken rules now (step_as rules (first_leg number now input.side) comes_to a)
+      ≡ course_taken rules now (step_as rules (first_leg number now input.side) comes_to b)
   step_same number input a b same (Err cause) = ap (refused cause) same
   step_same number input a b same (Ok packet) =
       let leg : Leg = first_leg number now input.side packet in
       let address : ℕ = served_at rules leg.way packet in
-      let acted : acted_purged rules now (act rules address leg a) ≡ acted_purged rules now (act rules address leg b) =
+      let acted : acted_taken rules now (act rules address leg a) ≡ acted_taken rules now (act rules address leg b) =
       act_same rules address leg a b same in
       follow_same address leg refl (act rules address leg a) (act rules address leg b) acted
       (act rules address leg a).end
-      ∙ ap (λ (end : End). purged rules now (follow_by rules address leg (act rules address leg b) end))
+      ∙ ap (λ (end : End). course_taken rules now (follow_by rules address leg (act rules address leg b) end))
       (ap (λ (x : Acted). x.end) acted)
 
--- runs of lists that are one, purged at their clock, are one
+-- runs of lists that are one at their clock are one
 pub run_same : (rules : Rules) (number clock : ℕ) (inputs : List Arrival) (a b : List Binding) →
     AreAsOne rules clock a b → (last : ℕ) → last_clock clock inputs ≡ last →
-    purged rules last (run_from rules number clock inputs a) ≡ purged rules last (run_from rules number clock inputs b)
+    course_taken rules last (run_from rules number clock inputs a)
+    ≡ course_taken rules last (run_from rules number clock inputs b)
 run_same rules number clock [] a b same last is =
     ap (λ (l : List Binding). record { outcomes = []; acts = []; list = l })
     (subst (λ (t : ℕ). AreAsOne rules t a b) is same)
@@ -158,33 +171,33 @@ run_same rules number clock (input ∷ inputs) a b same last is =
     let now : ℕ = max clock input.clock in
     let first : Course = step rules number now input a in
     let other : Course = step rules number now input b in
-    let steps : purged rules now first ≡ purged rules now other =
+    let steps : course_taken rules now first ≡ course_taken rules now other =
     step_same rules now number input a b (as_one_later rules clock now (omega arith) a b same)
     (admission rules input) in
-    let rest : purged rules last (run_from rules (number + 1) now inputs first.list)
-    ≡ purged rules last (run_from rules (number + 1) now inputs other.list) =
+    let rest : course_taken rules last (run_from rules (number + 1) now inputs first.list)
+    ≡ course_taken rules last (run_from rules (number + 1) now inputs other.list) =
     run_same rules (number + 1) now inputs first.list other.list (ap (λ (s : Course). s.list) steps) last is in
-    ap (λ (s : Course). ahead s (purged rules last (run_from rules (number + 1) now inputs first.list))) steps
+    ap (λ (s : Course). ahead s (course_taken rules last (run_from rules (number + 1) now inputs first.list))) steps
     ∙ ap (ahead other) rest
 
 -- WHAT A RUN GIVES
 
 rows_same : (rules : Rules) (now address : ℕ) (list : List Binding) →
-    rows rules.timers now (of address (purge rules.timers now list)) ≡ rows rules.timers now (of address list)
+    rows rules.timers now (of address (taken rules.timers now list)) ≡ rows rules.timers now (of address list)
 rows_same rules now address list = ap rows_of
-    (ap (purge rules.timers now) (of_purge rules.timers now address list)
-    ∙ purge_purge rules.timers now now (omega arith) (of address list))
+    (ap (purge rules.timers now) (of_purge rules.timers (hold_ago rules.timers now) address list)
+    ∙ purge_taken rules.timers now (of address list))
 
 flat_same : {X Y : Type 0} (f g : X → List Y) → ((x : X) → f x ≡ g x) → (xs : List X) → flat_map f xs ≡ flat_map g xs
 flat_same f g same [] = refl
 flat_same f g same (x ∷ xs) = ap (λ (l : List _). l ++ flat_map f xs) (same x)
     ∙ ap (λ (l : List _). g x ++ l) (flat_same f g same xs)
 
--- purged at its clock, a course gives the same
-ran_purged : (rules : Rules) (now : ℕ) (course : Course) → ran_of rules now (purged rules now course)
+-- with what is taken at its clock alone, a course gives the same
+ran_taken : (rules : Rules) (now : ℕ) (course : Course) → ran_of rules now (course_taken rules now course)
     ≡ ran_of rules now course
-ran_purged rules now course = ap (λ (rows : List Row). record (ran_of rules now course) { bindings = rows })
-    (flat_same (λ (address : ℕ). rows rules.timers now (of address (purge rules.timers now course.list)))
+ran_taken rules now course = ap (λ (rows : List Row). record (ran_of rules now course) { bindings = rows })
+    (flat_same (λ (address : ℕ). rows rules.timers now (of address (taken rules.timers now course.list)))
     (λ address. rows rules.timers now (of address course.list))
     (λ address. rows_same rules now address course.list) rules.pool)
 
@@ -207,17 +220,17 @@ counts_added f g h sum (x ∷ xs) = ap (λ (n : ℕ). n ∷ map f xs) (sum x)
 
 -- THE LAWS
 
-pub dead_change_nothing : DeadChangeNothing
-dead_change_nothing rules state inputs =
+pub gone_change_nothing : GoneChangeNothing
+gone_change_nothing rules state inputs =
     let last : ℕ = last_clock state.clock inputs in
-    let live : List Binding = purge rules.timers state.clock state.list in
-    let same : purged rules last (run_from rules 0 state.clock inputs live)
-    ≡ purged rules last (run_from rules 0 state.clock inputs state.list) =
-    run_same rules 0 state.clock inputs live state.list
-    (purge_purge rules.timers state.clock state.clock (omega arith) state.list) last refl in
+    let here : List Binding = taken rules.timers state.clock state.list in
+    let same : course_taken rules last (run_from rules 0 state.clock inputs here)
+    ≡ course_taken rules last (run_from rules 0 state.clock inputs state.list) =
+    run_same rules 0 state.clock inputs here state.list
+    (taken_twice rules.timers state.clock state.list) last refl in
     record {
-      ran = sym (ran_purged rules last (run_from rules 0 state.clock inputs live))
-          ∙ (ap (ran_of rules last) same ∙ ran_purged rules last (run_from rules 0 state.clock inputs state.list));
+      ran = sym (ran_taken rules last (run_from rules 0 state.clock inputs here))
+          ∙ (ap (ran_of rules last) same ∙ ran_taken rules last (run_from rules 0 state.clock inputs state.list));
       acts = ap (λ (r : Course). r.acts) same;
       left = ap (λ (r : Course). record { clock = last; list = r.list }) same;
     }
@@ -235,15 +248,16 @@ module _ (rules : Rules) (state : State) (first rest : List Arrival) where
   abbrev goes : Course
   goes = course_from rules (left_by rules state first) rest
 
-  -- the whole course, purged in the end
-  course_on : purged rules last (course_from rules state (first ++ rest))
-      ≡ purged rules last (ahead begins (renumbered (length first) goes))
-  course_on = ap (purged rules last) (run_append rules 0 state.clock first rest state.list (length first) (omega arith))
-      ∙ (ap (λ (r : Course). purged rules last (ahead begins r))
+  -- the whole course, with what is taken in the end
+  course_on : course_taken rules last (course_from rules state (first ++ rest))
+      ≡ course_taken rules last (ahead begins (renumbered (length first) goes))
+  course_on = ap (course_taken rules last)
+      (run_append rules 0 state.clock first rest state.list (length first) (omega arith))
+      ∙ (ap (λ (r : Course). course_taken rules last (ahead begins r))
       (run_behind rules (length first) 0 (length first) clock rest begins.list (omega arith))
       ∙ ap (λ (r : Course). ahead begins (renumbered (length first) r))
-      (run_same rules 0 clock rest begins.list (purge rules.timers clock begins.list)
-      (sym (purge_purge rules.timers clock clock (omega arith) begins.list)) last refl))
+      (run_same rules 0 clock rest begins.list (taken rules.timers clock begins.list)
+      (sym (taken_twice rules.timers clock begins.list)) last refl))
 
   ran_on : ran_of rules last (ahead begins (renumbered (length first) goes))
       ≡ and_then (ran_from rules state first) (ran_from rules (left_by rules state first) rest)
@@ -258,13 +272,13 @@ module _ (rules : Rules) (state : State) (first rest : List Arrival) where
   go_on : GoesOn rules state first rest
   go_on = record {
     ran = ap (λ (t : ℕ). ran_of rules t (course_from rules state (first ++ rest))) (clock_on state.clock first rest)
-        ∙ (sym (ran_purged rules last (course_from rules state (first ++ rest)))
+        ∙ (sym (ran_taken rules last (course_from rules state (first ++ rest)))
         ∙ (ap (ran_of rules last) course_on
-        ∙ (ran_purged rules last (ahead begins (renumbered (length first) goes)) ∙ ran_on)));
+        ∙ (ran_taken rules last (ahead begins (renumbered (length first) goes)) ∙ ran_on)));
     acts = ap (λ (r : Course). r.acts) course_on;
     left = ap (λ (t : ℕ). record {
       clock = t;
-      list = purge rules.timers t (course_from rules state (first ++ rest)).list;
+      list = taken rules.timers t (course_from rules state (first ++ rest)).list;
     })
         (clock_on state.clock first rest)
         ∙ ap (λ (r : Course). record { clock = last; list = r.list }) course_on;

@@ -1,13 +1,13 @@
 -- The list of a run begins with the redirects, which no packet changes, and none comes after them: so what a run leaves
 -- goes on as it is, and is taken.
-use Rattle.std.proofs.Common.{◌≡◌, ℕ, Bool, true, false, not, ◌&&◌, ◌||◌, cond, List, [], ◌∷◌, ◌++◌, map, Option, Some, None, refl, sym, ◌∙◌, ap, subst, arith, append-nil, filter, nat_lt, ◌≤◌, le-leb, eq-eqb, IfSome}
+use Rattle.std.proofs.Common.{◌≡◌, ℕ, Bool, true, false, not, ◌&&◌, ◌||◌, cond, List, [], ◌∷◌, ◌++◌, map, Option, Some, None, refl, sym, ◌∙◌, ap, subst, arith, append-nil, filter, find, nat_lt, ◌≤◌, le-leb, eq-eqb, IfSome}
 use Rattle.std.{specs.List.list_any, proofs.lemmas.{List.map-append, Bool.{and_from, not-true, Decides.nat_tests}}}
 use Rattle.napt_rules.specs.declared.{Flow.Flow, Row.Row, Inbound.Inbound, Sent.Sent, Received.Received, Leg.Leg, Misfit.Misfit}
-use Rattle.napt_rules.specs.Prelude.{Binding, Each, change_first, same_protocol, same_endpoint, purge, redirected, opening, inbound_of, granting_of, of_source, sent_by, fresh, of_destination, received_by, Acted, sent_of, received_of, act_out, act_in, act, Arrival, last_clock, State, purged_at_clock, course_from, loose, under, row, AreRowsApart, Apart, IsNumber, IsPaired, IsSound, IsOfBlock, IsInItsBlock, is_number, is_its_number, clashes, clashes_with_any, misfit_of, misfit_or, misfit_in, Takes, IsOwn, AreAllOwn, OwnStatesStay, OwnStatesAreTaken, Protocol, Icmp, Tcp, Udp, Flags, kind, Endpoint, PacketsCarryNumbers, Timers, Rules, KeepsRules, pair_of, block_of, Block, Redirect}
+use Rattle.napt_rules.specs.Prelude.{Binding, Each, change_first, same_protocol, same_endpoint, is_of_inside, with_live_flows, purge, hold_ago, taken, redirected, opening, inbound_of, granting_of, sent_by, of_live_source, sent_live, of_others, fresh, received_by, of_live_destination, received_live, Acted, sent_of, received_of, act_out, act_in, act, Arrival, last_clock, State, taken_at_clock, course_from, loose, under, row, AreRowsApart, Apart, IsNumber, IsPaired, IsSound, IsOfBlock, IsInItsBlock, is_number, is_its_number, clashes, clashes_with_any, misfit_of, misfit_or, misfit_in, Takes, IsOwn, AreAllOwn, OwnStatesStay, OwnStatesAreTaken, Protocol, Icmp, Tcp, Udp, Flags, kind, Endpoint, PacketsCarryNumbers, Timers, Rules, KeepsRules, pair_of, block_of, Block, Redirect}
 use Rattle.napt_rules.proofs.Lists.{each_filter, filter_all}
-use Rattle.napt_laws.proofs.{Acts.of_act, Endpoints.{end_is, protocol_is}, Opened.redirect_stays, Passes.{of_out, of_in}, Purges.{purge_purge, each_purged}, StepRows.purge_keeps, Turns.run_keeps}
-use Rattle.napt_laws.proofs.{Lists.{each_changed, each_pushed, each_kept, each_less, each_mid, each_append, each_weaker}, StepsSound.{out_stays_sound, in_stays_sound, purge_stays_sound}}
-use Rattle.napt_laws.proofs.{RunsSound.run_sound, RunsBlocks.blocks_run, Owned.{or_none, IsKept, owned_purged, taken_own}, Taken.{turned, state_sound, state_blocks}}
+use Rattle.napt_laws.proofs.{Acts.of_act, Endpoints.{end_is, protocol_is}, Opened.redirect_stays, Passes.{of_out, of_in}, Purges.each_purged, Living.taken_twice, StepRows.purge_keeps, Turns.run_keeps}
+use Rattle.napt_laws.proofs.{Lists.{each_changed, each_pushed, each_kept, each_less, each_mid}, StepsSound.{out_stays_sound, in_stays_sound, purge_stays_sound}}
+use Rattle.napt_laws.proofs.{RunsSound.run_sound, RunsBlocks.blocks_run, Owned.{or_none, IsKept, owned_taken, taken_own}, Taken.{turned, state_sound, state_blocks}}
 
 -- REDIRECTS FIRST
 
@@ -43,13 +43,31 @@ module _ (pair : ℕ → ℕ) where
       ≡ redirected pair r) → ((b : Binding) → not (f b).row.fixed ≡ not b.row.fixed) → (redirects : List Redirect)
       (list : List Binding) → Begins redirects list → Begins redirects (change_first t f list)
   begins_changed t f stays same [] list h =
-      each_changed (λ b. not b.row.fixed ≡ true) t f (λ b is. same b ∙ is) list h
+      each_changed (λ b. not b.row.fixed ≡ true) t f (λ b its is. same b ∙ is) list h
   begins_changed t f stays same (r ∷ redirects) [] h = absurd h
   begins_changed t f stays same (r ∷ redirects) (b ∷ list) h = elim (t b) as (λ v. Begins (r ∷ redirects)
       (cond v (f b ∷ list) (b ∷ change_first t f list))) [
         | true ↦ (ap f h.0 ∙ stays r, h.1)
         | false ↦ (h.0, begins_changed t f stays same redirects list h.1)
       ]
+
+  -- a source that has no live binding has no redirect: those are found
+  begins_others : (timers : Timers) (now : ℕ) (its : Row → Bool) (redirects : List Redirect) (list : List Binding) →
+      Begins redirects list → find (λ b. its b.row) (purge timers now list) ≡ None →
+      Begins redirects (filter (λ b. not (its b.row)) list)
+  begins_others timers now its [] list h none =
+      each_less (λ b. not b.row.fixed ≡ true) (λ b. not (its b.row)) list h
+  begins_others timers now its (r ∷ redirects) [] h none = absurd h
+  begins_others timers now its (r ∷ redirects) (b ∷ list) h none =
+      let others : List Binding = filter (λ b. not (its b.row)) list in
+      subst (λ (x : Binding). find (λ b. its b.row) (purge timers now (x ∷ list)) ≡ None →
+      Begins (r ∷ redirects) (filter (λ b. not (its b.row)) (x ∷ list))) (sym h.0)
+      (elim (its (redirected pair r).row) as (λ v. cond v (Some (with_live_flows timers now (redirected pair r)))
+      (find (λ b. its b.row) (purge timers now list)) ≡ None →
+      Begins (r ∷ redirects) (cond (not v) (redirected pair r ∷ others) others)) [
+        | true ↦ λ e. cc
+        | false ↦ λ e. (refl, begins_others timers now its redirects list h.1 e)
+      ]) none
 
   begins_pushed : (redirects : List Redirect) (list : List Binding) (b : Binding) → not b.row.fixed ≡ true →
       Begins redirects list → Begins redirects (list ++ b ∷ [])
@@ -72,32 +90,38 @@ module _ (rules : Rules) where
   Keeps list = Begins (pair_of rules) rules.redirects list
 
   module _ (address : ℕ) (leg : Leg) (list : List Binding) (h : Keeps list) where
-    kept : Keeps (purge rules.timers leg.now list)
-    kept = begins_purged (pair_of rules) rules.timers leg.now rules.redirects list h
+    abbrev all_taken : List Binding
+    all_taken = taken rules.timers leg.now list
+
+    kept : Keeps all_taken
+    kept = begins_purged (pair_of rules) rules.timers (hold_ago rules.timers leg.now) rules.redirects list h
 
     kept_out : (protocol : Protocol) (flags : Flags) → Keeps (act_out rules address leg list protocol flags).list
     kept_out protocol flags =
         let packet : Sent = sent_of rules protocol flags leg.now leg.packet in
-        let live : List Binding = purge rules.timers leg.now list in
-        of_out Keeps address live kept (granting_of rules) packet
-        (begins_changed (pair_of rules) (of_source address packet) (sent_by packet) (λ r. refl) (λ b. refl)
-        rules.redirects live kept)
-        (λ n none is. begins_pushed (pair_of rules) rules.redirects live (sent_by packet (fresh address packet n)) refl
-        kept)
+        of_out Keeps rules.timers address all_taken kept (granting_of rules) packet
+        (begins_changed (pair_of rules) (of_live_source rules.timers address packet) (sent_live rules.timers packet)
+        (λ r. ap (sent_by packet) (redirect_stays rules.timers leg.now (pair_of rules) r)) (λ b. refl)
+        rules.redirects all_taken kept)
+        (λ n none is. begins_pushed (pair_of rules) rules.redirects (of_others address packet all_taken)
+        (sent_by packet (fresh address packet n)) refl
+        (begins_others (pair_of rules) rules.timers leg.now (is_of_inside address protocol packet.inside)
+        rules.redirects all_taken kept none))
 
     kept_in : (protocol : Protocol) (flags : Flags) → Keeps (act_in rules address leg list protocol flags).list
     kept_in protocol flags =
         let packet : Received = received_of protocol flags leg.now leg.packet in
-        let live : List Binding = purge rules.timers leg.now list in
-        of_in Keeps address live kept (inbound_of rules) packet
-        (begins_changed (pair_of rules) (of_destination address packet) (received_by (inbound_of rules) packet)
-        (received_stays (pair_of rules) (inbound_of rules) packet) (λ b. refl) rules.redirects live kept)
+        of_in Keeps rules.timers address all_taken kept (inbound_of rules) packet
+        (begins_changed (pair_of rules) (of_live_destination rules.timers address packet)
+        (received_live rules.timers (inbound_of rules) packet)
+        (λ r. ap (received_by (inbound_of rules) packet) (redirect_stays rules.timers leg.now (pair_of rules) r)
+        ∙ received_stays (pair_of rules) (inbound_of rules) packet r) (λ b. refl) rules.redirects all_taken kept)
 
     kept_leg : Keeps (act rules address leg list).list
     kept_leg = of_act rules address leg list (λ (a : Acted). Keeps a.list) kept_out kept_in (λ end. h) leg.way
         (kind leg.packet)
 
-  -- what a run from a state under the configuration leaves, not yet purged
+  -- what a run from a state under the configuration leaves, with what has gone
   module _ (state : State) (inputs : List Arrival) where
     abbrev now : ℕ
     now = last_clock state.clock inputs
@@ -105,24 +129,24 @@ module _ (rules : Rules) where
     abbrev list : List Binding
     list = (course_from rules (under rules state) inputs).list
 
-    left_keeps : Keeps (purge rules.timers now list)
-    left_keeps = begins_purged (pair_of rules) rules.timers now rules.redirects list
+    left_keeps : Keeps (taken rules.timers now list)
+    left_keeps = begins_purged (pair_of rules) rules.timers (hold_ago rules.timers now) rules.redirects list
         (run_keeps rules Keeps (λ address leg list served. kept_leg address leg list) 0 state.clock inputs
         (under rules state).list (begins_with (pair_of rules) rules.redirects (loose rules state)
-        (each_filter (λ b. not b.row.fixed) (purged_at_clock rules state).list)))
+        (each_filter (λ b. not b.row.fixed) (taken_at_clock rules state).list)))
 
-    left_is : purge rules.timers now list
-        ≡ opening rules ++ filter (λ b. not b.row.fixed) (purge rules.timers now list)
-    left_is = begins_is (pair_of rules) rules.redirects (purge rules.timers now list) left_keeps
+    left_is : taken rules.timers now list
+        ≡ opening rules ++ filter (λ b. not b.row.fixed) (taken rules.timers now list)
+    left_is = begins_is (pair_of rules) rules.redirects (taken rules.timers now list) left_keeps
 
-    twice : purge rules.timers now (purge rules.timers now list) ≡ purge rules.timers now list
-    twice = purge_purge rules.timers now now (omega arith) list
+    twice : taken rules.timers now (taken rules.timers now list) ≡ taken rules.timers now list
+    twice = taken_twice rules.timers now list
 
 pub own_states_stay : OwnStatesStay
 own_states_stay rules = (
   ap (λ (l : List Binding). record { clock = 0; list = l })
-      (ap (λ (l : List Binding). opening rules ++ l) (opening_stays (pair_of rules) rules.timers 0 rules.redirects)
-      ∙ append-nil (opening rules)),
+      (ap (λ (l : List Binding). opening rules ++ l) (opening_stays (pair_of rules) rules.timers
+      (hold_ago rules.timers 0) rules.redirects) ∙ append-nil (opening rules)),
   (λ state inputs. ap (λ (l : List Binding). record { clock = last_clock state.clock inputs; list = l })
       (ap (λ (l : List Binding). opening rules ++ filter (λ b. not b.row.fixed) l) (twice rules state inputs)
       ∙ sym (left_is rules state inputs))),
@@ -207,20 +231,20 @@ module _ (carry : PacketsCarryNumbers) (rules : Rules) (keeps : KeepsRules rules
   clock = last_clock state.clock inputs
 
   abbrev left : List Binding
-  left = purge rules.timers clock (course_from rules (under rules state) inputs).list
+  left = taken rules.timers clock (course_from rules (under rules state) inputs).list
 
   sound : IsSound (pair_of rules) left
-  sound = purge_stays_sound (pair_of rules) rules.timers clock _
+  sound = purge_stays_sound (pair_of rules) rules.timers (hold_ago rules.timers clock) _
       (run_sound carry out_stays_sound in_stays_sound rules keeps 0 state.clock inputs (under rules state).list
       (state_sound rules keeps state takes))
 
   blocks : Each (IsInItsBlock rules) (map row left)
   blocks = purge_keeps (Each (IsInItsBlock rules)) (λ p list h. each_kept (IsInItsBlock rules) row p list h)
-      rules.timers clock _
+      rules.timers (hold_ago rules.timers clock) _
       (blocks_run rules keeps 0 state.clock inputs (under rules state).list (state_blocks rules keeps state takes))
 
   own : AreAllOwn rules clock left
-  own = owned_purged rules clock clock _ (taken_own rules keeps state takes inputs)
+  own = owned_taken rules clock clock _ (taken_own rules keeps state takes inputs)
 
   left_is_taken : Takes rules (record { clock = clock; list = left })
   left_is_taken =
@@ -234,6 +258,6 @@ module _ (carry : PacketsCarryNumbers) (rules : Rules) (keeps : KeepsRules rules
 
 pub own_states_are_taken : PacketsCarryNumbers → OwnStatesAreTaken
 own_states_are_taken carry rules = (
-  ap (misfit_in rules 0) (opening_stays (pair_of rules) rules.timers 0 rules.redirects),
+  ap (misfit_in rules 0) (opening_stays (pair_of rules) rules.timers (hold_ago rules.timers 0) rules.redirects),
   (λ keeps state takes inputs. left_is_taken carry rules keeps state takes inputs),
 )

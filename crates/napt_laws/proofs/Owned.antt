@@ -1,10 +1,10 @@
 -- A run keeps of each binding that is no redirect what its configuration asks of a state's: its host is inside, it was
 -- not used after the clock, and no two of its flows are of one remote.
-use Rattle.std.proofs.Common.{◌≡◌, ℕ, ◌≤◌, Bool, true, false, ◌||◌, cond, List, [], ◌∷◌, ◌++◌, map, refl, sym, ◌∙◌, ap, subst, arith, filter}
+use Rattle.std.proofs.Common.{◌≡◌, ℕ, ◌≤◌, Bool, true, false, not, ◌||◌, cond, List, [], ◌∷◌, ◌++◌, map, refl, sym, ◌∙◌, ap, subst, arith, filter}
 use Rattle.std.{specs.List.list_any, proofs.lemmas.Bool.{or_parts, true≢false}}
 use Rattle.napt_wire.specs.declared.Kind.TheVariants as kinds
 use Rattle.napt_rules.specs.declared.{Flow.Flow, Inbound.Inbound, Sent.Sent, Received.Received, Leg.Leg}
-use Rattle.napt_rules.specs.Prelude.{Binding, no_marks, Each, change_first, same_endpoint, is_tcp, is_live_flow, live_flows, purge, is_flow_of, used, with_flow, refreshes, inbound_of, granting_of, no_flags, of_source, sent_by, fresh, of_destination, received_by, sent_of, received_of, act_out, act_in, act_by, Arrival, run_from, last_clock, flows_share, redirected, opening, State, loose, under, AreOwn, IsOwn, AreAllOwn, TakenAreOwn, Protocol, Icmp, Tcp, Udp, Way, Outgoing, Incoming, Flags, Endpoint, Kind, source, kind, Timers, Rules, pair_of, is_inside, Redirect}
+use Rattle.napt_rules.specs.Prelude.{Binding, no_marks, change_first, same_endpoint, is_tcp, is_live_flow, live_flows, with_live_flows, hold_ago, taken, is_flow_of, used, with_flow, refreshes, inbound_of, granting_of, no_flags, of_source, sent_by, of_live_source, sent_live, of_others, fresh, received_by, of_live_destination, received_live, sent_of, received_of, act_out, act_in, act_by, Arrival, run_from, last_clock, flows_share, redirected, opening, loose, under, AreOwn, IsOwn, AreAllOwn, TakenAreOwn, Protocol, Icmp, Tcp, Udp, Way, Outgoing, Incoming, Flags, Endpoint, Kind, source, kind, Timers, Rules, pair_of, is_inside, Redirect}
 use Rattle.napt_laws.proofs.{Endpoints.{end_itself, end_is}, Lists.{each_changed, each_pushed, each_weaker, each_less, each_append}, Passes.{of_out, of_in}, Purges.each_purged}
 use Rattle.napt_laws.proofs.{Taken.all, Turns.run_keeps_at}
 
@@ -73,7 +73,7 @@ own_live timers now clock protocol flows h = elim (is_tcp protocol) as (λ v. Ar
 own_used : (protocol : Protocol) (way : Way) (flags : Flags) (now : ℕ) (t : Flow → Bool) (flows : List Flow) →
     AreOwn now flows → AreOwn now (change_first t (used protocol way flags now) flows)
 own_used protocol way flags now t flows h = record {
-  by = each_changed (λ f. f.last ≤ now) t (used protocol way flags now) (λ f le. omega arith) flows h.by;
+  by = each_changed (λ f. f.last ≤ now) t (used protocol way flags now) (λ f its le. omega arith) flows h.by;
   single = share_changed t (used protocol way flags now) (λ f. refl) flows ∙ h.single;
 }
 
@@ -106,13 +106,17 @@ module _ (rules : Rules) where
     };
   }) list h
 
-  pub owned_purged : (clock now : ℕ) (list : List Binding) → AreAllOwn rules clock list →
-      AreAllOwn rules clock (purge rules.timers now list)
-  owned_purged clock now list h = each_purged (IsKept clock) rules.timers now (λ b own is. let o = own is in record {
+  owned_live : (clock now : ℕ) (b : Binding) → IsKept clock b → IsKept clock (with_live_flows rules.timers now b)
+  owned_live clock now b own is = let o = own is in record {
     host = o.host;
     last = o.last;
     flows = own_live rules.timers now clock b.row.protocol b.flows o.flows;
-  }) list h
+  }
+
+  pub owned_taken : (clock now : ℕ) (list : List Binding) → AreAllOwn rules clock list →
+      AreAllOwn rules clock (taken rules.timers now list)
+  owned_taken clock now list h = each_purged (IsKept clock) rules.timers (hold_ago rules.timers now)
+      (owned_live clock (hold_ago rules.timers now)) list h
 
   owned_sent : (packet : Sent) (b : Binding) → IsKept packet.now b → IsKept packet.now (sent_by packet b)
   owned_sent packet b own is =
@@ -147,17 +151,23 @@ module _ (rules : Rules) where
   -- ONE LEG
 
   module _ (address : ℕ) (leg : Leg) (list : List Binding) (h : AreAllOwn rules leg.now list) where
-    kept : AreAllOwn rules leg.now (purge rules.timers leg.now list)
-    kept = owned_purged leg.now leg.now list h
+    abbrev all_taken : List Binding
+    all_taken = taken rules.timers leg.now list
+
+    kept : AreAllOwn rules leg.now all_taken
+    kept = owned_taken leg.now leg.now list h
 
     owned_out : (protocol : Protocol) (flags : Flags) → is_inside rules (source leg.packet).address ≡ true →
         AreAllOwn rules leg.now (act_out rules address leg list protocol flags).list
     owned_out protocol flags host =
         let packet : Sent = sent_of rules protocol flags leg.now leg.packet in
-        let live : List Binding = purge rules.timers leg.now list in
-        of_out (AreAllOwn rules leg.now) address live kept (granting_of rules) packet
-        (each_changed (IsKept leg.now) (of_source address packet) (sent_by packet) (owned_sent packet) live kept)
-        (λ n none is. each_pushed (IsKept leg.now) live (sent_by packet (fresh address packet n)) kept
+        of_out (AreAllOwn rules leg.now) rules.timers address all_taken kept (granting_of rules) packet
+        (each_changed (IsKept leg.now) (of_live_source rules.timers address packet) (sent_live rules.timers packet)
+        (λ b its own. owned_sent packet (with_live_flows rules.timers leg.now b) (owned_live leg.now leg.now b own))
+        all_taken kept)
+        (λ n none is. each_pushed (IsKept leg.now) (of_others address packet all_taken)
+        (sent_by packet (fresh address packet n))
+        (each_less (IsKept leg.now) (λ b. not (of_source address packet b)) all_taken kept)
         (owned_sent packet (fresh address packet n) (λ loose. record {
           host = host;
           last = omega arith;
@@ -168,10 +178,11 @@ module _ (rules : Rules) where
         AreAllOwn rules leg.now (act_in rules address leg list protocol flags).list
     owned_in protocol flags =
         let packet : Received = received_of protocol flags leg.now leg.packet in
-        let live : List Binding = purge rules.timers leg.now list in
-        of_in (AreAllOwn rules leg.now) address live kept (inbound_of rules) packet
-        (each_changed (IsKept leg.now) (of_destination address packet) (received_by (inbound_of rules) packet)
-        (owned_received (inbound_of rules) packet) live kept)
+        of_in (AreAllOwn rules leg.now) rules.timers address all_taken kept (inbound_of rules) packet
+        (each_changed (IsKept leg.now) (of_live_destination rules.timers address packet)
+        (received_live rules.timers (inbound_of rules) packet)
+        (λ b its own. owned_received (inbound_of rules) packet (with_live_flows rules.timers leg.now b)
+        (owned_live leg.now leg.now b own)) all_taken kept)
 
     owned_by : (way : Way) (kind : Kind) → (way ≡ Outgoing → is_inside rules (source leg.packet).address ≡ true) →
         AreAllOwn rules leg.now (act_by rules address leg list way kind).list

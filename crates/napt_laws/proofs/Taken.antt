@@ -2,7 +2,7 @@
 use Rattle.std.proofs.Common.{◌≡◌, ℕ, ◌≤◌, max, true, false, not, ◌&&◌, ◌||◌, List, [], ◌∷◌, ◌++◌, map, Option, Some, None, refl, sym, ◌∙◌, ap, subst, arith, append-nil, eqb-true, nat_lt, IfSome}
 use Rattle.std.proofs.lemmas.{List.map-append, Bool.{and_parts, or_parts, not-false, true≢false, leb-true, Decides.nat_tests}}
 use Rattle.napt_rules.specs.Prelude.{Binding, Each, same_protocol, same_endpoint, row, opening, State, AreRowsApart, Apart, IsNumber, IsPaired, IsSound, count_for, IsOfBlock, IsInItsBlock, loose, under, is_number, is_its_number, is_numbered, flows_share, clashes, clashes_with_any, misfit_of, misfit_or, misfit_in, Takes, TakenAreSound, TakenKeepToBlocks, TakenKeepQuota, IsOwn, Protocol, Icmp, Tcp, Udp, PacketsCarryNumbers, Rules, KeepsRules, pair_of, block_of, is_inside, Block}
-use Rattle.napt_rules.specs.declared.{Flow.Flow, Row.Row, Misfit.Misfit}
+use Rattle.napt_rules.specs.declared.{Row.Row, Misfit.Misfit}
 use Rattle.napt_laws.proofs.{Endpoints.{same_itself, end_itself}, Lists.{passed, any_none, each_weaker, each_append, each_with}, Opened.opening_sound}
 use Rattle.napt_laws.proofs.{StepsSound.{out_stays_sound, in_stays_sound}, StepsQuota.in_keeps_quota, RunsSound.run_sound, RunsBlocks.{blocks_run, opening_in_blocks}, RunsQuota.within_run}
 

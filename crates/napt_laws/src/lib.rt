@@ -21,5 +21,5 @@ pub use runs::{
 };
 pub use steps::{
     no_host_exceeds_its_quota, opening_is_sound, rows_are_in_order, steps_are_local,
-    steps_leave_live, steps_stay_sound,
+    steps_hold_numbers, steps_leave_taken, steps_stay_sound,
 };

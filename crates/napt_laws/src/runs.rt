@@ -1,6 +1,6 @@
 //! Laws of runs.
 
-ghost use Rattle.napt_rules.specs.Prelude.{RunsGoOn, DeadChangeNothing, EarlierClocksAreTheStates, RunsAreSound, RunsStayApart, RunsKeepQuota, RunsKeepToBlocks};
+ghost use Rattle.napt_rules.specs.Prelude.{RunsGoOn, GoneChangeNothing, EarlierClocksAreTheStates, RunsAreSound, RunsStayApart, RunsKeepQuota, RunsKeepToBlocks};
 ghost use Rattle.napt_rules.specs.Prelude.{TakenAreSound, TakenKeepToBlocks, TakenKeepQuota, TakenAreOwn, OwnStatesStay, OwnStatesAreTaken, TranslatorsAnswerFrom, TranslatorsKeepFrom};
 
 use crate::steps::{no_host_exceeds_its_quota, opening_is_sound, steps_stay_sound};
@@ -9,7 +9,7 @@ use napt_wire::packets_carry_numbers;
 /// A run over inputs and then others is a run over the first, and then one over the others from the state that it leaves.
 pub fn runs_go_on()
     ensures go_on { RunsGoOn }
-    ensures dead { DeadChangeNothing }
+    ensures gone { GoneChangeNothing }
     ensures clocks { EarlierClocksAreTheStates }
 {}
 

@@ -1,7 +1,7 @@
 -- LAWS: a run over inputs and then others is a run over the first, handed on, and a run over the others.
 use Rattle.std.specs.Prelude.{◌≡◌, ℕ, ◌+◌, max, List, ◌++◌, length, map, zip}
 use Rattle.napt_config.specs.Rules.{Rules}
-use Rattle.napt_rules.specs.{Inputs.Arrival, Sequential.{Act, Ran, last_clock, State, purged_at_clock, course_from, left_by, ran_from}}
+use Rattle.napt_rules.specs.{Inputs.Arrival, Sequential.{Act, Ran, last_clock, State, taken_at_clock, course_from, left_by, ran_from}}
 
 -- an act of inputs that come behind so many others
 abbrev pub behind : ℕ → Act → Act
@@ -29,14 +29,14 @@ pub record GoesOn (rules : Rules) (state : State) (first rest : List Arrival) : 
 abbrev pub RunsGoOn : Type 0
 RunsGoOn = (rules : Rules) (state : State) (first rest : List Arrival) → GoesOn rules state first rest
 
--- what is dead at the clock of a state, its bindings and their flows, changes nothing that follows
-pub record IsAsPurged (rules : Rules) (state : State) (inputs : List Arrival) : Type 0 where
-  pub ran : ran_from rules (purged_at_clock rules state) inputs ≡ ran_from rules state inputs
-  pub acts : (course_from rules (purged_at_clock rules state) inputs).acts ≡ (course_from rules state inputs).acts
-  pub left : left_by rules (purged_at_clock rules state) inputs ≡ left_by rules state inputs
+-- what has gone by the clock of a state, bindings and their flows, changes nothing that follows
+pub record IsAsTaken (rules : Rules) (state : State) (inputs : List Arrival) : Type 0 where
+  pub ran : ran_from rules (taken_at_clock rules state) inputs ≡ ran_from rules state inputs
+  pub acts : (course_from rules (taken_at_clock rules state) inputs).acts ≡ (course_from rules state inputs).acts
+  pub left : left_by rules (taken_at_clock rules state) inputs ≡ left_by rules state inputs
 
-abbrev pub DeadChangeNothing : Type 0
-DeadChangeNothing = (rules : Rules) (state : State) (inputs : List Arrival) → IsAsPurged rules state inputs
+abbrev pub GoneChangeNothing : Type 0
+GoneChangeNothing = (rules : Rules) (state : State) (inputs : List Arrival) → IsAsTaken rules state inputs
 
 -- THE CLOCKS OF THE INPUTS, which in a run that goes on begin anew
 

@@ -1,19 +1,19 @@
 -- Which states a configuration takes, and a state as it goes on under one.
 --
--- It may be another configuration than that under which the state was left. What is dead under its timers is not looked
--- at, and a host keeps what it has, also over the quota. Where hosts have no blocks a number of any class is kept, so
--- that blocks can be given up without cutting connections.
+-- It may be another configuration than that under which the state was left. What has gone under its timers is not
+-- looked at, and a host keeps what it has, also over the quota. Where hosts have no blocks a number of any class is
+-- kept, so that blocks can be given up without cutting connections.
 use Rattle.std.specs.{Prelude.{ℕ, ◌==◌, nat_lt, Bool, true, false, not, ◌&&◌, ◌||◌, cond, List, [], ◌∷◌, ◌++◌, filter, Option, Some, None}, List.list_any}
 use Rattle.napt_wire.specs.declared.Protocol.{Protocol, TheVariants.Icmp}
 use Rattle.napt_config.specs.{Rules.{Rules, pair_of, block_of, is_inside, has_number}, declared.settings.Block.Block}
-use Rattle.napt_rules.specs.{Bindings.{Binding, same_protocol, same_endpoint}, Traffic.is_flow_of, Opening.opening, Sequential.{State, purged_at_clock}}
+use Rattle.napt_rules.specs.{Bindings.{Binding, same_protocol, same_endpoint}, Traffic.is_flow_of, Opening.opening, Sequential.{State, taken_at_clock}}
 use Rattle.napt_rules.specs.declared.{Flow.Flow, Row.Row, Misfit.{Misfit, TheVariants.{NotInside, NotPaired, NotItsNumber, UsedLater, FlowsShare, Redirected, Shared}}}
 
 -- UNDER A CONFIGURATION
 
--- the bindings of a state that live at its clock and are no redirects
+-- the bindings of a state that live or are held at its clock and are no redirects
 abbrev pub loose : Rules → State → List Binding
-loose rules state = filter (λ b. not b.row.fixed) (purged_at_clock rules state).list
+loose rules state = filter (λ b. not b.row.fixed) (taken_at_clock rules state).list
 
 -- behind the redirects of the configuration
 abbrev pub under : Rules → State → State
