@@ -2,7 +2,9 @@
 
 ghost use Rattle.std.specs.Prelude.{◌≡◌};
 ghost use Rattle.napt_config.specs.Rules.{AreTimers};
+ghost use Rattle.napt_rules.specs.Life as life;
 
+use crate::life::SECOND;
 use napt_config::{Config, Timers};
 use std::marker::Model;
 
@@ -41,5 +43,13 @@ impl IdleTimers {
         ensures { AreTimers self }
     {
         let _ = &self.seconds;
+    }
+
+    /// The time that the hold is before `now` (ns), or 0: what had ended by then keeps its number no longer (RFC 6888,
+    /// REQ-8).
+    pub fn hold_ago(self, now: u64) -> u64
+        ensures { result ≡ life.hold_ago self now }
+    {
+        now.saturating_sub(self.seconds.hold * SECOND)
     }
 }

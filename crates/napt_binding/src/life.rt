@@ -12,7 +12,7 @@ use napt_rules::Flow;
 use napt_wire::Protocol;
 
 /// In nanoseconds.
-const SECOND: u64 = 1_000_000_000;
+pub(crate) const SECOND: u64 = 1_000_000_000;
 
 /// Whether `last` is less than `seconds` ago.
 pub(crate) fn is_recent(now: u64, last: u64, seconds: u64) -> bool

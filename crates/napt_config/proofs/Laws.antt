@@ -5,7 +5,7 @@ use Rattle.std.specs.{BTreeMap.insert_entry, List.{list_any, before_first, after
 use Rattle.std.proofs.lemmas.{Bool.not-true, List.{Elements.{All-push, All-nil}, Folds.list_any_at}, Map.Views.{All-keys-insert_entry, All-values-insert_entry}}
 use Rattle.std.proofs.lemmas.Option.{cond_some, option_and_then_some}
 use Rattle.toml.specs.Data.{Data, Items, Members, get_member}
-use Rattle.napt_config.specs.Prelude.{BadAddress, BadPrefix, BadNumber, DoubleAddress, Missing, PrefixesOverlap, BlockTooLarge, PairWithBlock, NotInside, NotInPool, DoublePair, TimerTooShort, UnknownKey, Timers, Network, IsNetwork, have_address, are_apart, address_of, network_of, network_at, number_of, is_slash, Rules, has, paired_with, paired, block_in, have_room, IsTimer, AreTimers, IsInside, IsQuota, IsBlock, AreBlocks, ArePairs, KeepsRules, item_count, short_list, text_in, number_in, table_in, list_up_to, between, with_address, pool_in, with_prefix, prefixes_in, inside_in, filter_in, refresh_in, choosing_in, timer_at, timers_at, timers_in, default_timers, ring_at, ring_in, quota_at, quota_in, block_size_at, block_size, block_size_in, address_in, with_pair, pairs_at, pairs_in, redirects_in, required, optional, configured, knows_all_keys}
+use Rattle.napt_config.specs.Prelude.{BadAddress, BadPrefix, BadNumber, DoubleAddress, Missing, PrefixesOverlap, BlockTooLarge, PairWithBlock, HoldWithBlock, NotInside, NotInPool, DoublePair, TimerTooShort, UnknownKey, Timers, Network, IsNetwork, have_address, are_apart, address_of, network_of, network_at, number_of, is_slash, Rules, has, paired_with, paired, block_in, have_room, IsTimer, AreTimers, IsInside, IsQuota, IsBlock, AreBlocks, ArePairs, KeepsRules, item_count, short_list, text_in, number_in, table_in, list_up_to, between, with_address, pool_in, with_prefix, prefixes_in, inside_in, filter_in, refresh_in, choosing_in, timer_at, timers_at, idle_timers_in, timers_in, default_timers, ring_at, ring_in, quota_at, quota_in, block_size_at, block_size, block_size_in, address_in, with_pair, pairs_at, pairs_in, redirects_in, required, optional, configured, knows_all_keys}
 use Rattle.napt_config.proofs.Addresses.{address_of-bound}
 use Rattle.napt_config.proofs.{Chains.{list_up_to-counts, reads, holds, ok_or_ok, optional_reads, optional-absent, each_keeps, each_adds}, Indices.block_in-is}
 use Rattle.napt_config.proofs.{Numbers.{number_of-range, between-range}, PairEntries.{Pairs, sorted_inserted, one_more}, Pools.{AreDistinct, AreDistinct-push}}
@@ -170,6 +170,7 @@ defaults_are_timers = record {
   established = record { low = omega arith; high = omega arith };
   transitory = record { low = omega arith; high = omega arith };
   icmp = record { low = omega arith; high = omega arith };
+  hold = record { low = omega arith; high = omega arith };
 }
 
 timers_at-keeps : (timers : Timers) (value : Data) → timers_at value ≡ Ok timers → AreTimers timers
@@ -181,7 +182,8 @@ timers_at-keeps timers value is =
     rest₂.
     reads (optional (codes "tcp-transitory") 240 (timer_at 240) keys) _ timers rest₂ λ transitory transitory_is rest₃.
     reads (optional (codes "icmp") 60 (timer_at 60) keys) _ timers rest₃ λ icmp icmp_is last.
-    let made : Timers = record { udp = udp; established = established; transitory = transitory; icmp = icmp } in
+    let made : Timers =
+    record { udp = udp; established = established; transitory = transitory; icmp = icmp; hold = 0 } in
     let same : made ≡ timers = cc in
     subst AreTimers same (record {
       udp = timer-keeps (codes "udp") 120 300 udp keys defaults_are_timers.udp udp_is;
@@ -190,12 +192,25 @@ timers_at-keeps timers value is =
       transitory = timer-keeps (codes "tcp-transitory") 240 240 transitory keys defaults_are_timers.transitory
           transitory_is;
       icmp = timer-keeps (codes "icmp") 60 60 icmp keys defaults_are_timers.icmp icmp_is;
+      hold = defaults_are_timers.hold;
     })
 
 pub timers_in-keeps : (timers : Timers) (table : Members) → timers_in table ≡ Ok timers → AreTimers timers
-unfolding timers_in
-timers_in-keeps timers table is = optional_reads AreTimers (codes "timers") default_timers timers_at table timers is
-    defaults_are_timers (λ value y read. timers_at-keeps y value read)
+unfolding timers_in idle_timers_in
+timers_in-keeps timers table is =
+    reads (idle_timers_in table) _ timers is λ idle idle_is rest.
+    reads (optional (codes "hold") 0 (timer_at 0) table) _ timers rest λ hold hold_is last.
+    let keeps = optional_reads AreTimers (codes "timers") default_timers timers_at table idle idle_is
+    defaults_are_timers (λ value y read. timers_at-keeps y value read) in
+    let made : Timers = record idle { hold = hold } in
+    let same : made ≡ timers = cc in
+    subst AreTimers same (record {
+      udp = keeps.udp;
+      established = keeps.established;
+      transitory = keeps.transitory;
+      icmp = keeps.icmp;
+      hold = timer-keeps (codes "hold") 0 0 hold table defaults_are_timers.hold hold_is;
+    })
 
 abbrev pub IsRing : ℕ → Type 0
 IsRing slots = (1 ≤ slots) × (slots ≤ 4096)
@@ -242,14 +257,15 @@ pub record SizeRules (pool : List ℕ) (inside : List Network) (table : Members)
   pub room : have_room size inside (length pool) ≡ true
   pub no_pair : is_some (get_member (codes "pair") table) ≡ false
 
-block_size-keeps : (pool : List ℕ) (inside : List Network) (table : Members) (block : Option ℕ) (value : Data) →
-    block_size pool inside table value ≡ Ok block → IfSome block (SizeRules pool inside table)
+block_size-keeps : (pool : List ℕ) (inside : List Network) (hold : ℕ) (table : Members) (block : Option ℕ)
+    (value : Data) → block_size pool inside hold table value ≡ Ok block → IfSome block (SizeRules pool inside table)
 unfolding block_size
-block_size-keeps pool inside table block value is =
+block_size-keeps pool inside hold table block value is =
     reads (block_size_at value) _ block is λ size sized ruled.
     holds (are_apart inside) PrefixesOverlap _ block ruled λ apart ruled₁.
     holds (have_room size inside (length pool)) BlockTooLarge _ block ruled₁ λ room ruled₂.
-    holds (not (is_some (get_member (codes "pair") table))) PairWithBlock _ block ruled₂ λ no_pair last.
+    holds (not (is_some (get_member (codes "pair") table))) PairWithBlock _ block ruled₂ λ no_pair ruled₃.
+    holds (hold == 0) HoldWithBlock _ block ruled₃ λ none last.
     let same : Some size ≡ block = cc in
     subst (λ b. IfSome b (SizeRules pool inside table)) same (record {
       is_size = block_size_at-keeps size value sized;
@@ -258,10 +274,10 @@ block_size-keeps pool inside table block value is =
       no_pair = not-true _ no_pair;
     })
 
-pub block_size_in-keeps : (pool : List ℕ) (inside : List Network) (table : Members) (block : Option ℕ) →
-    block_size_in pool inside table ≡ Ok block → IfSome block (SizeRules pool inside table)
+pub block_size_in-keeps : (pool : List ℕ) (inside : List Network) (hold : ℕ) (table : Members) (block : Option ℕ) →
+    block_size_in pool inside hold table ≡ Ok block → IfSome block (SizeRules pool inside table)
 unfolding block_size_in
-block_size_in-keeps pool inside table block is = grind (arith, common_steps, optional_reads, block_size-keeps)
+block_size_in-keeps pool inside hold table block is = grind (arith, common_steps, optional_reads, block_size-keeps)
 
 -- ---- pairs
 
@@ -380,12 +396,12 @@ without_pairs pool inside table (Some size) kept = record {
 -- ---- the whole
 
 -- the blocks that a table gives are blocks
-pub blocks-keep : (table : Members) (pool : List ℕ) (inside : List Network) (block : Option ℕ) → 1 ≤ length pool →
-    block_size_in pool inside table ≡ Ok block
+pub blocks-keep : (table : Members) (pool : List ℕ) (inside : List Network) (hold : ℕ) (block : Option ℕ) →
+    1 ≤ length pool → block_size_in pool inside hold table ≡ Ok block
     → (host : ℕ) → IfSome (block_in block inside (length pool) host) IsBlock
-blocks-keep table pool inside block some is =
-    block_in-is block inside pool [] some (without_pairs pool inside table block (block_size_in-keeps pool inside table
-    block is))
+blocks-keep table pool inside hold block some is =
+    block_in-is block inside pool [] some (without_pairs pool inside table block
+    (block_size_in-keeps pool inside hold table block is))
 
 -- what a table configures keeps the rules
 pub configured-keeps : (table : Members) (rules : Rules) → configured table ≡ Ok rules → KeepsRules rules
@@ -400,7 +416,7 @@ configured-keeps table rules is =
     reads (timers_in table) _ rules rest₅ λ timers timers_is rest₆.
     reads (ring_in table) _ rules rest₆ λ ring ring_is rest₇.
     reads (quota_in table) _ rules rest₇ λ quota quota_is rest₈.
-    reads (block_size_in pool inside table) _ rules rest₈ λ block block_is rest₉.
+    reads (block_size_in pool inside timers.hold table) _ rules rest₈ λ block block_is rest₉.
     reads (pairs_in pool inside table) _ rules rest₉ λ pairs pairs_is rest₁₀.
     reads (redirects_in inside (paired block inside pool pairs) (block_in block inside (length pool)) table) _ rules
     rest₁₀ λ redirects redirects_are last.
@@ -421,8 +437,8 @@ configured-keeps table rules is =
     let of_pool = pool_in-keeps table pool pool_is in
     let (of_inside, outside) = inside_in-keeps pool table inside inside_is in
     let of_ring = ring_in-keeps ring table ring_is in
-    let of_blocks = are_blocks pool inside table block pairs (block_size_in-keeps pool inside table block block_is)
-    pairs_is in
+    let of_blocks = are_blocks pool inside table block pairs
+    (block_size_in-keeps pool inside timers.hold table block block_is) pairs_is in
     let of_redirects = redirects_in-keeps inside (paired block inside pool pairs) (block_in block inside (length pool))
     table redirects redirects_are in
     subst KeepsRules same (record {

@@ -10,7 +10,7 @@ use Rattle.napt_config.specs.{Fault.{◌>>=◌, ◌>>◌, must}, Rules.{Rules, h
 use Rattle.napt_config.specs.declared.settings.{Filter.{Filter, TheVariants.{Independent, Address, AddressPort}}, Refresh.Refresh}
 use Rattle.napt_config.specs.declared.settings.{Refresh.TheVariants.{Outbound, Both}, Choosing.Choosing, Seed.Seed, Timers.Timers, Redirect.Redirect}
 use Rattle.napt_config.specs.declared.{settings.Block.Block, fault.ConfigFault.ConfigFault}
-use Rattle.napt_config.specs.declared.fault.ConfigFault.TheVariants.{NotToml, UnknownKey, Missing, BadShape, TooMany, BadAddress, BadPrefix, BadNumber, BadWord, BadSeed, SeedUnused, DoubleAddress, PoolInside, PrefixesOverlap, BlockTooLarge, PairWithBlock, DoublePair, NotInPool, NotInside, RedirectInBlock, DoubleRedirect, TimerTooShort}
+use Rattle.napt_config.specs.declared.fault.ConfigFault.TheVariants.{NotToml, UnknownKey, Missing, BadShape, TooMany, BadAddress, BadPrefix, BadNumber, BadWord, BadSeed, SeedUnused, DoubleAddress, PoolInside, PrefixesOverlap, BlockTooLarge, PairWithBlock, HoldWithBlock, DoublePair, NotInPool, NotInside, RedirectInBlock, DoubleRedirect, TimerTooShort}
 
 -- ---- keys
 
@@ -30,8 +30,8 @@ only_keys_in_each names (item entry rest) = only_keys_in names entry && only_key
 
 abbrev pub top_keys : List (List ℕ)
 top_keys = codes "pool" ∷ codes "inside" ∷ codes "filter" ∷ codes "refresh" ∷ codes "parity"
-    ∷ codes "numbers" ∷ codes "seed" ∷ codes "timers" ∷ codes "ring" ∷ codes "quota" ∷ codes "block" ∷ codes "pair"
-    ∷ codes "redirect" ∷ []
+    ∷ codes "numbers" ∷ codes "seed" ∷ codes "timers" ∷ codes "hold" ∷ codes "ring" ∷ codes "quota" ∷ codes "block"
+    ∷ codes "pair" ∷ codes "redirect" ∷ []
 
 abbrev pub timer_keys : List (List ℕ)
 timer_keys = codes "udp" ∷ codes "tcp-established" ∷ codes "tcp-transitory" ∷ codes "icmp" ∷ []
@@ -266,14 +266,21 @@ timers_at value = do
   established ← optional (codes "tcp-established") 7440 (timer_at 7440) keys
   transitory ← optional (codes "tcp-transitory") 240 (timer_at 240) keys
   icmp ← optional (codes "icmp") 60 (timer_at 60) keys
-  Ok (record { udp = udp; established = established; transitory = transitory; icmp = icmp })
+  Ok (record { udp = udp; established = established; transitory = transitory; icmp = icmp; hold = 0 })
 
 -- the timers of a configuration that has none
 abbrev pub default_timers : Timers
-default_timers = record { udp = 300; established = 7440; transitory = 240; icmp = 60 }
+default_timers = record { udp = 300; established = 7440; transitory = 240; icmp = 60; hold = 0 }
 
+unfoldable pub idle_timers_in : Members → Result Timers ConfigFault
+idle_timers_in table = optional (codes "timers") default_timers timers_at table
+
+-- with the hold, which is no key of `timers`
 unfoldable pub timers_in : Members → Result Timers ConfigFault
-timers_in table = optional (codes "timers") default_timers timers_at table
+timers_in table = do
+  timers ← idle_timers_in table
+  hold ← optional (codes "hold") 0 (timer_at 0) table
+  Ok (record timers { hold = hold })
 
 -- ---- ring
 
@@ -306,16 +313,17 @@ block_size_at value = do
   must (size % 2 == 0) BadNumber
   Ok size
 
-unfoldable pub block_size : List ℕ → List Network → Members → Data → Result (Option ℕ) ConfigFault
-block_size pool inside table value = do
+unfoldable pub block_size : List ℕ → List Network → ℕ → Members → Data → Result (Option ℕ) ConfigFault
+block_size pool inside hold table value = do
   size ← block_size_at value
   must (are_apart inside) PrefixesOverlap
   must (have_room size inside (length pool)) BlockTooLarge
   must (not (is_some (get_member (codes "pair") table))) PairWithBlock
+  must (hold == 0) HoldWithBlock
   Ok (Some size)
 
-unfoldable pub block_size_in : List ℕ → List Network → Members → Result (Option ℕ) ConfigFault
-block_size_in pool inside table = optional (codes "block") None (block_size pool inside table) table
+unfoldable pub block_size_in : List ℕ → List Network → ℕ → Members → Result (Option ℕ) ConfigFault
+block_size_in pool inside hold table = optional (codes "block") None (block_size pool inside hold table) table
 
 -- ---- pair
 
@@ -429,7 +437,7 @@ configured table = do
   timers ← timers_in table
   ring ← ring_in table
   quota ← quota_in table
-  block ← block_size_in pool inside table
+  block ← block_size_in pool inside timers.hold table
   pairs ← pairs_in pool inside table
   redirects ← redirects_in inside (paired block inside pool pairs) (block_in block inside (length pool)) table
   Ok (record {

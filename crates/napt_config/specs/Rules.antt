@@ -97,6 +97,7 @@ pub record AreTimers (timers : Timers) : Type 0 where
   pub established : IsTimer 7440 timers.established
   pub transitory : IsTimer 240 timers.transitory
   pub icmp : IsTimer 60 timers.icmp
+  pub hold : IsTimer 0 timers.hold
 
 -- 1 to 16 addresses, none twice and none inside
 pub record IsPool (inside : List Network) (pool : List ℕ) : Type 0 where

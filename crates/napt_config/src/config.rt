@@ -17,7 +17,7 @@ use toml::Table;
 /// - the pool has 1 to 16 addresses, none twice and none inside;
 /// - 1 to 16 prefixes are inside, with no bits set past their length;
 /// - the timers are at least 120 (UDP), 7440 (established), 240 (transitory) and 60 seconds (ICMP), and at
-///   most 1,000,000,000;
+///   most 1,000,000,000, as is a hold;
 /// - a ring has 1 to 4096 slots;
 /// - a quota, if there is one, allows 1 to 65535 bindings;
 /// - a block, if there is one, has an even number of external numbers from 64 to 32256; then no two prefixes have an
@@ -88,7 +88,7 @@ impl Config {
         let timers = reading::timers(table)?;
         let ring = reading::ring(table)?;
         let quota = reading::quota(table)?;
-        let block = reading::block(table, &pool, &inside)?;
+        let block = reading::block(table, &pool, &inside, timers.hold)?;
         let pairs = reading::pairs(alloc, table, &pool, &inside)?;
         let redirects = redirects::redirects(alloc, table, block, &inside, &pool, &pairs)?;
         Ok(Config {
@@ -271,7 +271,7 @@ impl Config {
         self.choosing
     }
 
-    /// The idle timers.
+    /// The idle timers, and the hold after them.
     pub fn timers(&self) -> Timers
         ensures timers { result ≡ self.now.timers }
         ensures kept { KeepsRules self.now }

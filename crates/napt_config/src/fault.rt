@@ -13,7 +13,7 @@ pub enum ConfigFault {
     #[error("expected TOML in UTF-8")]
     NotToml,
     /// An unknown key, at the top, in `timers` or in an entry of `pair` or `redirect`.
-    #[error("unknown key: expected `pool`, `inside`, `filter`, `refresh`, `parity`, `numbers`, `seed`, `timers`, `ring`, `quota`, `block`, `pair` or `redirect`; in `timers` `udp`, `tcp-established`, `tcp-transitory` or `icmp`; in a `pair` `host` or `external`; in a `redirect` `protocol`, `inside` or `external`")]
+    #[error("unknown key: expected `pool`, `inside`, `filter`, `refresh`, `parity`, `numbers`, `seed`, `timers`, `hold`, `ring`, `quota`, `block`, `pair` or `redirect`; in `timers` `udp`, `tcp-established`, `tcp-transitory` or `icmp`; in a `pair` `host` or `external`; in a `redirect` `protocol`, `inside` or `external`")]
     UnknownKey,
     /// A required key is absent, or its list is empty.
     #[error("expected `pool` and `inside` with at least one entry each, a `seed` with random `numbers`, `host` and `external` in each `pair`, and `protocol`, `inside` and `external` in each `redirect`")]
@@ -31,7 +31,7 @@ pub enum ConfigFault {
     #[error("expected an IPv4 prefix, as `10.0.0.0/8`, whose bits past its length are 0")]
     BadPrefix,
     /// A number is out of range, or an odd one is a block's size.
-    #[error("expected a timer of 0 to 1000000000 seconds, a `ring` of 1 to 4096, a `quota` of 1 to 65535, an even `block` of 64 to 32256, or an `external` port of 1 to 65535")]
+    #[error("expected a timer or a `hold` of 0 to 1000000000 seconds, a `ring` of 1 to 4096, a `quota` of 1 to 65535, an even `block` of 64 to 32256, or an `external` port of 1 to 65535")]
     BadNumber,
     /// A text is not a word its key allows.
     #[error("expected `independent`, `address` or `address-port` as `filter`, `outbound` or `both` as `refresh`, `kept` or `free` as `parity`, `preserved` or `random` as `numbers`, or `udp` or `tcp` as `protocol`")]
@@ -57,6 +57,9 @@ pub enum ConfigFault {
     /// There are blocks and pairs.
     #[error("expected no `pair` with a `block`")]
     PairWithBlock,
+    /// There are blocks and a hold.
+    #[error("expected no `hold` above 0 with a `block`, whose numbers go to no other host")]
+    HoldWithBlock,
     /// A host has two entries of `pair`.
     #[error("expected at most one `pair` for each host")]
     DoublePair,

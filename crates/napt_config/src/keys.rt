@@ -88,8 +88,8 @@ fn knows_top_keys(table: &Table) -> bool
     only_keys(
         table,
         &[
-            "pool", "inside", "filter", "refresh", "parity", "numbers", "seed", "timers", "ring",
-            "quota", "block", "pair", "redirect",
+            "pool", "inside", "filter", "refresh", "parity", "numbers", "seed", "timers", "hold",
+            "ring", "quota", "block", "pair", "redirect",
         ],
     )
 }

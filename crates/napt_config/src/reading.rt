@@ -2,7 +2,7 @@
 ghost use Rattle.std.specs.{Prelude.{◌≡◌, ◌≤◌, [], codes, length}, List.list_any};
 ghost use Rattle.toml.specs.View.{view, table_view, items_view};
 ghost use Rattle.napt_config.specs.{Fault.{Reads, Gives, TellsFirst}, Network.have_address};
-ghost use Rattle.napt_config.specs.Configured.{each_in_order, first_in_order, between, list_up_to, short_list, with_address, pool_in, pool_first, with_prefix, prefixes_in, prefixes_first, inside_in, filter_at, filter_in, refresh_at, refresh_in, timer_at, timers_at, timers_in, ring_at, ring_in, quota_at, quota_in, block_size_at, block_size, block_size_in, address_in, with_pair, pairs_at, pairs_first, pairs_in, optional};
+ghost use Rattle.napt_config.specs.Configured.{each_in_order, first_in_order, between, list_up_to, short_list, with_address, pool_in, pool_first, with_prefix, prefixes_in, prefixes_first, inside_in, filter_at, filter_in, refresh_at, refresh_in, timer_at, timers_at, idle_timers_in, timers_in, ring_at, ring_in, quota_at, quota_in, block_size_at, block_size, block_size_in, address_in, with_pair, pairs_at, pairs_first, pairs_in, optional};
 
 use crate::values::{list_in, number_in, required, table_in, text_in, value_at};
 use crate::{ConfigFault, Filter, Prefix, Refresh, Timers, blocks, text};
@@ -258,7 +258,19 @@ fn timers_at(value: &Value) -> Result<Timers, ConfigFault>
         established,
         transitory,
         icmp,
+        hold: 0,
     })
+}
+
+/// The timers of the table, without a hold.
+#[tactic(auto, unfolding(crate::specs::Configured::idle_timers_in))]
+fn idle_timers(table: &Table) -> Result<Timers, ConfigFault>
+    ensures { Reads (λ timers. timers) result (idle_timers_in (table_view table.now)) }
+{
+    match value_at(table, "timers") {
+        Some(value) => timers_at(value),
+        None => Ok(Timers::DEFAULT),
+    }
 }
 
 /// The timers of the table.
@@ -266,10 +278,9 @@ fn timers_at(value: &Value) -> Result<Timers, ConfigFault>
 pub(crate) fn timers(table: &Table) -> Result<Timers, ConfigFault>
     ensures { Reads (λ timers. timers) result (timers_in (table_view table.now)) }
 {
-    match value_at(table, "timers") {
-        Some(value) => timers_at(value),
-        None => Ok(Timers::DEFAULT),
-    }
+    let idle = idle_timers(table)?;
+    let hold = timer(table, "hold", 0, 0)?;
+    Ok(Timers { hold, ..idle })
 }
 
 // ---- ring
@@ -335,12 +346,13 @@ fn block_size(
     value: &Value,
     pool: &[u32],
     inside: &[Prefix],
+    hold: u64,
 ) -> Result<Option<u16>, ConfigFault>
     requires some { 1 ≤ length pool.now }
     requires few_addresses { length pool.now ≤ 16 }
     requires few { length inside.now ≤ 16 }
     ensures { Reads (λ block. block) result
-        (block_size pool.now inside.now (table_view table.now) (view value.now)) }
+        (block_size pool.now inside.now hold (table_view table.now) (view value.now)) }
 {
     let size = block_size_at(value)?;
     if !blocks::are_apart(inside) {
@@ -352,6 +364,9 @@ fn block_size(
     if value_at(table, "pair").is_some() {
         return Err(ConfigFault::PairWithBlock);
     }
+    if hold != 0 {
+        return Err(ConfigFault::HoldWithBlock);
+    }
     Ok(Some(size))
 }
 
@@ -361,15 +376,16 @@ pub(crate) fn block(
     table: &Table,
     pool: &[u32],
     inside: &[Prefix],
+    hold: u64,
 ) -> Result<Option<u16>, ConfigFault>
     requires some { 1 ≤ length pool.now }
     requires few_addresses { length pool.now ≤ 16 }
     requires few { length inside.now ≤ 16 }
     ensures { Reads (λ block. block) result
-        (block_size_in pool.now inside.now (table_view table.now)) }
+        (block_size_in pool.now inside.now hold (table_view table.now)) }
 {
     match value_at(table, "block") {
-        Some(value) => block_size(table, value, pool, inside),
+        Some(value) => block_size(table, value, pool, inside, hold),
         None => Ok(None),
     }
 }

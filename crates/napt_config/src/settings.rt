@@ -51,7 +51,7 @@ impl fmt::Debug for Seed {
     }
 }
 
-/// Idle timers, in seconds (RFC 4787, section 4.3; RFC 5382, section 5; RFC 5508, section 3.2).
+/// Idle timers, in seconds (RFC 4787, section 4.3; RFC 5382, section 5; RFC 5508, section 3.2), and what follows them.
 #[derive(Clone, Copy, Debug, PartialEq, Eq)]
 pub struct Timers {
     /// A UDP binding.
@@ -62,6 +62,8 @@ pub struct Timers {
     pub transitory: u64,
     /// The binding of an ICMP query.
     pub icmp: u64,
+    /// How long an ended binding keeps its number from other inside endpoints (RFC 6888, REQ-8).
+    pub hold: u64,
 }
 
 impl Timers {
@@ -71,6 +73,7 @@ impl Timers {
         established: 7440,
         transitory: 240,
         icmp: 60,
+        hold: 0,
     };
 }
 

@@ -5,7 +5,7 @@ use Rattle.napt_rules.specs.Prelude.{Through, Binding, Each, of, Acted, act, Arr
 use Rattle.napt_rules.specs.declared.{Leg.Leg, Answer.Answer, End.{End, TheVariants.{ToOutside, ToInside, Onward, Dropped}}, Outcome.Outcome}
 use Rattle.napt_laws.proofs.Lists.{each_weaker, each_append}
 use Rattle.napt_laws.specs.Dispatching.{IsFront, RightAnswersAreTheRuns, RunsGrow, outcome_told, IsTold, AnswersTellOutcomes, OnwardIsForetold}
-use Rattle.napt_laws.proofs.{EachLeg.each_leg, Grown.grows, RunsLocal.translators_answer_alone, Onward.{OnwardBy, onward}}
+use Rattle.napt_laws.proofs.{EachLeg.each_leg, Grown.grows, RunsLocal.translators_answer_from, Onward.{OnwardBy, onward}}
 
 -- FRONTS
 
@@ -29,7 +29,7 @@ right_answers rules inputs list address given taken front right =
     front_front taken (kept_replies rules address given own) (answers_at address course.acts) right
     (subst (λ (l : List Answer). IsFront (kept_replies rules address given own) l)
     (ap (λ (ls : List Leg). kept_replies rules address ls own) front.1
-    ∙ translators_answer_alone rules inputs list address)
+    ∙ translators_answer_from rules (record { clock = 0; list = list }) inputs address)
     (replies_front rules address given front.0 own))
 
 pub runs_grow : RunsGrow

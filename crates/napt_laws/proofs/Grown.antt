@@ -37,10 +37,13 @@ grows rules number clock inputs input list at e =
     ∙ ap (ahead (run_from rules number clock inputs list)) (ahead_none
     (step rules at (max (last_clock clock inputs) input.clock) input (run_from rules number clock inputs list).list))
 
+pub clock_on : (clock : ℕ) (xs ys : List Arrival) → last_clock clock (xs ++ ys) ≡ last_clock (last_clock clock xs) ys
+clock_on clock [] ys = refl
+clock_on clock (x ∷ xs) ys = clock_on (max clock x.clock) xs ys
+
 pub clock_more : (clock : ℕ) (inputs : List Arrival) (input : Arrival) → last_clock clock (inputs ++ input ∷ [])
     ≡ max (last_clock clock inputs) input.clock
-clock_more clock [] input = refl
-clock_more clock (i ∷ inputs) input = clock_more (max clock i.clock) inputs input
+clock_more clock inputs input = clock_on clock inputs (input ∷ [])
 
 -- HOW MANY OUTCOMES, AND LEGS
 

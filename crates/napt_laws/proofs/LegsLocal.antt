@@ -1,10 +1,10 @@
 -- A leg at one address, on all bindings and on that address's own.
-use Rattle.std.proofs.Common.{◌≡◌, ◌≢◌, ℕ, ◌≤◌, ◌&&◌, List, refl, sym, ◌∙◌, ap, arith, eqb, find}
+use Rattle.std.proofs.Common.{◌≡◌, ◌≢◌, ℕ, ◌≤◌, ◌&&◌, List, refl, sym, ◌∙◌, ap, eqb, find}
 use Rattle.napt_wire.specs.declared.Protocol.TheVariants as protocols
 use Rattle.napt_wire.specs.declared.Kind.TheVariants.{Udp, Tcp, Echo, ErrorOf}
-use Rattle.napt_rules.specs.Prelude.{Binding, same_protocol, same_endpoint, is_at, of, is_of_inside, has_number, purge, inbound_of, Out, out_purged, step_out, In, in_purged, step_in, no_flags, Acted, end_out, end_in, error_out, error_in, sent_of, received_of, act_out, act_in, act_by, act, Protocol, Way, Outgoing, Incoming, Flags, Kind, kind, Rules, granting_of}
+use Rattle.napt_rules.specs.Prelude.{Binding, same_protocol, same_endpoint, is_at, of, is_of_inside, has_number, purge, hold_ago, taken, inbound_of, Out, out_taken, step_out, In, in_taken, step_in, no_flags, Acted, end_out, end_in, error_out, error_in, sent_of, received_of, act_out, act_in, act_by, act, Protocol, Way, Outgoing, Incoming, Flags, Kind, kind, Rules, granting_of}
 use Rattle.napt_rules.specs.declared.{Sent.Sent, Received.Received, Leg.Leg}
-use Rattle.napt_laws.{proofs.{Lists.find_filter, Purges.{of_purge, purge_purge}, StepsLocal.{out_local, out_other, in_local, in_other}}, specs.Agreeing.Agrees}
+use Rattle.napt_laws.{proofs.{Lists.find_filter, Purges.of_purge, Living.{taken_later, taken_twice, purge_taken}, StepsLocal.{out_local, out_other, in_local, in_other}}, specs.Agreeing.Agrees}
 use Rattle.napt_laws.proofs.Acts.{of_act}
 
 -- what a leg gives on the one and on the other
@@ -13,8 +13,26 @@ pub record ActsAlike (rules : Rules) (address now : ℕ) (own whole : Acted) : T
   pub through : own.through ≡ whole.through
   pub list : Agrees rules address now own.list whole.list
 
-module _ (rules : Rules) (address : ℕ) (leg : Leg) (own list : List Binding) (same : purge rules.timers leg.now own
-    ≡ of address (purge rules.timers leg.now list)) where
+-- lists of which the same is taken agree
+pub agree : (rules : Rules) (address now : ℕ) (own list : List Binding) →
+    taken rules.timers now own ≡ taken rules.timers now (of address list) → Agrees rules address now own list
+agree rules address now own list same = record {
+  same = sym (purge_taken rules.timers now own) ∙ (ap (purge rules.timers now) same
+      ∙ purge_taken rules.timers now (of address list));
+  taken = same;
+}
+
+module _ (rules : Rules) (address : ℕ) (leg : Leg) (own list : List Binding)
+    (agrees : Agrees rules address leg.now own list) where
+  abbrev ago : ℕ
+  ago = hold_ago rules.timers leg.now
+
+  held : taken rules.timers leg.now own ≡ of address (taken rules.timers leg.now list)
+  held = agrees.taken ∙ sym (of_purge rules.timers ago address list)
+
+  same : purge rules.timers leg.now own ≡ of address (purge rules.timers leg.now list)
+  same = agrees.same ∙ sym (of_purge rules.timers leg.now address list)
+
   alike_out : (protocol : Protocol) (flags : Flags) → ActsAlike rules address leg.now
       (act_out rules address leg own protocol flags) (act_out rules address leg list protocol flags)
   alike_out protocol flags =
@@ -22,12 +40,12 @@ module _ (rules : Rules) (address : ℕ) (leg : Leg) (own list : List Binding) (
       let whole : Out = step_out rules.timers (granting_of rules) address packet list in
       let e : step_out rules.timers (granting_of rules) address packet own
       ≡ record { number = whole.number; through = whole.through; list = of address whole.list } =
-      ap (out_purged (granting_of rules) address packet) same
-      ∙ out_local (granting_of rules) address packet (purge rules.timers leg.now list) in
+      ap (out_taken rules.timers (granting_of rules) address packet) held
+      ∙ out_local rules.timers (granting_of rules) address packet (taken rules.timers leg.now list) in
       record {
         end = ap (λ (o : Out). end_out rules address leg.packet o.number) e;
         through = ap (λ (o : Out). o.through) e;
-        list = record { same = ap (λ (o : Out). purge rules.timers leg.now o.list) e };
+        list = agree rules address leg.now _ _ (ap (λ (o : Out). taken rules.timers leg.now o.list) e);
       }
 
   alike_in : (protocol : Protocol) (flags : Flags) → ActsAlike rules address leg.now
@@ -37,12 +55,12 @@ module _ (rules : Rules) (address : ℕ) (leg : Leg) (own list : List Binding) (
       let whole : In = step_in rules.timers (inbound_of rules) address packet list in
       let e : step_in rules.timers (inbound_of rules) address packet own
       ≡ record { inside = whole.inside; through = whole.through; list = of address whole.list } =
-      ap (in_purged (inbound_of rules) address packet) same
-      ∙ in_local (inbound_of rules) address packet (purge rules.timers leg.now list) in
+      ap (in_taken rules.timers (inbound_of rules) address packet) held
+      ∙ in_local rules.timers (inbound_of rules) address packet (taken rules.timers leg.now list) in
       record {
         end = ap (λ (o : In). end_in leg.packet o.inside) e;
         through = ap (λ (o : In). o.through) e;
-        list = record { same = ap (λ (o : In). purge rules.timers leg.now o.list) e };
+        list = agree rules address leg.now _ _ (ap (λ (o : In). taken rules.timers leg.now o.list) e);
       }
 
   alike_by : (way : Way) (kind : Kind) → ActsAlike rules address leg.now (act_by rules address leg own way kind)
@@ -60,7 +78,7 @@ module _ (rules : Rules) (address : ℕ) (leg : Leg) (own list : List Binding) (
         same_protocol inner.protocol b.row.protocol && same_endpoint inner.destination b.row.inside)
         (purge rules.timers leg.now list));
     through = refl;
-    list = record { same = same ∙ of_purge rules.timers leg.now address list };
+    list = agrees;
   }
   alike_by Incoming (ErrorOf inner) = record {
     end = ap (error_in leg.packet)
@@ -69,48 +87,48 @@ module _ (rules : Rules) (address : ℕ) (leg : Leg) (own list : List Binding) (
         same_protocol inner.protocol b.row.protocol && eqb b.row.external.number inner.source.number)
         (purge rules.timers leg.now list));
     through = refl;
-    list = record { same = same ∙ of_purge rules.timers leg.now address list };
+    list = agrees;
   }
 
 -- later on they still agree
 pub agrees_later : (rules : Rules) (address n m : ℕ) → n ≤ m → (own list : List Binding) →
     Agrees rules address n own list → Agrees rules address m own list
-agrees_later rules address n m le own list agrees = record {
-  same = sym (purge_purge rules.timers n m le own) ∙ (ap (purge rules.timers m) agrees.same
-      ∙ purge_purge rules.timers n m le (of address list));
-}
+agrees_later rules address n m le own list agrees =
+    let later = taken_later rules.timers n m le in
+    agree rules address m own list
+    (sym (later own) ∙ (ap (taken rules.timers m) agrees.taken ∙ later (of address list)))
 
 -- a leg at the address
 pub alike : (rules : Rules) (address n : ℕ) (own list : List Binding) → Agrees rules address n own list → (leg : Leg) →
     n ≤ leg.now → ActsAlike rules address leg.now (act rules address leg own) (act rules address leg list)
 alike rules address n own list agrees leg le =
-    alike_by rules address leg own list
-    ((agrees_later rules address n leg.now le own list agrees).same ∙ sym (of_purge rules.timers leg.now address list))
-    leg.way (kind leg.packet)
+    alike_by rules address leg own list (agrees_later rules address n leg.now le own list agrees) leg.way
+    (kind leg.packet)
 
 -- a leg at another address
 module _ (rules : Rules) (address : ℕ) (leg : Leg) (list : List Binding) (other : ℕ) (differ : other ≢ address) where
   abbrev IsKept : Acted → Type 0
-  IsKept acted = purge rules.timers leg.now (of other acted.list) ≡ purge rules.timers leg.now (of other list)
+  IsKept acted = taken rules.timers leg.now (of other acted.list) ≡ taken rules.timers leg.now (of other list)
 
-  kept_from : (new : List Binding) → of other new ≡ of other (purge rules.timers leg.now list) →
-      purge rules.timers leg.now (of other new) ≡ purge rules.timers leg.now (of other list)
-  kept_from new e = ap (purge rules.timers leg.now) (e ∙ of_purge rules.timers leg.now other list)
-      ∙ purge_purge rules.timers leg.now leg.now (omega arith) (of other list)
+  kept_from : (new : List Binding) → of other new ≡ of other (taken rules.timers leg.now list) →
+      taken rules.timers leg.now (of other new) ≡ taken rules.timers leg.now (of other list)
+  kept_from new e =
+      ap (taken rules.timers leg.now) (e ∙ of_purge rules.timers (hold_ago rules.timers leg.now) other list)
+      ∙ taken_twice rules.timers leg.now (of other list)
 
   kept_out : (protocol : Protocol) (flags : Flags) → IsKept (act_out rules address leg list protocol flags)
-  kept_out protocol flags = kept_from _ (out_other (granting_of rules) address
-      (sent_of rules protocol flags leg.now leg.packet) other differ (purge rules.timers leg.now list))
+  kept_out protocol flags = kept_from _ (out_other rules.timers (granting_of rules) address
+      (sent_of rules protocol flags leg.now leg.packet) other differ (taken rules.timers leg.now list))
 
   kept_in : (protocol : Protocol) (flags : Flags) → IsKept (act_in rules address leg list protocol flags)
-  kept_in protocol flags = kept_from _ (in_other (inbound_of rules) address
-      (received_of protocol flags leg.now leg.packet) other differ (purge rules.timers leg.now list))
+  kept_in protocol flags = kept_from _ (in_other rules.timers (inbound_of rules) address
+      (received_of protocol flags leg.now leg.packet) other differ (taken rules.timers leg.now list))
 
 pub kept : (rules : Rules) (address n : ℕ) (own list : List Binding) → Agrees rules address n own list → (at : ℕ) →
     address ≢ at → (leg : Leg) → n ≤ leg.now → Agrees rules address leg.now own (act rules at leg list).list
-kept rules address n own list agrees at differ leg le = record {
-  same = (agrees_later rules address n leg.now le own list agrees).same
-      ∙ sym (of_act rules at leg list (IsKept rules at leg list address differ)
-      (kept_out rules at leg list address differ) (kept_in rules at leg list address differ) (λ end. refl) leg.way
-      (kind leg.packet));
-}
+kept rules address n own list agrees at differ leg le =
+    agree rules address leg.now own (act rules at leg list).list
+    ((agrees_later rules address n leg.now le own list agrees).taken
+    ∙ sym (of_act rules at leg list (IsKept rules at leg list address differ)
+    (kept_out rules at leg list address differ) (kept_in rules at leg list address differ) (λ end. refl) leg.way
+    (kind leg.packet)))

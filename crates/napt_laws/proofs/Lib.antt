@@ -5,12 +5,14 @@ pub mod Finds
 -- ONE BINDING, AND ITS NUMBER
 
 pub mod Purges
+pub mod Living
 pub mod Fresh
 pub mod Classes
 pub mod Blocks
 pub mod Endpoints
 -- STEPS: how a list of bindings begins, and what a packet does to it
 
+pub mod Held
 pub mod Passes
 pub mod StepRows
 pub mod Quotas
@@ -18,6 +20,7 @@ pub mod StepsLocal
 pub mod StepsLive
 pub mod StepsSound
 pub mod StepsQuota
+pub mod Accounts
 pub mod Named
 pub mod Opened
 pub mod Orders
@@ -40,8 +43,12 @@ pub mod Alone
 pub mod RunsSound
 pub mod RunsQuota
 pub mod RunsBlocks
+pub mod Taken
+pub mod Owned
+pub mod OwnStates
 pub mod Rows
 pub mod Grown
+pub mod GoingOn
 pub mod EachLeg
 pub mod Dispatched
 pub mod OneInput

@@ -1,5 +1,5 @@
 -- Words on lists against one another.
-use Rattle.std.proofs.Common.{◌≡◌, Bool, true, false, ◌&&◌, ◌||◌, cond, List, [], ◌∷◌, ◌++◌, map, Some, None, refl, sym, ◌∙◌, ap, subst, arith, suc, ◌<◌, length, filter, find}
+use Rattle.std.proofs.Common.{◌≡◌, Bool, true, false, ◌&&◌, ◌||◌, cond, List, [], ◌∷◌, ◌++◌, map, Option, Some, None, refl, sym, ◌∙◌, ap, subst, arith, suc, ◌<◌, length, filter, find}
 use Rattle.std.{specs.List.list_any, proofs.lemmas.Bool.or_parts}
 use Rattle.napt_rules.specs.Prelude.{change_first, Each}
 
@@ -24,10 +24,10 @@ any_filter p q [] = refl
 any_filter p q (x ∷ xs) = grind (arith, any_filter p q xs)
 
 -- a change among the kept ones
-pub filter_change : {X : Type 0} (p q : X → Bool) (f : X → X) (xs : List X) → ((x : X) → p (f x) ≡ p x) →
-    filter p (change_first (λ x. p x && q x) f xs) ≡ change_first (λ x. p x && q x) f (filter p xs)
-filter_change p q f [] same = refl
-filter_change p q f (x ∷ xs) same = grind (arith, same x, filter_change p q f xs same)
+pub filter_change : {X : Type 0} (p q : X → Bool) (f : X → X) (xs : List X) → ((x : X) → q x ≡ true → p x ≡ true) →
+    ((x : X) → p (f x) ≡ p x) → filter p (change_first q f xs) ≡ change_first q f (filter p xs)
+filter_change p q f [] within same = refl
+filter_change p q f (x ∷ xs) within same = grind (arith, within x, same x, filter_change p q f xs within same)
 
 -- a change among others
 pub filter_change_other : {X : Type 0} (p q : X → Bool) (f : X → X) (xs : List X) →
@@ -51,11 +51,12 @@ find_nowhere t (x ∷ xs) h =
     let p : (t x ≡ false) × (list_any t xs ≡ false) = or_parts (t x) (list_any t xs) h in
     ap (λ v. cond v (Some x) (find t xs)) p.0 ∙ find_nowhere t xs p.1
 
-pub each_changed : {X : Type 0} (P : X → Type 0) (t : X → Bool) (f : X → X) → ((x : X) → P x → P (f x)) →
+pub each_changed : {X : Type 0} (P : X → Type 0) (t : X → Bool) (f : X → X) → ((x : X) → t x ≡ true → P x → P (f x)) →
     (xs : List X) → Each P xs → Each P (change_first t f xs)
 each_changed P t f keeps [] h = tt
-each_changed P t f keeps (x ∷ xs) h = elim (t x) as (λ v. Each P (cond v (f x ∷ xs) (x ∷ change_first t f xs)))
-    [ true ↦ (keeps x h.0, h.1) | false ↦ (h.0, each_changed P t f keeps xs h.1) ]
+each_changed P t f keeps (x ∷ xs) h = elim (t x) as (λ v. t x ≡ v →
+    Each P (cond v (f x ∷ xs) (x ∷ change_first t f xs)))
+    [ true ↦ λ e. (keeps x e h.0, h.1) | false ↦ λ e. (h.0, each_changed P t f keeps xs h.1) ] refl
 
 pub each_pushed : {X : Type 0} (P : X → Type 0) (xs : List X) (x : X) → Each P xs → P x → Each P (xs ++ x ∷ [])
 each_pushed P [] x h g = (g, tt)
@@ -121,3 +122,24 @@ each_true (x ∷ xs) = (tt, each_true xs)
 pub each_append : {X : Type 0} (P : X → Type 0) (xs ys : List X) → Each P xs → Each P ys → Each P (xs ++ ys)
 each_append P [] ys h g = g
 each_append P (x ∷ xs) ys h g = (h.0, each_append P xs ys h.1 g)
+
+-- a test that would have an answer, and has none
+pub passed : {X : Type 0} (t : Bool) (x : X) (others : Option X) → cond t (Some x) others ≡ None → (t ≡ false)
+    × (others ≡ None)
+passed true x others h = cc
+passed false x others h = (refl, h)
+
+pub each_less : {X : Type 0} (P : X → Type 0) (p : X → Bool) (xs : List X) → Each P xs → Each P (filter p xs)
+each_less P p [] h = tt
+each_less P p (x ∷ xs) h = elim (p x) as (λ v. Each P (cond v (x ∷ filter p xs) (filter p xs)))
+    [ true ↦ (h.0, each_less P p xs h.1) | false ↦ each_less P p xs h.1 ]
+
+-- what each has, and one among them
+pub each_mid : {X : Type 0} (P : X → Type 0) (xs ys : List X) (x : X) → Each P (xs ++ x ∷ ys) → P x × Each P (xs ++ ys)
+each_mid P [] ys x h = h
+each_mid P (z ∷ xs) ys x h = let mid = each_mid P xs ys x h.1 in (mid.0, (h.0, mid.1))
+
+pub each_with : {X : Type 0} (P : X → Type 0) (xs ys : List X) (x : X) → P x → Each P (xs ++ ys) →
+    Each P (xs ++ x ∷ ys)
+each_with P [] ys x p h = (p, h)
+each_with P (z ∷ xs) ys x p h = (h.0, each_with P xs ys x p h.1)

@@ -1,10 +1,10 @@
 -- The numbers that a sound list of bindings tells are numbers of their protocol.
-use Rattle.std.proofs.Common.{◌≡◌, ℕ, Bool, true, false, List, [], ◌∷◌, map, Option, Some, None, Result, Ok, Err, refl, eqb-true, find, IfOk, IfSome}
+use Rattle.std.proofs.Common.{◌≡◌, ℕ, Bool, true, false, List, Option, Some, None, Result, Ok, Err, refl, eqb-true, find, IfOk, IfSome}
 use Rattle.std.{specs.Option.option_map, proofs.lemmas.Bool.and_parts}
 use Rattle.napt_rules.specs.declared.{Granting.Granting, Inbound.Inbound}
-use Rattle.napt_rules.specs.Prelude.{Binding, Each, same_protocol, is_of_inside, has_number, permits, granted, of_source, out_made, out_found, out_purged, of_destination, in_found, in_purged, row, IsNumber, IsPaired, IsSound, IsBlock, Protocol, Icmp, Tcp, Udp, Cause, Endpoint}
-use Rattle.napt_rules.specs.declared.{Sent.Sent, Received.Received, Row.Row}
-use Rattle.napt_laws.proofs.{Passes.in_passed, Quotas.granted_is_chosen, Lists.find_passes, StepsSound.chosen_number}
+use Rattle.napt_rules.specs.Prelude.{Binding, same_protocol, is_of_inside, has_number, purge, permits, of_source, granted_again, out_made, out_found, out_taken, of_destination, in_found, in_taken, row, Timers, IsNumber, IsPaired, IsSound, IsBlock, Protocol, Icmp, Tcp, Udp, Cause, Endpoint}
+use Rattle.napt_rules.specs.declared.{Sent.Sent, Received.Received}
+use Rattle.napt_laws.proofs.{Passes.in_passed, Held.each_rows, Lists.find_passes, StepsSound.{granted_apart, purge_stays_sound}}
 
 number_of : (p q : Protocol) (n : ℕ) → same_protocol p q ≡ true → IsNumber q n → IsNumber p n
 number_of Icmp q n e h = tt
@@ -15,10 +15,6 @@ number_of Udp Icmp n e h = cc
 number_of Udp Tcp n e h = cc
 number_of Udp Udp n e h = h
 
-of_rows : (P : Row → Type 0) (list : List Binding) → Each P (map row list) → Each (λ b. P (row b)) list
-of_rows P [] h = tt
-of_rows P (b ∷ list) h = (h.0, of_rows P list h.1)
-
 -- FOUND BINDINGS
 
 module _ (pair : ℕ → ℕ) (address : ℕ) (protocol : Protocol) where
@@ -26,7 +22,7 @@ module _ (pair : ℕ → ℕ) (address : ℕ) (protocol : Protocol) where
       find (λ b. has_number address protocol number b.row) list ≡ Some b → IsNumber protocol b.row.inside.number
   found_number number list s b e =
       let found = find_passes (λ b. has_number address protocol number b.row) (λ b. IsPaired pair (row b)) list b
-      (of_rows (IsPaired pair) list s.each) e in
+      (each_rows (IsPaired pair) list s.each) e in
       let tests = and_parts _ _ (and_parts _ _ found.0).1 in
       number_of protocol b.row.protocol b.row.inside.number tests.0 found.1.inside
 
@@ -35,7 +31,7 @@ module _ (pair : ℕ → ℕ) (address : ℕ) (protocol : Protocol) where
       × (b.row.external.address ≡ address)
   found_inside inside list s b e =
       let found = find_passes (λ b. is_of_inside address protocol inside b.row) (λ b. IsPaired pair (row b)) list b
-      (of_rows (IsPaired pair) list s.each) e in
+      (each_rows (IsPaired pair) list s.each) e in
       let at = and_parts _ _ found.0 in
       let tests = and_parts _ _ at.1 in
       (number_of protocol b.row.protocol b.row.external.number tests.0 found.1.external, eqb-true _ _ at.0)
@@ -73,34 +69,41 @@ module _ (pair : ℕ → ℕ) (address : ℕ) (protocol : Protocol) where
 -- STEPS
 
 module _ (pair : ℕ → ℕ) (address : ℕ) where
-  module _ (inbound : Inbound) (packet : Received) (list : List Binding) (s : IsSound pair list) where
+  module _ (timers : Timers) (inbound : Inbound) (packet : Received) (list : List Binding) (s : IsSound pair list) where
     entered_named : (b : Binding) (passes : Bool) → IsNumber packet.protocol b.row.inside.number →
-        IfOk (in_passed inbound list address packet b passes).inside (λ inside. IsNumber packet.protocol inside.number)
+        IfOk (in_passed timers inbound list address packet b passes).inside
+        (λ inside. IsNumber packet.protocol inside.number)
     entered_named b true h = h
     entered_named b false h = tt
 
-    found_named : (found : Option Binding) → find (of_destination address packet) list ≡ found →
-        IfOk (in_found inbound list address packet found).inside (λ inside. IsNumber packet.protocol inside.number)
+    found_named : (found : Option Binding) → find (of_destination address packet) (purge timers packet.now list)
+        ≡ found → IfOk (in_found timers inbound list address packet found).inside
+        (λ inside. IsNumber packet.protocol inside.number)
     found_named None e = tt
     found_named (Some b) e = entered_named b (permits inbound b packet.remote)
-        (found_number pair address packet.protocol packet.number list s b e)
+        (found_number pair address packet.protocol packet.number (purge timers packet.now list)
+        (purge_stays_sound pair timers packet.now list s) b e)
 
-    pub in_named : IfOk (in_purged inbound address packet list).inside (λ inside.
+    pub in_named : IfOk (in_taken timers inbound address packet list).inside (λ inside.
         IsNumber packet.protocol inside.number)
-    in_named = found_named (find (of_destination address packet) list) refl
+    in_named = found_named (find (of_destination address packet) (purge timers packet.now list)) refl
 
-  module _ (granting : Granting) (packet : Sent) (keeps : IfSome packet.block IsBlock) (list : List Binding)
-      (s : IsSound pair list) where
-    made_named : (number : Result ℕ Cause) → granted granting list address packet ≡ number →
+  module _ (timers : Timers) (granting : Granting) (packet : Sent) (keeps : IfSome packet.block IsBlock)
+      (list : List Binding) (s : IsSound pair list) where
+    made_named : (number : Result ℕ Cause) →
+        granted_again granting list address packet (find (of_source address packet) list) ≡ number →
         IfOk (out_made list address packet number).number (IsNumber packet.protocol)
     made_named (Err cause) e = tt
-    made_named (Ok n) e = chosen_number granting.choosing packet.block list packet.protocol address packet.inside n
-        (granted_is_chosen granting list address packet n e) keeps
+    made_named (Ok n) e =
+        (granted_apart pair granting address packet keeps list n s (find (of_source address packet) list) refl e).0
 
-    left_named : (found : Option Binding) → find (of_source address packet) list ≡ found →
-        IfOk (out_found granting list address packet found).number (IsNumber packet.protocol)
-    left_named (Some b) e = (found_inside pair address packet.protocol packet.inside list s b e).0
-    left_named None e = made_named (granted granting list address packet) refl
+    left_named : (found : Option Binding) → find (of_source address packet) (purge timers packet.now list) ≡ found →
+        IfOk (out_found timers granting list address packet found).number (IsNumber packet.protocol)
+    left_named (Some b) e =
+        (found_inside pair address packet.protocol packet.inside (purge timers packet.now list)
+        (purge_stays_sound pair timers packet.now list s) b e).0
+    left_named None e =
+        made_named (granted_again granting list address packet (find (of_source address packet) list)) refl
 
-    pub out_named : IfOk (out_purged granting address packet list).number (IsNumber packet.protocol)
-    out_named = left_named (find (of_source address packet) list) refl
+    pub out_named : IfOk (out_taken timers granting address packet list).number (IsNumber packet.protocol)
+    out_named = left_named (find (of_source address packet) (purge timers packet.now list)) refl

@@ -1,7 +1,8 @@
 -- Where a packet is routed to, and the step of an input by that.
-use Rattle.std.proofs.Common.{◌≡◌, ℕ, Bool, true, false, List, cond, Option, Some, None, Result, Ok, Err, IsSome, refl, ◌∙◌, ap, ok_or, is_some, not}
+use Rattle.std.proofs.Common.{◌≡◌, ℕ, false, List, Option, Some, None, Result, Ok, Err, IsSome, refl, ◌∙◌, ap, ok_or, is_some, not}
 use Rattle.napt_config.proofs.Pools.{paired_in_pool, position_of_member}
-use Rattle.napt_rules.specs.Prelude.{Binding, is_spoofed, is_not_ours, is_unsupported, refusal, way_from, served_at, routed, route, Arrival, judged_by, admission_as, refused, admitted, first_leg, step_as, step, Side, Inside, Outside, Outgoing, Cause, Spoofed, NotOurs, Unsupported, destination, local_end, Rules, KeepsRules, pair_of, place_of, reading}
+use Rattle.napt_rules.specs.Prelude.{Binding, refusal, way_from, served_at, routed, route, Arrival, judged_by, admission_as, refused, admitted, first_leg, step_as, step, Side, Inside, Outside, Outgoing, Cause, Spoofed, NotOurs, destination, local_end, Rules, KeepsRules, pair_of, place_of, reading}
+use Rattle.napt_laws.proofs.Lists.{passed}
 
 -- ROUTES
 
@@ -9,12 +10,6 @@ use Rattle.napt_rules.specs.Prelude.{Binding, is_spoofed, is_not_ours, is_unsupp
 pair_in_pool : (rules : Rules) → KeepsRules rules → (host : ℕ) → IsSome (place_of rules (pair_of rules host))
 pair_in_pool rules keeps host = position_of_member rules.pool (pair_of rules host)
     (paired_in_pool rules.block rules.inside rules.pool rules.pairs host keeps.pool.some keeps.pairs.externals)
-
-no_cause : (a b c : Bool) → cond a (Some Spoofed) (cond b (Some NotOurs) (cond c (Some Unsupported) None)) ≡ None →
-    b ≡ false
-no_cause true b c h = cc
-no_cause false true c h = cc
-no_cause false false c h = refl
 
 some_is : (o : Option ℕ) → not (is_some o) ≡ false → IsSome o
 some_is (Some x) h = refl
@@ -25,8 +20,7 @@ served_in_pool : (rules : Rules) → KeepsRules rules → (side : Side) (packet 
     ≡ None → IsSome (place_of rules (served_at rules (way_from side) packet))
 served_in_pool rules keeps Inside packet h = pair_in_pool rules keeps (local_end Outgoing packet).address
 served_in_pool rules keeps Outside packet h = some_is (place_of rules (destination packet).address)
-    (no_cause (is_spoofed rules Outside packet) (is_not_ours rules Outside packet) (is_unsupported rules Outside packet)
-    h)
+    (passed _ NotOurs _ (passed _ Spoofed _ h).1).0
 
 routed_ok : (rules : Rules) (address : ℕ) (refused : Option Cause) (place : ℕ) → routed rules address refused
     ≡ Ok place → refused ≡ None

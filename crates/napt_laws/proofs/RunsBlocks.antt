@@ -1,8 +1,9 @@
 -- Every step keeps each binding that is no redirect in its host's block.
-use Rattle.std.proofs.Common.{◌≡◌, ℕ, Bool, List, [], ◌∷◌, map, Option, Some, None, filter, find, IfSome}
-use Rattle.napt_rules.specs.Prelude.{Binding, Each, inbound_of, candidates, is_free, redirected, opening, fresh, row, Acted, sent_of, received_of, act_out, act_in, act_by, Arrival, run_from, IsOfBlock, IsInItsBlock, RunsKeepToBlocks, Protocol, Way, Flags, Kind, kind, Rules, KeepsRules, IsBlock, pair_of, Block, Choosing, Endpoint, Redirect, granting_of}
+use Rattle.std.proofs.Common.{◌≡◌, ℕ, Bool, false, not, List, [], ◌∷◌, map, Option, Some, None, Ok, refl, sym, subst, filter, find, IfSome}
+use Rattle.std.proofs.lemmas.Bool.{or_parts}
+use Rattle.napt_rules.specs.Prelude.{Binding, Each, is_live, with_live_flows, purge, of_source, of_others, granted_again, block_of, inbound_of, candidates, is_free, redirected, opening, fresh, row, Acted, sent_of, received_of, act_out, act_in, act_by, Arrival, run_from, IsOfBlock, IsInItsBlock, RunsKeepToBlocks, Protocol, Way, Flags, Kind, kind, Rules, KeepsRules, IsBlock, pair_of, Block, Choosing, Endpoint, Redirect, granting_of}
 use Rattle.napt_rules.specs.declared.{Sent.Sent, Row.Row, Leg.Leg}
-use Rattle.napt_laws.proofs.{Acts.of_act, Blocks.each_of_block, Lists.{each_pushed, each_kept, find_passes}, Quotas.granted_is_chosen}
+use Rattle.napt_laws.proofs.{Acts.of_act, Blocks.each_of_block, Lists.{each_pushed, each_kept, find_passes}, Quotas.granted_is_chosen, Held.each_rows, Endpoints.inside_parts, Living.ended}
 use Rattle.napt_laws.proofs.{StepRows.{out_keeps, in_keeps}, Turns.run_keeps}
 
 -- a candidate is of the block, where there is one
@@ -15,7 +16,7 @@ found_in_block choosing (Some block) is free protocol inside n e =
     (each_of_block (IsOfBlock block) choosing block is protocol inside (λ m h. h)) e).1
 
 -- redirects keep the numbers that the configuration gives them
-opening_in_blocks : (rules : Rules) (pair : ℕ → ℕ) (redirects : List Redirect) →
+pub opening_in_blocks : (rules : Rules) (pair : ℕ → ℕ) (redirects : List Redirect) →
     Each (IsInItsBlock rules) (map row (map (redirected pair) redirects))
 opening_in_blocks rules pair [] = tt
 opening_in_blocks rules pair (redirect ∷ redirects) = (λ loose. cc, opening_in_blocks rules pair redirects)
@@ -28,6 +29,29 @@ module _ (rules : Rules) (keeps : KeepsRules rules) where
       AreInBlocks (map row (filter p list))
   fewer p list h = each_kept (IsInItsBlock rules) row p list h
 
+  -- a number that is granted is of the block, and one that is granted again was
+  module _ (address : ℕ) (packet : Sent) (its : packet.block ≡ block_of rules packet.inside.address)
+      (list : List Binding) (none : find (of_source address packet) (purge rules.timers packet.now list) ≡ None)
+      (h : AreInBlocks (map row list)) (n : ℕ) where
+    granted_in_block : (held : Option Binding) → find (of_source address packet) list ≡ held →
+        granted_again (granting_of rules) list address packet held ≡ Ok n →
+        IsInItsBlock rules (row (fresh address packet n))
+    granted_in_block None is e = λ loose. subst (λ (b : Option Block). IfSome b (λ block. IsOfBlock block n)) its
+        (found_in_block rules.choosing packet.block
+        (subst (λ (b : Option Block). IfSome b IsBlock) (sym its) (keeps.blocks packet.inside.address))
+        (is_free list address packet.protocol) packet.protocol packet.inside n
+        (granted_is_chosen (granting_of rules) list address packet n e))
+    granted_in_block (Some b) is e = λ loose.
+        let found = find_passes (of_source address packet) (λ b. IsInItsBlock rules (row b)) list b
+        (each_rows (IsInItsBlock rules) list h) is in
+        let p = inside_parts address packet.protocol packet.inside (row b) found.0 in
+        let dead : is_live rules.timers packet.now b ≡ false = ended (is_live rules.timers packet.now)
+        (of_source address packet) (with_live_flows rules.timers packet.now) (λ b. refl) list none b is in
+        let same : b.row.external.number ≡ n = cc in
+        subst (λ m. IfSome (block_of rules packet.inside.address) (λ block. IsOfBlock block m)) same
+        (subst (λ (e : Endpoint). IfSome (block_of rules e.address) (λ block. IsOfBlock block b.row.external.number))
+        (sym p.inside_is) (found.1 (or_parts b.row.fixed _ dead).0))
+
   -- ONE LEG
 
   module _ (address : ℕ) (leg : Leg) (list : List Binding) (h : AreInBlocks (map row list)) where
@@ -35,24 +59,22 @@ module _ (rules : Rules) (keeps : KeepsRules rules) where
         AreInBlocks (map row (act_out rules address leg list protocol flags).list)
     blocks_sent protocol flags =
         let packet : Sent = sent_of rules protocol flags leg.now leg.packet in
-        out_keeps AreInBlocks fewer (granting_of rules) address packet (λ live n kept none is.
-        each_pushed (IsInItsBlock rules) (map row live) (row (fresh address packet n)) kept (λ loose.
-        found_in_block rules.choosing packet.block (keeps.blocks packet.inside.address)
-        (is_free live address packet.protocol)
-        packet.protocol packet.inside n (granted_is_chosen (granting_of rules) live address packet n is)))
-        rules.timers list h
+        out_keeps AreInBlocks fewer rules.timers address (granting_of rules) packet (λ all n kept none is.
+        each_pushed (IsInItsBlock rules) (map row (of_others address packet all)) (row (fresh address packet n))
+        (fewer (λ b. not (of_source address packet b)) all kept)
+        (granted_in_block address packet refl all none kept n (find (of_source address packet) all) refl is)) list h
 
     blocks_entered : (protocol : Protocol) (flags : Flags) →
         AreInBlocks (map row (act_in rules address leg list protocol flags).list)
-    blocks_entered protocol flags = in_keeps AreInBlocks fewer (inbound_of rules) address
-        (received_of protocol flags leg.now leg.packet) rules.timers list h
+    blocks_entered protocol flags = in_keeps AreInBlocks fewer rules.timers address (inbound_of rules)
+        (received_of protocol flags leg.now leg.packet) list h
 
     blocks_leg : (way : Way) (kind : Kind) → AreInBlocks (map row (act_by rules address leg list way kind).list)
     blocks_leg way kind =
         of_act rules address leg list (λ (a : Acted). AreInBlocks (map row a.list)) blocks_sent blocks_entered
         (λ end. h) way kind
 
-  blocks_run : (number clock : ℕ) (inputs : List Arrival) (list : List Binding) → AreInBlocks (map row list) →
+  pub blocks_run : (number clock : ℕ) (inputs : List Arrival) (list : List Binding) → AreInBlocks (map row list) →
       AreInBlocks (map row (run_from rules number clock inputs list).list)
   blocks_run = run_keeps rules (λ (l : List Binding). AreInBlocks (map row l)) (λ address leg list served h.
       blocks_leg address leg list h leg.way (kind leg.packet))

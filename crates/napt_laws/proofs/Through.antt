@@ -1,22 +1,23 @@
 -- What a leg says of the binding that its packet went through.
-use Rattle.std.proofs.Common.{◌≡◌, ℕ, Bool, true, false, cond, List, Option, Some, None, Result, Ok, Err, refl, sym, ◌∙◌, ap, subst, find}
+use Rattle.std.proofs.Common.{◌≡◌, ℕ, Bool, true, false, cond, List, Option, Some, None, Result, Ok, Err, refl, ◌∙◌, ap, subst, find}
 use Rattle.std.specs.Option.{option_map}
 use Rattle.napt_wire.specs.declared.Kind.TheVariants.{Udp, Tcp, Echo, ErrorOf}
 use Rattle.napt_rules.specs.declared.{Granting.Granting, Inbound.Inbound, Sent.Sent, Received.Received, Leg.Leg, End.TheVariants.Dropped}
-use Rattle.napt_rules.specs.Prelude.{Binding, purge, permits, inbound_of, granted, of_source, sent_by, fresh, Out, out_made, out_found, step_out, of_destination, received_by, In, in_found, step_in, onward_by, end_out, end_in, sent_of, received_of, Acted, act_by, Cause, Way, Outgoing, Incoming, Kind, kind, is_error, Rules, granting_of}
+use Rattle.napt_rules.specs.Prelude.{Binding, purge, taken, permits, inbound_of, of_source, sent_by, fresh, Out, out_made, granted_again, out_found, step_out, of_destination, received_by, In, in_found, step_in, AreTimers, Timers, onward_by, end_out, end_in, sent_of, received_of, Acted, act_by, Cause, Way, Outgoing, Incoming, Kind, kind, is_error, Rules, granting_of}
 use Rattle.napt_laws.{specs.Through.{IsSaid, OutSaysItsBinding, InSaysItsBinding, ErrorsGoThroughNone, DroppedGoThroughNone}, proofs.Acts.of_act}
-use Rattle.napt_laws.proofs.{Endpoints.inside_it, Finds.{find_changed, find_pushed}, Passes.in_passed, StepsLive.{out_leaves_live, in_leaves_live}}
+use Rattle.napt_laws.proofs.{Endpoints.inside_it, Finds.{find_changed, find_pushed}, Passes.in_passed, StepsLive.{sent_seen, made_is_seen, received_seen}, Living.purge_taken}
 
 -- OUT
 
-module _ (granting : Granting) (address : ℕ) (packet : Sent) (live : List Binding) where
+module _ (timers : Timers) (t : AreTimers timers) (granting : Granting) (address : ℕ) (packet : Sent)
+    (list : List Binding) where
   abbrev at_source : List Binding → Option Binding
-  at_source list = find (of_source address packet) list
+  at_source list = find (of_source address packet) (purge timers packet.now list)
 
   abbrev OutSays : Out → Type 0
-  OutSays out = IsSaid out.number (at_source live) (at_source out.list) out.through
+  OutSays out = IsSaid out.number (at_source list) (at_source out.list) out.through
 
-  made_says : at_source live ≡ None → (number : Result ℕ Cause) → OutSays (out_made live address packet number)
+  made_says : at_source list ≡ None → (number : Result ℕ Cause) → OutSays (out_made list address packet number)
   made_says none (Err cause) = refl
   made_says none (Ok number) =
       let new : Binding = sent_by packet (fresh address packet number) in
@@ -25,60 +26,71 @@ module _ (granting : Granting) (address : ℕ) (packet : Sent) (live : List Bind
       record {
         went = record { binding = new; made = true };
         is = refl;
-        binding = find_pushed (of_source address packet) live new none ∙ ap (λ v. cond v (Some new) None) its;
+        binding = ap (find (of_source address packet)) (made_is_seen timers t address packet number list none)
+            ∙ (find_pushed (of_source address packet) (purge timers packet.now list) new none
+            ∙ ap (λ v. cond v (Some new) None) its);
         made = (λ made. none, λ none. refl);
       }
 
-  out_says : (found : Option Binding) → at_source live ≡ found → OutSays (out_found granting live address packet found)
-  out_says None none = made_says none (granted granting live address packet)
+  out_says : (found : Option Binding) → at_source list ≡ found →
+      OutSays (out_found timers granting list address packet found)
+  out_says None none = made_says none
+      (granted_again granting list address packet (find (of_source address packet) list))
   out_says (Some b) is = record {
     went = record { binding = sent_by packet b; made = false };
     is = refl;
-    binding = find_changed (of_source address packet) (sent_by packet) (λ x. refl) live
-        ∙ ap (option_map (sent_by packet)) is;
+    binding = ap (find (of_source address packet)) (sent_seen timers t address packet list)
+        ∙ (find_changed (of_source address packet) (sent_by packet) (λ x. refl) (purge timers packet.now list)
+        ∙ ap (option_map (sent_by packet)) is);
     made = (λ made. cc, λ none. cc);
   }
 
 pub out_says_its_binding : OutSaysItsBinding
 out_says_its_binding timers t granting address packet list =
-    let live : List Binding = purge timers packet.now list in
+    let all : List Binding = taken timers packet.now list in
     let out : Out = step_out timers granting address packet list in
-    subst (λ (left : List Binding). IsSaid out.number (find (of_source address packet) live)
-    (find (of_source address packet) left) out.through) (sym (out_leaves_live timers t granting address packet list))
-    (out_says granting address packet live (find (of_source address packet) live) refl)
+    subst (λ (live : List Binding). IsSaid out.number (find (of_source address packet) live)
+    (find (of_source address packet) (purge timers packet.now out.list)) out.through)
+    (purge_taken timers packet.now list)
+    (out_says timers t granting address packet all (find (of_source address packet) (purge timers packet.now all)) refl)
 
 -- IN
 
-module _ (inbound : Inbound) (address : ℕ) (packet : Received) (live : List Binding) where
+module _ (timers : Timers) (t : AreTimers timers) (inbound : Inbound) (address : ℕ) (packet : Received)
+    (list : List Binding) where
   abbrev at_destination : List Binding → Option Binding
-  at_destination list = find (of_destination address packet) list
+  at_destination list = find (of_destination address packet) (purge timers packet.now list)
 
   abbrev InSays : In → Type 0
-  InSays came = IsSaid came.inside (at_destination live) (at_destination came.list) came.through
+  InSays came = IsSaid came.inside (at_destination list) (at_destination came.list) came.through
 
-  passed_says : (b : Binding) → at_destination live ≡ Some b → (passes : Bool) →
-      InSays (in_passed inbound live address packet b passes)
+  passed_says : (b : Binding) → at_destination list ≡ Some b → (passes : Bool) →
+      InSays (in_passed timers inbound list address packet b passes)
   passed_says b is false = refl
   passed_says b is true = record {
     went = record { binding = received_by inbound packet b; made = false };
     is = refl;
-    binding = find_changed (of_destination address packet) (received_by inbound packet) (λ x. refl) live
-        ∙ ap (option_map (received_by inbound packet)) is;
+    binding = ap (find (of_destination address packet)) (received_seen timers t inbound address packet list)
+        ∙ (find_changed (of_destination address packet) (received_by inbound packet) (λ x. refl)
+        (purge timers packet.now list)
+        ∙ ap (option_map (received_by inbound packet)) is);
     made = (λ made. cc, λ none. cc);
   }
 
-  in_says : (found : Option Binding) → at_destination live ≡ found → InSays (in_found inbound live address packet found)
+  in_says : (found : Option Binding) → at_destination list ≡ found →
+      InSays (in_found timers inbound list address packet found)
   in_says None none = refl
   in_says (Some b) is = passed_says b is (permits inbound b packet.remote)
 
 pub in_says_its_binding : InSaysItsBinding
 in_says_its_binding timers t inbound address packet list =
-    let live : List Binding = purge timers packet.now list in
+    let all : List Binding = taken timers packet.now list in
     let came : In = step_in timers inbound address packet list in
-    subst (λ (left : List Binding). IsSaid came.inside (find (of_destination address packet) live)
-    (find (of_destination address packet) left) came.through)
-    (sym (in_leaves_live timers t inbound address packet list))
-    (in_says inbound address packet live (find (of_destination address packet) live) refl)
+    subst (λ (live : List Binding). IsSaid came.inside (find (of_destination address packet) live)
+    (find (of_destination address packet) (purge timers packet.now came.list)) came.through)
+    (purge_taken timers packet.now list)
+    (in_says timers t inbound address packet all (find (of_destination address packet) (purge timers packet.now all))
+    refl)
 
 -- NONE
 
@@ -104,20 +116,22 @@ module _ (rules : Rules) (address : ℕ) (leg : Leg) (list : List Binding) where
       made_none (Err other) h = refl
       made_none (Ok number) h = absurd (onward_goes _ _ h)
 
-      sent_none : (found : Option Binding) → (let out : Out = out_found (granting_of rules) live address packet found in
+      sent_none : (found : Option Binding) →
+          (let out : Out = out_found rules.timers (granting_of rules) live address packet found in
           end_out rules address leg.packet out.number ≡ Dropped cause → out.through ≡ None)
-      sent_none None h = made_none (granted (granting_of rules) live address packet) h
+      sent_none None h = made_none
+          (granted_again (granting_of rules) live address packet (find (of_source address packet) live)) h
       sent_none (Some b) h = absurd (onward_goes _ _ h)
 
     module _ (packet : Received) (live : List Binding) where
       passed_none : (b : Binding) (passes : Bool) →
-          (let came : In = in_passed (inbound_of rules) live address packet b passes in
+          (let came : In = in_passed rules.timers (inbound_of rules) live address packet b passes in
           end_in leg.packet came.inside ≡ Dropped cause → came.through ≡ None)
       passed_none b false h = refl
       passed_none b true h = cc
 
       came_none : (found : Option Binding) →
-          (let came : In = in_found (inbound_of rules) live address packet found in
+          (let came : In = in_found rules.timers (inbound_of rules) live address packet found in
           end_in leg.packet came.inside ≡ Dropped cause → came.through ≡ None)
       came_none None h = refl
       came_none (Some b) h = passed_none b (permits (inbound_of rules) b packet.remote) h
@@ -125,11 +139,11 @@ module _ (rules : Rules) (address : ℕ) (leg : Leg) (list : List Binding) where
     dropped_none : (way : Way) (k : Kind) → IsNone (act_by rules address leg list way k)
     dropped_none = of_act rules address leg list IsNone
         (λ protocol flags. let packet : Sent = sent_of rules protocol flags leg.now leg.packet in
-        let live : List Binding = purge rules.timers leg.now list in
-        sent_none packet live (find (of_source address packet) live))
+        let all : List Binding = taken rules.timers leg.now list in
+        sent_none packet all (find (of_source address packet) (purge rules.timers leg.now all)))
         (λ protocol flags. let packet : Received = received_of protocol flags leg.now leg.packet in
-        let live : List Binding = purge rules.timers leg.now list in
-        came_none packet live (find (of_destination address packet) live))
+        let all : List Binding = taken rules.timers leg.now list in
+        came_none packet all (find (of_destination address packet) (purge rules.timers leg.now all)))
         (λ end h. refl)
 
 pub errors_go_through_none : ErrorsGoThroughNone

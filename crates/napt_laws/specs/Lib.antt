@@ -1,5 +1,6 @@
 pub mod Agreeing
 pub mod Dispatching
+pub mod Held
 pub mod Hosts
 pub mod Places
 pub mod Through

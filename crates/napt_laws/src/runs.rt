@@ -1,9 +1,17 @@
 //! Laws of runs.
 
-ghost use Rattle.napt_rules.specs.Prelude.{RunsAreSound, RunsStayApart, RunsKeepQuota, RunsKeepToBlocks, TranslatorsAnswerAlone, TranslatorsKeepTheirOwn};
+ghost use Rattle.napt_rules.specs.Prelude.{RunsGoOn, GoneChangeNothing, EarlierClocksAreTheStates, RunsAreSound, RunsStayApart, RunsKeepQuota, RunsKeepToBlocks};
+ghost use Rattle.napt_rules.specs.Prelude.{TakenAreSound, TakenKeepToBlocks, TakenKeepQuota, TakenAreOwn, OwnStatesStay, OwnStatesAreTaken, TranslatorsAnswerFrom, TranslatorsKeepFrom};
 
 use crate::steps::{no_host_exceeds_its_quota, opening_is_sound, steps_stay_sound};
 use napt_wire::packets_carry_numbers;
+
+/// A run over inputs and then others is a run over the first, and then one over the others from the state that it leaves.
+pub fn runs_go_on()
+    ensures go_on { RunsGoOn }
+    ensures gone { GoneChangeNothing }
+    ensures clocks { EarlierClocksAreTheStates }
+{}
 
 /// After any inputs no two bindings share an endpoint (RFC 4787, REQ-1 and REQ-3).
 pub fn runs_are_sound()
@@ -28,8 +36,29 @@ pub fn runs_keep_to_blocks()
     ensures { RunsKeepToBlocks }
 {}
 
-/// A translator of one external address answers as the sequential one does, and is left with its bindings there.
+/// From each state that a configuration takes, runs keep what they keep from its redirects on; a host that has more bindings
+/// than the quota gets no further one. Each binding is an inside host's, no use of it is after the clock, and no two of its
+/// flows are of one remote.
+pub fn taken_states_are_kept()
+    ensures sound { TakenAreSound }
+    ensures blocks { TakenKeepToBlocks }
+    ensures quota { TakenKeepQuota }
+    ensures own { TakenAreOwn }
+{
+    packets_carry_numbers();
+}
+
+/// A state that a run leaves goes on as it was left, under the configuration of the run, which takes it.
+pub fn own_states_stay()
+    ensures stay { OwnStatesStay }
+    ensures taken { OwnStatesAreTaken }
+{
+    packets_carry_numbers();
+}
+
+/// A translator of one external address answers as the sequential one does, from each state, and is left with its bindings
+/// there.
 pub fn translators_are_local()
-    ensures answers { TranslatorsAnswerAlone }
-    ensures keeps { TranslatorsKeepTheirOwn }
+    ensures answers { TranslatorsAnswerFrom }
+    ensures keeps { TranslatorsKeepFrom }
 {}

@@ -52,12 +52,14 @@ pub mod Inputs
 pub mod Admission
 pub mod Rows
 pub mod Sequential
+pub mod Taking
 -- LAWS of steps, of legs and of runs
 
 pub mod Endpoints
 pub mod StepLaws
 pub mod OwnTime
 pub mod LegEnds
+pub mod GoingOn
 pub mod RunLaws
 pub mod LocalRuns
 pub mod Prelude

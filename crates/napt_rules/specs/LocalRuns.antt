@@ -3,7 +3,7 @@
 use Rattle.std.specs.{Prelude.{◌≡◌, ℕ, ◌≤◌, List, map}, List.{fold, scan}}
 use Rattle.napt_config.specs.Rules.{Rules}
 use Rattle.napt_rules.specs.{Bindings.{Binding, of}, Life.purge, declared.{Answer.Answer, Leg.Leg}, Legs.act, OwnTime.{kept_replies, kept_after_all}}
-use Rattle.napt_rules.specs.{Inputs.Arrival, Sequential.{Act, Course, run, last_clock, acts_at, legs_at}}
+use Rattle.napt_rules.specs.{Inputs.Arrival, Sequential.{Act, Course, run, last_clock, acts_at, legs_at, State, course_from}}
 
 abbrev pub answer_of : Act → Answer
 answer_of a = record { number = a.leg.number; end = a.end }
@@ -36,18 +36,18 @@ LegsLeaveTheirOwn = (rules : Rules) (inputs : List Arrival) (list : List Binding
 
 -- THE SAME OF A TRANSLATOR, which has a time of its own
 
--- a translator that begins with an address's bindings answers the legs of that address as the run does
-abbrev pub TranslatorsAnswerAlone : Type 0
-TranslatorsAnswerAlone = (rules : Rules) (inputs : List Arrival) (list : List Binding) (address : ℕ) →
-    let course : Course = run rules inputs list in
-    kept_replies rules address (legs_at address course.acts) (record { list = of address list; at = 0 })
+-- one that begins with an address's bindings of a state, at its clock, answers the legs of that address as the run does
+abbrev pub TranslatorsAnswerFrom : Type 0
+TranslatorsAnswerFrom = (rules : Rules) (state : State) (inputs : List Arrival) (address : ℕ) →
+    let course : Course = course_from rules state inputs in
+    kept_replies rules address (legs_at address course.acts) (record { list = of address state.list; at = state.clock })
     ≡ answers_at address course.acts
 
 -- and is left with that address's bindings of the run
-abbrev pub TranslatorsKeepTheirOwn : Type 0
-TranslatorsKeepTheirOwn = (rules : Rules) (inputs : List Arrival) (list : List Binding) (address now : ℕ) →
-    last_clock 0 inputs ≤ now →
-    let course : Course = run rules inputs list in
+abbrev pub TranslatorsKeepFrom : Type 0
+TranslatorsKeepFrom = (rules : Rules) (state : State) (inputs : List Arrival) (address now : ℕ) →
+    last_clock state.clock inputs ≤ now →
+    let course : Course = course_from rules state inputs in
     purge rules.timers now (kept_after_all rules address (legs_at address course.acts)
-    (record { list = of address list; at = 0 })).list
+    (record { list = of address state.list; at = state.clock })).list
     ≡ purge rules.timers now (of address course.list)

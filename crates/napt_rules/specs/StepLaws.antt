@@ -2,7 +2,7 @@
 use Rattle.std.specs.Prelude.{ℕ, List, ◌≡◌, AllPairs, IfSome, ◌≢◌, ◌≤◌, Some}
 use Rattle.napt_config.specs.{Rules.{Rules, KeepsRules, IsBlock, pair_of, AreTimers}, declared.settings.Timers.Timers}
 use Rattle.napt_rules.specs.{Bindings.{Binding, of}, Endpoints.{IsSound, AreApart, IsNumber}, Opening.opening, declared.{Granting.Granting, Inbound.Inbound}}
-use Rattle.napt_rules.specs.{declared.{Sent.Sent, Received.Received}, Life.purge, Steps.{step_out, step_in, out_purged, in_purged}, Quota.count_for}
+use Rattle.napt_rules.specs.{declared.{Sent.Sent, Received.Received}, Life.{purge, taken}, Steps.{step_out, step_in, out_taken, in_taken}, Quota.count_for}
 
 -- SOUND: a step keeps apart what is apart (RFC 4787, REQ-1 and REQ-3)
 
@@ -28,16 +28,16 @@ InStaysSound = (pair : ℕ → ℕ) (timers : Timers) (inbound : Inbound) (addre
 abbrev pub SoundIsApart : Type 0
 SoundIsApart = (pair : ℕ → ℕ) (list : List Binding) → IsSound pair list → AllPairs AreApart list
 
--- LIVE: what a step leaves is live
+-- TAKEN: what a step leaves is live or held
 
-abbrev pub OutLeavesLive : Type 0
-OutLeavesLive = (timers : Timers) → AreTimers timers → (granting : Granting) (address : ℕ) (packet : Sent)
-    (list : List Binding) → purge timers packet.now (step_out timers granting address packet list).list
+abbrev pub OutLeavesTaken : Type 0
+OutLeavesTaken = (timers : Timers) → AreTimers timers → (granting : Granting) (address : ℕ) (packet : Sent)
+    (list : List Binding) → taken timers packet.now (step_out timers granting address packet list).list
     ≡ (step_out timers granting address packet list).list
 
-abbrev pub InLeavesLive : Type 0
-InLeavesLive = (timers : Timers) → AreTimers timers → (inbound : Inbound) (address : ℕ) (packet : Received)
-    (list : List Binding) → purge timers packet.now (step_in timers inbound address packet list).list
+abbrev pub InLeavesTaken : Type 0
+InLeavesTaken = (timers : Timers) → AreTimers timers → (inbound : Inbound) (address : ℕ) (packet : Received)
+    (list : List Binding) → taken timers packet.now (step_in timers inbound address packet list).list
     ≡ (step_in timers inbound address packet list).list
 
 -- LOCAL: a step at one address needs the bindings of that address alone, and leaves those of every other
@@ -53,28 +53,29 @@ LaterPurgeCounts = (timers : Timers) (earlier later : ℕ) → earlier ≤ later
     purge timers later (purge timers earlier list) ≡ purge timers later list
 
 abbrev pub OutIsLocal : Type 0
-OutIsLocal = (granting : Granting) (address : ℕ) (packet : Sent) (list : List Binding) →
-    out_purged granting address packet (of address list) ≡ record {
-      number = (out_purged granting address packet list).number;
-      through = (out_purged granting address packet list).through;
-      list = of address (out_purged granting address packet list).list;
+OutIsLocal = (timers : Timers) (granting : Granting) (address : ℕ) (packet : Sent) (list : List Binding) →
+    out_taken timers granting address packet (of address list) ≡ record {
+      number = (out_taken timers granting address packet list).number;
+      through = (out_taken timers granting address packet list).through;
+      list = of address (out_taken timers granting address packet list).list;
     }
 
 abbrev pub OutLeavesOthers : Type 0
-OutLeavesOthers = (granting : Granting) (address : ℕ) (packet : Sent) (other : ℕ) → other ≢ address →
-    (list : List Binding) → of other (out_purged granting address packet list).list ≡ of other list
+OutLeavesOthers = (timers : Timers) (granting : Granting) (address : ℕ) (packet : Sent) (other : ℕ) → other ≢ address →
+    (list : List Binding) → of other (out_taken timers granting address packet list).list ≡ of other list
 
 abbrev pub InIsLocal : Type 0
-InIsLocal = (inbound : Inbound) (address : ℕ) (packet : Received) (list : List Binding) →
-    in_purged inbound address packet (of address list) ≡ record {
-      inside = (in_purged inbound address packet list).inside;
-      through = (in_purged inbound address packet list).through;
-      list = of address (in_purged inbound address packet list).list;
+InIsLocal = (timers : Timers) (inbound : Inbound) (address : ℕ) (packet : Received) (list : List Binding) →
+    in_taken timers inbound address packet (of address list) ≡ record {
+      inside = (in_taken timers inbound address packet list).inside;
+      through = (in_taken timers inbound address packet list).through;
+      list = of address (in_taken timers inbound address packet list).list;
     }
 
 abbrev pub InLeavesOthers : Type 0
-InLeavesOthers = (inbound : Inbound) (address : ℕ) (packet : Received) (other : ℕ) → other ≢ address →
-    (list : List Binding) → of other (in_purged inbound address packet list).list ≡ of other list
+InLeavesOthers = (timers : Timers) (inbound : Inbound) (address : ℕ) (packet : Received) (other : ℕ) →
+    other ≢ address → (list : List Binding) →
+    of other (in_taken timers inbound address packet list).list ≡ of other list
 
 -- QUOTA: no step takes an inside host past its quota (RFC 6888, REQ-4): each host at each external address, wherever
 -- the step is

@@ -134,3 +134,22 @@ pub enum Outcome {
     ToInside(Packet),
     Dropped(Cause),
 }
+
+/// Why a configuration does not take a binding of a state, in the order of the checks.
+#[derive(Clone, Copy, Debug, PartialEq, Eq)]
+pub enum Misfit {
+    /// Its host is not inside.
+    NotInside,
+    /// Its external address is not that of its host's pairing.
+    NotPaired,
+    /// A number of it is 0 under UDP or TCP, or its external number is not of its host's block, where the host has one.
+    NotItsNumber,
+    /// It, or one of its flows, was last used after the clock of the state.
+    UsedLater,
+    /// Two of its flows are of one remote endpoint.
+    FlowsShare,
+    /// A redirect of the configuration has one of its endpoints.
+    Redirected,
+    /// A binding behind it has one of its endpoints.
+    Shared,
+}

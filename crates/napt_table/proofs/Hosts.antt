@@ -2,9 +2,10 @@
 use Rattle.std.proofs.Common.{◌≡◌, ◌≢◌, ℕ, zero, suc, ◌+◌, ◌<◌, ◌≤◌, ◌^◌, Bool, true, false, not, ◌&&◌, cond, List, [], ◌∷◌, map, length, Option, Some, None, refl, sym, ◌∙◌, ap, arith, eqb, eqb-true}
 use Rattle.std.{specs.Prelude.{filter, find}, proofs.lemmas.Bool.{eq-eqb, true≢false}}
 use Rattle.napt_wire.specs.declared.Protocol.{Protocol, TheVariants.{Icmp, Tcp, Udp}}
-use Rattle.napt_config.specs.declared.settings.Timers.{Timers}
-use Rattle.napt_rules.specs.Prelude.{Binding, same_protocol, is_at, has_number, is_live, with_live_flows, counts_for, count_for, row, Apart}
-use Rattle.napt_table.specs.{Held.{seen, Shows}, Hosts.{held_for, count_below, count_held, CountIsHeld}}
+use Rattle.napt_rules.specs.declared.Row.{Row}
+use Rattle.std.specs.Option.{option_map}
+use Rattle.napt_rules.specs.Prelude.{Binding, same_protocol, is_at, has_number, counts_for, count_for, row, Apart}
+use Rattle.napt_table.specs.{Hosts.{held_for, count_below, count_held, CountIsHeld}}
 use Rattle.napt_laws.proofs.{Lists.find_nowhere, Finds.Once, Endpoints.{protocol_is, same_itself, has_it, number_of_it, not_has, once_number}}
 
 -- one where the test passes
@@ -206,37 +207,39 @@ module _ (many address host : ℕ) where
       missed : (q : Protocol) (n : ℕ) → has_number address q n x.row ≡ false → found_for (x ∷ xs) q n ≡ found_for xs q n
       missed q n h = ap (λ v. held_for host (cond v (Some x) (find (λ b. has_number address q n b.row) xs))) h
 
--- WHAT LIVES
+-- OF THE SAME ROWS
 
-module _ (timers : Timers) (now : ℕ) where
-  seen_for : (host : ℕ) (h : Option Binding) → ((b : Binding) → h ≡ Some b → is_live timers now b ≡ true) →
-      held_for host (seen timers now h) ≡ held_for host h
-  seen_for host None live = refl
-  seen_for host (Some b) live =
-      ap (λ v. held_for host (cond v (Some (with_live_flows timers now b)) None)) (live b refl)
+-- a row counts as its binding does
+abbrev for_row : ℕ → Option Row → Bool
+for_row host None = false
+for_row host (Some r) = eqb r.inside.address host && not r.fixed
 
-  seen_is_held : (h : Option Binding) (b : Binding) → seen timers now h ≡ Some b → (c : Binding) × (h ≡ Some c)
-  seen_is_held None b e = cc
-  seen_is_held (Some c) b e = (c, refl)
+by_row : (host : ℕ) (o : Option Binding) → held_for host o ≡ for_row host (option_map row o)
+by_row host None = refl
+by_row host (Some b) = refl
 
-  -- for any bound of the numbers at which something is held
-  module _ (many address host : ℕ) (held : Protocol → ℕ → Option Binding) where
-    abbrev held_in : Protocol → ℕ
-    held_in q = count_below (λ n. held_for host (held q n)) many
+some_held : (h : Option Binding) (r : Row) → option_map row h ≡ Some r → (c : Binding) × (h ≡ Some c)
+some_held None r e = cc
+some_held (Some c) r e = (c, refl)
 
-    count_within : (list : List Binding) → Apart (map row list) →
-        ((q : Protocol) → Shows timers now address q (held q) list) →
-        ((q : Protocol) (n : ℕ) (b : Binding) → held q n ≡ Some b → n < many) →
-        ((q : Protocol) (n : ℕ) (b : Binding) → held q n ≡ Some b → is_live timers now b ≡ true) →
-        count_for address host list ≡ (held_in Icmp + held_in Tcp) + held_in Udp
-    count_within list apart shows small live =
-        let below : AreBelow many address host list =
-        λ q n b e. let h = seen_is_held (held q n) b (sym (shows q n) ∙ e) in small q n h.0 h.1 in
-        let same : (q : Protocol) → found many address host list q ≡ held_in q =
-        λ q. below_same (found_for many address host list q) (λ n. held_for host (held q n)) many
-        (λ n less. ap (held_for host) (shows q n) ∙ seen_for host (held q n) (live q n)) in
-        omega (arith, count_found many address host list apart below, same Icmp, same Tcp, same Udp)
+-- for any bound of the numbers at which something is held
+module _ (many address host : ℕ) (held : Protocol → ℕ → Option Binding) where
+  abbrev held_in : Protocol → ℕ
+  held_in q = count_below (λ n. held_for host (held q n)) many
+
+  count_within : (list : List Binding) → Apart (map row list) →
+      ((q : Protocol) (n : ℕ) → option_map row (find (λ b. has_number address q n b.row) list)
+      ≡ option_map row (held q n)) →
+      ((q : Protocol) (n : ℕ) (b : Binding) → held q n ≡ Some b → n < many) →
+      count_for address host list ≡ (held_in Icmp + held_in Tcp) + held_in Udp
+  count_within list apart rows small =
+      let below : AreBelow many address host list =
+      λ q n b e. let h = some_held (held q n) (row b) (sym (rows q n) ∙ ap (option_map row) e) in small q n h.0 h.1 in
+      let same : (q : Protocol) → found many address host list q ≡ held_in q =
+      λ q. below_same (found_for many address host list q) (λ n. held_for host (held q n)) many
+      (λ n less. by_row host (find (λ b. has_number address q n b.row) list)
+      ∙ (ap (for_row host) (rows q n) ∙ sym (by_row host (held q n)))) in
+      omega (arith, count_found many address host list apart below, same Icmp, same Tcp, same Udp)
 
 pub count_is_held : CountIsHeld
-count_is_held timers now address host held list apart shows small live =
-    count_within timers now (2 ^ 16) address host held list apart shows small live
+count_is_held address host held list apart rows small = count_within (2 ^ 16) address host held list apart rows small

@@ -15,8 +15,9 @@ pub mod Steps
 mod Used
 pub mod Sends
 pub mod Enters
-pub mod Granted
 pub mod LiveNumbers
 pub mod TableSteps
 pub mod Listed
 pub mod Opening
+pub mod Keeps
+pub mod Granted

@@ -1,15 +1,15 @@
 -- The table over maps as a translator begins: each redirect of its address is held.
-use Rattle.std.proofs.Common.{◌≡◌, ◌≢◌, ℕ, zero, suc, ◌+◌, ◌<◌, ◌≤◌, Bool, true, false, ◌||◌, cond, List, [], ◌∷◌, ◌++◌, length, get_or, take, map, filter, Some, None, refl, sym, ◌∙◌, ap, subst, arith, eqb}
-use Rattle.std.{specs.{Prelude.find, List.list_any}, proofs.lemmas.Bool.{eq-eqb, or_parts, true≢false, Decides.nat_tests}}
+use Rattle.std.proofs.Common.{◌≡◌, ◌≢◌, ℕ, zero, suc, ◌+◌, ◌<◌, ◌≤◌, Bool, true, false, ◌||◌, cond, List, [], ◌∷◌, ◌++◌, length, get_or, take, map, filter, Option, Some, None, refl, sym, ◌∙◌, ap, subst, arith, eqb}
+use Rattle.std.{specs.{Prelude.find, List.list_any, Option.option_map}, proofs.lemmas.Bool.{eq-eqb, or_parts, true≢false, Decides.nat_tests}}
 use Rattle.std.proofs.lemmas.List.{map_more, append-nil, take_all, Elements.filter-append}
 use Rattle.napt_wire.specs.declared.{Protocol.Protocol, Endpoint.Endpoint}
 use Rattle.napt_config.specs.{Rules.{Rules, KeepsRules, AreSingle, is_double, pair_of}, declared.settings.Redirect.Redirect}
 use Rattle.napt_rules.specs.Prelude.{granting_of, Binding, is_at, of, is_of_inside, has_number, inbound_of, protocol_of, redirected, opening, row, Apart}
 use Rattle.napt_table.specs.{declared.bindings.keys.ExternalKey.ExternalKey, Keys.{key_eq, external_key}, Held.{redirect_of, seen}}
-use Rattle.napt_table.specs.{Holdings.{Holdings, held, held_at, IsNamed, IsAbsent}, Bindings.AllShow, declared.event.Event.{Event, TheVariants.Redirected}}
+use Rattle.napt_table.specs.{Holdings.{Holdings, held, held_at, IsNamed, IsAbsent}, Bindings.AllKeep, declared.event.Event.{Event, TheVariants.Redirected}}
 use Rattle.napt_table.specs.{Events.played_all, Shown.{list_of, shown, KeepsItsList}, Tables.{TableState, IsTable, opened}}
 use Rattle.napt_table.{specs.declared.table.Table.TheInside.Inside, proofs.{Steps.played_more, Keys.{by_key, at_key, past_key}, Opened.opened_is_table}}
-use Rattle.napt_table.proofs.Seen.{found_seen}
+use Rattle.napt_table.proofs.Seen.{find_purged}
 use Rattle.napt_laws.proofs.{Finds.{Once, find_pushed, find_passed_over, any_found, none_passes}, Opened.apart_redirects}
 use Rattle.napt_laws.proofs.{Endpoints.{has_it, inside_it, has_protocol, number_of_it, once_number, once_inside}, StepsSound.apart_kept}
 
@@ -82,7 +82,7 @@ module _ {X : Type 0} (t : X → Bool) (y : X) (passes : t y ≡ true) where
   any_last (x ∷ xs) = let rest : list_any t (xs ++ y ∷ []) ≡ true = any_last xs in grind (arith, rest)
 
   -- no earlier one passes, where one at most does
-  none_earlier : (xs : List X) → Once t (xs ++ y ∷ []) → find t xs ≡ None
+  pub none_earlier : (xs : List X) → Once t (xs ++ y ∷ []) → find t xs ≡ None
   none_earlier [] once = refl
   none_earlier (x ∷ xs) once = elim (t x) as (λ v. t x ≡ v → cond v (Some x) (find t xs) ≡ None) [
     | true ↦ λ e. absurd (true≢false (sym (any_last xs) ∙ once.0 e))
@@ -155,13 +155,16 @@ module _ (address : ℕ) (protocol : Protocol) (inside : Endpoint) (number : ℕ
 
 -- THE TABLE
 
--- what is held is shown, once each redirect is there
-pub opened_show : (rules : Rules) → KeepsRules rules → (address : ℕ) (all : Holdings) →
-    AreHeld address all (of address (opening rules)) → AllShow rules.timers 0 address all (of address (opening rules))
-opened_show rules keeps address all are q n =
-    let table = opened_is_table rules keeps address in
-    found_seen rules.timers 0 address q n (of address (opening rules)) table.sound.apart table.live
-    ∙ ap (seen rules.timers 0) (sym (are q n))
+-- what is held is kept, once each redirect is there
+pub opened_keep : (rules : Rules) → KeepsRules rules → (address : ℕ) (all : Holdings) →
+    AreHeld address all (of address (opening rules)) → AllKeep rules.timers 0 address all (of address (opening rules))
+opened_keep rules keeps address all are =
+    let list : List Binding = of address (opening rules) in
+    let table = opened_is_table rules keeps address in record {
+      live = λ q n. find_purged rules.timers 0 address q n list table.sound.apart
+          ∙ ap (seen rules.timers 0) (sym (are q n));
+      held = λ q n t from. ap (λ (o : Option Binding). option_map row (seen rules.timers t o)) (sym (are q n));
+    }
 
 -- each is there
 pub all_begun : (rules : Rules) (address k : ℕ) → length rules.redirects ≤ k → begun rules address k
@@ -237,8 +240,8 @@ opened_keeps_its_list rules keeps address k table end a t u f z played are =
       shown,
       record {
         state = subst IsTable (sym shown) (opened_is_table rules keeps address);
-        shows = subst (λ (s : TableState). AllShow s.timers s.at s.address table.bindings.held s.list) (sym shown)
-            (opened_show rules keeps address table.bindings.held (subst (AreHeld address table.bindings.held)
+        keeps = subst (λ (s : TableState). AllKeep s.timers s.at s.address table.bindings.held s.list) (sym shown)
+            (opened_keep rules keeps address table.bindings.held (subst (AreHeld address table.bindings.held)
             (all_begun rules address k end) are));
       },
     )

@@ -1,26 +1,65 @@
 -- The protocols that a step leaves as they are, and one event more.
-use Rattle.std.proofs.Common.{◌≡◌, ◌≢◌, ℕ, true, false, List, [], ◌∷◌, ◌++◌, Some, None, Result, Ok, Err, refl, sym, ◌∙◌, ap, subst, eqb, eqb-true}
+use Rattle.std.proofs.Common.{◌≡◌, ◌≢◌, ℕ, Bool, true, false, cond, List, [], ◌∷◌, ◌++◌, Option, Some, None, Result, Ok, Err, refl, sym, ◌∙◌, ap, subst, eqb, eqb-true}
 use Rattle.std.{specs.Prelude.{find, OnErr}, proofs.lemmas.Bool.{eq-eqb, true≢false}}
-use Rattle.napt_wire.specs.declared.Protocol.{Protocol}
+use Rattle.napt_wire.specs.declared.{Protocol.Protocol, Cause.TheVariants.{NoBinding, Filtered}}
 use Rattle.napt_config.specs.declared.settings.Timers.{Timers}
 use Rattle.napt_rules.specs.declared.{Granting.Granting, Inbound.Inbound, Sent.Sent, Received.Received}
-use Rattle.napt_rules.specs.Prelude.{Binding, same_protocol, has_number, permits, granted, of_source, sent_by, fresh, out_made, out_found, out_purged, of_destination, received_by, in_found, in_purged}
-use Rattle.napt_laws.proofs.{Finds.{find_other, find_passed_over}, Passes.in_passed}
+use Rattle.napt_rules.specs.Prelude.{Binding, change_first, same_protocol, has_number, purge, permits, of_source, sent_by, of_destination, received_by, In, in_found, in_taken, AreTimers}
+use Rattle.napt_laws.proofs.{Finds.find_other, Passes.in_passed, StepsLive.received_seen}
 use Rattle.napt_laws.proofs.Endpoints.{protocol_is, same_itself, changed_other, inside_protocol, not_has}
 use Rattle.napt_table.specs.{declared.event.Event.Event, Events.{played, played_all}}
+
+-- what a packet that comes in does to what is shown
+abbrev pub shown_passed : Inbound → List Binding → ℕ → Received → Binding → Bool → In
+shown_passed inbound list address packet b passes =
+    cond passes
+    (record {
+      inside = Ok b.row.inside;
+      through = None;
+      list = change_first (of_destination address packet) (received_by inbound packet) list;
+    })
+    (record { inside = Err Filtered; through = None; list = list })
+
+abbrev pub shown_found : Inbound → List Binding → ℕ → Received → Option Binding → In
+shown_found inbound list address packet None = record { inside = Err NoBinding; through = None; list = list }
+shown_found inbound list address packet (Some b) =
+    shown_passed inbound list address packet b (permits inbound b packet.remote)
+
+abbrev pub shown_in : Inbound → ℕ → Received → List Binding → In
+shown_in inbound address packet list =
+    shown_found inbound list address packet (find (of_destination address packet) list)
+
+-- it is what the packet does to the list, as it is shown
+pub in_is_shown : (timers : Timers) → AreTimers timers → (inbound : Inbound) (address : ℕ) (packet : Received)
+    (all : List Binding) → (let came : In = in_taken timers inbound address packet all in
+    let shown : In = shown_in inbound address packet (purge timers packet.now all) in
+    (came.inside ≡ shown.inside) × (purge timers packet.now came.list ≡ shown.list))
+in_is_shown timers t inbound address packet all =
+    let live : List Binding = purge timers packet.now all in
+    elim (find (of_destination address packet) live) as (λ o.
+    ((in_found timers inbound all address packet o).inside ≡ (shown_found inbound live address packet o).inside)
+    × (purge timers packet.now (in_found timers inbound all address packet o).list
+    ≡ (shown_found inbound live address packet o).list)) [
+      | None ↦ (refl, refl)
+      | Some b ↦ elim (permits inbound b packet.remote) as (λ v.
+          ((in_passed timers inbound all address packet b v).inside ≡ (shown_passed inbound live address packet b v).inside)
+          × (purge timers packet.now (in_passed timers inbound all address packet b v).list
+          ≡ (shown_passed inbound live address packet b v).list))
+          [ true ↦ (refl, received_seen timers t inbound address packet all) | false ↦ (refl, refl) ]
+    ]
 
 -- other protocols are as before
 pub in_others : (inbound : Inbound) (timers : Timers) (address : ℕ) (packet : Received) (list : List Binding)
     (q : Protocol) → q ≢ packet.protocol → (n : ℕ) →
-    find (λ b. has_number address q n b.row) (in_purged inbound address packet list).list
+    find (λ b. has_number address q n b.row) (shown_in inbound address packet list).list
     ≡ find (λ b. has_number address q n b.row) list
 in_others inbound timers address packet list q differs n =
     elim (find (of_destination address packet) list) as (λ o.
-    find (λ b. has_number address q n b.row) (in_found inbound list address packet o).list
+    find (λ b. has_number address q n b.row) (shown_found inbound list address packet o).list
     ≡ find (λ b. has_number address q n b.row) list) [
       | None ↦ refl
       | Some b ↦ elim (permits inbound b packet.remote) as (λ v.
-          find (λ b. has_number address q n b.row) (in_passed inbound list address packet b v).list
+          find (λ b. has_number address q n b.row) (shown_passed inbound list address packet b v).list
           ≡ find (λ b. has_number address q n b.row) list) [
             | true ↦ changed_other address packet.protocol packet.number (received_by inbound packet)
                 (λ b. refl) list q n (λ p. absurd (differs p))
@@ -28,25 +67,13 @@ in_others inbound timers address packet list q differs n =
           ]
     ]
 
-pub out_others : (granting : Granting) (timers : Timers) (address : ℕ) (packet : Sent) (list : List Binding)
-    (q : Protocol) → q ≢ packet.protocol → (n : ℕ) →
-    find (λ b. has_number address q n b.row) (out_purged granting address packet list).list
+pub sent_others : (address : ℕ) (packet : Sent) (list : List Binding) (q : Protocol) → q ≢ packet.protocol → (n : ℕ) →
+    find (λ b. has_number address q n b.row) (change_first (of_source address packet) (sent_by packet) list)
     ≡ find (λ b. has_number address q n b.row) list
-out_others granting timers address packet list q differs n =
-    elim (find (of_source address packet) list) as (λ o.
-    find (λ b. has_number address q n b.row) (out_found granting list address packet o).list
-    ≡ find (λ b. has_number address q n b.row) list) [
-      | None ↦ elim (granted granting list address packet) as (λ m.
-          find (λ b. has_number address q n b.row) (out_made list address packet m).list
-          ≡ find (λ b. has_number address q n b.row) list) [
-            | Err cause ↦ refl
-            | Ok m ↦ find_passed_over (λ b. has_number address q n b.row) list (sent_by packet (fresh address packet m))
-                (not_has address q n (sent_by packet (fresh address packet m)).row differs)
-          ]
-      | Some b ↦ find_other (of_source address packet) (sent_by packet) (λ b. has_number address q n b.row)
-          (λ x. refl) (λ x h. not_has address q n x.row (λ p. differs (p ∙ sym
-          (inside_protocol address packet.protocol packet.inside x.row h)))) list
-    ]
+sent_others address packet list q differs n =
+    find_other (of_source address packet) (sent_by packet) (λ b. has_number address q n b.row)
+    (λ x. refl) (λ x h. not_has address q n x.row (λ p. differs (p ∙ sym
+    (inside_protocol address packet.protocol packet.inside x.row h)))) list
 
 -- what holds of the protocol, and of each other one
 pub by_protocol : (protocol q : Protocol) (P : Protocol → Type 0) → P protocol → (q ≢ protocol → P q) → P q

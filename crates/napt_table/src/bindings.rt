@@ -1,11 +1,11 @@
 //! The bindings of one external address, under all protocols.
 //!
-//! A binding that has ended may still be held: no look-up finds it, and it is removed before the next new binding gets a
-//! number. Its queue entry has a time until which it is sure to live, kept lazily: a packet that keeps the binding alive
+//! A binding that has ended is still held: no look-up finds it, and it is removed before the next new binding gets a
+//! number, once the hold is over. Its queue entry has a time until which it is sure to live, kept lazily: a packet that keeps the binding alive
 //! does not move the entry, and when its time has come the binding is checked again.
 
 ghost use Rattle.std.specs.{Prelude.{◌≡◌, ℕ, ◌+◌, ◌*◌, ◌^◌, ◌≤◌, ◌<◌, All, true, false, Some, None, OnOk, IfOk}, Option.{option_map, is_some}};
-ghost use Rattle.napt_rules.specs.Prelude.{Binding, second, is_live};
+ghost use Rattle.napt_rules.specs.Prelude.{Binding, second, is_live, hold_ago};
 ghost use Rattle.napt_binding.specs.Ends.{least_timer};
 ghost use Rattle.napt_table.specs.{Held.HeldIsPurgedLater, Holdings.{KeepsSeen, held as held_at_key}, Bindings.{AreDue, AreDueBut, come_up}};
 
@@ -52,7 +52,7 @@ impl Model for Bindings {
     ghost invariant = { λ bindings. AreDue bindings.timers bindings.at bindings.held bindings.due.entries };
 }
 
-/// For a binding without a queue entry: removes a dead one, queues a live one.
+/// For a binding without a queue entry: removes one that had ended the hold before `at`, queues another.
 fn requeue_or_remove(
     held: &mut Held,
     due: &mut Due<ExternalKey>,
@@ -63,11 +63,12 @@ fn requeue_or_remove(
     requires due { AreDueBut timers at key held.old due.old.entries }
     requires room { 0 < due.old.room }
     ensures due { AreDue timers at held.new due.new.entries }
-    ensures keeps { KeepsSeen timers at held.old held.new }
-    ensures come_up { come_up at due.new.entries ≤ come_up at due.old.entries }
+    ensures keeps { KeepsSeen timers (hold_ago timers at) held.old held.new }
+    ensures come_up { come_up (hold_ago timers at) due.new.entries
+        ≤ come_up (hold_ago timers at) due.old.entries }
     // What is queued comes up no sooner than its binding may have ended.
     ensures far { (b : Binding) (t : ℕ) → held_at_key held.old key ≡ Some b → b.row.fixed ≡ false →
-        t < 2 ^ 64 → t < at + least_timer b.row.protocol timers * second →
+        t < 2 ^ 64 → t < hold_ago timers at + least_timer b.row.protocol timers * second →
         is_live timers t b ≡ true → come_up t due.new.entries ≤ come_up t due.old.entries }
     ensures room { 0 < held.old.room → 0 < held.new.room }
     ensures queue { due.old.room ≤ due.new.room + 1 }
@@ -78,8 +79,9 @@ fn requeue_or_remove(
     if binding.row.is_fixed() {
         return;
     }
-    if is_live(binding, timers, at) {
-        due.put(until(binding, timers, at), key);
+    let ago = timers.hold_ago(at);
+    if is_live(binding, timers, ago) {
+        due.put(until(binding, timers, ago), key);
     } else {
         held.remove(key);
     }
@@ -190,16 +192,19 @@ impl Bindings {
     fn purge_first(&mut self) -> bool
         ensures timers { self.new.timers ≡ self.old.timers }
         ensures at { self.new.at ≡ self.old.at }
-        ensures keeps { KeepsSeen self.old.timers self.old.at self.old.held self.new.held }
+        ensures keeps { KeepsSeen self.old.timers (hold_ago self.old.timers self.old.at)
+            self.old.held self.new.held }
         ensures room { HasRoom self.old → HasRoom self.new }
-        ensures fewer { result ≡ true → come_up self.old.at self.new.due.entries
-            < come_up self.old.at self.old.due.entries }
-        ensures none { result ≡ false → All (λ e. self.old.at ≤ e.0) self.new.due.entries }
+        ensures fewer { result ≡ true → come_up (hold_ago self.old.timers self.old.at) self.new.due.entries
+            < come_up (hold_ago self.old.timers self.old.at) self.old.due.entries }
+        ensures none { result ≡ false → All (λ e. hold_ago self.old.timers self.old.at ≤ e.0)
+            self.new.due.entries }
         ensures due { AreDue self.new.timers self.new.at self.new.held self.new.due.entries }
     {
         let (timers, at) = (self.timers, self.at);
+        let ago = timers.hold_ago(at);
         match self.due.first() {
-            Some((until, _)) if until < at => {}
+            Some((until, _)) if until < ago => {}
             _ => return false,
         }
         let due = &mut self.due;
@@ -210,14 +215,14 @@ impl Bindings {
         true
     }
 
-    /// Removes what is dead.
+    /// Removes what had ended the hold before.
     fn purge(&mut self)
         ensures { IsPurged self.old.at self.old self.new }
     {
         while self.purge_first() {}
     }
 
-    /// Removes what is dead at `now`, which becomes the time.
+    /// Removes what had ended the hold before `now`, which becomes the time.
     fn purge_at(&mut self, now: u64)
         requires later { self.old.at ≤ now }
         ensures { IsPurged now self.old self.new }
@@ -233,13 +238,14 @@ impl Bindings {
     ghost use Rattle.napt_table.specs.Holdings.{held_at};
     ghost use Rattle.napt_table.specs.Bindings.{IsPurged};
 
-    /// The least number from 1 on that no live binding has at `now`, which becomes the time. What is dead is removed
-    /// first, each binding once, and a search of numbers in use then looks at a few words.
+    /// The least number from 1 on that no binding has, live or held, at `now`, which becomes the time. What had ended the
+    /// hold before is removed first, each binding once, and a search of numbers in use then looks at a few words.
     pub(crate) fn spare(&mut self, now: u64, protocol: Protocol) -> Option<u16>
         requires later { self.old.at ≤ now }
         ensures purged { IsPurged now self.old self.new }
         ensures spare { IsFirstAbsent (λ n.
-            is_some (seen self.old.timers now (held_at self.old.held protocol n)))
+            is_some (seen self.old.timers (hold_ago self.old.timers now)
+            (held_at self.old.held protocol n)))
             1 (2 ^ 16) result }
     {
         self.purge_at(now);

@@ -20,7 +20,7 @@ pub use napt_binding::{Binding, Flow, Flows, Inbound, Marks};
 pub use napt_collections::Due;
 pub use napt_laws::{
     candidates_are_the_class, no_host_exceeds_its_quota, opening_is_sound, rows_are_in_order,
-    steps_are_local, steps_leave_live, steps_stay_sound,
+    steps_are_local, steps_leave_taken, steps_stay_sound,
 };
 pub use napt_rules::{Received, Row, Sent};
 pub use numbers::Numbers;

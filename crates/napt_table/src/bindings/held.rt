@@ -12,7 +12,7 @@ use crate::bindings::numbers_in_use::NumbersInUse;
 use crate::bindings::places::Places;
 use crate::host_counts::HostCounts;
 use indexmap::IndexMap;
-use napt_binding::{Binding, IdleTimers, is_live, send, take_in};
+use napt_binding::{Binding, Flows, IdleTimers, is_live, send, take_in};
 use napt_config::Block;
 use napt_rules::{Granting, Inbound, Received, Row, Sent};
 use napt_wire::{Cause, Endpoint, Protocol};
@@ -229,7 +229,7 @@ impl Held {
     ghost use Rattle.napt_rules.specs.Prelude.{Binding};
     ghost use Rattle.napt_table.specs.Held.{seen};
     ghost use Rattle.napt_table.specs.Keys.{external_key};
-    ghost use Rattle.napt_table.specs.Holdings.{held_at, AreUsedUpTo, HoldsSame, ChangesOne, WentOut};
+    ghost use Rattle.napt_table.specs.Holdings.{held, held_at, AreUsedUpTo, HoldsSame, ChangesOne, WentOut};
 
     /// Sends a packet out through the live binding of its inside endpoint, if there is one; returns its number. If
     /// memory is refused nothing that is held changes.
@@ -259,6 +259,22 @@ impl Held {
         };
         send(binding, alloc, timers, packet)?;
         Ok(Some(number))
+    }
+
+    /// Begins the binding with the number anew, with these flows. Its ends stay.
+    pub(crate) fn renew(&mut self, key: ExternalKey, last: u64, flows: Flows)
+        ensures one { ChangesOne key self.old self.new }
+        ensures left { (b : Binding) → held self.old key ≡ Some b →
+            held self.new key ≡ Some (record b { last = last; flows = flows }) }
+    {
+        let Some((place, _)) = self.find(key) else {
+            return;
+        };
+        let Some(binding) = self.by_number.get_index_mut(place) else {
+            return;
+        };
+        binding.last = last;
+        binding.flows = flows;
     }
 
     /// Takes in a packet: the inside endpoint of the live binding with its number, if it lets the remote in; else

@@ -5,7 +5,7 @@ ghost use Rattle.napt_config.specs.Rules.{IsBlock};
 ghost use Rattle.napt_binding.specs.Slots.{NoneUsedAfter};
 
 use crate::bindings::Bindings;
-use crate::bindings::keys::key_of;
+use crate::bindings::keys::{ExternalKey, key_of};
 use napt_binding::{Binding, Flows, KeptRow, until};
 use napt_rules::{Row, Sent};
 use napt_wire::{Cause, Endpoint, Protocol};
@@ -56,12 +56,12 @@ impl Bindings {
 impl Bindings {
     ghost use Rattle.std.specs.Prelude.{[]};
     ghost use Rattle.napt_wire.specs.declared.Way.TheVariants.{Outgoing as WayOut};
-    ghost use Rattle.napt_rules.specs.Prelude.{Binding, change_first, is_live, live_flows, is_flow_of, used, with_flow};
-    ghost use Rattle.napt_table.specs.Held.{redirect_of};
+    ghost use Rattle.napt_rules.specs.Prelude.{Binding, change_first, is_live, hold_ago, live_flows, is_flow_of, used, with_flow};
+    ghost use Rattle.napt_table.specs.Held.{redirect_of, seen};
     ghost use Rattle.napt_table.specs.Keys.{external_key, key_eq};
     ghost use Rattle.napt_table.specs.declared.bindings.keys.ExternalKey.{ExternalKey as Key};
-    ghost use Rattle.napt_table.specs.Holdings.{held, IsSamePlace, IsAbsent, WentOut};
-    ghost use Rattle.napt_table.specs.Bindings.{HasRoom, Stands, Begins, Sends, SendsKnown};
+    ghost use Rattle.napt_table.specs.Holdings.{held, held_at, HasInside, IsSamePlace, IsAbsent, WentOut};
+    ghost use Rattle.napt_table.specs.Bindings.{HasRoom, Stands, Begins, Renews, Sends, SendsKnown};
 
     /// Adds a redirect whose ends are free. It never expires, so it has no queue entry. If memory is refused nothing
     /// that is held changes.
@@ -136,6 +136,7 @@ impl Bindings {
         ensures unknown { result ≡ Ok None → Stands self.old self.new }
         ensures refused { OnErr result (Stands self.old self.new) }
     {
+        self.timers.keep_limits();
         self.keep_names();
         self.send_held(alloc, packet)
     }
@@ -158,7 +159,7 @@ impl Bindings {
         requires room { HasRoom self.old }
         requires at { self.old.at ≡ packet.now }
         requires live { (key : Key) (b : Binding) → held self.old.held key ≡ Some b →
-            is_live self.old.timers packet.now b ≡ true }
+            is_live self.old.timers (hold_ago self.old.timers packet.now) b ≡ true }
         requires absent { IsAbsent self.old.held packet.protocol packet.inside }
         requires block { IfSome packet.block IsBlock }
         requires flows { live_flows self.old.timers packet.now packet.protocol flows ≡
@@ -193,8 +194,29 @@ impl Bindings {
         Ok(number)
     }
 
-    /// Sends a packet out: returns the number of its binding, or of a new one if it has none; else `OverQuota` or
-    /// `NoPort`. If memory is refused nothing that is held changes.
+    /// Begins the binding that is held for the outgoing packet anew, with these flows: it has the number.
+    fn renew(&mut self, packet: Sent, number: u16, flows: Flows)
+        requires at { self.old.at ≡ packet.now }
+        requires its { HasInside self.old.held packet.protocol packet.inside number }
+        requires unseen { seen self.old.timers packet.now
+            (held_at self.old.held packet.protocol number) ≡ None }
+        requires flows { live_flows self.old.timers packet.now packet.protocol flows ≡
+            change_first (is_flow_of packet.remote) (used packet.protocol WayOut packet.flags packet.now)
+            (with_flow packet.remote packet.now []) }
+        ensures timers { self.new.timers ≡ self.old.timers }
+        ensures at { self.new.at ≡ self.old.at }
+        ensures place { IsSamePlace self.old.held self.new.held }
+        ensures renews { Renews packet self.old self.new number }
+    {
+        self.timers.keep_limits();
+        self.held.keep_names();
+        let protocol = packet.protocol;
+        let held = &mut self.held;
+        held.renew(ExternalKey { number, protocol }, packet.now, flows);
+    }
+
+    /// Sends a packet out: returns the number of its binding, or of a new one if it has none, which is that of its held
+    /// one; else `OverQuota` or `NoPort`. If memory is refused nothing that is held changes.
     #[inline(never)]
     pub(crate) fn send(
         &mut self,
@@ -209,6 +231,7 @@ impl Bindings {
         ensures sends { IfOk result (Sends packet self.old self.new) }
         ensures refused { OnErr result (Stands self.old self.new) }
     {
+        self.timers.keep_limits();
         self.keep_names();
         if let Some(number) = self.send_held(alloc, packet)? {
             return Ok(Ok(number));
@@ -216,6 +239,10 @@ impl Bindings {
         let flows = self.prepare(alloc, packet)?;
         self.purge_at(packet.now);
         self.keep_names();
+        if let Some(number) = self.held.number_of(packet.protocol, packet.inside) {
+            self.renew(packet, number, flows);
+            return Ok(Ok(number));
+        }
         if self.held.reaches(packet.inside.address) {
             return Ok(Err(Cause::OverQuota));
         }

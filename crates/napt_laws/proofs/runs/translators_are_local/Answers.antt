@@ -1,8 +1,8 @@
-use Rattle.napt_laws.proofs.RunsLocal.{translators_answer_alone, translators_keep_their_own}
+use Rattle.napt_laws.proofs.RunsLocal.{translators_answer_from, translators_keep_from}
 use Rattle.napt_laws.proofs.runs.translators_are_local.Goals as goal
 
 pub returns-clause-answers : goal.returns-clause-answers
-returns-clause-answers c = translators_answer_alone
+returns-clause-answers c = translators_answer_from
 
 pub returns-clause-keeps : goal.returns-clause-keeps
-returns-clause-keeps c = translators_keep_their_own
+returns-clause-keeps c = translators_keep_from

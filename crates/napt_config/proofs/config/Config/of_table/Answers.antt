@@ -21,14 +21,14 @@ redirects-requires c =
     let table = table_view c.args.table.now in
     let pool_is : pool_in table ≡ Ok c.in_ok-pool.pool.items = search rules in
     let inside_is : inside_in c.in_ok-pool.pool.items table ≡ Ok c.in_ok-inside.inside.items = search rules in
-    let block_is : block_size_in c.in_ok-pool.pool.items c.in_ok-inside.inside.items table ≡ Ok c.in_ok-block.block =
-    search rules in
+    let block_is : block_size_in c.in_ok-pool.pool.items c.in_ok-inside.inside.items c.in_ok-timers.timers.hold table
+    ≡ Ok c.in_ok-block.block = search rules in
     let of_pool = pool_in-keeps table _ pool_is in
     record {
       some = rw c.deref-7.ensures.value of_pool.some;
       few = rw c.deref-6.ensures.value (inside_in-keeps _ table _ inside_is).0.few;
       blocks = rw (c.deref-6.ensures.value, c.deref-7.ensures.value)
-          (blocks-keep table _ _ _ of_pool.some block_is);
+          (blocks-keep table _ _ _ _ of_pool.some block_is);
     }
 
 pub invariant_of-result : goal.invariant_of-result

@@ -1,23 +1,35 @@
-use Rattle.std.{proofs.Common.{◌≡◌, ◌∙◌, ℕ, [], None, Some, Ok, cond, sym, ap, subst, not, true, false}, specs.{Prelude.ok_or, Option.is_some}}
+use Rattle.std.{proofs.Common.{◌≡◌, ◌∙◌, ℕ, List, [], map, find, None, Some, Ok, cond, refl, sym, ap, subst, arith, not, true, false}, specs.{Prelude.ok_or, Option.{is_some, option_map}}}
 use Rattle.std.proofs.lemmas.Bool.{not-true}
 use Rattle.napt_wire.specs.declared.{Way.TheVariants.Outgoing, Cause.TheVariants.NoPort}
-use Rattle.napt_table.specs.{declared.bindings.keys.ExternalKey.ExternalKey, Held.seen, Bindings.{BindingsState, Begins}, Holdings.{held, held_at}}
-use Rattle.napt_table.{specs.Keys.{key_eq, external_key, key_of}, proofs.{Granted.made_all, Sends.{none_from, choice_is, made_live, made_used, made_seen}}}
+use Rattle.napt_table.specs.{declared.bindings.keys.ExternalKey.ExternalKey, Held.seen, Bindings.{BindingsState, AllKeep, Begins}, Holdings.{held, held_at}}
+use Rattle.napt_table.{specs.Keys.{key_eq, external_key, key_of}, proofs.{Granted.{made_all, made_unseen, seen_row}, Seen.found_seen, Sends.{none_from, choice_is, made_live, made_used, made_seen}}}
 use Rattle.napt_config.specs.Rules.{AreTimers}
-use Rattle.napt_rules.specs.{Prelude.{Binding, candidates, change_first, is_live, live_flows, is_flow_of, used, with_flow, sent_by, fresh}, declared.Row.Row}
+use Rattle.napt_rules.specs.{Prelude.{Binding, candidates, change_first, has_number, is_live, purge, hold_ago, taken, live_flows, is_flow_of, used, with_flow, sent_by, fresh, row, Apart}, declared.{Row.Row, Sent.Sent}}
 use Rattle.napt_laws.proofs.Finds.{passes}
 use Rattle.napt_table.proofs.bindings.Bindings.begin.Goals as goal
+
+rows_of : (s : BindingsState) (p : Sent) (list : List Binding) → Apart (map row list) →
+    taken s.timers p.now list ≡ list → AllKeep s.timers p.now s.held.address s.held list →
+    ((k : ExternalKey) (b : Binding) → held s.held k ≡ Some b → is_live s.timers (hold_ago s.timers p.now) b ≡ true) →
+    (n : ℕ) → option_map row (find (λ b. has_number s.held.address p.protocol n b.row) list)
+    ≡ option_map row (held_at s.held p.protocol n)
+rows_of s p list apart is_taken keeps live n =
+    ap (option_map row) (found_seen s.timers (hold_ago s.timers p.now) s.held.address p.protocol n list apart is_taken)
+    ∙ (keeps.held p.protocol n (hold_ago s.timers p.now) (omega arith)
+    ∙ seen_row s.timers (hold_ago s.timers p.now) (held_at s.held p.protocol n)
+    (λ b h. live (external_key p.protocol n) b h))
 
 pub returns-in_default-clause-begins : goal.returns-in_default-clause-begins
 returns-in_default-clause-begins c =
     let s = c.self.inside in
     let p = c.args.packet in
-    rw (← c.self.view_is) (λ list shows. (
-      sym (ap (λ o. ok_or o NoPort) (choice_is s.timers s.held.address p (held_at s.held p.protocol) list
-          (shows p.protocol) (λ n b h. subst (λ (x : BindingsState). held x.held (external_key p.protocol n) ≡ Some b →
-          is_live x.timers p.now b ≡ true) (sym c.self.view_is) (c.requires.live (external_key p.protocol n) b) h)
+    let live = subst (λ (x : BindingsState). (k : ExternalKey) (b : Binding) → held x.held k ≡ Some b →
+    is_live x.timers (hold_ago x.timers p.now) b ≡ true) (sym c.self.view_is) c.requires.live in
+    rw (← c.self.view_is) (λ list apart is_taken keeps. (
+      sym (ap (λ o. ok_or o NoPort) (choice_is s.held.address p (held_at s.held p.protocol) list
+          (rows_of (record { timers = s.timers; at = s.at; held = s.held; due = s.due }) p list apart is_taken keeps live)
           s.held.granting.choosing ∙ sym c.in_default.ensures)),
-      shows,
+      record { live = keeps.live; unseen = λ k h at from. refl },
     ))
 
 pub insert-requires-clause-live : goal.insert-requires-clause-live
@@ -62,14 +74,14 @@ returns-clause-begins c =
     p.inside)
     number
     (sym c.in-Some.ensures))) in
-    let row : Row = record {
+    let its : Row = record {
       protocol = p.protocol;
       inside = p.inside;
       external = record { address = c.address.result; number = number };
       fixed = false;
     } in
     let of_row : Row → Binding = λ r. record { row = r; last = p.now; flows = c.args.flows } in
-    let binding : Binding = of_row row in
+    let binding : Binding = of_row its in
     let new = c.insert.new.self in
     let state : BindingsState = record { timers = s.timers; at = s.at; held = s.held; due = s.due } in
     let holds : (k : ExternalKey) → held new.held k ≡ cond (key_eq (external_key p.protocol number) k) (Some binding)
@@ -84,11 +96,15 @@ returns-clause-begins c =
     let is : seen s.timers p.now (Some binding) ≡ Some (sent_by p (fresh s.held.address p number)) =
     made_seen s.timers c.keep_limits.ensures c.address.result p number c.args.flows begun
     ∙ ap (λ (a : ℕ). Some (sent_by p (fresh a p number))) c.address.ensures in
-    let begins : Begins p state new (Ok number) = λ list shows. (
-      sym (ap (λ o. ok_or o NoPort) (choice_is s.timers s.held.address p (held_at s.held p.protocol) list
-          (shows p.protocol) (λ n b h. subst (λ (x : BindingsState). held x.held (external_key p.protocol n) ≡ Some b →
-          is_live x.timers p.now b ≡ true) (sym c.self.view_is) (c.requires.live (external_key p.protocol n) b) h)
-          s.held.granting.choosing ∙ sym c.in-Some.ensures)),
-      made_all s.timers s.held.address p s.held new.held number binding list shows holds free is,
+    let live = subst (λ (x : BindingsState). (k : ExternalKey) (b : Binding) → held x.held k ≡ Some b →
+    is_live x.timers (hold_ago x.timers p.now) b ≡ true) (sym c.self.view_is) c.requires.live in
+    let begins : Begins p state new (Ok number) = λ list apart is_taken keeps. (
+      sym (ap (λ o. ok_or o NoPort) (choice_is s.held.address p (held_at s.held p.protocol) list
+          (rows_of state p list apart is_taken keeps live) s.held.granting.choosing ∙ sym c.in-Some.ensures)),
+      record {
+        live = made_all s.timers s.held.address p s.held new.held number binding (purge s.timers p.now list) keeps.live
+            holds (ap (seen s.timers p.now) free) is;
+        unseen = made_unseen s.timers s.held.address p s.held new.held number binding holds is;
+      },
     ) in
     subst (λ (x : BindingsState). Begins p x new (Ok number)) c.self.view_is begins

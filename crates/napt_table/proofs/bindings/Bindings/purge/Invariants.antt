@@ -1,4 +1,5 @@
 use Rattle.std.proofs.Common.{◌≡◌}
+use Rattle.napt_rules.specs.Prelude.{hold_ago}
 use Rattle.napt_table.specs.{Holdings.KeepsSeen, Bindings.{HasRoom, come_up}}
 use Rattle.napt_table.proofs.bindings.Bindings.purge.Given as goal
 
@@ -6,9 +7,9 @@ abbrev pub invariant-loop : goal.invariant-loop
 invariant-loop l = record {
   timers : l.self.timers ≡ l.fn.self.timers;
   at : l.self.at ≡ l.fn.self.at;
-  keeps : KeepsSeen l.fn.self.timers l.fn.self.at l.fn.self.held l.self.held;
+  keeps : KeepsSeen l.fn.self.timers (hold_ago l.fn.self.timers l.fn.self.at) l.fn.self.held l.self.held;
   room : HasRoom l.fn.self → HasRoom l.self;
 }
 
 abbrev pub decreases-loop : goal.decreases-loop
-decreases-loop l = come_up l.fn.self.at l.self.due.entries
+decreases-loop l = come_up (hold_ago l.fn.self.timers l.fn.self.at) l.self.due.entries

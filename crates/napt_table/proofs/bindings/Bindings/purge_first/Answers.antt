@@ -1,4 +1,5 @@
 use Rattle.std.proofs.{Common.{ℕ, ◌≤◌, arith}, lemmas.List.Elements.All-contains}
+use Rattle.napt_rules.specs.Prelude.{hold_ago}
 use Rattle.napt_table.{specs.declared.bindings.keys.ExternalKey.ExternalKey, proofs.Queues.{popped_due, one_less}}
 use Rattle.napt_table.proofs.bindings.Bindings.purge_first.Goals as goal
 
@@ -17,7 +18,8 @@ returns-clause-fewer c =
       c.in-Some.until,
       c.in-Some.field-0-1,
     ) c.in-Some-take_first.ensures.least c.in-Some.ensures.some in
-    let less = one_less s.at c.in-Some-take_first.field-0-0 c.in-Some-take_first.key
-    s.due.entries c.take_first.new.self.entries c.in-Some-take_first.ensures.some (omega arith) in
+    let ago = c.hold_ago-ago.ensures in
+    let less = one_less (hold_ago s.timers s.at) c.in-Some-take_first.field-0-0 c.in-Some-take_first.key
+    s.due.entries c.take_first.new.self.entries c.in-Some-take_first.ensures.some (omega (arith, ago, le)) in
     let after = c.requeue_or_remove.ensures.come_up in
     omega arith)

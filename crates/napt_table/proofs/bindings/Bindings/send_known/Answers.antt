@@ -1,29 +1,31 @@
 use Rattle.std.{proofs.Common.{◌≡◌, ℕ, Option, Some, None, Result, Ok, Err, cond, subst}, specs.{Prelude.{IfOk, IfSome}, Option.is_some}}
 use Rattle.std.specs.declared.alloc.AllocError.{AllocError}
+use Rattle.napt_config.specs.Rules.{AreTimers}
 use Rattle.napt_rules.specs.declared.Sent.{Sent}
 use Rattle.napt_table.specs.{Holdings.{IsNamed, HasNone, WentOut}, Bindings.{BindingsState, SendsKnown}}
-use Rattle.napt_table.proofs.Granted.{went_answer, went_any_block, went_shows}
+use Rattle.napt_table.proofs.Granted.{went_answer, went_any_block, went_keeps}
 use Rattle.napt_table.proofs.bindings.Bindings.send_known.Goals as goal
 
-known : (p : Sent) (old new : BindingsState) → IsNamed old.held → (r : Result (Option ℕ) AllocError) →
-    IfOk r (WentOut old.timers p old.held new.held) →
+known : (p : Sent) (old new : BindingsState) → AreTimers old.timers → IsNamed old.held →
+    (r : Result (Option ℕ) AllocError) → IfOk r (WentOut old.timers p old.held new.held) →
     IfOk r (λ found. new.at ≡ cond (is_some found) p.now old.at) →
     IfOk r (λ found. IfSome found (λ number. SendsKnown p old new number))
-known p old new named (Err e) went at = tt
-known p old new named (Ok None) went at = tt
-known p old new named (Ok (Some number)) went at = record {
+known p old new t named (Err e) went at = tt
+known p old new t named (Ok None) went at = tt
+known p old new t named (Ok (Some number)) went at = record {
   place = went.one.place;
   at = at;
-  sends = λ list apart shows. (
-    went_answer old.timers old.held.granting p old.held new.held named number went list apart shows,
-    went_shows old.timers old.held.granting p old.held new.held named number went list apart shows,
+  sends = λ list apart is_taken keeps left. (
+    went_answer old.timers t old.held.granting p old.held new.held named number went list apart keeps,
+    went_keeps old.timers t old.held.granting p old.held new.held named number went list apart keeps left,
   );
-  any_block = λ list apart shows. went_any_block old.timers old.held.granting p old.held new.held named number went list
-      apart shows;
+  any_block = λ list apart keeps. went_any_block old.timers t old.held.granting p old.held new.held named number went
+      list apart keeps;
 }
 
 pub returns-clause-known : goal.returns-clause-known
-returns-clause-known c = known c.args.packet c.args.self.now c.send_held.new.self c.keep_names.ensures
+returns-clause-known c = known c.args.packet c.args.self.now c.send_held.new.self
+    (subst (λ (x : BindingsState). AreTimers x.timers) c.self.view_is c.keep_limits.ensures) c.keep_names.ensures
     c.send_held.result c.send_held.ensures.went c.send_held.ensures.at
 
 pub returns-clause-unknown : goal.returns-clause-unknown

@@ -2,7 +2,7 @@ use Rattle.std.{proofs.Common.{◌≤◌, ◌∙◌, ℕ, Option, Result, ap, re
 use Rattle.napt_wire.specs.declared.Cause.{Cause}
 use Rattle.napt_rules.specs.Prelude.{Out, IsNumber}
 use Rattle.napt_table.specs.{declared.event.Event.TheVariants.Sent, Bindings.SendsKnown, Shown.shown, Tables.TableState}
-use Rattle.napt_table.proofs.{TableSteps.{live, live_sound, show_now, shown_after, keeps_after, keeps_same}, Tables.table_out}
+use Rattle.napt_table.proofs.{TableSteps.{all, all_sound, all_taken, keep_now, shown_after, keeps_after, keeps_same}, Tables.table_out}
 use Rattle.napt_laws.proofs.Named.{out_named}
 use Rattle.napt_table.proofs.table.Table.outbound_known.Goals as goal
 
@@ -20,8 +20,9 @@ invariant_of-self-in-Some c =
     SendsKnown packet t.bindings c.send_known.new.self number)) c.in-Some.is c.in_ok-number.ensures.known in
     keeps_after t _ packet.now (Sent packet) refl c.in_ok-number.ensures.timers k.place k.at c.and-self-inside.ensures
     (table_out (shown t) c.self.invariant.state packet c.requires.number c.requires.block)
-    (k.sends (live t c.self.invariant packet.now le) (live_sound t c.self.invariant packet.now le).apart
-    (show_now t c.self.invariant packet.now le)).1
+    (k.sends (all t c.self.invariant packet.now le) (all_sound t c.self.invariant packet.now le).apart
+    (all_taken t c.self.invariant packet.now le) (keep_now t c.self.invariant packet.now le)
+    (table_out (shown t) c.self.invariant.state packet c.requires.number c.requires.block).sound.apart).1
 
 pub returns-in-Some-clause-known : goal.returns-in-Some-clause-known
 returns-in-Some-clause-known c block =
@@ -32,12 +33,13 @@ returns-in-Some-clause-known c block =
     let k : SendsKnown packet t.bindings c.send_known.new.self c.in-Some.number =
     subst (λ (found : Option ℕ). IfSome found (λ number.
     SendsKnown packet t.bindings c.send_known.new.self number)) c.in-Some.is c.in_ok-number.ensures.known in
-    let list = live t c.self.invariant packet.now le in
-    let apart = (live_sound t c.self.invariant packet.now le).apart in
-    let shows = show_now t c.self.invariant packet.now le in
-    let same = sym (k.any_block list apart shows block) in
+    let list = all t c.self.invariant packet.now le in
+    let apart = (all_sound t c.self.invariant packet.now le).apart in
+    let keeps = keep_now t c.self.invariant packet.now le in
+    let same = sym (k.any_block list apart keeps block) in
     rw (← c.self.view_is) (record {
-      answered = (k.sends list apart shows).0 ∙ ap (λ (o : Out). o.number) same;
+      answered = (k.sends list apart (all_taken t c.self.invariant packet.now le) keeps
+          (table_out (shown t) c.self.invariant.state packet c.requires.number c.requires.block).sound.apart).0 ∙ ap (λ (o : Out). o.number) same;
       left = shown_after t (record t { past = c.and-self-inside.result; bindings = c.send_known.new.self }) packet.now
           (Sent packet) refl c.in_ok-number.ensures.timers k.place k.at c.and-self-inside.ensures
           ∙ ap (λ (o : Out). let s : TableState = record (shown t) { list = o.list; at = packet.now } in s) same;
@@ -52,10 +54,11 @@ returns-in-Some-clause-named c =
     let k : SendsKnown packet t.bindings c.send_known.new.self c.in-Some.number =
     subst (λ (found : Option ℕ). IfSome found (λ number.
     SendsKnown packet t.bindings c.send_known.new.self number)) c.in-Some.is c.in_ok-number.ensures.known in
-    let sound = live_sound t c.self.invariant packet.now le in
-    let list = live t c.self.invariant packet.now le in
+    let sound = all_sound t c.self.invariant packet.now le in
+    let list = all t c.self.invariant packet.now le in
     subst (λ (r : Result ℕ Cause). IfOk r (IsNumber packet.protocol))
-    (sym (k.sends list sound.apart (show_now t c.self.invariant packet.now le)).0)
-    (out_named (λ host. t.bindings.held.address) t.bindings.held.address t.bindings.held.granting packet
+    (sym (k.sends list sound.apart (all_taken t c.self.invariant packet.now le) (keep_now t c.self.invariant packet.now le)
+    (table_out (shown t) c.self.invariant.state packet c.requires.number c.requires.block).sound.apart).0)
+    (out_named (λ host. t.bindings.held.address) t.bindings.held.address t.bindings.timers t.bindings.held.granting packet
     c.requires.block
     list sound)

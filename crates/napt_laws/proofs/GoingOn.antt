@@ -1,0 +1,318 @@
+-- A run that goes on, from what another left: what has gone never counts, and the numbers go on.
+use Rattle.std.proofs.Common.{◌≡◌, ℕ, ◌+◌, ◌≤◌, max, List, [], ◌∷◌, ◌++◌, map, length, flat_map, Bool, Option, None, Result, Ok, Err, refl, sym, ◌∙◌, ap, subst, arith, find}
+use Rattle.std.proofs.lemmas.List.{map-append}
+use Rattle.napt_wire.specs.declared.Protocol.TheVariants as protocols
+use Rattle.napt_wire.specs.declared.Kind.TheVariants.{Udp, Tcp, Echo, ErrorOf}
+use Rattle.napt_rules.specs.Prelude.{Binding, of, purge, hold_ago, taken, rows_of, rows, is_of_inside, has_number, granting_of, out_taken, in_taken, inbound_of, Out, In, end_out, end_in, error_out, error_in, no_flags, sent_of, received_of, act_out, act_in, act_by, served_at, Acted, act, Arrival, admission, Act, Course, ahead, once, follow_by, refused, first_leg, step_as, step, run_from, last_clock, legs_at, ran_of, State, course_from, left_by, ran_from, behind, added, and_then, GoesOn, RunsGoOn, GoneChangeNothing, from_clock, EarlierClocksAreTheStates, Protocol, Way, Outgoing, Incoming, Flags, Cause, Kind, kind, destination, Rules}
+use Rattle.napt_rules.specs.declared.{Row.Row, Leg.Leg, End.{End, TheVariants.{ToOutside, ToInside, Onward, Dropped}}}
+use Rattle.napt_laws.proofs.{Grown.{run_append, clock_on}, Purges.of_purge, Living.{taken_later, taken_twice, purge_taken}}
+
+-- THE NUMBERS
+
+abbrev pub renumbered : ℕ → Course → Course
+renumbered before course = record course { acts = map (behind before) course.acts }
+
+module _ (rules : Rules) (before number now : ℕ) where
+  follow_behind : (address : ℕ) (leg : Leg) (first : Acted) (end : End) →
+      follow_by rules address (record leg { number = before + leg.number }) first end
+      ≡ renumbered before (follow_by rules address leg first end)
+  follow_behind address leg first (ToOutside packet) = refl
+  follow_behind address leg first (ToInside packet) = refl
+  follow_behind address leg first (Onward place packet) = refl
+  follow_behind address leg first (Dropped cause) = refl
+
+  step_behind : (input : Arrival) (list : List Binding) (comes_to : Result (List ℕ) Cause) →
+      step_as rules (first_leg (before + number) now input.side) comes_to list
+      ≡ renumbered before (step_as rules (first_leg number now input.side) comes_to list)
+  step_behind input list (Err cause) = refl
+  step_behind input list (Ok packet) =
+      let leg : Leg = first_leg number now input.side packet in
+      let address : ℕ = served_at rules leg.way packet in
+      follow_behind address leg (act rules address leg list) (act rules address leg list).end
+
+ahead_behind : (before : ℕ) (first rest : Course) → ahead (renumbered before first) (renumbered before rest)
+    ≡ renumbered before (ahead first rest)
+ahead_behind before first rest = ap (λ (acts : List Act). record (ahead first rest) { acts = acts })
+    (sym (map-append (behind before) first.acts rest.acts))
+
+-- a run from a later number on has the same legs, by later numbers
+pub run_behind : (rules : Rules) (before number at clock : ℕ) (inputs : List Arrival) (list : List Binding) →
+    before + number ≡ at → run_from rules at clock inputs list
+    ≡ renumbered before (run_from rules number clock inputs list)
+run_behind rules before number at clock [] list e = refl
+run_behind rules before number at clock (input ∷ inputs) list e =
+    let now : ℕ = max clock input.clock in
+    let first : Course = step rules number now input list in
+    let is : step rules at now input list ≡ renumbered before first =
+    ap (λ (n : ℕ). step rules n now input list) (sym e)
+    ∙ step_behind rules before number now input list (admission rules input) in
+    ap (λ (s : Course). ahead s (run_from rules (at + 1) now inputs s.list)) is
+    ∙ (ap (ahead (renumbered before first))
+    (run_behind rules before (number + 1) (at + 1) now inputs first.list (omega (arith, e)))
+    ∙ ahead_behind before first (run_from rules (number + 1) now inputs first.list))
+
+-- WHAT HAS GONE
+
+-- lists that are one in what is taken at a time
+abbrev AreAsOne : Rules → ℕ → List Binding → List Binding → Type 0
+AreAsOne rules now a b = taken rules.timers now a ≡ taken rules.timers now b
+
+as_one_later : (rules : Rules) (n m : ℕ) → n ≤ m → (a b : List Binding) → AreAsOne rules n a b → AreAsOne rules m a b
+as_one_later rules n m le a b same = sym (taken_later rules.timers n m le a)
+    ∙ (ap (taken rules.timers m) same ∙ taken_later rules.timers n m le b)
+
+-- a leg, and what is taken at its time of the list that it leaves
+abbrev acted_taken : Rules → ℕ → Acted → Acted
+acted_taken rules now acted = record acted { list = taken rules.timers now acted.list }
+
+-- one that leaves the list as it is
+abbrev unmoved : End → List Binding → Acted
+unmoved end list = record { end = end; through = None; list = list }
+
+abbrev course_taken : Rules → ℕ → Course → Course
+course_taken rules now course = record course { list = taken rules.timers now course.list }
+
+module _ (rules : Rules) (address : ℕ) (leg : Leg) (a b : List Binding) (same : AreAsOne rules leg.now a b) where
+  same_out : (protocol : Protocol) (flags : Flags) → acted_taken rules leg.now
+      (act_out rules address leg a protocol flags)
+      ≡ acted_taken rules leg.now (act_out rules address leg b protocol flags)
+  same_out protocol flags = ap (λ (l : List Binding).
+      let out : Out = out_taken rules.timers (granting_of rules) address
+      (sent_of rules protocol flags leg.now leg.packet) l in
+      acted_taken rules leg.now
+      (record { end = end_out rules address leg.packet out.number; through = out.through; list = out.list })) same
+
+  same_in : (protocol : Protocol) (flags : Flags) → acted_taken rules leg.now
+      (act_in rules address leg a protocol flags)
+      ≡ acted_taken rules leg.now (act_in rules address leg b protocol flags)
+  same_in protocol flags = ap (λ (l : List Binding).
+      let came : In = in_taken rules.timers (inbound_of rules) address
+      (received_of protocol flags leg.now leg.packet) l in
+      acted_taken rules leg.now
+      (record { end = end_in leg.packet came.inside; through = came.through; list = came.list })) same
+
+  -- an error finds a binding that lives, and leaves the list as it is
+  seen : purge rules.timers leg.now a ≡ purge rules.timers leg.now b
+  seen = sym (purge_taken rules.timers leg.now a)
+      ∙ (ap (purge rules.timers leg.now) same ∙ purge_taken rules.timers leg.now b)
+
+  same_error : (end_of : Option Binding → End) (test : Binding → Bool) → acted_taken rules leg.now
+      (unmoved (end_of (find test (purge rules.timers leg.now a))) a)
+      ≡ acted_taken rules leg.now (unmoved (end_of (find test (purge rules.timers leg.now b))) b)
+  same_error end_of test = ap (λ (l : List Binding).
+      unmoved (end_of (find test l)) (taken rules.timers leg.now a)) seen
+      ∙ ap (unmoved (end_of (find test (purge rules.timers leg.now b)))) same
+
+  same_by : (way : Way) (kind : Kind) → acted_taken rules leg.now (act_by rules address leg a way kind)
+      ≡ acted_taken rules leg.now (act_by rules address leg b way kind)
+  same_by Outgoing Udp = same_out protocols.Udp no_flags
+  same_by Outgoing (Tcp flags) = same_out protocols.Tcp flags
+  same_by Outgoing Echo = same_out protocols.Icmp no_flags
+  same_by Outgoing (ErrorOf inner) = same_error (error_out rules leg.packet)
+      (λ b. is_of_inside address inner.protocol inner.destination b.row)
+  same_by Incoming Udp = same_in protocols.Udp no_flags
+  same_by Incoming (Tcp flags) = same_in protocols.Tcp flags
+  same_by Incoming Echo = same_in protocols.Icmp no_flags
+  same_by Incoming (ErrorOf inner) = same_error (error_in leg.packet)
+      (λ b. has_number address inner.protocol inner.source.number b.row)
+
+  act_same : acted_taken rules leg.now (act rules address leg a) ≡ acted_taken rules leg.now (act rules address leg b)
+  act_same = same_by leg.way (kind leg.packet)
+
+-- a step
+module _ (rules : Rules) (now : ℕ) where
+  follow_same : (address : ℕ) (leg : Leg) → leg.now ≡ now → (a b : Acted) →
+      acted_taken rules now a ≡ acted_taken rules now b → (end : End) →
+      course_taken rules now (follow_by rules address leg a end)
+      ≡ course_taken rules now (follow_by rules address leg b end)
+  follow_same address leg is a b same (ToOutside packet) =
+      ap (λ (x : Acted). once address leg x) same
+  follow_same address leg is a b same (ToInside packet) =
+      ap (λ (x : Acted). once address leg x) same
+  follow_same address leg is a b same (Dropped cause) =
+      ap (λ (x : Acted). once address leg x) same
+  follow_same address leg is a b same (Onward place packet) =
+      let next : Leg = record leg { way = Incoming; packet = packet } in
+      let to : ℕ = (destination packet).address in
+      let second : acted_taken rules now (act rules to next a.list)
+      ≡ acted_taken rules now (act rules to next b.list) =
+      subst (λ (t : ℕ). acted_taken rules t (act rules to next a.list)
+      ≡ acted_taken rules t (act rules to next b.list))
+      is (act_same rules to next a.list b.list
+      (subst (λ (t : ℕ). AreAsOne rules t a.list b.list) (sym is) (ap (λ (x : Acted). x.list) same))) in
+      ap (λ (x : Acted). ahead (record (once address leg x) { outcomes = [] })
+      (once to next (acted_taken rules now (act rules to next a.list)))) same
+      ∙ ap (λ (y : Acted). ahead (record (once address leg b) { outcomes = [] }) (once to next y)) second
+
+  step_same : (number : ℕ) (input : Arrival) (a b : List Binding) → AreAsOne rules now a b →
+      (comes_to : Result (List ℕ) Cause) →
+      course_taken rules now (step_as rules (first_leg number now input.side) comes_to a)
+      ≡ course_taken rules now (step_as rules (first_leg number now input.side) comes_to b)
+  step_same number input a b same (Err cause) = ap (refused cause) same
+  step_same number input a b same (Ok packet) =
+      let leg : Leg = first_leg number now input.side packet in
+      let address : ℕ = served_at rules leg.way packet in
+      let acted : acted_taken rules now (act rules address leg a) ≡ acted_taken rules now (act rules address leg b) =
+      act_same rules address leg a b same in
+      follow_same address leg refl (act rules address leg a) (act rules address leg b) acted
+      (act rules address leg a).end
+      ∙ ap (λ (end : End). course_taken rules now (follow_by rules address leg (act rules address leg b) end))
+      (ap (λ (x : Acted). x.end) acted)
+
+-- runs of lists that are one at their clock are one
+pub run_same : (rules : Rules) (number clock : ℕ) (inputs : List Arrival) (a b : List Binding) →
+    AreAsOne rules clock a b → (last : ℕ) → last_clock clock inputs ≡ last →
+    course_taken rules last (run_from rules number clock inputs a)
+    ≡ course_taken rules last (run_from rules number clock inputs b)
+run_same rules number clock [] a b same last is =
+    ap (λ (l : List Binding). record { outcomes = []; acts = []; list = l })
+    (subst (λ (t : ℕ). AreAsOne rules t a b) is same)
+run_same rules number clock (input ∷ inputs) a b same last is =
+    let now : ℕ = max clock input.clock in
+    let first : Course = step rules number now input a in
+    let other : Course = step rules number now input b in
+    let steps : course_taken rules now first ≡ course_taken rules now other =
+    step_same rules now number input a b (as_one_later rules clock now (omega arith) a b same)
+    (admission rules input) in
+    let rest : course_taken rules last (run_from rules (number + 1) now inputs first.list)
+    ≡ course_taken rules last (run_from rules (number + 1) now inputs other.list) =
+    run_same rules (number + 1) now inputs first.list other.list (ap (λ (s : Course). s.list) steps) last is in
+    ap (λ (s : Course). ahead s (course_taken rules last (run_from rules (number + 1) now inputs first.list))) steps
+    ∙ ap (ahead other) rest
+
+-- WHAT A RUN GIVES
+
+rows_same : (rules : Rules) (now address : ℕ) (list : List Binding) →
+    rows rules.timers now (of address (taken rules.timers now list)) ≡ rows rules.timers now (of address list)
+rows_same rules now address list = ap rows_of
+    (ap (purge rules.timers now) (of_purge rules.timers (hold_ago rules.timers now) address list)
+    ∙ purge_taken rules.timers now (of address list))
+
+flat_same : {X Y : Type 0} (f g : X → List Y) → ((x : X) → f x ≡ g x) → (xs : List X) → flat_map f xs ≡ flat_map g xs
+flat_same f g same [] = refl
+flat_same f g same (x ∷ xs) = ap (λ (l : List _). l ++ flat_map f xs) (same x)
+    ∙ ap (λ (l : List _). g x ++ l) (flat_same f g same xs)
+
+-- with what is taken at its clock alone, a course gives the same
+ran_taken : (rules : Rules) (now : ℕ) (course : Course) → ran_of rules now (course_taken rules now course)
+    ≡ ran_of rules now course
+ran_taken rules now course = ap (λ (rows : List Row). record (ran_of rules now course) { bindings = rows })
+    (flat_same (λ (address : ℕ). rows rules.timers now (of address (taken rules.timers now course.list)))
+    (λ address. rows rules.timers now (of address course.list))
+    (λ address. rows_same rules now address course.list) rules.pool)
+
+-- LEGS
+
+numbers_apart : (before address : ℕ) (acts : List Act) → length (legs_at address (map (behind before) acts))
+    ≡ length (legs_at address acts)
+numbers_apart before address [] = refl
+numbers_apart before address (a ∷ acts) = grind (arith, numbers_apart before address acts)
+
+legs_added : (address : ℕ) (first rest : List Act) → length (legs_at address (first ++ rest))
+    ≡ length (legs_at address first) + length (legs_at address rest)
+legs_added address [] rest = omega arith
+legs_added address (a ∷ first) rest = grind (arith, legs_added address first rest)
+
+counts_added : (f g h : ℕ → ℕ) → ((x : ℕ) → f x ≡ g x + h x) → (xs : List ℕ) → map f xs ≡ added (map g xs) (map h xs)
+counts_added f g h sum [] = refl
+counts_added f g h sum (x ∷ xs) = ap (λ (n : ℕ). n ∷ map f xs) (sum x)
+    ∙ ap (λ (l : List ℕ). (g x + h x) ∷ l) (counts_added f g h sum xs)
+
+-- THE LAWS
+
+pub gone_change_nothing : GoneChangeNothing
+gone_change_nothing rules state inputs =
+    let last : ℕ = last_clock state.clock inputs in
+    let here : List Binding = taken rules.timers state.clock state.list in
+    let same : course_taken rules last (run_from rules 0 state.clock inputs here)
+    ≡ course_taken rules last (run_from rules 0 state.clock inputs state.list) =
+    run_same rules 0 state.clock inputs here state.list
+    (taken_twice rules.timers state.clock state.list) last refl in
+    record {
+      ran = sym (ran_taken rules last (run_from rules 0 state.clock inputs here))
+          ∙ (ap (ran_of rules last) same ∙ ran_taken rules last (run_from rules 0 state.clock inputs state.list));
+      acts = ap (λ (r : Course). r.acts) same;
+      left = ap (λ (r : Course). record { clock = last; list = r.list }) same;
+    }
+
+module _ (rules : Rules) (state : State) (first rest : List Arrival) where
+  abbrev clock : ℕ
+  clock = last_clock state.clock first
+
+  abbrev last : ℕ
+  last = last_clock clock rest
+
+  abbrev begins : Course
+  begins = course_from rules state first
+
+  abbrev goes : Course
+  goes = course_from rules (left_by rules state first) rest
+
+  -- the whole course, with what is taken in the end
+  course_on : course_taken rules last (course_from rules state (first ++ rest))
+      ≡ course_taken rules last (ahead begins (renumbered (length first) goes))
+  course_on = ap (course_taken rules last)
+      (run_append rules 0 state.clock first rest state.list (length first) (omega arith))
+      ∙ (ap (λ (r : Course). course_taken rules last (ahead begins r))
+      (run_behind rules (length first) 0 (length first) clock rest begins.list (omega arith))
+      ∙ ap (λ (r : Course). ahead begins (renumbered (length first) r))
+      (run_same rules 0 clock rest begins.list (taken rules.timers clock begins.list)
+      (sym (taken_twice rules.timers clock begins.list)) last refl))
+
+  ran_on : ran_of rules last (ahead begins (renumbered (length first) goes))
+      ≡ and_then (ran_from rules state first) (ran_from rules (left_by rules state first) rest)
+  ran_on = ap (λ (counts : List ℕ).
+      record (ran_of rules last (ahead begins (renumbered (length first) goes))) { legs = counts })
+      (counts_added (λ (address : ℕ). length (legs_at address (begins.acts ++ map (behind (length first)) goes.acts)))
+      (λ address. length (legs_at address begins.acts)) (λ address. length (legs_at address goes.acts))
+      (λ address. legs_added address begins.acts (map (behind (length first)) goes.acts)
+      ∙ ap (λ (n : ℕ). length (legs_at address begins.acts) + n) (numbers_apart (length first) address goes.acts))
+      rules.pool)
+
+  go_on : GoesOn rules state first rest
+  go_on = record {
+    ran = ap (λ (t : ℕ). ran_of rules t (course_from rules state (first ++ rest))) (clock_on state.clock first rest)
+        ∙ (sym (ran_taken rules last (course_from rules state (first ++ rest)))
+        ∙ (ap (ran_of rules last) course_on
+        ∙ (ran_taken rules last (ahead begins (renumbered (length first) goes)) ∙ ran_on)));
+    acts = ap (λ (r : Course). r.acts) course_on;
+    left = ap (λ (t : ℕ). record {
+      clock = t;
+      list = taken rules.timers t (course_from rules state (first ++ rest)).list;
+    })
+        (clock_on state.clock first rest)
+        ∙ ap (λ (r : Course). record { clock = last; list = r.list }) course_on;
+  }
+
+pub runs_go_on : RunsGoOn
+runs_go_on = go_on
+
+-- THE CLOCKS OF THE INPUTS
+
+same_time : (least clock time : ℕ) → least ≤ clock → max clock (max least time) ≡ max clock time
+same_time least clock time le = omega arith
+
+run_from_clock : (rules : Rules) (number least clock : ℕ) → least ≤ clock → (inputs : List Arrival)
+    (list : List Binding) → run_from rules number clock (from_clock least inputs) list
+    ≡ run_from rules number clock inputs list
+run_from_clock rules number least clock le [] list = refl
+run_from_clock rules number least clock le (input ∷ inputs) list =
+    let now : ℕ = max clock input.clock in
+    let first : Course = step rules number now input list in
+    ap (λ (t : ℕ). ahead (step rules number t input list)
+    (run_from rules (number + 1) t (from_clock least inputs) (step rules number t input list).list))
+    (same_time least clock input.clock le)
+    ∙ ap (ahead first) (run_from_clock rules (number + 1) least now (omega arith) inputs first.list)
+
+last_from_clock : (least clock : ℕ) → least ≤ clock → (inputs : List Arrival) →
+    last_clock clock (from_clock least inputs) ≡ last_clock clock inputs
+last_from_clock least clock le [] = refl
+last_from_clock least clock le (input ∷ inputs) =
+    ap (λ (t : ℕ). last_clock t (from_clock least inputs)) (same_time least clock input.clock le)
+    ∙ last_from_clock least (max clock input.clock) (omega arith) inputs
+
+pub earlier_clocks : EarlierClocksAreTheStates
+earlier_clocks rules state inputs = record {
+  course = run_from_clock rules 0 state.clock state.clock (omega arith) inputs state.list;
+  last = last_from_clock state.clock state.clock (omega arith) inputs;
+}

@@ -1,0 +1,11 @@
+use Rattle.napt_laws.proofs.GoingOn.{runs_go_on, gone_change_nothing, earlier_clocks}
+use Rattle.napt_laws.proofs.runs.runs_go_on.Goals as goal
+
+pub returns-clause-go_on : goal.returns-clause-go_on
+returns-clause-go_on c = runs_go_on
+
+pub returns-clause-gone : goal.returns-clause-gone
+returns-clause-gone c = gone_change_nothing
+
+pub returns-clause-clocks : goal.returns-clause-clocks
+returns-clause-clocks c = earlier_clocks
