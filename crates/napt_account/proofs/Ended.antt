@@ -6,7 +6,7 @@ use Rattle.napt_config.specs.{Rules.Rules, declared.settings.Timers.Timers}
 use Rattle.napt_binding.{specs.Ends.is_before, proofs.FirstEnds.before_sooner}
 use Rattle.napt_rules.specs.{declared.Leg.Leg, Prelude.{Through, Binding, act, opening, Act, Course, ahead, step, run, run_from, last_clock}}
 use Rattle.napt_laws.proofs.{Grown.run_append, Turns.{InTurn, run_turn}}
-use Rattle.napt_account.{specs.{declared.log.Entry.Entry, Ended.EndedEntriesStay, Log.{begun, through, logged_by, logged, log_of}}, proofs.Books.fold_joined}
+use Rattle.napt_account.{specs.{declared.log.Entry.Entry, Ended.EndedEntriesStay, Log.{begun, logged_by, logged, log_of}}, proofs.Books.fold_joined}
 
 -- LISTS
 

@@ -4,49 +4,29 @@ use Rattle.std.specs.{Prelude.{ℕ, cond, length, List, [], ◌∷◌, ◌++◌,
 use Rattle.napt_wire.specs.declared.Way.{Way, TheVariants.{Outgoing, Incoming}}
 use Rattle.napt_rules.specs.declared.Row.{Row}
 use Rattle.napt_table.specs.declared.TimedRow.{TimedRow}
-use Rattle.napt_sequential.specs.declared.passage.{Passage.{Passage, TheVariants.{Nothing, Out, In, Dropped}}, Trace.Trace}
+use Rattle.napt_sequential.specs.declared.passage.{Passage.{Passage, TheVariants.{Out, In, Dropped}}, Trace.Trace}
 use Rattle.napt_account.specs.declared.{log.{Entry.Entry, Shortage.Shortage}, account.{Note.Note, Use.Use}}
-use Rattle.napt_account.specs.{Log.{is_shortage, is_of, counted, place_of, through}, Uses.{no_use, used, both_uses}}
+use Rattle.napt_account.specs.{Log.{is_shortage, is_of, counted, place_of, through, unused}, Uses.{no_use, used, both_uses}}
 use Rattle.napt_account.specs.declared.account.Note.TheVariants as notes
 
 -- ENTRIES
 
 -- the entry that a packet begins
 abbrev pub made_by : ℕ → TimedRow → Entry
-made_by now timed = record {
-  binding = timed.row;
-  made = now;
-  end = timed.end;
-  sent = 1;
-  received = 0;
-  last = now;
-  last_sent = now;
-}
+made_by now timed = counted Outgoing now timed.end (unused timed.row now timed.end)
 
 -- that of a redirect, before a packet went through it
 abbrev pub of_redirect : Row → Entry
-of_redirect binding = record {
-  binding = binding;
-  made = 0;
-  end = None;
-  sent = 0;
-  received = 0;
-  last = 0;
-  last_sent = 0;
-}
+of_redirect binding = unused binding 0 None
 
 abbrev pub after_out : ℕ → TimedRow → List Entry → List Entry
 after_out now timed entries = cond (list_any (is_of now timed.row) entries)
     (map (through now timed.row (counted Outgoing now timed.end)) entries) (entries ++ made_by now timed ∷ [])
 
-abbrev pub after_in : ℕ → TimedRow → List Entry → List Entry
-after_in now timed entries = map (through now timed.row (counted Incoming now timed.end)) entries
-
 abbrev pub after : ℕ → Passage → List Entry → List Entry
-after now Nothing entries = entries
 after now (Out timed) entries = after_out now timed entries
-after now (In timed) entries = after_in now timed entries
-after now (Dropped loss) entries = entries
+after now (In timed) entries = map (through now timed.row (counted Incoming now timed.end)) entries
+after now _ entries = entries
 
 abbrev pub after_trace : List Entry → Trace → List Entry
 after_trace entries trace = after trace.now trace.second (after trace.now trace.first entries)
@@ -54,11 +34,9 @@ after_trace entries trace = after trace.now trace.second (after trace.now trace.
 -- SHORTAGES
 
 abbrev pub lost : ℕ → Passage → List Shortage
-lost now Nothing = []
-lost now (Out timed) = []
-lost now (In timed) = []
 lost now (Dropped loss) = cond (is_shortage loss.cause)
     (record { at = now; cause = loss.cause; protocol = loss.protocol; host = loss.host } ∷ []) []
+lost now _ = []
 
 abbrev pub lost_by : Trace → List Shortage
 lost_by trace = lost trace.now trace.first ++ lost trace.now trace.second
@@ -81,10 +59,9 @@ abbrev pub in_at : List Entry → Option ℕ → Use
 in_at entries place = unwrap_or (use_at Incoming entries place) no_use
 
 abbrev pub use_told : ℕ → Passage → List Entry → Use
-use_told now Nothing entries = no_use
 use_told now (Out timed) entries = out_at entries (place_of now timed.row entries)
 use_told now (In timed) entries = in_at entries (place_of now timed.row entries)
-use_told now (Dropped loss) entries = no_use
+use_told now _ entries = no_use
 
 abbrev pub use_by_trace : List Entry → Trace → Use
 use_by_trace entries trace = both_uses (use_told trace.now trace.first entries)

@@ -9,24 +9,27 @@ use Rattle.napt_wire.specs.declared.{Protocol.Protocol, Way.{Way, TheVariants.{O
 use Rattle.napt_wire.specs.Fields.{source, kind}
 use Rattle.napt_config.specs.{Rules.Rules, declared.settings.Timers.Timers}
 use Rattle.napt_rules.specs.{Prelude.{Through, Binding, same_protocol, same_endpoint, opening, Arrival, row, Act, run}, declared.{Row.Row, Leg.Leg, End.End}}
-use Rattle.napt_rules.specs.declared.End.TheVariants.{ToOutside, ToInside, Onward, Dropped}
+use Rattle.napt_rules.specs.declared.End.TheVariants.{Dropped}
 use Rattle.napt_translate.specs.Carried.{carried_by}
 use Rattle.napt_account.specs.declared.log.{Entry.Entry, Shortage.Shortage}
 use Rattle.napt_binding.specs.Ends.{end_of, is_before}
 
 -- ENTRIES
 
--- the entry of a binding that is made at a time, before a packet went through it
-abbrev pub begun : Timers → ℕ → Binding → Entry
-begun timers made binding = record {
-  binding = row binding;
+-- the entry of a binding that is made at a time and has this end, before a packet went through it
+abbrev pub unused : Row → ℕ → Option ℕ → Entry
+unused binding made end = record {
+  binding = binding;
   made = made;
-  end = end_of timers binding;
+  end = end;
   sent = 0;
   received = 0;
   last = made;
   last_sent = made;
 }
+
+abbrev pub begun : Timers → ℕ → Binding → Entry
+begun timers made binding = unused (row binding) made (end_of timers binding)
 
 -- whether a row has the protocol and the external endpoint of another
 abbrev pub shares : Row → Row → Bool
@@ -80,9 +83,7 @@ shortage_by leg (Some protocol) cause = cond (is_shortage cause)
 
 abbrev pub shortage_at : Leg → End → List Shortage
 shortage_at leg (Dropped cause) = shortage_by leg (carried_by (kind leg.packet)) cause
-shortage_at leg (ToOutside packet) = []
-shortage_at leg (ToInside packet) = []
-shortage_at leg (Onward place packet) = []
+shortage_at leg _ = []
 
 abbrev pub shortages : List Act → List Shortage
 shortages acts = flat_map (λ a. shortage_at a.leg a.end) acts

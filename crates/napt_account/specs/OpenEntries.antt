@@ -9,7 +9,7 @@ use Rattle.napt_wire.specs.contracts.Protocol.{the_type}
 use Rattle.napt_wire.specs.contracts.ProtocolOrd.TheImpl as protocols
 use Rattle.napt_rules.specs.{Prelude.Each, declared.Row.Row}
 use Rattle.napt_binding.specs.Ends.{is_before}
-use Rattle.napt_sequential.specs.declared.passage.Passage.{Passage, TheVariants.{Nothing, Out, In, Dropped}}
+use Rattle.napt_sequential.specs.declared.passage.Passage.{Passage, TheVariants.{Out, In}}
 use Rattle.napt_account.specs.declared.{log.{Entry.Entry, Listed.Listed}, open_entries.{Due.Due, EndKey.EndKey, ExternalKey.ExternalKey, Open.Open}}
 use Rattle.napt_account.specs.{declared.open_entries.OpenEntries.OpenEntries, Telling.{ends_first, is_open}}
 
@@ -115,7 +115,6 @@ InOrder (x ∷ xs) = Each (λ y. ends_first x y ≡ true) xs × InOrder xs
 
 -- the leg leaves its binding an end that is to come
 abbrev pub LeavesOpen : ℕ → Passage → Type 0
-LeavesOpen now Nothing = Unit {0}
 LeavesOpen now (Out timed) = is_before now timed.end ≡ true
 LeavesOpen now (In timed) = is_before now timed.end ≡ true
-LeavesOpen now (Dropped loss) = Unit {0}
+LeavesOpen now _ = Unit {0}

@@ -26,9 +26,7 @@ use_by entries leg (Some went) = used leg.way (note_of went)
 -- both legs of an input
 abbrev pub first_note : Note → Note → Note
 first_note notes.Nothing second = second
-first_note notes.Made second = notes.Made
-first_note notes.Found second = notes.Found
-first_note notes.Redirect second = notes.Redirect
+first_note first second = first
 
 abbrev pub both_uses : Use → Use → Use
 both_uses first second = record {

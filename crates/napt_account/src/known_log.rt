@@ -159,7 +159,7 @@ fn leaves_open(now: u64, passage: Passage) -> bool
 {
     match passage {
         Passage::Nothing | Passage::Dropped(_) => true,
-        Passage::Out(timed) | Passage::In(timed) => is_before(now, timed.end),
+        Passage::Out(through) | Passage::In(through) => is_before(now, through.timed().end),
     }
 }
 

@@ -71,11 +71,11 @@ impl OpenEntries {
             OnOk result (made.new.items ≡ made.old.items
             ++ listed_as place entry ∷ []) }
     {
-        let Passage::Out(timed) = passage else {
+        let Passage::Out(through) = passage else {
             return Ok(());
         };
         if is_made {
-            self.list_row(made, timed.row)?;
+            self.list_row(made, through.timed().row)?;
         }
         Ok(())
     }

@@ -415,8 +415,11 @@ impl OpenEntries {
     {
         match passage {
             Passage::Nothing | Passage::Dropped(_) => Ok(NO_USE),
-            Passage::Out(timed) => self.go_out(now, timed),
-            Passage::In(timed) => Ok(self.count(Way::Incoming, now, timed)?.unwrap_or(NO_USE)),
+            Passage::Out(through) => self.go_out(now, through.timed()),
+            Passage::In(through) => {
+                let used = self.count(Way::Incoming, now, through.timed())?;
+                Ok(used.unwrap_or(NO_USE))
+            }
         }
     }
 }

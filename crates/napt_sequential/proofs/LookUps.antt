@@ -10,7 +10,7 @@ use Rattle.napt_table.specs.TimedRows.{timed}
 use Rattle.napt_translate.specs.{Carried.carried_by, Translators.{TranslatorState, kept_of, left_by}}
 use Rattle.napt_laws.{specs.Through.IsSaid, proofs.Through.{out_says_its_binding, in_says_its_binding}}
 use Rattle.napt_sequential.specs.declared.{passage.{Passage.Passage, Seen.Seen}, telling.Told.Told}
-use Rattle.napt_sequential.specs.{CountedTranslators.{seen_of, out_through, in_through, found_by, passage_seen, told_at}, Traces.passage_by}
+use Rattle.napt_sequential.specs.{CountedTranslators.{seen_of, gone_by, found_by, passage_seen, told_at}, Traces.passage_by}
 
 module _ (rules : Rules) (t : AreTimers rules.timers) (address : ℕ) (leg : Leg) (list : List Binding) where
   abbrev found : Option Protocol → List Binding → End → Passage
@@ -27,10 +27,11 @@ module _ (rules : Rules) (t : AreTimers rules.timers) (address : ℕ) (leg : Leg
         IsSaid (let r : Result ℕ Cause = Ok number in r) before after_out through →
         found (Some protocol) left (onward_by place packet) ≡ said Outgoing (Some protocol) (onward_by place packet)
         through
-    gone None packet number says = ap (λ (o : Option Binding). out_through (option_map (timed rules.timers) o))
+    gone None packet number says = ap (λ (o : Option Binding). gone_by Outgoing (option_map (timed rules.timers) o))
         says.binding ∙ sym (ap (said Outgoing (Some protocol) (ToOutside packet)) says.is)
-    gone (Some place) packet number says = ap (λ (o : Option Binding). out_through (option_map (timed rules.timers) o))
-        says.binding ∙ sym (ap (said Outgoing (Some protocol) (Onward place packet)) says.is)
+    gone (Some place) packet number says =
+        ap (λ (o : Option Binding). gone_by Outgoing (option_map (timed rules.timers) o)) says.binding
+        ∙ sym (ap (said Outgoing (Some protocol) (Onward place packet)) says.is)
 
     found_out : (number : Result ℕ Cause) → IsSaid number before after_out through →
         found (Some protocol) left (end_out rules address leg.packet number)
@@ -44,7 +45,8 @@ module _ (rules : Rules) (t : AreTimers rules.timers) (address : ℕ) (leg : Leg
     found_in : (inside : Result Endpoint Cause) → IsSaid inside before after_in through →
         found (Some protocol) left (end_in leg.packet inside)
         ≡ said Incoming (Some protocol) (end_in leg.packet inside) through
-    found_in (Ok inside) says = ap (λ (o : Option Binding). in_through (option_map (timed rules.timers) o)) says.binding
+    found_in (Ok inside) says =
+        ap (λ (o : Option Binding). gone_by Incoming (option_map (timed rules.timers) o)) says.binding
         ∙ sym (ap (said Incoming (Some protocol) (end_in leg.packet (Ok inside))) says.is)
     found_in (Err cause) says = sym (ap (said Incoming (Some protocol) (Dropped cause)) says)
 

@@ -1,7 +1,7 @@
 -- The translators of a sequential run, one for each external address in the order of the pool, and the one list of
 -- bindings that they split between them.
 use Rattle.std.specs.{Prelude.{◌≡◌, ℕ, ◌+◌, ◌<◌, ◌≤◌, ◌^◌, max, length, List, [], ◌∷◌, ◌++◌, Option, Some, None}, Option.option_map, List.slice_get}
-use Rattle.napt_wire.specs.{declared.Protocol.Protocol, Fields.{source, destination, kind}}
+use Rattle.napt_wire.specs.{declared.{Protocol.Protocol, Way.{Way, TheVariants.{Outgoing, Incoming}}}, Fields.{source, destination, kind}}
 use Rattle.napt_config.specs.{declared.settings.Timers.Timers, Rules.Rules}
 use Rattle.napt_rules.specs.Prelude.{Binding, by_inside, by_number, opening, Acted, act, Arrival, rows, Act, Course, run, last_clock, legs_at, Kept, kept_act, answer_of}
 use Rattle.napt_rules.specs.declared.{Row.Row, Leg.Leg, End.End, Outcome.Outcome}
@@ -9,8 +9,8 @@ use Rattle.napt_rules.specs.declared.End.TheVariants as ends
 use Rattle.napt_table.specs.{declared.TimedRow.TimedRow, TimedRows.timed}
 use Rattle.napt_translate.specs.{Carried.carried_by, Translators.{TranslatorState, begun, kept_of, with_kept, left_by}}
 use Rattle.napt_sequential.specs.declared.{counted_translator.CountedTranslator.CountedTranslator, passage.Passage.Passage}
-use Rattle.napt_sequential.specs.declared.{passage.{Passage.TheVariants.{Nothing, Out, In, Dropped}, Seen.Seen}, telling.{Told.Told, Untold.Untold}}
-use Rattle.napt_sequential.specs.{declared.outcome.Stepped.Stepped, Traces.{passage_of, trace_of}}
+use Rattle.napt_sequential.specs.declared.{passage.{Passage.TheVariants.{Nothing, Dropped}, Seen.Seen}, telling.{Told.Told, Untold.Untold}}
+use Rattle.napt_sequential.specs.{declared.outcome.Stepped.Stepped, Traces.{gone_through, passage_of, trace_of}}
 use Rattle.napt_laws.specs.Agreeing.{IsAtOnce}
 
 -- a run at some time: the time of the last leg, the legs that acted, and the bindings
@@ -87,22 +87,18 @@ abbrev pub seen_of : List ℕ → Seen
 seen_of packet =
     record { protocol = carried_by (kind packet); source = source packet; destination = destination packet }
 
-abbrev pub out_through : Option TimedRow → Passage
-out_through None = Nothing
-out_through (Some row) = Out row
-
-abbrev pub in_through : Option TimedRow → Passage
-in_through None = Nothing
-in_through (Some row) = In row
+abbrev pub gone_by : Way → Option TimedRow → Passage
+gone_by way None = Nothing
+gone_by way (Some row) = gone_through way row
 
 abbrev pub found_by : Timers → ℕ → List Binding → ℕ → Seen → Option Protocol → End → Passage
 found_by timers now list address seen None end = Nothing
 found_by timers now list address seen (Some protocol) (ends.ToOutside packet) =
-    out_through (option_map (timed timers) (by_inside timers address now protocol seen.source list))
+    gone_by Outgoing (option_map (timed timers) (by_inside timers address now protocol seen.source list))
 found_by timers now list address seen (Some protocol) (ends.Onward place packet) =
-    out_through (option_map (timed timers) (by_inside timers address now protocol seen.source list))
+    gone_by Outgoing (option_map (timed timers) (by_inside timers address now protocol seen.source list))
 found_by timers now list address seen (Some protocol) (ends.ToInside packet) =
-    in_through (option_map (timed timers) (by_number timers address now protocol seen.destination.number list))
+    gone_by Incoming (option_map (timed timers) (by_number timers address now protocol seen.destination.number list))
 found_by timers now list address seen (Some protocol) (ends.Dropped cause) =
     Dropped (record { protocol = protocol; host = seen.source.address; cause = cause })
 

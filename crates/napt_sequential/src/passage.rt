@@ -3,8 +3,9 @@
 ghost use Rattle.std.specs.Prelude.{◌≡◌};
 ghost use Rattle.napt_sequential.specs.CountedTranslators as lookups;
 
+use crate::through::Through;
 use napt_table::TimedRow;
-use napt_wire::{Cause, Endpoint, Kind, Packet, Protocol};
+use napt_wire::{Cause, Endpoint, Kind, Packet, Protocol, Way};
 
 /// What a leg did to the bindings of its external address.
 #[derive(Clone, Copy, Debug, PartialEq, Eq)]
@@ -12,9 +13,9 @@ pub enum Passage {
     /// There was no such leg, or its packet is an ICMP error, which goes through no binding.
     Nothing,
     /// It went out through the binding of its source.
-    Out(TimedRow),
+    Out(Through),
     /// It came in through the binding of its destination.
-    In(TimedRow),
+    In(Through),
     /// It was dropped.
     Dropped(Loss),
 }
@@ -67,22 +68,13 @@ impl Seen {
     }
 }
 
-/// Out through the binding that was found.
-pub(crate) fn out_through(found: Option<TimedRow>) -> Passage
-    ensures { result ≡ lookups.out_through found }
+/// This way through the binding that was found.
+pub(crate) fn gone_by(way: Way, found: Option<TimedRow>) -> Passage
+    ensures { result ≡ lookups.gone_by way found }
 {
-    match found {
-        Some(row) => Passage::Out(row),
-        None => Passage::Nothing,
-    }
-}
-
-/// In through the binding that was found.
-pub(crate) fn in_through(found: Option<TimedRow>) -> Passage
-    ensures { result ≡ lookups.in_through found }
-{
-    match found {
-        Some(row) => Passage::In(row),
-        None => Passage::Nothing,
+    match (way, found) {
+        (_, None) => Passage::Nothing,
+        (Way::Outgoing, Some(row)) => Passage::Out(Through::of(row)),
+        (Way::Incoming, Some(row)) => Passage::In(Through::of(row)),
     }
 }

@@ -5,9 +5,10 @@ ghost use Rattle.napt_sequential.specs.{CountedTranslators.{told_at, passage_see
 ghost use Rattle.napt_sequential.specs.declared.passage.Passage.TheVariants.{Nothing as NoPassage};
 ghost use Rattle.napt_translate.specs.Translators.{left_by};
 
-use crate::passage::{Loss, Passage, Seen, in_through, out_through};
+use crate::passage::{Loss, Passage, Seen, gone_by};
 use napt_rules::{Answer, End, Leg};
 use napt_translate::Translator;
+use napt_wire::Way;
 use std::alloc::{AllocError, Global};
 
 /// The answer to a leg, and what is told of the leg.
@@ -93,10 +94,12 @@ fn passage(translator: &Translator, now: u64, seen: Seen, end: &End) -> Passage
     match end {
         End::ToOutside(packet) | End::Onward(_, packet) => {
             let number = packet.source().number;
-            out_through(translator.timed_by_inside(now, protocol, seen.source, number))
+            let row = translator.timed_by_inside(now, protocol, seen.source, number);
+            gone_by(Way::Outgoing, row)
         }
         End::ToInside(_) => {
-            in_through(translator.timed_by_number(now, protocol, seen.destination.number))
+            let row = translator.timed_by_number(now, protocol, seen.destination.number);
+            gone_by(Way::Incoming, row)
         }
         End::Dropped(cause) => Passage::Dropped(Loss {
             protocol,

@@ -5,6 +5,6 @@ use Rattle.napt_account.proofs.open_entries.OpenEntries.list_made.Goals as goal
 
 pub returns-in_ok-list_row-clause-one : goal.returns-in_ok-list_row-clause-one
 returns-in_ok-list_row-clause-one c = λ now most entries shows is timed out place entry there passed.
-    let same : timed ≡ c.in-Out.timed = ap (timed_of timed) (sym out ∙ c.in-Out.is) in
+    let same : timed ≡ c.timed.result = ap (timed_of timed) (sym out ∙ c.in-Out.is) ∙ sym c.timed.ensures in
     c.in_ok-list_row.ensures now most entries shows place entry there
     (subst (λ (t : TimedRow). is_of now t.row entry ≡ true) same passed)
