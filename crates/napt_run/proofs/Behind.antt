@@ -1,12 +1,11 @@
 -- From what passed between captures that were begun and outputs to what the run did.
+use Rattle.std.proofs.lemmas.{Grind.common_steps, Bool.Decides.nat_tests}
 use Rattle.std.proofs.Common.{◌≡◌, inl, inr, ℕ, ◌^◌, ◌<◌, Bool, List, [], ◌++◌, length, Option, Some, None, Result, Ok, Err, refl, sym, ◌∙◌, ap, ap₂, subst, arith, append-nil, append_assoc}
 use Rattle.napt_wire.specs.declared.Side.{Side}
 use Rattle.napt_wire.specs.declared.Side.TheVariants as sides
 use Rattle.napt_capture.specs.declared.device.Sink as sink
 use Rattle.napt_capture.specs.declared.device.Source as source
-use Rattle.napt_capture.specs.declared.fault.CaptureFault.{CaptureFault}
-use Rattle.napt_capture.specs.declared.fault.CaptureFault.TheVariants.{NoHeader, BadMagic, BadVersion, BadLink, BadFraction, TooLong, TooLarge, Read, Memory}
-use Rattle.napt_capture.specs.{declared.fault.WriteFault.WriteFault, Reading.StopsBy}
+use Rattle.napt_capture.specs.{declared.fault.{CaptureFault.{CaptureFault, TheVariants.TooLarge}, WriteFault.WriteFault}, Reading.StopsBy}
 use Rattle.napt_config.specs.Rules.{Rules}
 use Rattle.napt_dispatch.specs.Passing.{HasCome}
 use Rattle.napt_records.specs.{Begun.AreBegun, Counts.AreCountsOf, Merged.{AreLive, EndsWith, HandsOut, cut_of}, Taking.Inputs, declared.Fault.Fault}
@@ -16,13 +15,12 @@ use Rattle.napt_records.proofs.Left.{StopsBy-then}
 use Rattle.napt_laws.specs.Dispatching.{IsFront}
 use Rattle.napt_rules.specs.Prelude.{Arrival, ran}
 use Rattle.napt_sequential.specs.Inputs.{Came}
-use Rattle.napt_run.specs.Leaving.{AreSound, AreTimes, FailsBy, IsSettled, Takes, Timed, records_text}
+use Rattle.napt_run.{specs.Leaving.{AreSound, AreTimes, FailsBy, IsSettled, Takes, Timed, records_text}, proofs.Fronts.{front_of, times_of}}
 use Rattle.napt_run.specs.{LeavingLaws.{breaks_more, grows_more, records_text-append, times_first, times_second}, Outputs.{Breaks, Grows}}
 use Rattle.napt_run.specs.Passed.{PassesAll, PassesEarly, PassesHalted, PassesOr, PassesTo}
 use Rattle.napt_run.specs.{Runs.{FailsInside, FailsOutside, Halts, IfHeld, RunsTo, RunsToFault, RunsWell, Writes, left_of, text_behind}, Files.files_until}
 use Rattle.napt_run.specs.{Streams.{AreTaken, IsFaultOf, IsOfRun, IsReading}, declared.{leaving.Leaving.Leaving, passing.Totals.Totals}}
 use Rattle.napt_run.proofs.{Begun.{ReadBy, read_somehow, read_to_fault, read_well, told}, Counted.all_counted, Files.{begun_files, files_large}}
-use Rattle.napt_run.proofs.Fronts.{front_of, times_of}
 
 -- WHAT IS KNOWN OF THE CAPTURES
 
@@ -44,15 +42,7 @@ ended_is side fault all inputs is = ap (λ (i : Inputs). i.end) is
 fault_told : (side : Side) (fault : CaptureFault) (all : Inputs) (inputs : List Arrival) →
     (all.end ≡ Err (record { side = side; fault = TooLarge }) → ⊥) → StopsBy fault (Ended side fault all inputs) →
     IsFaultOf side fault all
-fault_told side Read all inputs never stops = tt
-fault_told side Memory all inputs never stops = tt
-fault_told side TooLarge all inputs never stops = never (ended_is side TooLarge all inputs stops)
-fault_told side NoHeader all inputs never stops = ended_is side NoHeader all inputs stops
-fault_told side BadMagic all inputs never stops = ended_is side BadMagic all inputs stops
-fault_told side BadVersion all inputs never stops = ended_is side BadVersion all inputs stops
-fault_told side BadLink all inputs never stops = ended_is side BadLink all inputs stops
-fault_told side (BadFraction n) all inputs never stops = ended_is side (BadFraction n) all inputs stops
-fault_told side (TooLong n) all inputs never stops = ended_is side (TooLong n) all inputs stops
+fault_told side fault all inputs never stops = grind (arith, common_steps, nat_tests, ended_is)
 
 -- what was taken before a fault, and that it is the fault of the files
 pub record Refuses (side : Side) (fault : CaptureFault) (all : Inputs) (inputs : List Arrival) : Type 0 where
@@ -80,9 +70,7 @@ module _ {R Q W V : Type 0} {G : source.Ghosts R} {H : source.Ghosts Q} {S : sin
     (counts : AreCountsOf [] old.counts) where
   times : (inputs : List Arrival) (mid : MergedStreams R Q G H) → HandsOut begin inputs mid → AreTimes
       (left_of rules inputs)
-  times inputs mid handed =
-      times_of inputs (ran rules inputs).outcomes
-      (handed_timely begin mid inputs live handed)
+  times inputs mid handed = grind (arith, common_steps, nat_tests, times_of, handed_timely)
 
   front_at : (inputs first later : List Arrival) (mid : MergedStreams R Q G H) → inputs ≡ first ++ later →
       HandsOut begin inputs mid → (b o : List ℕ) → bytes ≡ Some b → others ≡ Some o →
@@ -98,17 +86,11 @@ module _ {R Q W V : Type 0} {G : source.Ghosts R} {H : source.Ghosts Q} {S : sin
   pub front : (inputs first later : List Arrival) (mid : MergedStreams R Q G H) → inputs ≡ first ++ later →
       HandsOut begin inputs mid → IfHeld bytes others (λ all. IsFront first all.arrivals)
   front inputs first later mid whole handed =
-      IfHeld-by (λ all. IsFront first all.arrivals) bytes others
-      (front_at inputs first later mid whole handed)
+      IfHeld-by (λ all. IsFront first all.arrivals) bytes others (front_at inputs first later mid whole handed)
 
   wrote : (inputs : List Arrival) → AreTimes (left_of rules inputs) → Takes old (left_of rules inputs) new →
-      IsSettled new →
-      Writes open_gate rules bytes others [] old new inputs
-  wrote inputs all took settled = record {
-    to_outside = took.to_outside all;
-    to_inside = took.to_inside all;
-    settled = settled;
-  }
+      IsSettled new → Writes open_gate rules bytes others [] old new inputs
+  wrote inputs all took settled = grind (arith, common_steps, nat_tests)
 
   counted : (inputs : List Arrival) → length inputs < 2 ^ 64 → Takes old (left_of rules inputs) new →
       AreCountsOf (ran rules inputs).outcomes new.counts
@@ -119,8 +101,7 @@ module _ {R Q W V : Type 0} {G : source.Ghosts R} {H : source.Ghosts Q} {S : sin
       cuts.inside ≡ cut_of end.inside → cuts.outside ≡ cut_of end.outside →
       IfHeld bytes others (λ all. all ≡ record { arrivals = inputs; end = Ok cuts })
   whole_is inputs cuts came cut_inside cut_outside =
-      IfHeld-by (λ all. all ≡ record { arrivals = inputs; end = Ok cuts }) bytes others
-      (λ b o is same.
+      IfHeld-by (λ all. all ≡ record { arrivals = inputs; end = Ok cuts }) bytes others (λ b o is same.
       begun_files begin b o (begun b o is same) ∙ came_whole begin end b o inputs (begun b o is same) came
       ∙ ap₂ (λ x y. record { arrivals = inputs; end = Ok (record { inside = x; outside = y }) })
       (sym cut_inside) (sym cut_outside))
@@ -145,8 +126,7 @@ module _ {R Q W V : Type 0} {G : source.Ghosts R} {H : source.Ghosts Q} {S : sin
   refused side fault inputs came b o is same =
       let of_files = begun_files begin b o (begun b o is same) in
       refuses side fault b o inputs (front_at inputs inputs [] came.last (sym (append-nil inputs)) came.handed b o
-      is same)
-      (StopsBy-then fault (λ stops. of_files ∙ stops) (came_fault begin end b o
+      is same) (StopsBy-then fault (λ stops. of_files ∙ stops) (came_fault begin end b o
       inputs (record { side = side; fault = fault }) (begun b o is same) came))
 
   -- they are all before the fault
@@ -273,8 +253,7 @@ module _ {R Q W V : Type 0} {G : source.Ghosts R} {H : source.Ghosts Q} {S : sin
     kept = inl (inside_kept fault e);
   }
 
-  fails_inside : (fault : WriteFault) → Early Inside fault →
-      FailsInside open_gate rules bytes others [] old new fault
+  fails_inside : (fault : WriteFault) → Early Inside fault → FailsInside open_gate rules bytes others [] old new fault
   fails_inside fault e = record {
     inputs = e.went_is;
     front_of_all = e.front_went;
@@ -295,11 +274,7 @@ module _ {R Q W V : Type 0} {G : source.Ghosts R} {H : source.Ghosts Q} {S : sin
           front_of_all = f.front_of_all;
           left = inr (fault, f.broke, omega arith);
         };
-        to_inside = record {
-          inputs = e.first_is;
-          front_of_all = e.front_first;
-          left = inl (inside_kept fault e);
-        };
+        to_inside = record { inputs = e.first_is; front_of_all = e.front_first; left = inl (inside_kept fault e) };
       }
   failed Inside fault e = let f = fails_inside fault e in
       record {
@@ -335,19 +310,10 @@ module _ {R Q W V : Type 0} {G : source.Ghosts R} {H : source.Ghosts Q} {S : sin
 
   -- and how many reads failed
   pub reads_of : (result : Result Totals Fault) → PassesOr open_gate rules begin old end new result →
-      (¬ IsOfRun result) →
-      (read : Result (Unit {0}) Fault) × IsReading result read × ReadBy begin end live read
-  reads_of (Ok totals) p not_run =
-      (Ok tt, refl, read_well begin end live p.well.whole.inputs p.well.whole.came)
-  reads_of (Err (Capture side fault)) p not_run = (
-    told side fault,
-    refl,
-    read_to_fault begin end live p.inputs (record { side = side; fault = fault })
-        p.came,
-  )
-  reads_of (Err (Write Outside fault)) p not_run =
-      read_somehow begin end live p.inputs p.come
-  reads_of (Err (Write Inside fault)) p not_run =
-      read_somehow begin end live p.inputs p.come
+      (¬ IsOfRun result) → (read : Result (Unit {0}) Fault) × IsReading result read × ReadBy begin end live read
+  reads_of (Ok totals) p not_run = grind (arith, common_steps, nat_tests, read_well, well)
+  reads_of (Err (Capture side fault)) p not_run = grind (arith, common_steps, nat_tests, told, read_to_fault)
+  reads_of (Err (Write Outside fault)) p not_run = read_somehow begin end live p.inputs p.come
+  reads_of (Err (Write Inside fault)) p not_run = read_somehow begin end live p.inputs p.come
   reads_of (Err (Write Report fault)) p not_run = absurd (early Report fault p).failed
   reads_of (Err (Run fault)) p not_run = absurd (not_run tt)

@@ -1,6 +1,6 @@
 -- From what left during a run to what its outputs took, and to what its log was entered.
+use Rattle.std.proofs.lemmas.{Grind.common_steps, Bool.Decides.nat_tests, List.map-append}
 use Rattle.std.proofs.Common.{◌≡◌, ◌⊎◌, inl, inr, ℕ, Bool, List, [], ◌∷◌, ◌++◌, length, map, Option, Some, None, Result, Ok, Err, refl, sym, ◌∙◌, ap, subst, arith, append_assoc}
-use Rattle.std.proofs.lemmas.List.{map-append}
 use Rattle.napt_wire.specs.declared.Side.{Side}
 use Rattle.napt_capture.specs.declared.device.Sink as sink
 use Rattle.napt_capture.specs.declared.device.Source as source
@@ -13,12 +13,11 @@ use Rattle.napt_dispatch.specs.declared.stopped.Stopped.TheVariants as stops
 use Rattle.napt_laws.specs.Dispatching.{IsFront}
 use Rattle.napt_records.specs.{Begun.AreBegun, Counts.AreCountsOf, Merged.{AreLive, EndsWith, HandsOut}, declared.Fault.Fault}
 use Rattle.napt_records.specs.declared.{Fault.TheVariants.{Capture, Run, Write}, merged_streams.MergedStreams.MergedStreams}
-use Rattle.napt_rules.specs.{Prelude.Arrival, declared.Outcome.Outcome}
-use Rattle.napt_sequential.specs.{Steps.steps, Traces.traces, declared.{outcome.Stepped.Stepped, passage.{Passage.Passage, Trace.Trace}}}
+use Rattle.napt_rules.specs.Prelude.{Arrival}
+use Rattle.napt_sequential.specs.declared.{outcome.Stepped.Stepped, passage.{Passage.Passage, Trace.Trace}}
 use Rattle.napt_sequential.proofs.Joined.{steps_long, steps_ran, steps_traces}
-use Rattle.napt_run.specs.{Files.files_until, Leaving.{AreSound, FailsToBegin, Takes, Timed}}
+use Rattle.napt_run.specs.{Leaving.{AreSound, FailsToBegin, Takes, Timed}, Logging.{EntersFront, FailsOver, Legs, LogsTo, as_run, legs_told}}
 use Rattle.napt_run.specs.LeavingWithLogs.{AreSettled, FailsEither, IsSamePlace, TakesBoth, legs_in, outcomes_in}
-use Rattle.napt_run.specs.Logging.{EntersFront, FailsOver, Legs, LogsTo, as_run, legs_told}
 use Rattle.napt_run.specs.Passed.{EntersBy, EntersFirst, EntersOr, EntersTo, FailsAfter, FailsFirst, PassesBy, PassesHalted, PassesOr, PassesTo}
 use Rattle.napt_run.specs.{Runs.{IfHeld, left_of}, Streams.AreTaken, declared.leaving.{Leaving.Leaving, OutputFault.OutputFault}}
 use Rattle.napt_run.specs.declared.{leaving_with_log.{LeavingFault.{LeavingFault, TheVariants.{Output, Log}}, LeavingWithLog.LeavingWithLog}, logging.Halt.Halt}
@@ -38,8 +37,7 @@ module _ {P : Type 0} (tells : Passage → P) where
       outcomes_in (timed inputs (map (departed_of tells) all)) ≡ timed inputs (map (λ s. s.outcome) all)
   timed_outcomes [] all = refl
   timed_outcomes (input ∷ inputs) [] = refl
-  timed_outcomes (input ∷ inputs) (step ∷ all) =
-      ap (λ (l : List Timed). (input.time, step.outcome) ∷ l) (timed_outcomes inputs all)
+  timed_outcomes (input ∷ inputs) (step ∷ all) = grind (arith, common_steps, nat_tests, timed_outcomes inputs all)
 
   timed_legs : (inputs : List Arrival) (all : List Stepped) → length all ≡ length inputs →
       legs_in (timed inputs (map (departed_of tells) all)) ≡ map legs_of (map (λ s. s.trace) all)
@@ -50,12 +48,10 @@ module _ {P : Type 0} (tells : Passage → P) where
       ap (λ (l : List (Legs P)). legs_of step.trace ∷ l) (timed_legs inputs all (omega (arith, same)))
 
   outcomes_left : (rules : Rules) (inputs : List Arrival) → outcomes_in (Goes rules inputs) ≡ left_of rules inputs
-  outcomes_left rules inputs = timed_outcomes inputs (steps rules inputs)
-      ∙ ap (λ (l : List Outcome). timed inputs l) (steps_ran rules inputs)
+  outcomes_left rules inputs = grind (arith, common_steps, nat_tests, timed_outcomes, steps_ran)
 
   legs_left : (rules : Rules) (inputs : List Arrival) → legs_in (Goes rules inputs) ≡ legs_told tells rules inputs
-  legs_left rules inputs = timed_legs inputs (steps rules inputs) (steps_long rules inputs)
-      ∙ ap (λ (l : List Trace). map legs_of l) (steps_traces rules inputs)
+  legs_left rules inputs = grind (arith, common_steps, nat_tests, timed_legs, steps_long, steps_traces)
 
   outcomes_front : (rules : Rules) (inputs : List Arrival) (went : List (ℕ × Departed P)) →
       IsFront went (Goes rules inputs) → IsFront (outcomes_in went) (left_of rules inputs)
@@ -99,14 +95,7 @@ module _ {P A F W V K E : Type 0} {S : sink.Ghosts W} {T : sink.Ghosts V} (tells
   -- THE OUTPUTS
 
   passes_to : (end : Option F) → Told end → PassesTo rules hands ends from before.leaving left after.leaving end
-  passes_to end p = record {
-    inputs = p.inputs;
-    came = p.came;
-    took = subst (λ (l : List Timed). Takes before.leaving l after.leaving) (outcomes_left tells rules p.inputs)
-        p.took.took;
-    settled = p.settled.0;
-    few = p.few;
-  }
+  passes_to end p = grind (arith, common_steps, nat_tests, outcomes_left)
 
   output_failed : (went : List (ℕ × Departed P)) (fault : OutputFault) → Failed went (Output fault) →
       FailsAfter before.leaving (outcomes_in went) fault after.leaving
@@ -186,19 +175,11 @@ module _ {P A F W V K E : Type 0} {S : sink.Ghosts W} {T : sink.Ghosts V} (tells
 
   enters_to : (end : Option F) → Told end →
       EntersTo tells rules hands ends enters fails is_settled from before.log.now left after.log.now end
-  enters_to end p = record {
-    inputs = p.inputs;
-    came = p.came;
-    entered = subst (λ (l : List (Legs P)). enters before.log.now l after.log.now) (legs_left tells rules p.inputs)
-        p.took.entered;
-    settled = p.settled.1;
-  }
+  enters_to end p = grind (arith, common_steps, nat_tests, legs_left)
 
   legs_join : (went first others : List (ℕ × Departed P)) → went ≡ first ++ others →
       legs_in first ++ legs_in others ≡ legs_in went
-  legs_join went first others is =
-      sym (ap (λ (l : List (ℕ × Departed P)). legs_in l) is
-      ∙ map-append (λ left. let l : Legs P = (left.1.now, left.1.first, left.1.second) in l) first others)
+  legs_join went first others is = grind (arith, common_steps, nat_tests, ℕ, map-append)
 
   enters_first : (inputs : List Arrival) (went : List (ℕ × Departed P)) → HasCome hands ends from inputs left →
       IsFront went (Goes tells rules inputs) → enters before.log.now (legs_in went) after.log.now → First
@@ -214,10 +195,7 @@ module _ {P A F W V K E : Type 0} {S : sink.Ghosts W} {T : sink.Ghosts V} (tells
   -- where an output failed the log was entered all
   output_entered : (went : List (ℕ × Departed P)) (fault : OutputFault) → Failed went (Output fault) →
       enters before.log.now (legs_in went) after.log.now
-  output_entered went fault f =
-      subst (λ (l : List (Legs P)). enters before.log.now l after.log.now) (legs_join went f.first f.others f.went_is)
-      (more before.log.now f.middle.log.now after.log.now (legs_in f.first) (legs_in f.others) f.took.entered
-      f.failed.entered)
+  output_entered went fault f = grind (arith, common_steps, nat_tests, legs_join)
 
   fails_first : (inputs : List Arrival) (went : List (ℕ × Departed P)) → HasCome hands ends from inputs left →
       IsFront went (Goes tells rules inputs) → (fault : E) → Failed went (Log fault) → FailedFirst fault
@@ -235,8 +213,7 @@ module _ {P A F W V K E : Type 0} {S : sink.Ghosts W} {T : sink.Ghosts V} (tells
 
   enters_or_fails : (p : Halted) (fault : LeavingFault E) → Failed p.went fault →
       First ⊎ ((fault : E) × FailedFirst fault)
-  enters_or_fails p (Output fault) f =
-      inl (enters_first p.inputs p.went p.come p.front (output_entered p.went fault f))
+  enters_or_fails p (Output fault) f = inl (enters_first p.inputs p.went p.come p.front (output_entered p.went fault f))
   enters_or_fails p (Log fault) f = inr (fault, fails_first p.inputs p.went p.come p.front fault f)
 
   pub enters_by : (result : Result Passed (Stopped F (LeavingFault E))) → RunPasses result →
@@ -254,17 +231,10 @@ module _ {P A F W V K E : Type 0} {S : sink.Ghosts W} {T : sink.Ghosts V} (tells
   -- WHERE THEY ARE LEFT
 
   same_failed : (went : List (ℕ × Departed P)) (fault : LeavingFault E) → Failed went fault → IsSamePlace before after
-  same_failed went (Output fault) f = f.failed.same ∙ f.took.same
-  same_failed went (Log fault) f = f.failed.same ∙ f.took.same
+  same_failed went fault f = grind (arith, common_steps, nat_tests)
 
   pub same_place : (result : Result Passed (Stopped F (LeavingFault E))) → RunPasses result → IsSamePlace before after
-  same_place (Ok passed) p = p.whole.took.same
-  same_place (Err (stops.Arrival fault)) p = p.took.same
-  same_place (Err (stops.Departure fault)) p = same_failed p.went fault p.failed
-  same_place (Err (stops.Run fault)) p = elim p.took [
-    | inl took ↦ took.same
-    | inr failed ↦ same_failed p.went failed.0 failed.1
-  ]
+  same_place result p = grind (arith, common_steps, nat_tests, same_failed)
 
 -- OVER CAPTURES
 
@@ -286,8 +256,7 @@ module _ {R Q W V P K E : Type 0} {G : source.Ghosts R} {H : source.Ghosts Q} {S
 
   enters_front : EntersFirst tells rules HandsOut EndsWith enters fails is_settled from old left new →
       EntersFront tells rules enters fails is_settled bytes others old new
-  enters_front e =
-      record { inputs = e.first; front = held e.first e.later e.come; entered = e.entered }
+  enters_front e = record { inputs = e.first; front = held e.first e.later e.come; entered = e.entered }
 
   fails_over : (fault : E) → FailsFirst tells rules HandsOut EndsWith enters fails is_settled from old left new fault →
       FailsOver tells rules enters fails is_settled bytes others old new fault
@@ -326,18 +295,10 @@ module _ {P K E : Type 0} (tells : Passage → P) (rules : Rules) (enters : K �
   pub unbegun_logs : {W V : Type 0} {S : sink.Ghosts W} {T : sink.Ghosts V} (old new : Leaving W V S T)
       (fault : Fault) → FailsToBegin old fault new →
       LogsTo tells rules enters fails is_settled inside outside it it (Err (halts.Run fault))
-  unbegun_logs old new (Write which fault) p = record {
-    inputs = [];
-    front = IfHeld-by (λ all. IsFront [] all.arrivals) inside outside
-        (λ b o is same. ((files_until b o).arrivals, refl));
-    entered = none;
-  }
-  unbegun_logs old new (Capture side fault) p = absurd p
-  unbegun_logs old new (Run fault) p = absurd p
+  unbegun_logs old new fault p = grind (arith, common_steps, nat_tests, front, IfHeld-by)
 
   -- a header of a capture was refused
   pub unread_logs : is_settled it → (side : Side) (fault : CaptureFault) →
       IfHeld inside outside (λ all. AreTaken side fault all []) →
       LogsTo tells rules enters fails is_settled inside outside it it (Err (halts.Run (Capture side fault)))
-  unread_logs settled side fault taken =
-      record { inputs = []; taken = taken; entered = none; settled = settled }
+  unread_logs settled side fault taken = grind (arith, common_steps, nat_tests)

@@ -1,10 +1,11 @@
 -- What a whole run is told to come to, once its report is written or nobody wants one.
-use Rattle.std.specs.Result.{result_and}
-use Rattle.std.proofs.Common.{◌≡◌, ◌≢◌, ◌⊎◌, ℕ, ◌+◌, Bool, true, false, inl, append-nil, List, [], Option, Result, Ok, Err, IfErr, IfOk, OnOk, refl, sym, ◌∙◌, ap, subst}
+use native.Mathlib.Omega.{arith}
+use Rattle.std.{proofs.lemmas.{Grind.common_steps, Bool.Decides.nat_tests}, specs.Result.result_and}
+use Rattle.std.proofs.Common.{◌≡◌, ◌≢◌, ◌⊎◌, ℕ, ◌+◌, Bool, true, false, append-nil, List, Option, Result, Ok, Err, IfErr, IfOk, OnOk, refl, ◌∙◌, ap, subst}
 use Rattle.napt_wire.specs.declared.Side.TheVariants as sides
 use Rattle.napt_capture.specs.declared.device.Sink.{Ghosts}
 use Rattle.napt_config.specs.Rules.{Rules}
-use Rattle.napt_records.specs.{Counts.AreCountsOf, Report.{report_of, report_text}, declared.{Fault.{Fault, TheVariants.{Capture, Run, Write}}, Which.Which}}
+use Rattle.napt_records.specs.{Counts.AreCountsOf, Report.{report_of, report_text}, declared.{Fault.{Fault, TheVariants.{Run, Write}}, Which.Which}}
 use Rattle.napt_records.specs.{declared.Which.TheVariants.{Outside, Inside, Report}, Faults.tells_shut_gate}
 use Rattle.napt_rules.specs.{Prelude.{Arrival, ran}, declared.Outcome.Outcome}
 use Rattle.napt_run.specs.{Captures.{failed_readings, failed_writings}, Runs.{IfHeld, IsToldOf}}
@@ -19,38 +20,24 @@ pub record Ends (told : Result Totals Fault) (result : Result (Unit {0}) Fault) 
 
 pub ends_and : (told : Result Totals Fault) (written result : Result (Unit {0}) Fault) →
     result ≡ result_and told written → IfErr written IsReportFault → Ends told result
-ends_and (Ok totals) written result is fault =
-    record { fault = tt; report = subst (λ r. IfErr r IsReportFault) (sym is) fault }
-ends_and (Err fault) written result is none = record { fault = is; report = tt }
+ends_and told written result is fault = grind (arith, common_steps, nat_tests)
 
 -- by what it was
-module _ (P : Result Totals Fault → Result (Unit {0}) Fault → Type 0)
-    (well : (totals : Totals) → P (Ok totals) (Ok tt))
+module _ (P : Result Totals Fault → Result (Unit {0}) Fault → Type 0) (well : (totals : Totals) → P (Ok totals) (Ok tt))
     (unwritten : (totals : Totals) (fault : _) → P (Ok totals) (Err (Write Report fault)))
     (unmade : (totals : Totals) → P (Ok totals) (Err (Run faults.Memory)))
     (stopped : (fault : Fault) → P (Err fault) (Err fault)) where
   at_report : (totals : Totals) (fault : Fault) → IsReportFault fault → P (Ok totals) (Err fault)
-  at_report totals (Write Report fault) is = unwritten totals fault
-  at_report totals (Write Outside fault) is = absurd is
-  at_report totals (Write Inside fault) is = absurd is
-  at_report totals (Capture side fault) is = absurd is
-  at_report totals (Run faults.Memory) is = unmade totals
-  at_report totals (Run faults.TooMany) is = absurd is
-  at_report totals (Run (faults.Pool fault)) is = absurd is
+  at_report totals fault is = grind (arith, common_steps, nat_tests)
 
   pub at_end : (told : Result Totals Fault) (result : Result (Unit {0}) Fault) → Ends told result → P told result
-  at_end (Ok totals) (Ok done) ends = well totals
-  at_end (Ok totals) (Err fault) ends = at_report totals fault ends.report
-  at_end (Err fault) result ends = subst (λ (r : Result (Unit {0}) Fault). P (Err fault) r) (sym ends.fault)
-      (stopped fault)
+  at_end told result ends = grind (arith, common_steps, nat_tests, at_report)
 
 -- all of the text, where no report could be made of it
 pub all_left : (rules : Rules) (which : Which) (inside outside : Option (List ℕ)) (old new : Option (List ℕ)) →
     IfHeld inside outside (λ all. HasAll rules which all old new) →
     IfHeld inside outside (λ all. HasText rules which all old new ⊎ HasPart rules which all old new)
-all_left rules which inside outside old new = IfHeld-map (λ all. HasAll rules which all old new)
-    (λ all. HasText rules which all old new ⊎ HasPart rules which all old new) inside outside
-    (λ all text. inl (all.arrivals, ([], append-nil all.arrivals), text.1))
+all_left rules which inside outside old new p = grind (arith, common_steps, nat_tests, IfHeld-map, append-nil)
 
 module _ (rules : Rules) (inside outside : Option (List ℕ)) (old new : Option
     (List ℕ)) where
@@ -78,51 +65,35 @@ explains_ends inside outside = at_end (λ told result. IfErr told (Explains insi
 
 pub gate_of : (open_gate : Bool) (fault : Fault) → open_gate ≡ true → IsStopFault open_gate fault →
     tells_shut_gate fault ≡ false
-gate_of open_gate (Capture side fault) is p = refl
-gate_of open_gate (Write which fault) is p = refl
-gate_of open_gate (Run faults.Memory) is p = refl
-gate_of open_gate (Run faults.TooMany) is p = absurd p
-gate_of open_gate (Run (faults.Pool fault)) is p = p is
+gate_of open_gate fault is p = grind (arith, common_steps, nat_tests)
 
 pub gate_ends : (open_gate : Bool) (told : Result Totals Fault) (result : Result (Unit {0}) Fault) → Ends told result →
     IfErr told (IsStopFault open_gate) → open_gate ≡ true → IfErr result (λ fault. tells_shut_gate fault ≡ false)
-gate_ends open_gate = at_end (λ told result. IfErr told (IsStopFault open_gate) → open_gate ≡ true →
-    IfErr result (λ fault. tells_shut_gate fault ≡ false)) (λ totals p is. tt) (λ totals fault p is. refl)
-    (λ totals p is. refl) (λ fault p is. gate_of open_gate fault is p)
+gate_ends open_gate told result ends stop is = grind (arith, common_steps, nat_tests, at_end, gate_of)
 
 pub few_ends : (open_gate : Bool) (told : Result Totals Fault) (result : Result (Unit {0}) Fault) → Ends told result →
     IfErr told (IsStopFault open_gate) → result ≢ Err (Run faults.TooMany)
-few_ends open_gate = at_end (λ told result. IfErr told (IsStopFault open_gate) → result ≢ Err (Run faults.TooMany))
-    (λ totals p is. cc) (λ totals fault p is. cc) (λ totals p is. cc)
-    (λ fault p is. subst (λ (r : Result (Unit {0}) Fault). IfErr r (IsStopFault open_gate)) is p)
+few_ends open_gate told result ends stop = grind (arith, common_steps, nat_tests, at_end)
 
 not_stopped : (fault : Fault) → ((let r : Result (Unit {0}) Fault = Err fault in IsOfRun r) → ⊥) →
     (let r : Result Totals Fault = Err fault in IsOfRun r) → ⊥
-not_stopped (Run fault) none run = none tt
-not_stopped (Capture side fault) none run = run
-not_stopped (Write which fault) none run = run
+not_stopped fault none run = grind (arith, common_steps, nat_tests)
 
 not_run : (told : Result Totals Fault) (result : Result (Unit {0}) Fault) → Ends told result → (¬ IsOfRun result) →
     ¬ IsOfRun told
-not_run = at_end (λ told result. (¬ IsOfRun result) → ¬ IsOfRun told) (λ totals none run. run)
-    (λ totals fault none run. run) (λ totals none run. run) not_stopped
+not_run told result ends none = grind (arith, common_steps, nat_tests, at_end, not_stopped)
 
 outside_written : (told : Result Totals Fault) (result : Result (Unit {0}) Fault) → Ends told result →
     (¬ IsOfRun result) → failed_writings Outside (ended told) ≡ failed_writings Outside (ended result)
-outside_written = at_end (λ told result. (¬ IsOfRun result) → failed_writings Outside (ended told)
-    ≡ failed_writings Outside (ended result)) (λ totals no. refl) (λ totals fault no. refl) (λ totals no. refl)
-    (λ fault no. refl)
+outside_written told result ends none = grind (arith, common_steps, nat_tests, at_end)
 
 inside_written : (told : Result Totals Fault) (result : Result (Unit {0}) Fault) → Ends told result →
     (¬ IsOfRun result) → failed_writings Inside (ended told) ≡ failed_writings Inside (ended result)
-inside_written = at_end (λ told result. (¬ IsOfRun result) → failed_writings Inside (ended told)
-    ≡ failed_writings Inside (ended result)) (λ totals no. refl) (λ totals fault no. refl) (λ totals no. refl)
-    (λ fault no. refl)
+inside_written told result ends none = grind (arith, common_steps, nat_tests, at_end)
 
 settled_ends : (told : Result Totals Fault) (result : Result (Unit {0}) Fault) → Ends told result →
     IsSettledBy (ended result) → IsSettledBy (ended told)
-settled_ends = at_end (λ told result. IsSettledBy (ended result) → IsSettledBy (ended told)) (λ totals p. tt)
-    (λ totals fault p. tt) (λ totals p. tt) (λ fault p. p)
+settled_ends told result ends settled = grind (arith, common_steps, nat_tests, at_end)
 
 -- what reading came to is the same, and so many of its reads failed
 record SameReads (read : Result (Unit {0}) Fault) (result : Result (Unit {0}) Fault) : Type 0 where
@@ -133,11 +104,7 @@ record SameReads (read : Result (Unit {0}) Fault) (result : Result (Unit {0}) Fa
 
 stopped_reads : (fault : Fault) (read : Result (Unit {0}) Fault) →
     (let r : Result Totals Fault = Err fault in IsReading r read) → SameReads read (Err fault)
-stopped_reads (Capture side fault) read is = record { now = read; is = is; inside_same = refl; outside_same = refl }
-stopped_reads (Run fault) read is = record { now = read; is = is; inside_same = refl; outside_same = refl }
-stopped_reads (Write Outside fault) read is = record { now = read; is = is; inside_same = refl; outside_same = refl }
-stopped_reads (Write Inside fault) read is = record { now = read; is = is; inside_same = refl; outside_same = refl }
-stopped_reads (Write Report fault) read is = record { now = read; is = is; inside_same = refl; outside_same = refl }
+stopped_reads fault read is = grind (arith, common_steps, nat_tests)
 
 reads_end : (told : Result Totals Fault) (result : Result (Unit {0}) Fault) → Ends told result →
     (read : Result (Unit {0}) Fault) → IsReading told read → SameReads read result
@@ -175,26 +142,19 @@ module _ (told : Result Totals Fault) (result : Result (Unit {0}) Fault) (ends :
   settled_by holds settled = holds (settled_ends told result ends settled)
 
   module _ {D : Type 0} (S : Ghosts D) (rules : Rules) (inside outside : Option (List ℕ)) (old new : D) where
-    device_by : (which : Which) →
-        (Streams rules which (ended told) inside outside (S.contents old) (S.contents new) →
+    device_by : (which : Which) → (Streams rules which (ended told) inside outside (S.contents old) (S.contents new) →
         Streams rules which (ended result) inside outside (S.contents old) (S.contents new)) →
         ((¬ IsOfRun result) → failed_writings which (ended told) ≡ failed_writings which (ended result)) →
         DeviceGets S rules which inside outside told old new → DeviceGets S rules which inside outside result old new
-    device_by which gets writings p = record {
-      gets = gets p.gets;
-      count = λ none. p.count (not_run told result ends none) ∙ ap (λ (n : ℕ). S.failed old + n) (writings none);
-      settled = settled_by p.settled;
-    }
+    device_by which gets writings p = grind (arith, common_steps, nat_tests, not_run, settled_by)
 
     pub outside_by : DeviceGets S rules Outside inside outside told old new →
         DeviceGets S rules Outside inside outside result old new
-    outside_by = device_by Outside (outside_ends rules inside outside _ _ told result ends)
-        (outside_written told result ends)
+    outside_by p = grind (arith, common_steps, nat_tests, device_by, outside_ends, outside_written)
 
     pub inside_by : DeviceGets S rules Inside inside outside told old new →
         DeviceGets S rules Inside inside outside result old new
-    inside_by = device_by Inside (inside_ends rules inside outside _ _ told result ends)
-        (inside_written told result ends)
+    inside_by p = grind (arith, common_steps, nat_tests, device_by, inside_ends, inside_written)
 
 -- THE REPORT
 
@@ -207,11 +167,9 @@ text_told : (rules : Rules) (totals : Totals) (inputs : List Arrival) →
     report_of totals.cuts.inside totals.cuts.outside (ran rules inputs).outcomes totals.passed.bindings.items
     ≡ report_text totals.cuts.inside totals.cuts.outside (ran rules inputs)
 unfolding report_text
-text_told rules totals inputs is =
-    ap (λ b. report_of totals.cuts.inside totals.cuts.outside (ran rules inputs).outcomes b) is
+text_told rules totals inputs is = grind (arith, common_steps, nat_tests)
 
-all_reported : (rules : Rules) (inside outside : Option (List ℕ)) (old new : Option
-    (List ℕ))
+all_reported : (rules : Rules) (inside outside : Option (List ℕ)) (old new : Option (List ℕ))
     (totals : Totals) (result : Result (Unit {0}) Fault) → IsToldOf rules inside outside totals →
     Written totals result old new → IfHeld inside outside (λ all. ReportsAll rules result all old new)
 all_reported rules inside outside old new totals result told written =
@@ -231,15 +189,7 @@ IsBeforeReport other = Unit {0}
 nothing_reported : (rules : Rules) (inside outside : Option (List ℕ))
     (old new : Option (List ℕ)) (fault : Fault) → IsBeforeReport fault → new ≡ old →
     Reports rules (Err fault) inside outside old new
-nothing_reported rules inside outside old new (Capture side fault) stop same =
-    IfHeld-all (λ all. new ≡ old) inside outside (λ all. same)
-nothing_reported rules inside outside old new (Run fault) stop same =
-    IfHeld-all (λ all. new ≡ old) inside outside (λ all. same)
-nothing_reported rules inside outside old new (Write Outside fault) stop same =
-    IfHeld-all (λ all. new ≡ old) inside outside (λ all. same)
-nothing_reported rules inside outside old new (Write Inside fault) stop same =
-    IfHeld-all (λ all. new ≡ old) inside outside (λ all. same)
-nothing_reported rules inside outside old new (Write Report fault) stop same = absurd stop
+nothing_reported rules inside outside old new fault stop same = grind (arith, common_steps, nat_tests, IfHeld-all)
 
 report_ends : (rules : Rules) (inside outside : Option (List ℕ))
     (old new : Option (List ℕ)) (told : Result Totals Fault) (result : Result (Unit {0}) Fault) → Ends told result →
@@ -250,64 +200,47 @@ report_ends rules inside outside old new = at_end (λ told result. IfOk told (Is
     Reports rules result inside outside old new)
     (λ totals told stop same written. all_reported rules inside outside old new totals (Ok tt) told written)
     (λ totals fault told stop same written. all_reported rules inside outside old new totals (Err
-    (Write Report fault)) told
-    written)
-    (λ totals told stop same written. IfHeld-all (λ all. new ≡ old) inside outside
+    (Write Report fault)) told written) (λ totals told stop same written. IfHeld-all (λ all. new ≡ old) inside outside
     (λ all. written (ran rules told.inputs).outcomes told.counts))
     (λ fault told stop same written. nothing_reported rules inside outside old new fault stop same)
 
 -- AND WHAT WAS WRITTEN OF IT
 
 closed_fault : (open_gate : Bool) (fault : Fault) → IsStopFault open_gate fault → IsBeforeReport fault
-closed_fault open_gate (Capture side fault) p = tt
-closed_fault open_gate (Write Outside fault) p = tt
-closed_fault open_gate (Write Inside fault) p = tt
-closed_fault open_gate (Write Report fault) p = p
-closed_fault open_gate (Run fault) p = tt
+closed_fault open_gate fault p = grind (arith, common_steps, nat_tests)
 
 pub closed : (open_gate : Bool) (told : Result Totals Fault) → IfErr told (IsStopFault open_gate) →
     IfErr told IsBeforeReport
-closed open_gate (Ok totals) p = tt
-closed open_gate (Err fault) p = closed_fault open_gate fault p
+closed open_gate told p = grind (arith, common_steps, nat_tests, closed_fault)
 
 same_contents : {U : Type 0} (contents : U → Option (List ℕ)) (old new : U) (told : Result Totals Fault) →
     IfErr told (λ _. new ≡ old) → IfErr told (λ _. contents new ≡ contents old)
-same_contents contents old new (Ok totals) p = tt
-same_contents contents old new (Err fault) p = ap contents p
+same_contents contents old new told p = grind (arith, common_steps, nat_tests)
 
 none_written : (fault : Fault) → IsBeforeReport fault →
     (let r : Result (Unit {0}) Fault = Err fault in failed_writings Report r ≡ 0)
-none_written (Capture side fault) p = refl
-none_written (Write Outside fault) p = refl
-none_written (Write Inside fault) p = refl
-none_written (Write Report fault) p = absurd p
-none_written (Run fault) p = refl
+none_written fault p = grind (arith, common_steps, nat_tests)
 
 written_all : (told : Result Totals Fault) (written result : Result (Unit {0}) Fault) (old new : Option (List ℕ)) →
     result ≡ result_and told written → IfOk told (λ totals. Written totals written old new) →
     IfOk told (λ totals. Written totals result old new)
-written_all (Ok totals) written result old new is made = subst (λ r. Written totals r old new) (sym is) made
-written_all (Err fault) written result old new is made = tt
+written_all told written result old new is made = grind (arith, common_steps, nat_tests)
 
 written_fails : (told : Result Totals Fault) (written result : Result (Unit {0}) Fault) →
     result ≡ result_and told written → IfErr told (λ _. written ≡ Ok tt) → IfErr told IsBeforeReport →
     failed_writings Report written ≡ failed_writings Report result
-written_fails (Ok totals) written result is nothing stop = ap (failed_writings Report) (sym is)
-written_fails (Err fault) written result is nothing stop =
-    ap (failed_writings Report) nothing ∙ sym (none_written fault stop) ∙ ap (failed_writings Report) (sym is)
+written_fails told written result is nothing stop = grind (arith, common_steps, nat_tests, none_written)
 
 written_flushed : (P : Type 0) (told : Result Totals Fault) (written result : Result (Unit {0}) Fault) →
     result ≡ result_and told written → OnOk told (OnOk written P) → OnOk result P
-written_flushed P (Ok totals) written result is flushed = subst (λ r. OnOk r P) (sym is) flushed
-written_flushed P (Err fault) written result is flushed = subst (λ r. OnOk r P) (sym is) tt
+written_flushed P told written result is flushed = grind (arith, common_steps, nat_tests)
 
 pub report_by : {U : Type 0} (S : Ghosts U) (rules : Rules) (inside outside : Option (List ℕ)) (old new : U)
     (told : Result Totals Fault) (written result : Result (Unit {0}) Fault) → result ≡ result_and told written →
     IfErr written IsReportFault → IfOk told (IsToldOf rules inside outside) → IfErr told IsBeforeReport →
     IfErr told (λ _. new ≡ old) → IfErr told (λ _. written ≡ Ok tt) →
     IfOk told (λ totals. Written totals written (S.contents old) (S.contents new)) →
-    OnOk told (OnOk written (S.is_flushed new)) →
-    S.failed new ≡ S.failed old + failed_writings Report written →
+    OnOk told (OnOk written (S.is_flushed new)) → S.failed new ≡ S.failed old + failed_writings Report written →
     ReportGets S rules inside outside result old new
 report_by S rules inside outside old new told written result is fault says stop same nothing made flushed counted =
     record {

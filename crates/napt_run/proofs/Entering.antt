@@ -1,9 +1,10 @@
 -- The rows of an input, written or not.
-use Rattle.std.proofs.Common.{◌≡◌, ℕ, ◌+◌, ◌^◌, ◌<◌, List, [], ◌∷◌, ◌++◌, length, refl, sym, ◌∙◌, arith, subst, append-nil, length-append}
+use Rattle.std.proofs.lemmas.{Grind.common_steps, Bool.Decides.nat_tests}
+use Rattle.std.proofs.Common.{◌≡◌, ℕ, ◌+◌, List, [], ◌∷◌, ◌++◌, refl, sym, arith, subst, append-nil, length-append}
 use Rattle.napt_capture.specs.declared.device.Sink.{Ghosts}
 use Rattle.napt_config.specs.Rules.{Rules}
-use Rattle.napt_account.specs.TraceLogs.{IsOfTraces, told_with}
-use Rattle.napt_log_text.specs.Logs.{rows_with, told_rows}
+use Rattle.napt_account.specs.TraceLogs.{IsOfTraces}
+use Rattle.napt_log_text.specs.Logs.{rows_with}
 use Rattle.napt_records.specs.declared.Fault.TheVariants as faults
 use Rattle.napt_sequential.specs.declared.passage.Trace.{Trace}
 use Rattle.napt_run.specs.{LeavingLaws.grows_none, Outputs.Grows, RunningLogs.{EntersNot, EntersWith, FailsBy, GoesOn, IsAt}}
@@ -29,16 +30,4 @@ module _ {L : Type 0} {S : Ghosts L} (rules : Rules) (before : List Trace) (old 
       Grows mid.output bytes output →
       GoesOn rules (before ++ trace ∷ []) (rows_with rules before (trace ∷ [])) old (record mid { output = output })
   enter_written trace mid output text bytes at s same p =
-      let grown : Grows old.output text output =
-      subst (λ (o : Output L S). Grows o text output) s.output
-      (subst (λ (l : List ℕ). Grows mid.output l output) same p) in
-      let few : length before + 1 < 2 ^ 62 = s.few in
-      record {
-        at = record {
-          log = s.log;
-          few = omega (arith, few, length-append before (trace ∷ []));
-          sound = grown.sound at.sound;
-        };
-        wrote = subst (λ (l : List ℕ). Grows old.output l output)
-            (s.rows ∙ sym (append-nil (told_rows rules (told_with rules before trace)))) grown;
-      }
+      grind (arith, common_steps, nat_tests, ℕ, length-append, append-nil)

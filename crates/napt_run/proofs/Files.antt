@@ -1,10 +1,11 @@
 -- What two files give, behind their headers.
-use Rattle.std.proofs.Common.{◌≡◌, ℕ, List, take, drop, Option, None, Some, Result, Ok, Err, ap, ◌∙◌}
+use native.Mathlib.Omega.{arith}
+use Rattle.std.proofs.{lemmas.{Grind.common_steps, Bool.Decides.nat_tests}, Common.{◌≡◌, ℕ, List, take, drop, Option, None, Some, Result, Err, ap}}
 use Rattle.napt_wire.specs.declared.Side.{Side, TheVariants.{Inside, Outside}}
-use Rattle.napt_capture.specs.declared.{device.Source.Ghosts, fault.CaptureFault.{CaptureFault, TheVariants.{Read, TooLarge}}, spelling.Spelling.Spelling}
+use Rattle.napt_capture.specs.declared.{device.Source.Ghosts, fault.CaptureFault.{CaptureFault, TheVariants.TooLarge}, spelling.Spelling.Spelling}
 use Rattle.napt_capture.{specs.{Capture.{captured, captured_by, spelling_in}, Reading.Gives}, proofs.Captured.never_large}
-use Rattle.napt_records.specs.{Begun.AreBegun, MergeLaws.held_of, Taking.{Inputs, inputs_until}, declared.merged_streams.Cuts.Cuts}
-use Rattle.napt_records.{specs.declared.merged_streams.{MergedStreams.MergedStreams, SideFault.SideFault}, proofs.Merges.merge_meets}
+use Rattle.napt_records.specs.{Begun.AreBegun, MergeLaws.held_of, Taking.{Inputs, inputs_until}}
+use Rattle.napt_records.{specs.declared.merged_streams.MergedStreams.MergedStreams, proofs.Merges.merge_meets}
 use Rattle.napt_run.specs.Files.{files_until, unless_bad, unless_refused}
 
 -- a header that was read of known bytes
@@ -17,34 +18,23 @@ spelled bytes (Some left) r p = p.0
 pub begun_files : {R Q : Type 0} {G : Ghosts R} {H : Ghosts Q} (begin : MergedStreams R Q G H)
     (bytes others : List ℕ) → AreBegun begin bytes others
     → files_until bytes others ≡ inputs_until (captured bytes) (captured others)
-begun_files begin bytes others p =
-    let all : Inputs = inputs_until (captured bytes) (captured others) in
-    ap (λ r. unless_bad Inside r (unless_refused Outside others all))
-    (spelled bytes _ (Ok begin.inside.records.spelling) p.inside_begun.header)
-    ∙ ap (λ r. unless_bad Outside r all)
-    (spelled others _ (Ok begin.outside.records.spelling) p.outside_begun.header)
+begun_files begin bytes others p = grind (arith, common_steps, nat_tests, spelled)
 
 -- NO FILE IS TOO LARGE
 
 abbrev NoneLarge : Inputs → Type 0
 NoneLarge inputs = (side : Side) → inputs.end ≡ Err (record { side = side; fault = TooLarge }) → ⊥
 
-abbrev fault_in : Result Cuts SideFault → CaptureFault
-fault_in (Ok cuts) = Read
-fault_in (Err fault) = fault.fault
-
 bad_large : (side : Side) (r : Result Spelling CaptureFault) (inputs : Inputs) → (r ≡ Err TooLarge → ⊥) →
     NoneLarge inputs → NoneLarge (unless_bad side r inputs)
-bad_large side (Ok spelling) inputs never none = none
-bad_large side (Err fault) inputs never none = λ other is. never (ap (λ f. Err f) (ap fault_in is))
+bad_large side r inputs never none = grind (arith, common_steps, nat_tests)
 
 header_large : (bytes : List ℕ) → spelling_in (take 24 bytes) ≡ Err TooLarge → ⊥
 header_large bytes is = never_large bytes (ap (λ r. (captured_by r (drop 24 bytes)).end) is)
 
 refused_large : (side : Side) (bytes : List ℕ) (inputs : Inputs) → NoneLarge inputs →
     NoneLarge (unless_refused side bytes inputs)
-refused_large side bytes inputs none =
-    bad_large side (spelling_in (take 24 bytes)) inputs (header_large bytes) none
+refused_large side bytes inputs none = bad_large side (spelling_in (take 24 bytes)) inputs (header_large bytes) none
 
 held_large : (side : Side) (bytes others : List ℕ) →
     (held_of side (captured bytes) (captured others)).end ≡ Err TooLarge → ⊥

@@ -1,9 +1,9 @@
 -- What leaves of a front of the inputs is a front of what leaves.
+use Rattle.std.proofs.{lemmas.{Grind.common_steps, Bool.Decides.nat_tests, List.{length-take-le, take-append-drop}}, Math.Seq.take-append_seam}
 use Rattle.std.proofs.Common.{◌≡◌, suc, ◌≤◌, List, [], ◌∷◌, ◌++◌, length, map, take, drop, All, filter_map, flat_map, refl, sym, ◌∙◌, ap, arith, length-append}
-use Rattle.std.{specs.List.cons_option, proofs.{Math.Seq.take-append_seam, lemmas.List.{length-take-le, take-append-drop}}}
 use Rattle.std.proofs.lemmas.List.Elements.{All-head, All-tail, All-nil, All-cons}
 use Rattle.napt_wire.specs.declared.Side.{Side}
-use Rattle.napt_capture.specs.{Contents.Entry, Text.{file_header, record_text, text}}
+use Rattle.napt_capture.specs.Text.{file_header, text}
 use Rattle.napt_config.specs.Rules.{Rules}
 use Rattle.napt_dispatch.specs.Passing.{timed}
 use Rattle.napt_records.specs.Output.{IsTime, IsTimely, packet_to, record_at, records_to}
@@ -19,16 +19,12 @@ records_same : (side : Side) (inputs : List Arrival) (outcomes : List Outcome) �
 records_same side [] outcomes = refl
 records_same side (input ∷ inputs) [] = refl
 records_same side (input ∷ inputs) (outcome ∷ outcomes) =
-    ap (λ (l : List Entry). cons_option (record_at input.time (packet_to side outcome)) l)
-    (records_same side inputs outcomes)
+    grind (arith, common_steps, nat_tests, records_same side inputs outcomes)
 
 pub capture_is : (rules : Rules) (side : Side) (inputs : List Arrival) → file_header ++ records_text side
-    (left_of rules inputs)
-    ≡ capture_text rules side inputs
+    (left_of rules inputs) ≡ capture_text rules side inputs
 unfolding text
-capture_is rules side inputs =
-    ap (λ (l : List Entry). file_header ++ flat_map record_text l)
-    (records_same side inputs (ran rules inputs).outcomes)
+capture_is rules side inputs = grind (arith, common_steps, nat_tests, flat_map, records_same)
 
 -- TIMES
 
@@ -37,9 +33,15 @@ pub times_of : (inputs : List Arrival) (outcomes : List Outcome) → All IsTimel
 times_of [] outcomes all = All-nil (λ (t : Timed). IsTime t.0)
 times_of (input ∷ inputs) [] all = All-nil (λ (t : Timed). IsTime t.0)
 times_of (input ∷ inputs) (outcome ∷ outcomes) all =
-    All-cons (λ (t : Timed). IsTime t.0) (input.time, outcome) (timed inputs outcomes)
-    (All-head IsTimely input inputs all)
-    (times_of inputs outcomes (All-tail IsTimely input inputs all))
+    grind (
+      arith,
+      common_steps,
+      nat_tests,
+      All-cons,
+      All-head,
+      All-tail,
+      times_of inputs outcomes (All-tail IsTimely input inputs all),
+    )
 
 -- OUTCOMES
 
@@ -49,8 +51,7 @@ unfolding ran
 outcomes_of rules inputs = refl
 
 pub as_many : (rules : Rules) (inputs : List Arrival) → length (ran rules inputs).outcomes ≡ length inputs
-as_many rules inputs = ap (λ (l : List Outcome). length l) (outcomes_of rules inputs)
-    ∙ outcomes_long rules 0 0 inputs (opening rules)
+as_many rules inputs = grind (arith, common_steps, nat_tests, outcomes_of, outcomes_long)
 
 pub outcomes_back : (inputs : List Arrival) (outcomes : List Outcome) → length outcomes ≡ length inputs →
     map (λ (t : Timed). t.1) (timed inputs outcomes) ≡ outcomes
@@ -64,8 +65,7 @@ timed_long : (inputs : List Arrival) (outcomes : List Outcome) → length outcom
     length (timed inputs outcomes) ≡ length inputs
 timed_long [] outcomes same = refl
 timed_long (input ∷ inputs) [] same = omega (arith, same)
-timed_long (input ∷ inputs) (outcome ∷ outcomes) same =
-    ap suc (timed_long inputs outcomes (omega (arith, same)))
+timed_long (input ∷ inputs) (outcome ∷ outcomes) same = ap suc (timed_long inputs outcomes (omega (arith, same)))
 
 left_long : (rules : Rules) (inputs : List Arrival) → length (left_of rules inputs) ≡ length inputs
 left_long rules inputs = timed_long inputs (ran rules inputs).outcomes (as_many rules inputs)
@@ -90,8 +90,7 @@ left_front rules xs ys =
     ∙ ap (λ c. c.outcomes) (run_append rules 0 0 xs ys (opening rules) (length xs) (omega arith))
     ∙ ap (λ (l : List Outcome). l ++ later) (sym (outcomes_of rules xs)) in (
       timed ys later,
-      ap (timed (xs ++ ys)) whole
-          ∙ timed_append xs ys (ran rules xs).outcomes later (as_many rules xs),
+      ap (timed (xs ++ ys)) whole ∙ timed_append xs ys (ran rules xs).outcomes later (as_many rules xs),
     )
 
 pub same_front : {X : Type 0} (a b x y : List X) → length a ≡ length b → a ++ x ≡ b ++ y → a ≡ b

@@ -1,5 +1,6 @@
 -- A run behind the headers is one of whole captures.
-use Rattle.std.proofs.Common.{◌≡◌, ◌⊎◌, inl, inr, ℕ, ◌≤◌, Bool, List, [], Option, Result, Ok, Err, refl, sym, subst, arith, append-nil}
+use Rattle.std.proofs.lemmas.{Grind.common_steps, Bool.Decides.nat_tests}
+use Rattle.std.proofs.Common.{◌≡◌, ◌⊎◌, inl, inr, ℕ, ◌≤◌, Bool, List, [], Option, Result, Ok, Err, sym, subst, arith, append-nil}
 use Rattle.napt_wire.specs.declared.Side.{Side}
 use Rattle.napt_wire.specs.declared.Side.TheVariants as sides
 use Rattle.napt_capture.specs.{Text.file_header, declared.{device.Sink.Ghosts, fault.WriteFault.WriteFault}}
@@ -8,21 +9,17 @@ use Rattle.napt_laws.specs.Dispatching.{IsFront}
 use Rattle.napt_records.specs.declared.{Fault.{Fault, TheVariants.{Capture, Run, Write}}, Which.TheVariants.{Outside, Inside, Report}}
 use Rattle.napt_rules.specs.Prelude.{Arrival}
 use Rattle.napt_run.specs.{Leaving.{Begins, FailsToBegin}, LeavingLaws.{breaks_more, grows_more}, Outputs.{Breaks, Grows}}
-use Rattle.napt_run.specs.{Runs.{FailsInside, FailsOutside, Halts, IfHeld, IsLeft, RunsTo, Writes, text_behind}, Files.files_until, Streams.IsReading}
+use Rattle.napt_run.specs.{Runs.{FailsInside, FailsOutside, Halts, IfHeld, IsLeft, RunsTo, Writes, text_behind}, Streams.IsReading}
 use Rattle.napt_run.{specs.declared.{leaving.Leaving.Leaving, output.Output.Output, passing.Totals.Totals}, proofs.{Behind.IfHeld-by, Breaks.first_within}}
 
-none_held : (inside outside : Option (List ℕ)) → IfHeld inside outside
-    (λ all. IsFront [] all.arrivals)
-none_held inside outside = IfHeld-by (λ all. IsFront [] all.arrivals) inside outside
-    (λ b o is same. ((files_until b o).arrivals, refl))
+none_held : (inside outside : Option (List ℕ)) → IfHeld inside outside (λ all. IsFront [] all.arrivals)
+none_held inside outside = grind (arith, common_steps, nat_tests, IfHeld-by)
 
 -- an output whose header was written before
 left_behind : {D : Type 0} {S : Ghosts D} (rules : Rules) (inside outside : Option (List ℕ)) (side : Side)
     (old mid new : Output D S) → Grows old file_header mid → (inputs : List Arrival) →
-    IfHeld inside outside (λ all. IsFront inputs all.arrivals) →
-    Grows mid (text_behind [] rules side inputs) new
-    ⊎ ((fault : WriteFault) × (broke : Breaks mid (text_behind [] rules side inputs) fault new)
-    × (0 ≤ broke.count)) →
+    IfHeld inside outside (λ all. IsFront inputs all.arrivals) → Grows mid (text_behind [] rules side inputs) new
+    ⊎ ((fault : WriteFault) × (broke : Breaks mid (text_behind [] rules side inputs) fault new) × (0 ≤ broke.count)) →
     IsLeft rules inside outside file_header side old new
 left_behind rules inside outside side old mid new begun inputs front (inl grown) = record {
   inputs = inputs;
@@ -38,13 +35,10 @@ left_behind rules inside outside side old mid new begun inputs front (inr (fault
 module _ {W V : Type 0} {S : Ghosts W} {T : Ghosts V} (open_gate : Bool) (rules : Rules)
     (inside outside : Option (List ℕ)) where
   abbrev To : List ℕ → Leaving W V S T → Leaving W V S T → Result Totals Fault → Type 0
-  To front old new result = RunsTo open_gate rules inside outside front
-      old new
-      result
+  To front old new result = RunsTo open_gate rules inside outside front old new result
 
   module _ (old mid new : Leaving W V S T) (begins : Begins old mid) where
-    wrote : (inputs : List Arrival) →
-        Writes open_gate rules inside outside [] mid new inputs →
+    wrote : (inputs : List Arrival) → Writes open_gate rules inside outside [] mid new inputs →
         Writes open_gate rules inside outside file_header old new inputs
     wrote inputs p = record {
       to_outside = grows_more old.to_outside mid.to_outside new.to_outside _ _ begins.to_outside p.to_outside;
@@ -57,8 +51,7 @@ module _ {W V : Type 0} {S : Ghosts W} {T : Ghosts V} (open_gate : Bool) (rules 
         Breaks old.to_outside (text_behind file_header rules sides.Outside inputs) fault new.to_outside
     broke inputs fault p = breaks_more old.to_outside mid.to_outside new.to_outside _ _ fault begins.to_outside p
 
-    fails_outside : (fault : WriteFault) →
-        (p : FailsOutside open_gate rules inside outside [] mid new fault) →
+    fails_outside : (fault : WriteFault) → (p : FailsOutside open_gate rules inside outside [] mid new fault) →
         Grows mid.to_inside (text_behind [] rules sides.Inside p.before) new.to_inside
         ⊎ ((fault.written ≤ 0) × (new.to_inside ≡ mid.to_inside)) →
         FailsOutside open_gate rules inside outside file_header old new fault
@@ -124,8 +117,7 @@ module _ {W V : Type 0} {S : Ghosts W} {T : Ghosts V} (open_gate : Bool) (rules 
       record {
         inputs = [];
         front_of_all = none_held inside outside;
-        broke = subst (λ (l : List ℕ). Breaks old.to_outside l fault new.to_outside) (sym
-            (append-nil file_header))
+        broke = subst (λ (l : List ℕ). Breaks old.to_outside l fault new.to_outside) (sym (append-nil file_header))
             broke;
         before = [];
         front_before = none_held inside outside;
@@ -135,8 +127,7 @@ module _ {W V : Type 0} {S : Ghosts W} {T : Ghosts V} (open_gate : Bool) (rules 
     inputs = [];
     front_of_all = none_held inside outside;
     wrote = subst (λ (l : List ℕ). Grows old.to_outside l new.to_outside) (sym (append-nil file_header)) wrote;
-    broke = subst (λ (l : List ℕ). Breaks old.to_inside l fault new.to_inside) (sym (append-nil file_header))
-        broke;
+    broke = subst (λ (l : List ℕ). Breaks old.to_inside l fault new.to_inside) (sym (append-nil file_header)) broke;
   }
   unheaded old new none (Write Report fault) p = absurd p
   unheaded old new none (Capture side fault) p = absurd p
@@ -144,8 +135,4 @@ module _ {W V : Type 0} {S : Ghosts W} {T : Ghosts V} (open_gate : Bool) (rules 
 
   pub none_read : (X : Type 0) (old new : Leaving W V S T) (fault : Fault) → FailsToBegin old fault new →
       (let told : Result X Fault = Err fault in IsReading told (Ok tt))
-  none_read X old new (Write Outside fault) p = tt
-  none_read X old new (Write Inside fault) p = tt
-  none_read X old new (Write Report fault) p = absurd p
-  none_read X old new (Capture side fault) p = absurd p
-  none_read X old new (Run fault) p = absurd p
+  none_read X old new fault p = grind (arith, common_steps, nat_tests)

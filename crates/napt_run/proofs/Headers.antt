@@ -30,8 +30,7 @@ all_of bytes others = inputs_until (captured bytes) (captured others)
 pub inside_refused : (inside left outside : Option (List ℕ)) (fault : CaptureFault) →
     HeadsBadly inside left fault → EndsAtHeader sides.Inside fault inside outside
 inside_refused inside left outside fault heads b o is same =
-    StopsBy-says Records fault
-    (λ (p : Heads (Some b) left (Err fault)).
+    StopsBy-says Records fault (λ (p : Heads (Some b) left (Err fault)).
     ap (λ r. unless_bad sides.Inside r (unless_refused sides.Outside o (all_of b o))) (spelled b left (Err fault) p))
     (subst (λ (k : Option (List ℕ)). HeadsBadly k left fault) is heads)
 
@@ -40,8 +39,7 @@ pub outside_refused : (inside left known other : Option (List ℕ)) (spelling : 
     Heads inside left (Ok spelling) → HeadsBadly known other fault → EndsAtHeader sides.Outside fault inside known
 outside_refused inside left known other spelling fault good bad b o is same =
     let first = spelled b left (Ok spelling) (subst (λ (k : Option (List ℕ)). Heads k left (Ok spelling)) is good) in
-    StopsBy-says Records fault
-    (λ (p : Heads (Some o) other (Err fault)).
+    StopsBy-says Records fault (λ (p : Heads (Some o) other (Err fault)).
     ap (λ r. unless_bad sides.Inside r (unless_refused sides.Outside o (all_of b o))) first
     ∙ ap (λ r. unless_bad sides.Outside r (all_of b o)) (spelled o other (Err fault) p))
     (subst (λ (k : Option (List ℕ)). HeadsBadly k other fault) same bad)
@@ -58,11 +56,7 @@ module _ {W V : Type 0} {S : Ghosts W} {T : Ghosts V} (open_gate : Bool) (rules 
       RunsToFault open_gate rules inside outside [] old old side fault
   header_fails side fault ends = record {
     inputs = [];
-    wrote = record {
-      to_outside = grows_none old.to_outside;
-      to_inside = grows_none old.to_inside;
-      settled = settled;
-    };
+    wrote = record { to_outside = grows_none old.to_outside; to_inside = grows_none old.to_inside; settled = settled };
     taken = none_taken inside outside side fault ends;
     is_fault = IfHeld-by (IsFaultOf side fault) inside outside (λ b o is same.
         (refuses side fault b o [] ((files_until b o).arrivals, refl) (ends b o is same)).is_fault);
@@ -70,8 +64,7 @@ module _ {W V : Type 0} {S : Ghosts W} {T : Ghosts V} (open_gate : Bool) (rules 
 
   pub header_failed : (side : Side) (fault : Fault) (known left : Option (List ℕ)) →
       ((inner : CaptureFault) → HeadsBadly known left inner → EndsAtHeader side inner inside outside) →
-      IsHeaderFault side known left fault →
-      RunsTo open_gate rules inside outside [] old old (Err fault)
+      IsHeaderFault side known left fault → RunsTo open_gate rules inside outside [] old old (Err fault)
   header_failed side (Capture other fault) known left ends is =
       subst (λ (s : Side). RunsToFault open_gate rules inside outside []
       old old s fault) (sym is.0) (header_fails side fault (ends fault is.1))

@@ -1,11 +1,10 @@
 -- What leaving does to the outputs.
-use Rattle.std.proofs.Common.{◌≡◌, ℕ, ◌-◌, ◌^◌, ◌<◌, List, [], ◌∷◌, ◌++◌, length, Result, Ok, Err, IfErr, OnOk, false, sym, subst, arith, append-nil, length-append}
-use Rattle.std.{specs.Prelude.MatchResult, proofs.lemmas.List.Elements.All-head}
+use Rattle.std.{proofs.lemmas.{Grind.common_steps, Bool.Decides.nat_tests, List.Elements.All-head}, specs.Prelude.MatchResult}
+use Rattle.std.proofs.Common.{◌≡◌, ℕ, ◌-◌, ◌^◌, ◌<◌, List, [], ◌∷◌, ◌++◌, length, Result, IfErr, OnOk, false, sym, subst, arith, append-nil, length-append}
 use Rattle.napt_capture.specs.{Text.{entry_of_packet, record_text}, declared.{device.Sink.Ghosts, fault.WriteFault.WriteFault}}
 use Rattle.napt_rules.specs.declared.Outcome.{Outcome, TheVariants.{ToOutside, ToInside}}
 use Rattle.napt_records.specs.{Counts.AreCountsOf, Output.IsTime, declared.{report.Counts.Counts, Which.TheVariants.{Outside, Inside}}}
-use Rattle.napt_run.specs.{Outputs.{Grows, Breaks}, Leaving.{AreTimes, Takes, Fails, named}, LeavingLaws.grows_none, declared.output.Output.Output}
-use Rattle.napt_run.specs.declared.leaving.Leaving.{Leaving}
+use Rattle.napt_run.specs.{Outputs.{Grows, Breaks}, Leaving.{AreTimes, Takes, Fails, named}, declared.{output.Output.Output, leaving.Leaving.Leaving}}
 
 time_of_one : (time : ℕ) (outcome : Outcome) → AreTimes ((time, outcome) ∷ []) → IsTime time
 time_of_one time outcome all = All-head (λ timed. IsTime timed.0) (time, outcome) [] all
@@ -24,8 +23,7 @@ module _ {W : Type 0} {S : Ghosts W} (old new : Output W S) where
   grows_one : (text : List ℕ) → Grows old text new → Grows old (text ++ []) new
   grows_one text p = subst (λ (l : List ℕ). Grows old l new) (sym (append-nil text)) p
 
-  breaks_one : (text : List ℕ) (fault : WriteFault) → Breaks old text fault new →
-      Breaks old (text ++ []) fault new
+  breaks_one : (text : List ℕ) (fault : WriteFault) → Breaks old text fault new → Breaks old (text ++ []) fault new
   breaks_one text fault p = subst (λ (l : List ℕ). Breaks old l fault new) (sym (append-nil text)) p
 
 module _ {W V : Type 0} {S : Ghosts W} {T : Ghosts V} (time : ℕ) (packet : List ℕ) (old : Leaving W V S T) where
@@ -36,18 +34,10 @@ module _ {W V : Type 0} {S : Ghosts W} {T : Ghosts V} (time : ℕ) (packet : Lis
       Breaks old.to_outside (record_text (entry_of_packet time packet)) fault output)) →
       Counted old.counts (ToOutside packet) counts →
       MatchResult (named Outside r) (λ _. Takes old ((time, ToOutside packet) ∷ [])
+      (record old { to_outside = output; counts = counts })) (λ fault. Fails old ((time, ToOutside packet) ∷ []) fault
       (record old { to_outside = output; counts = counts }))
-      (λ fault. Fails old ((time, ToOutside packet) ∷ []) fault
-      (record old { to_outside = output; counts = counts }))
-  leaves_outside output counts (Ok done) ok err counted = record {
-    to_outside = λ times. grows_one old.to_outside output _ (ok (time_of_one time (ToOutside packet) times));
-    to_inside = λ times. grows_none old.to_inside;
-    counts = λ outcomes few are. counted outcomes (fewer outcomes (ToOutside packet) few) are;
-  }
-  leaves_outside output counts (Err fault) ok err counted = λ sound times. (
-    breaks_one old.to_outside output _ fault (err (time_of_one time (ToOutside packet) times) sound.0),
-    grows_none old.to_inside,
-  )
+  leaves_outside output counts r ok err counted =
+      grind (arith, common_steps, nat_tests, grows_one, time_of_one, fewer, breaks_one)
 
   -- a packet to the inside
   pub leaves_inside : (output : Output V T) (counts : Counts) (r : Result (Unit {0}) WriteFault) →
@@ -56,15 +46,7 @@ module _ {W V : Type 0} {S : Ghosts W} {T : Ghosts V} (time : ℕ) (packet : Lis
       Breaks old.to_inside (record_text (entry_of_packet time packet)) fault output)) →
       Counted old.counts (ToInside packet) counts →
       MatchResult (named Inside r) (λ _. Takes old ((time, ToInside packet) ∷ [])
+      (record old { to_inside = output; counts = counts })) (λ fault. Fails old ((time, ToInside packet) ∷ []) fault
       (record old { to_inside = output; counts = counts }))
-      (λ fault. Fails old ((time, ToInside packet) ∷ []) fault
-      (record old { to_inside = output; counts = counts }))
-  leaves_inside output counts (Ok done) ok err counted = record {
-    to_outside = λ times. grows_none old.to_outside;
-    to_inside = λ times. grows_one old.to_inside output _ (ok (time_of_one time (ToInside packet) times));
-    counts = λ outcomes few are. counted outcomes (fewer outcomes (ToInside packet) few) are;
-  }
-  leaves_inside output counts (Err fault) ok err counted = λ sound times. (
-    grows_none old.to_outside,
-    breaks_one old.to_inside output _ fault (err (time_of_one time (ToInside packet) times) sound.1),
-  )
+  leaves_inside output counts r ok err counted =
+      grind (arith, common_steps, nat_tests, grows_one, time_of_one, fewer, breaks_one)

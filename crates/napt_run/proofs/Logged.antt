@@ -1,6 +1,7 @@
 -- What a run with a log leaves on its devices.
+use Rattle.std.proofs.lemmas.{Grind.common_steps, Bool.Decides.nat_tests}
 use Rattle.std.proofs.Common.{◌≡◌, ◌⊎◌, inl, inr, ℕ, ◌+◌, ◌^◌, ◌<◌, ◌≤◌, Bool, true, List, [], ◌∷◌, ◌++◌, length, map, take, Option, Result, Ok, Err, IfErr, refl, sym, ◌∙◌, ap, subst, arith, append-nil, append_assoc, length-append}
-use Rattle.std.{proofs.{lemmas.{Bool.true≢false, List.take-append-le}, Math.Seq.take-append_seam, KnownBytes.Appends-trans}, specs.Io.KnownBytes.Appends}
+use Rattle.std.{proofs.{lemmas.List.take-append-le, Math.Seq.take-append_seam, KnownBytes.Appends-trans}, specs.Io.KnownBytes.Appends}
 use Rattle.napt_wire.specs.declared.Side.{Side}
 use Rattle.napt_capture.specs.declared.{device.Sink.Ghosts, fault.{CaptureFault.CaptureFault, WriteFault.WriteFault}}
 use Rattle.napt_config.specs.Rules.{Rules}
@@ -70,12 +71,7 @@ module _ {L : Type 0} {S : Ghosts L} (rules : Rules) (inside outside : Option (L
   bytes_of : (inputs : List Arrival) (count : ℕ) → count ≤ length (log_so_far rules inputs) →
       Appends Before After (take count (log_so_far rules inputs)) → (all : Inputs) → IsFront inputs all.arrivals →
       HasBytes rules count all Before After
-  bytes_of inputs count within appended all front = record {
-    inputs = inputs;
-    front = front;
-    within = cut_within rules inputs count within;
-    appended = subst (λ (l : Text). Appends Before After l) (cut_is rules inputs count within) appended;
-  }
+  bytes_of inputs count within appended all front = grind (arith, common_steps, nat_tests, cut_within, cut_is)
 
   -- writing the rows failed
   pub broken : (inputs : List Arrival) (fault : WriteFault) → Breaks old (log_so_far rules inputs) fault new →
@@ -115,8 +111,7 @@ module _ {L : Type 0} {S : Ghosts L} (rules : Rules) (inside outside : Option (L
   pub rows_of : (side : Side) (fault : CaptureFault) (inputs : List Arrival) →
       Appends Before After (log_so_far rules inputs) → Held (λ all. AreTaken side fault all inputs) →
       Held (λ all. HasRows rules side fault all Before After)
-  rows_of side fault inputs appended = IfHeld-map (λ all. AreTaken side fault all inputs)
-      (λ all. HasRows rules side fault all Before After) inside outside (λ all taken. (inputs, taken, appended))
+  rows_of side fault inputs appended taken = grind (arith, common_steps, nat_tests, IfHeld-map)
 
 none_held : (inside outside : Option (List ℕ)) → IfHeld inside outside (λ all. IsFront [] all.arrivals)
 none_held inside outside = IfHeld-all (λ all. IsFront [] all.arrivals) inside outside (λ all. (all.arrivals, refl))
@@ -124,12 +119,8 @@ none_held inside outside = IfHeld-all (λ all. IsFront [] all.arrivals) inside o
 front_first : (inside outside : Option (List ℕ)) (inputs first others : List Arrival) → first ++ others ≡ inputs →
     IfHeld inside outside (λ all. IsFront inputs all.arrivals) →
     IfHeld inside outside (λ all. IsFront first all.arrivals)
-front_first inside outside inputs first others both = IfHeld-map (λ all. IsFront inputs all.arrivals)
-    (λ all. IsFront first all.arrivals) inside outside
-    (λ all front. (
-      others ++ front.0,
-      sym (append_assoc first others front.0) ∙ ap (λ (l : List Arrival). l ++ front.0) both ∙ front.1,
-    ))
+front_first inside outside inputs first others both front =
+    grind (arith, common_steps, nat_tests, IfHeld-map, append_assoc)
 
 -- no call of the log failed, or one, and none since
 abbrev FailsThen : {L : Type 0} {S : Ghosts L} (old new : Output L S) → Type 0
@@ -146,15 +137,11 @@ record LeavesPart {L : Type 0} {S : Ghosts L} (rules : Rules) (inside outside : 
 
 at_most_once : (broken : Bool) (old new : ℕ) →
     (new ≡ old) ⊎ ((broken ≡ true) × (new ≡ old + 1)) → FailsAtMostOnce old new
-at_most_once broken old new (inl none) = inl none
-at_most_once broken old new (inr (is, one)) = inr one
+at_most_once broken old new few = grind (arith, common_steps, nat_tests)
 
 once_more : (broken : Bool) (old mid new : ℕ) → (mid ≡ old) ⊎ ((broken ≡ true) × (mid ≡ old + 1)) →
     FailsMore broken mid new → FailsAtMostOnce old new
-once_more broken old mid new (inl none) (inl same) = inl (same ∙ none)
-once_more broken old mid new (inl none) (inr (sound, one)) = inr (one ∙ ap (λ (n : ℕ). n + 1) none)
-once_more broken old mid new (inr (is, one)) (inl same) = inr (same ∙ one)
-once_more broken old mid new (inr (is, one)) (inr (sound, more)) = absurd (true≢false (sym is ∙ sound))
+once_more broken old mid new first more = grind (arith, common_steps, nat_tests)
 
 -- and at the end
 record EndsPart {L : Type 0} {S : Ghosts L} (rules : Rules) (inside outside : Option (List ℕ))
@@ -195,8 +182,7 @@ module _ {L : Type 0} {S : Ghosts L} (rules : Rules) (laws : AreLaws rules) (ins
   Settled log = S.is_flushed log.output.device.now
 
   abbrev pub Watched : Result Totals (Halt LoggedFault) → Type 0
-  Watched result =
-      LogsTo (λ (p : Passage). p) rules EntersLegs FailsLegs Settled inside outside mid after result
+  Watched result = LogsTo (λ (p : Passage). p) rules EntersLegs FailsLegs Settled inside outside mid after result
 
   abbrev Front : Type 0
   Front = EntersFront (λ (p : Passage). p) rules EntersLegs FailsLegs Settled inside outside mid after
@@ -218,10 +204,7 @@ module _ {L : Type 0} {S : Ghosts L} (rules : Rules) (laws : AreLaws rules) (ins
   -- it was entered what these inputs tell
   entered : (inputs : List Arrival) → Enters mid (told_traces rules inputs) after →
       GoesOn rules (traces rules inputs) (rows_after rules [] inputs) mid after
-  entered inputs enters = subst (λ (l : Text). GoesOn rules (traces rules inputs) l mid after)
-      (rows_told rules laws inputs)
-      (subst (λ (ts : List Trace). GoesOn rules ts (rows_with rules [] ts) mid after) (traces_told rules inputs)
-      (enters rules [] begun.at))
+  entered inputs enters = grind (arith, common_steps, nat_tests, rows_told, traces_told)
 
   wrote : (inputs : List Arrival) → Enters mid (told_traces rules inputs) after →
       Grows old.output (log_so_far rules inputs) after.output
@@ -244,8 +227,7 @@ module _ {L : Type 0} {S : Ghosts L} (rules : Rules) (laws : AreLaws rules) (ins
   broken_over : (inputs : List Arrival) (fault : WriteFault) →
       Breaks mid.output (rows_with rules [] (traces rules inputs)) fault after.output →
       Breaks old.output (log_so_far rules inputs) fault after.output
-  broken_over inputs fault p =
-      broke inputs fault (subst (λ (l : Text). Breaks mid.output l fault after.output) (rows_told rules laws inputs) p)
+  broken_over inputs fault p = grind (arith, common_steps, nat_tests, broke, rows_told)
 
   -- the input whose trace was not taken
   next_of : (inputs : List Arrival) (fault : RunFault) (p : Halts rules [] (traces rules inputs) fault mid after) →
@@ -257,23 +239,20 @@ module _ {L : Type 0} {S : Ghosts L} (rules : Rules) (laws : AreLaws rules) (ins
       Halts rules [] (traces rules inputs) fault mid after → LeavesPart rules inside outside old.output after.output
   halted_part inputs fault front p =
       let n : NextInput rules inputs p.first p.next = next_of inputs fault p in
-      grown_part n.before
-      (grew n.before (subst (λ (l : Text). Grows mid.output l after.output)
+      grown_part n.before (grew n.before (subst (λ (l : Text). Grows mid.output l after.output)
       (ap (λ (ts : List Trace). rows_with rules [] ts) n.first_is ∙ rows_told rules laws n.before) p.wrote))
       (front_first inside outside inputs n.before (n.input ∷ n.later)
       (sym (append_assoc n.before (n.input ∷ []) n.later) ∙ n.whole) front)
 
   failed_part : (fault : LoggedFault) (inputs : List Arrival) →
       IfHeld inside outside (λ all. IsFront inputs all.arrivals) →
-      FailsBy rules [] (traces rules inputs) fault mid after →
-      LeavesPart rules inside outside old.output after.output
+      FailsBy rules [] (traces rules inputs) fault mid after → LeavesPart rules inside outside old.output after.output
   failed_part (Log fault) inputs front p =
       let all = broken_over inputs fault p in
       record {
         same = all.same;
         counts = inr (all.broken, all.failed_once);
-        part = part_of rules inside outside old.output after.output none inputs all.count all.within all.appended
-            front;
+        part = part_of rules inside outside old.output after.output none inputs all.count all.within all.appended front;
       }
   failed_part (Run (faults.Run fault)) inputs front p = halted_part inputs fault front p
   failed_part (Run (faults.Capture side fault)) inputs front p = absurd p
@@ -306,11 +285,7 @@ module _ {L : Type 0} {S : Ghosts L} (rules : Rules) (laws : AreLaws rules) (ins
       let all = failed_part (Run (faults.Run fault)) inputs front p in
       record {
         same = all.same;
-        gets = record {
-          gets = all.part;
-          counts = at_most_once _ _ _ all.counts;
-          settled = λ settled. absurd settled;
-        };
+        gets = record { gets = all.part; counts = at_most_once _ _ _ all.counts; settled = λ settled. absurd settled };
       }
   failed_at (Run (faults.Capture side fault)) inputs front p = absurd p
   failed_at (Run (faults.Write which fault)) inputs front p = absurd p
@@ -352,16 +327,10 @@ module _ {L : Type 0} {S : Ghosts L} (rules : Rules) (laws : AreLaws rules) (ins
             settled = λ done. s.settled;
           };
         })
-    halted (halts.Run (faults.Write outputs.Outside fault)) o stop flushed = let p = on (front_part o) in
-        record {
-          same = p.same;
-          gets = record { gets = p.part; counts = p.counts; settled = λ settled. absurd settled };
-        }
-    halted (halts.Run (faults.Write outputs.Inside fault)) o stop flushed = let p = on (front_part o) in
-        record {
-          same = p.same;
-          gets = record { gets = p.part; counts = p.counts; settled = λ settled. absurd settled };
-        }
+    halted (halts.Run (faults.Write outputs.Outside fault)) o stop flushed =
+        grind (arith, common_steps, nat_tests, on, front_part, part)
+    halted (halts.Run (faults.Write outputs.Inside fault)) o stop flushed =
+        grind (arith, common_steps, nat_tests, on, front_part, part)
     halted (halts.Run (faults.Write outputs.Report fault)) o stop flushed = absurd stop
     halted (halts.Run (faults.Run fault)) o stop flushed = let p = on (part o) in
         record {
@@ -376,9 +345,7 @@ module _ {L : Type 0} {S : Ghosts L} (rules : Rules) (laws : AreLaws rules) (ins
   module _ (last : RunningLog L S) (totals : Totals)
       (s : EntersAll (λ (p : Passage). p) rules EntersLegs FailsLegs Settled inside outside mid after totals.cuts) where
     front_all : IfHeld inside outside (λ all. IsFront s.inputs all.arrivals)
-    front_all = IfHeld-map (λ all. all ≡ record { arrivals = s.inputs; end = Ok totals.cuts })
-        (λ all. IsFront s.inputs all.arrivals) inside outside
-        (λ all is. ([], append-nil s.inputs ∙ sym (ap (λ (i : Inputs). i.arrivals) is))) s.all
+    front_all = grind (arith, common_steps, nat_tests, IfHeld-map, append-nil)
 
     wrote_all : Grows old.output (log_so_far rules s.inputs) after.output
     wrote_all = wrote s.inputs s.entered
@@ -480,31 +447,14 @@ IsOfText other = ⊥
 
 pub adds_fault : {L : Type 0} {S : Ghosts L} (rules : Rules) (all : List Trace) (text : Text)
     (old new : RunningLog L S) (fault : LoggedFault) → Adds rules all text old (Err fault) new → IsOfText fault
-adds_fault rules all text old new (Log fault) p = tt
-adds_fault rules all text old new (Run (faults.Run reasons.Memory)) p = tt
-adds_fault rules all text old new (Run (faults.Run reasons.TooMany)) p = absurd p
-adds_fault rules all text old new (Run (faults.Run (reasons.Pool fault))) p = absurd p
-adds_fault rules all text old new (Run (faults.Capture side fault)) p = absurd p
-adds_fault rules all text old new (Run (faults.Write which fault)) p = absurd p
+adds_fault rules all text old new fault p = grind (arith, common_steps, nat_tests)
 
 pub text_stops : (fault : LoggedFault) → IsOfText fault → IsOfRun (besides_log {T = Totals} (Err fault))
-text_stops (Log fault) p = tt
-text_stops (Run (faults.Run fault)) p = tt
-text_stops (Run (faults.Capture side fault)) p = absurd p
-text_stops (Run (faults.Write which fault)) p = absurd p
+text_stops fault p = grind (arith, common_steps, nat_tests)
 
 pub text_says : (open_gate : Bool) (rules : Rules) (inside outside : Option (List ℕ)) (fault : LoggedFault) →
     IsOfText fault → LoggedSays open_gate rules inside outside (Err fault)
-text_says open_gate rules inside outside (Log fault) p = record { told = tt; fault = tt; stop = tt }
-text_says open_gate rules inside outside (Run (faults.Run reasons.Memory)) p = record {
-  told = tt;
-  fault = IfHeld-all (λ all. Unit {0}) inside outside (λ all. tt);
-  stop = tt;
-}
-text_says open_gate rules inside outside (Run (faults.Run reasons.TooMany)) p = absurd p
-text_says open_gate rules inside outside (Run (faults.Run (reasons.Pool fault))) p = absurd p
-text_says open_gate rules inside outside (Run (faults.Capture side fault)) p = absurd p
-text_says open_gate rules inside outside (Run (faults.Write which fault)) p = absurd p
+text_says open_gate rules inside outside fault p = grind (arith, common_steps, nat_tests, IfHeld-all)
 
 -- OUTPUTS
 
@@ -515,11 +465,7 @@ module _ {D : Type 0} (S : Ghosts D) (rules : Rules) (inside outside : Option (L
   -- where the run failed, whatever its fault
   of_run : (which : Which) (result : Result Totals Fault) → IsOfRun result →
       Device which (Err (faults.Run reasons.Memory)) → Device which result
-  of_run which (Ok totals) run p = absurd run
-  of_run which (Err (faults.Run fault)) run p =
-      record { gets = p.gets; count = λ no. absurd (no tt); settled = λ settled. absurd settled }
-  of_run which (Err (faults.Capture side fault)) run p = absurd run
-  of_run which (Err (faults.Write other fault)) run p = absurd run
+  of_run which result run p = grind (arith, common_steps, nat_tests)
 
   -- where the run came to its end, and what lives could not be written
   pub device_after : (which : Which) (totals : Totals) (fault : LoggedFault) → IsOfText fault →
@@ -535,9 +481,7 @@ module _ {D : Type 0} (S : Ghosts D) (rules : Rules) (inside outside : Option (L
       IsOfRun (besides_log {T = Totals} (Err (fault_of halt))) ⊎ (as_run {T = Totals} (Err halt)
       ≡ besides_log (Err (fault_of halt))) →
       Device which (as_run (Err halt)) → Device which (besides_log (Err (fault_of halt)))
-  device_halted which halt (inr same) p = subst (Device which) same p
-  device_halted which (halts.Run fault) (inl run) p = p
-  device_halted which (halts.Log fault) (inl run) p = of_run which (besides_log (Err fault)) run p
+  device_halted which halt is p = grind (arith, common_steps, nat_tests, of_run)
 
 -- WHAT A HALT SAYS
 
@@ -560,9 +504,7 @@ module _ {L : Type 0} {S : Ghosts L} (open_gate : Bool) (rules : Rules) (laws : 
   too_many : (inputs : List Arrival) → 2 ^ 62 ≤ length inputs →
       IfHeld inside outside (λ all. IsFront inputs all.arrivals) →
       IfHeld inside outside (λ all. 2 ^ 62 ≤ length all.arrivals)
-  too_many inputs many = IfHeld-map (λ all. IsFront inputs all.arrivals) (λ all. 2 ^ 62 ≤ length all.arrivals)
-      inside outside (λ all front. subst (λ (l : List Arrival). 2 ^ 62 ≤ length l) front.1
-      (omega (arith, many, length-append inputs front.0)))
+  too_many inputs many front = grind (arith, common_steps, nat_tests, IfHeld-map, length-append)
 
   -- the fault of the log that a halt tells of
   halt_at : (inputs : List Arrival) (fault : RunFault) →
@@ -574,42 +516,28 @@ module _ {L : Type 0} {S : Ghosts L} (open_gate : Bool) (rules : Rules) (laws : 
   -- there were too many
   too_many_at : (inputs : List Arrival) → Halts rules [] (traces rules inputs) reasons.TooMany mid after →
       2 ^ 62 ≤ length inputs
-  too_many_at inputs p =
-      let many : 2 ^ 62 ≤ length p.first + 1 = p.of_traces in
-      let all = ap (λ (ts : List Trace). length ts) p.all in
-      let long = traces_long rules 0 0 inputs (model.opening rules) in
-      let joined = length-append p.first (p.next ∷ p.others) in
-      omega (arith, many, all, long, joined)
+  too_many_at inputs p = grind (arith, common_steps, nat_tests, traces_long, length-append)
 
   -- a trace of a run always comes next
   never_refused : (inputs : List Arrival) (first : List Trace) (next : Trace) → NextInput rules inputs first next →
       (¬ IsNext first next) → ⊥
-  never_refused inputs first next n never = never (subst (λ (ts : List Trace). IsNext ts next) (sym n.first_is)
-      (laws.come rules laws.keeps n.before n.input next n.grown))
+  never_refused inputs first next n never = grind (arith, common_steps, nat_tests)
 
   pub halt_says : (halt : Halt LoggedFault) → Halted halt →
       ResultSays open_gate rules inside outside (as_run (Err halt)) →
       LoggedSays open_gate rules inside outside (Err (fault_of halt))
-  halt_says (halts.Run (faults.Capture side fault)) p says =
-      record { told = tt; fault = says.fault; stop = says.stop }
-  halt_says (halts.Run (faults.Write which fault)) p says =
-      record { told = tt; fault = says.fault; stop = says.stop }
+  halt_says (halts.Run (faults.Capture side fault)) p says = grind (arith, common_steps, nat_tests)
+  halt_says (halts.Run (faults.Write which fault)) p says = grind (arith, common_steps, nat_tests)
   halt_says (halts.Run (faults.Run reasons.TooMany)) p says = absurd says.stop
-  halt_says (halts.Run (faults.Run reasons.Memory)) p says =
-      record { told = tt; fault = says.fault; stop = says.stop }
-  halt_says (halts.Run (faults.Run (reasons.Pool fault))) p says =
-      record { told = tt; fault = says.fault; stop = says.stop }
+  halt_says (halts.Run (faults.Run reasons.Memory)) p says = grind (arith, common_steps, nat_tests)
+  halt_says (halts.Run (faults.Run (reasons.Pool fault))) p says = grind (arith, common_steps, nat_tests)
   halt_says (halts.Log (Log fault)) p says = record { told = tt; fault = tt; stop = tt }
   halt_says (halts.Log (Run (faults.Run reasons.TooMany))) p says = record {
     told = tt;
     fault = too_many p.inputs (too_many_at p.inputs (halt_at p.inputs reasons.TooMany p.failed)) p.front;
     stop = tt;
   }
-  halt_says (halts.Log (Run (faults.Run reasons.Memory))) p says = record {
-    told = tt;
-    fault = IfHeld-all (λ all. Unit {0}) inside outside (λ all. tt);
-    stop = tt;
-  }
+  halt_says (halts.Log (Run (faults.Run reasons.Memory))) p says = grind (arith, common_steps, nat_tests, IfHeld-all)
   halt_says (halts.Log (Run (faults.Run (reasons.Pool fault)))) p says =
       let h : Halts rules [] (traces rules p.inputs) (reasons.Pool fault) mid after =
       halt_at p.inputs (reasons.Pool fault) p.failed in
@@ -623,12 +551,4 @@ module _ {L : Type 0} {S : Ghosts L} (open_gate : Bool) (rules : Rules) (laws : 
       HasRead of if start last other end (as_run {T = Totals} (Err halt))) → (fault : LoggedFault) →
       fault ≡ fault_of halt → (¬ IsOfRun (besides_log {T = Totals} (Err fault))) →
       HasRead of if start last other end (besides_log {T = Totals} (Err fault))
-  halt_reads halt p of if start last other end reads fault is none =
-      let stays : (¬ IsOfRun (besides_log {T = Totals} (Err (fault_of halt)))) =
-      subst (λ (f : LoggedFault). ¬ IsOfRun (besides_log {T = Totals} (Err f))) is none in
-      subst (λ (f : LoggedFault). HasRead of if start last other end (besides_log {T = Totals} (Err f))) (sym is)
-      (elim (halt_is halt p) [
-        | inl run ↦ absurd (stays run)
-        | inr same ↦ subst (λ (r : Result Totals Fault). HasRead of if start last other end r) same
-            (reads (subst (λ (r : Result Totals Fault). ¬ IsOfRun r) (sym same) stays))
-      ])
+  halt_reads halt p of if start last other end reads fault is none = grind (arith, common_steps, nat_tests, halt_is)

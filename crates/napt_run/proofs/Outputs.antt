@@ -1,7 +1,6 @@
 -- Calls of an output.
-use Rattle.std.{proofs.Common.{ℕ, List, [], Option, Some, None, sym, ◌∙◌, append-nil}, specs.Io.KnownBytes.{Appends, Keeps}}
+use native.Mathlib.Omega.{arith}
+use Rattle.std.{proofs.{lemmas.{Grind.common_steps, Bool.Decides.nat_tests}, Common.{ℕ, List, [], Option, append-nil}}, specs.Io.KnownBytes.{Appends, Keeps}}
 
 pub keeps_as_none : (old new : Option (List ℕ)) → Keeps old new → Appends old new []
-keeps_as_none None new kept = tt
-keeps_as_none (Some xs) None kept = kept
-keeps_as_none (Some xs) (Some ys) kept = kept ∙ sym (append-nil xs)
+keeps_as_none old new kept = grind (arith, common_steps, nat_tests, append-nil)

@@ -1,5 +1,7 @@
 -- From what passed between inputs that are all at hand and outputs to what these have.
-use Rattle.std.{proofs.Common.{◌≡◌, ℕ, Bool, List, [], ◌++◌, All, None, Result, Ok, Err, IfOk, OnOk, sym, ap, ◌∙◌, subst}, specs.Io.KnownBytes.Appends}
+use native.Mathlib.Omega.{arith}
+use Rattle.std.proofs.lemmas.{Grind.common_steps, Bool.Decides.nat_tests}
+use Rattle.std.{proofs.Common.{◌≡◌, ℕ, Bool, List, [], ◌++◌, All, Result, Ok, Err, IfOk, OnOk}, specs.Io.KnownBytes.Appends}
 use Rattle.napt_wire.specs.declared.Side.{Side}
 use Rattle.napt_wire.specs.declared.Side.TheVariants as sides
 use Rattle.napt_capture.specs.{Text.file_header, declared.device.Sink.Ghosts}
@@ -8,7 +10,7 @@ use Rattle.napt_dispatch.specs.declared.workers.Passed.{Passed}
 use Rattle.napt_records.specs.{Counts.AreCountsOf, Output.IsTimely, Report.{report_of, report_text}, declared.report.Counts.Counts}
 use Rattle.napt_rules.specs.{Prelude.{Arrival, ran}, declared.{Outcome.Outcome, Row.Row}}
 use Rattle.napt_sequential.{proofs.Inputs.came_whole, specs.declared.fault.RunFault.RunFault}
-use Rattle.napt_run.specs.{Leaving.{AreTimes, Begins}, LeavingLaws.grows_more, Outputs.Grows, Passed.PassesWell, Runs.{left_of, text_behind}}
+use Rattle.napt_run.specs.{Leaving.Begins, LeavingLaws.grows_more, Outputs.Grows, Passed.PassesWell, Runs.text_behind}
 use Rattle.napt_run.specs.{Streams.capture_text, Whole.{IsTallyOf, WritesAll}, declared.{leaving.Leaving.Leaving, output.Output.Output, whole.Tally.Tally}}
 use Rattle.napt_run.proofs.{Counted.all_counted, Fronts.{capture_is, times_of}}
 
@@ -18,22 +20,7 @@ pub passes_all : {F W V : Type 0} {S : Ghosts W} {T : Ghosts V} (rules : Rules) 
     PassesWell {F = F} rules (λ x xs y. x ≡ xs ++ y) (λ x end y. x ≡ []) from old left new passed →
     WritesAll [] rules from old new (record { counts = new.counts; bindings = passed.bindings })
 passes_all rules from left old new passed none timely p =
-    let whole = p.whole in
-    let inputs : List Arrival = whole.inputs in
-    let is : inputs ≡ from = sym (came_whole (λ (l : List Arrival). l) from left inputs None whole.came) in
-    let times : AreTimes (left_of rules inputs) = times_of inputs (ran rules inputs).outcomes
-    (subst (All IsTimely) (sym is) timely) in
-    subst (λ (l : List Arrival). WritesAll [] rules l old new (record {
-      counts = new.counts;
-      bindings = passed.bindings;
-    })) is (record {
-      to_outside = whole.took.to_outside times;
-      to_inside = whole.took.to_inside times;
-      is_tally = record {
-        counts = all_counted rules inputs old new none whole.few whole.took;
-        bindings = p.bindings;
-      };
-    })
+    grind (arith, common_steps, nat_tests, came_whole, times_of, all_counted)
 
 -- behind the headers
 pub headed_all : {W V : Type 0} {S : Ghosts W} {T : Ghosts V} (rules : Rules) (inputs : List Arrival)
@@ -51,11 +38,8 @@ capture_appended : {D : Type 0} {S : Ghosts D} (rules : Rules) (side : Side) (in
     (old new : Output D S) → Grows old (text_behind file_header rules side inputs) new → (start last : D) →
     old.device.now ≡ start → (new.device.ghost_name ≡ old.device.ghost_name → last ≡ new.device.now) →
     Appends (S.contents start) (S.contents last) (capture_text rules side inputs)
-capture_appended {D} {S} rules side inputs old new grown start last from at =
-    let left : last ≡ new.device.now = at grown.same in
-    rw (left, sym from)
-    (subst (λ (l : List ℕ). Appends (S.contents old.device.now) (S.contents new.device.now) l)
-    (capture_is rules side inputs) grown.appended)
+capture_appended rules side inputs old new grown start last from at =
+    grind (arith, common_steps, nat_tests, ℕ, capture_is)
 
 module _ {W V : Type 0} {S : Ghosts W} {T : Ghosts V} (rules : Rules) (inputs : List Arrival)
     (old new : Leaving W V S T) where
@@ -63,22 +47,17 @@ module _ {W V : Type 0} {S : Ghosts W} {T : Ghosts V} (rules : Rules) (inputs : 
       (start last : W) → old.to_outside.device.now ≡ start →
       (new.to_outside.device.ghost_name ≡ old.to_outside.device.ghost_name → last ≡ new.to_outside.device.now) →
       OnOk r (Appends (S.contents start) (S.contents last) (capture_text rules sides.Outside inputs))
-  told_outside (Ok tally) p start last from at =
-      capture_appended rules sides.Outside inputs old.to_outside new.to_outside p.to_outside start last from at
-  told_outside (Err fault) p start last from at = tt
+  told_outside r p start last from at = grind (arith, common_steps, nat_tests, capture_appended)
 
   pub told_inside : (r : Result Tally RunFault) → IfOk r (WritesAll file_header rules inputs old new) →
       (start last : V) → old.to_inside.device.now ≡ start →
       (new.to_inside.device.ghost_name ≡ old.to_inside.device.ghost_name → last ≡ new.to_inside.device.now) →
       OnOk r (Appends (T.contents start) (T.contents last) (capture_text rules sides.Inside inputs))
-  told_inside (Ok tally) p start last from at =
-      capture_appended rules sides.Inside inputs old.to_inside new.to_inside p.to_inside start last from at
-  told_inside (Err fault) p start last from at = tt
+  told_inside r p start last from at = grind (arith, common_steps, nat_tests, capture_appended)
 
   pub told_tally : (r : Result Tally RunFault) → IfOk r (WritesAll file_header rules inputs old new) →
       IfOk r (IsTallyOf rules inputs)
-  told_tally (Ok tally) p = p.is_tally
-  told_tally (Err fault) p = tt
+  told_tally r p = grind (arith, common_steps, nat_tests)
 
 -- WHAT IS MADE OF IT
 
@@ -86,20 +65,13 @@ module _ {W V : Type 0} {S : Ghosts W} {T : Ghosts V} (rules : Rules) (inputs : 
 pub kept_text : (rules : Rules) (side : Side) (inputs arrivals : List Arrival) (none last kept : List ℕ) → none ≡ [] →
     inputs ≡ arrivals → kept ≡ last → last ≡ none ++ capture_text rules side inputs →
     kept ≡ capture_text rules side arrivals
-kept_text rules side inputs arrivals none last kept empty are taken appended =
-    taken ∙ (appended ∙ (ap (λ (l : List ℕ). l ++ capture_text rules side inputs) empty
-    ∙ ap (λ (l : List Arrival). capture_text rules side l) are))
+kept_text rules side inputs arrivals none last kept empty are taken appended = grind (arith, common_steps, nat_tests, ℕ)
 
 pub told_report : (rules : Rules) (inputs arrivals : List Arrival) (tally : Tally) (counts : Counts) (rows : List Row)
     (cut_inside cut_outside : Bool) (told : List ℕ) → inputs ≡ arrivals → IsTallyOf rules inputs tally →
-    counts ≡ tally.counts → rows ≡ tally.bindings.items →
-    ((outcomes : List Outcome) → AreCountsOf outcomes counts →
+    counts ≡ tally.counts → rows ≡ tally.bindings.items → ((outcomes : List Outcome) → AreCountsOf outcomes counts →
     told ≡ report_of cut_inside cut_outside outcomes rows) →
     told ≡ report_text cut_inside cut_outside (ran rules arrivals)
 unfolding report_text
 told_report rules inputs arrivals tally counts rows cut_inside cut_outside told are tells counts_are rows_are says =
-    says (ran rules inputs).outcomes
-    (subst (λ c. AreCountsOf (ran rules inputs).outcomes c) (sym counts_are) tells.counts)
-    ∙ (ap (λ (l : List Row). report_of cut_inside cut_outside (ran rules inputs).outcomes l)
-    (rows_are ∙ tells.bindings)
-    ∙ ap (λ (l : List Arrival). report_text cut_inside cut_outside (ran rules l)) are)
+    grind (arith, common_steps, nat_tests)

@@ -1,5 +1,6 @@
 -- Pieces that are written one behind the other.
-use Rattle.std.proofs.Common.{◌≡◌, ℕ, ◌+◌, ◌^◌, ◌<◌, ◌≤◌, List, [], ◌∷◌, ◌++◌, length, flat_map, take, drop, get_or, Option, sym, ap, ◌∙◌, arith, length-append, append-nil, take_all, take-append-drop}
+use Rattle.std.proofs.lemmas.{Grind.common_steps, Bool.Decides.nat_tests}
+use Rattle.std.proofs.Common.{◌≡◌, ℕ, ◌+◌, ◌^◌, ◌<◌, ◌≤◌, List, ◌++◌, length, flat_map, take, drop, get_or, Option, sym, ap, ◌∙◌, arith, length-append, append-nil, take_all, take-append-drop}
 use Rattle.std.{proofs.lemmas.List.{take_more, Concat.flat_map-append, Folds.length-flat_map-take}, specs.Io.KnownBytes.Appends}
 use Rattle.napt_capture.specs.{Writing.{PutsAll, PutsFront}, declared.fault.WriteFault.WriteFault}
 use Rattle.napt_capture.proofs.Puts.{PutsAll-same, PutsFront-append, PutsFront-fault, PutsFront-longer, PutsFront-same}
@@ -11,22 +12,13 @@ module _ {X : Type 0} (xs : List X) (f : X → List ℕ) (last : List ℕ) (i : 
 
   -- one piece more
   so_far_more : (x : X) → i < length xs → x ≡ get_or xs i x → so_far ++ f x ≡ flat_map f (take (i + 1) xs)
-  so_far_more x within is =
-      sym (ap (flat_map f) (take_more xs i x within ∙ ap (λ y. take i xs ++ y ∷ []) (sym is))
-      ∙ flat_map-append f (take i xs) (x ∷ []) ∙ ap (λ l. so_far ++ l) (append-nil (f x)))
+  so_far_more x within is = grind (arith, common_steps, nat_tests, flat_map, take_more, flat_map-append, append-nil)
 
   -- there is room for it
   pub room_for_more : (x : X) (written : ℕ) → i < length xs → x ≡ get_or xs i x →
       length (flat_map f xs ++ last) < 2 ^ 64 → written ≡ 0 + length so_far → written + length (f x) < 2 ^ 64
   room_for_more x written within is few counted =
-      omega (
-        arith,
-        counted,
-        few,
-        length-append (flat_map f xs) last,
-        length-flat_map-take f xs i x within,
-        ap (λ y. length (f y)) is,
-      )
+      grind (arith, common_steps, nat_tests, length-append, flat_map, length-flat_map-take)
 
   -- a front of it was written, and of all
   pub more_fails : (old now new : Option (List ℕ)) (x : X) (written : ℕ) (fault : WriteFault) → i < length xs →
@@ -46,13 +38,11 @@ module _ {X : Type 0} (xs : List X) (f : X → List ℕ) (last : List ℕ) (i : 
 
   pub room_for_last : (written : ℕ) → length xs ≤ i → length (flat_map f xs ++ last) < 2 ^ 64 →
       written ≡ 0 + length so_far → written + length last < 2 ^ 64
-  room_for_last written past few counted =
-      omega (arith, counted, few, length-append (flat_map f xs) last, ap (λ l. length l) (all_full past))
+  room_for_last written past few counted = grind (arith, common_steps, nat_tests, length-append, flat_map, all_full)
 
   -- and a front of the last
   pub last_fails : (old now new : Option (List ℕ)) (written : ℕ) (fault : WriteFault) → length xs ≤ i →
       PutsAll 0 old now so_far written → PutsFront written now new last fault →
       (fault.written ≤ length (flat_map f xs ++ last)) × Appends old new (take fault.written (flat_map f xs ++ last))
   last_fails old now new written fault past before front =
-      PutsFront-fault (flat_map f xs ++ last)
-      (PutsFront-append (flat_map f xs) last (PutsAll-same (all_full past) before) front)
+      grind (arith, common_steps, nat_tests, PutsFront-fault, flat_map, PutsFront-append, PutsAll-same, all_full)

@@ -1,6 +1,7 @@
 -- A run that succeeds writes the same, whether its captures are read as they arrive or whole.
-use Rattle.std.proofs.Common.{◌≡◌, ℕ, ◌+◌, ◌^◌, inl, inr, Bool, List, length, take, Option, Some, None, Result, Ok, Err, refl, sym, ap, ap₂, ◌∙◌, subst}
-use Rattle.std.{specs.{Prelude.{IsOk, IsOkAnd, nat_le, nat_lt}, Io.KnownBytes.Appends}, proofs.lemmas.Bool.cases_Bool}
+use native.Mathlib.Omega.{arith}
+use Rattle.std.{proofs.lemmas.{Grind.common_steps, Bool.{Decides.nat_tests, cases_Bool}}, specs.{Prelude.{IsOk, IsOkAnd, nat_lt}, Io.KnownBytes.Appends}}
+use Rattle.std.proofs.Common.{◌≡◌, ℕ, inl, inr, Bool, List, take, Option, Some, Result, Ok, Err, refl, sym, ap, ap₂, ◌∙◌, subst}
 use Rattle.napt_wire.specs.declared.Side.{Side}
 use Rattle.napt_wire.specs.declared.Side.TheVariants as sides
 use Rattle.napt_capture.specs.{Capture.{Held, asked_of, captured, contents_by, read_whole, spelling_in}, Contents.{Contents, Entry}}
@@ -19,11 +20,7 @@ held_as contents = record { records = contents.records; end = Ok contents.cut }
 contents_are : (records : List Entry) (end : Result Bool CaptureFault) (contents : Contents) →
     contents_by records end ≡ Ok contents
     → (let held : Held = record { records = records; end = end } in held ≡ held_as contents)
-contents_are records (Ok cut) contents is =
-    let read : Contents = record { records = records; cut = cut } in
-    let same : read ≡ contents = cc in
-    ap held_as same
-contents_are records (Err fault) contents is = absurd cc
+contents_are records end contents is = grind (arith, common_steps, nat_tests)
 
 held_is : (bytes : List ℕ) (contents : Contents) → read_whole bytes ≡ Ok contents → captured bytes ≡ held_as contents
 held_is bytes contents is = elim (cases_Bool (nat_lt MOST_ASKED (asked_of bytes))) [
@@ -40,11 +37,7 @@ record OfCaptures (rules : Rules) (inside outside : Result Contents CaptureFault
 
 few_texts : (rules : Rules) (captures : Captures) (all : Texts) → texts_by rules (Ok captures) ≡ Ok all →
     texts_made rules captures ≡ all
-few_texts rules captures all is =
-    elim (cases_Bool (nat_le (2 ^ 32) (length captures.inside.records + length captures.outside.records))) [
-      | inl many ↦ let never = rw many at is in absurd cc
-      | inr few ↦ let same = rw few at is in cc
-    ]
+few_texts rules captures all is = grind (arith, common_steps, nat_tests, cases_Bool)
 
 of_captures : (rules : Rules) (inside outside : Result Contents CaptureFault) (all : Texts) →
     texts_by rules (both_by inside outside) ≡ Ok all → OfCaptures rules inside outside all
@@ -60,15 +53,13 @@ of_captures rules (Err fault) outside all is = absurd cc
 -- the headers are good
 good_by : (side : Side) (r : Result Spelling CaptureFault) (inputs : Inputs) (cuts : Cuts) →
     (unless_bad side r inputs).end ≡ Ok cuts → unless_bad side r inputs ≡ inputs
-good_by side (Ok spelling) inputs cuts is = refl
-good_by side (Err fault) inputs cuts is = absurd cc
+good_by side r inputs cuts is = grind (arith, common_steps, nat_tests)
 
 good : (side : Side) (bytes : List ℕ) (inputs : Inputs) (cuts : Cuts) →
     (unless_refused side bytes inputs).end ≡ Ok cuts → unless_refused side bytes inputs ≡ inputs
 good side bytes inputs cuts is = good_by side (spelling_in (take 24 bytes)) inputs cuts is
 
-behind_headers : (inside outside : List ℕ) (cuts : Cuts) →
-    (files_until inside outside).end ≡ Ok cuts
+behind_headers : (inside outside : List ℕ) (cuts : Cuts) → (files_until inside outside).end ≡ Ok cuts
     → files_until inside outside ≡ inputs_until (captured inside) (captured outside)
 behind_headers inside outside cuts is =
     let all : Inputs = inputs_until (captured inside) (captured outside) in
@@ -110,17 +101,13 @@ agree rules inside outside all cuts is end =
 
 appends_one : (old text : List ℕ) (new other : Option (List ℕ)) → Appends (Some old) new text →
     Appends (Some old) other text → other ≡ new
-appends_one old text (Some new) (Some other) is also = ap (λ (l : List ℕ). Some l) (also ∙ sym is)
-appends_one old text (Some new) None is also = absurd also
-appends_one old text None other is also = absurd is
+appends_one old text new other is also = grind (arith, common_steps, nat_tests, ℕ)
 
 ok_and : (r : Result Texts Fault) (P : Texts → Type 0) → IsOkAnd r P → (all : Texts) × (r ≡ Ok all) × P all
-ok_and (Ok all) P p = (all, refl, p)
-ok_and (Err fault) P p = absurd p
+ok_and r P p = grind (arith, common_steps, nat_tests)
 
 is_ok_of : (r : Result Cuts SideFault) → IsOk r → (cuts : Cuts) × (r ≡ Ok cuts)
-is_ok_of (Ok cuts) is = (cuts, refl)
-is_ok_of (Err fault) is = absurd cc
+is_ok_of r is = grind (arith, common_steps, nat_tests)
 
 pub outputs_same : OutputsAreTheSame
 outputs_same rules inside outside done old new other = (

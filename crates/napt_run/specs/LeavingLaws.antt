@@ -78,9 +78,6 @@ module _ {W : Type 0} {S : Ghosts W} where
 
 -- BOTH
 
-outcome_of : Timed → Outcome
-outcome_of timed = timed.1
-
 module _ {W V : Type 0} {S : Ghosts W} {T : Ghosts V} where
   pub takes_none : (x : Leaving W V S T) → Takes x [] x
   takes_none x = record {

@@ -1,8 +1,7 @@
 use Rattle.std.proofs.{Common.{◌≡◌, ℕ, List, Option, Err, refl}, lemmas.Result.err_from_is_err_and}
 use Rattle.napt_records.specs.declared.{Fault.Fault, Which.{Which, TheVariants.{Outside, Inside, Report}}}
-use Rattle.napt_run.specs.Captures.{Gets, IsWriteFaultOf, Receives, Share, whole}
+use Rattle.napt_run.{specs.Captures.{Gets, IsWriteFaultOf, Receives, Share, whole}, proofs.captures.run_captures.{Given.Over, Goals.In_ok-outputs}}
 use Rattle.napt_run.proofs.Received.{Answered, AreMade, answered_inside, answered_outside, answered_run, answered_write, answers_ok, before_inside, before_report, received, text_of, texts_known}
-use Rattle.napt_run.proofs.captures.run_captures.{Given.Over, Goals.In_ok-outputs}
 use Rattle.napt_run.proofs.captures.run_captures.Goals as goal
 
 -- WHAT THE RETURNS SHARE
@@ -37,15 +36,13 @@ pub returns-in_err-inside-clause-answer : goal.returns-in_err-inside-clause-answ
 returns-in_err-inside-clause-answer g c =
     let p = err_from_is_err_and c.from_residual.result c.from_residual.ensures.1 in
     rw (p.1, p.2) (answered_inside c.args.config.now (g.R.Source.remaining c.args.inside.now)
-    (g.Q.Source.remaining c.args.outside.now) c.in_err-inside.field-0.0
-    c.in_err-inside.ensures.err).answer
+    (g.Q.Source.remaining c.args.outside.now) c.in_err-inside.field-0.0 c.in_err-inside.ensures.err).answer
 
 pub returns-in_err-inside-clause-fault : goal.returns-in_err-inside-clause-fault
 returns-in_err-inside-clause-fault g c =
     let p = err_from_is_err_and c.from_residual.result c.from_residual.ensures.1 in
     rw (p.1, p.2) (answered_inside c.args.config.now (g.R.Source.remaining c.args.inside.now)
-    (g.Q.Source.remaining c.args.outside.now) c.in_err-inside.field-0.0
-    c.in_err-inside.ensures.err).fault
+    (g.Q.Source.remaining c.args.outside.now) c.in_err-inside.field-0.0 c.in_err-inside.ensures.err).fault
 
 pub returns-in_err-outside-clause-answer : goal.returns-in_err-outside-clause-answer
 returns-in_err-outside-clause-answer g c =
@@ -169,6 +166,5 @@ returns-clause-report g c =
 
 pub returns-clause-answer : goal.returns-clause-answer
 returns-clause-answer g c =
-    answers_ok c.args.config.now _ _
-    (record { inside = c.in_ok-inside.inside; outside = c.in_ok-outside.outside })
+    answers_ok c.args.config.now _ _ (record { inside = c.in_ok-inside.inside; outside = c.in_ok-outside.outside })
     (known g (goal.at.returns-clause-answer g c).In_ok-outputs)

@@ -31,22 +31,19 @@ returns-clause-report g c =
     (g.Q.Source.remaining c.args.outside.now) c.args.report.now c.reported-written.new.output
     (besides_log c.stream_logged-told.result) c.reported-written.result (besides_log c.with_report.result)
     (besides_and c.stream_logged-told.result c.reported-written.result c.with_report.result c.with_report.ensures)
-    c.reported-written.ensures.fault
-    (ok_besides _ c.stream_logged-told.result c.stream_logged-told.ensures.says.told)
+    c.reported-written.ensures.fault (ok_besides _ c.stream_logged-told.result c.stream_logged-told.ensures.says.told)
     (before _ c.stream_logged-told.result c.stream_logged-told.ensures.says.stop)
     (err_besides _ c.stream_logged-told.result c.reported-written.ensures.untouched)
     (err_besides _ c.stream_logged-told.result c.reported-written.ensures.nothing)
     (ok_besides _ c.stream_logged-told.result c.reported-written.ensures.written)
-    (on_besides _ c.stream_logged-told.result c.reported-written.ensures.flushed)
-    c.reported-written.ensures.count
+    (on_besides _ c.stream_logged-told.result c.reported-written.ensures.flushed) c.reported-written.ensures.count
 
 pub returns-clause-log : goal.returns-clause-log
 returns-clause-log g c =
     log_gets c.args.config.now (g.R.Source.remaining c.args.inside.now) (g.Q.Source.remaining c.args.outside.now)
     c.stream_logged-told.result c.reported-written.result c.with_report.result c.with_report.ensures
     c.reported-written.ensures.fault (ends g c) c.over-running.result.output c.stream_logged-told.new.log.output
-    c.stream_logged-told.ensures.log _ _
-    (ap (λ o. o.device.now) c.over-running.ensures.output ∙ c.over.ensures.device)
+    c.stream_logged-told.ensures.log _ _ (ap (λ o. o.device.now) c.over-running.ensures.output ∙ c.over.ensures.device)
     (λ same. c.log-1.given.1 (sym c.over.ensures.same_reference
     ∙ ap (λ o. o.device.ghost_name) (sym c.over-running.ensures.output) ∙ sym same
     ∙ sym c.into_device-log.ensures.name) ∙ c.into_device-log.ensures.value)
@@ -55,14 +52,12 @@ pub returns-clause-fault : goal.returns-clause-fault
 returns-clause-fault g c =
     explains (g.R.Source.remaining c.args.inside.now) (g.Q.Source.remaining c.args.outside.now)
     c.stream_logged-told.result c.reported-written.result
-    c.with_report.result c.with_report.ensures c.reported-written.ensures.fault
-    c.stream_logged-told.ensures.says.fault
+    c.with_report.result c.with_report.ensures c.reported-written.ensures.fault c.stream_logged-told.ensures.says.fault
 
 pub returns-clause-gate : goal.returns-clause-gate
 returns-clause-gate g c is =
     gate g.G.Gate.is_open c.stream_logged-told.result c.reported-written.result c.with_report.result
-    c.with_report.ensures
-    c.reported-written.ensures.fault c.stream_logged-told.ensures.says.stop is
+    c.with_report.ensures c.reported-written.ensures.fault c.stream_logged-told.ensures.says.stop is
 
 pub returns-clause-readings : goal.returns-clause-readings
 returns-clause-readings g c =

@@ -10,8 +10,7 @@ use Rattle.napt_run.proofs.output.write_all.Goals as goal
 takes_more : (r : Result ℕ DeviceFault) (old mid new : Option (List ℕ)) (bytes : List ℕ)
     (done count failed-0 failed-1 failed-2 : ℕ)
     → count ≡ result_unwrap_or r 0 → (count ≡ 0 → ⊥) → WritesAtMost r (drop done bytes) →
-    WriteAppends mid new r (drop done bytes)
-    → failed-2 ≡ failed-1 + failed_writes r (drop done bytes)
+    WriteAppends mid new r (drop done bytes) → failed-2 ≡ failed-1 + failed_writes r (drop done bytes)
     → done ≤ length bytes → Appends old mid (take done bytes) → failed-1 ≡ failed-0
     → (done + count ≤ length bytes) × Appends old new (take (done + count) bytes) × (failed-2 ≡ failed-0)
 takes_more (Err _) old mid new bytes done count f0 f1 f2 is some most appended counted within before same =
@@ -24,8 +23,7 @@ takes_more (Ok (suc n)) old mid new bytes done count f0 f1 f2 is some most appen
     let none : failed_writes {E = DeviceFault} (Ok (suc n)) (drop done bytes) ≡ 0 = let isnt : nat_eq (suc n) 0
     ≡ false = search rules in rw isnt refl in (
       omega (arith, is, most, length-drop done bytes),
-      subst (Appends old new) all
-          (Appends-trans old mid new _ _ before appended),
+      subst (Appends old new) all (Appends-trans old mid new _ _ before appended),
       omega (arith, counted, none, same),
     )
 
@@ -41,5 +39,4 @@ loop-done-preserved g c =
     takes_more c.write.result _ _ _ bytes done c.unwrap_or-count.result _ _ _ c.unwrap_or-count.ensures
     c.if-count-eq0.false
     (subst (WritesAtMost c.write.result) rest call.bound) (subst (WriteAppends _ _ c.write.result) rest call.bytes)
-    counted
-    c.loop-done.invariant.0 c.loop-done.invariant.1 c.loop-done.invariant.2
+    counted c.loop-done.invariant.0 c.loop-done.invariant.1 c.loop-done.invariant.2

@@ -1,8 +1,7 @@
 use Rattle.std.proofs.Common.{subst, sym}
 use Rattle.napt_records.specs.declared.Which.TheVariants.{Inside, Outside}
-use Rattle.napt_run.specs.{Runs.ResultSays, Streams.{DeviceGets, HasRead, IsOfRun}}
+use Rattle.napt_run.{specs.{Runs.ResultSays, Streams.{DeviceGets, HasRead, IsOfRun}}, proofs.streams.run_streams.{Given.Over, Goals.After-and}}
 use Rattle.napt_run.proofs.Endings.{Ends, closed, ends_and, explains_ends, few_ends, gate_ends, inside_by, outside_by, reads_by, report_by}
-use Rattle.napt_run.proofs.streams.run_streams.{Given.Over, Goals.After-and}
 use Rattle.napt_run.proofs.streams.run_streams.Goals as goal
 
 ends : (g : Over) (c : After-and g) → Ends c.unlogged-told.result c.and.result
@@ -56,16 +55,13 @@ returns-clause-report g c =
     c.reported-written.ensures.count
 
 pub returns-clause-fault : goal.returns-clause-fault
-returns-clause-fault g c =
-    explains_ends _ _ c.unlogged-told.result c.and.result (ends g c) (says g c).fault
+returns-clause-fault g c = explains_ends _ _ c.unlogged-told.result c.and.result (ends g c) (says g c).fault
 
 pub returns-clause-too_many : goal.returns-clause-too_many
-returns-clause-too_many g c =
-    few_ends g.G.Gate.is_open c.unlogged-told.result c.and.result (ends g c) (says g c).stop
+returns-clause-too_many g c = few_ends g.G.Gate.is_open c.unlogged-told.result c.and.result (ends g c) (says g c).stop
 
 pub returns-clause-gate : goal.returns-clause-gate
-returns-clause-gate g c =
-    gate_ends g.G.Gate.is_open c.unlogged-told.result c.and.result (ends g c) (says g c).stop
+returns-clause-gate g c = gate_ends g.G.Gate.is_open c.unlogged-told.result c.and.result (ends g c) (says g c).stop
 
 pub returns-clause-readings : goal.returns-clause-readings
 returns-clause-readings g c =

@@ -26,8 +26,7 @@ returns-in_err-written-clause-err g c =
     (g.W.Sink.contents c.write_piece.new.device) c.piece-item.result c.loop-piece.written fault
     (subst (λ l. c.loop-piece.piece-index < length l) same c.loop-piece-test.true)
     (subst (λ l. c.piece-item.result ≡ get_or l c.loop-piece.piece-index c.piece-item.result) same c.piece-item.is)
-    c.loop-piece.invariant.0
-    (subst (λ l. PutsFront c.loop-piece.written (g.W.Sink.contents c.loop-piece.device)
+    c.loop-piece.invariant.0 (subst (λ l. PutsFront c.loop-piece.written (g.W.Sink.contents c.loop-piece.device)
     (g.W.Sink.contents c.write_piece.new.device) l fault) c.deref.ensures.value c.in_err-written.ensures.puts) in
     rw (p.1, p.2) (subst (λ l. (fault.written ≤ length l)
     × Appends (g.W.Sink.contents c.args.device.now) (g.W.Sink.contents c.write_piece.new.device)

@@ -3,8 +3,7 @@ use Rattle.napt_run.proofs.leaving.Leaving.write.Goals as goal
 
 pub returns-in-ToOutside : goal.returns-in-ToOutside
 returns-in-ToOutside g c =
-    rw (c.in-ToOutside.is, ← c.bytes_of.ensures.value, c.named.ensures)
-    (leaves_outside c.args.time
+    rw (c.in-ToOutside.is, ← c.bytes_of.ensures.value, c.named.ensures) (leaves_outside c.args.time
     c.bytes_of.result.now c.args.self.now c.put.new.self c.count.new.self c.put.result c.put.ensures.ok
     c.put.ensures.err (rw (c.in-ToOutside.is, ← c.bytes_of.ensures.value) at c.count.ensures))
 

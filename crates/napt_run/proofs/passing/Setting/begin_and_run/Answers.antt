@@ -36,8 +36,7 @@ returns-in_err-begin-clause-logs g c =
     g.K.Logging.fails g.K.Logging.is_settled (g.R.Source.remaining c.args.inside.now)
     (g.Q.Source.remaining c.args.outside.now) c.args.both.now.log.now
     (g.met.K.Logging.enters_none c.args.both.now.log.now)
-    c.args.both.now.leaving c.begin.new.self c.in_err-begin.field-0.0
-    (c.in_err-begin.ensures.err c.requires.sound))
+    c.args.both.now.leaving c.begin.new.self c.in_err-begin.field-0.0 (c.in_err-begin.ensures.err c.requires.sound))
 
 pub returns-clause-logs : goal.returns-clause-logs
 returns-clause-logs g c = c.run_over.ensures.logs

@@ -8,8 +8,7 @@ use Rattle.napt_run.proofs.passing.Setting.run_behind_headers.Goals as goal
 live : (g : Over) (c : After-pass-passed g) → AreLive c.new-inputs.result
 live g c =
     begun_live c.new-inputs.result (ap (λ s. s.live.fault) c.new-inputs.ensures.inside ∙ c.new-ours.ensures.live)
-    (ap (λ s. s.live.fault) c.new-inputs.ensures.outside
-    ∙ c.new-theirs.ensures.live) c.new-inputs.ensures.inside_first
+    (ap (λ s. s.live.fault) c.new-inputs.ensures.outside ∙ c.new-theirs.ensures.live) c.new-inputs.ensures.inside_first
     c.new-inputs.ensures.outside_first
 
 begun : (g : Over) (c : After-pass-passed g) (bytes others : Option (List ℕ)) →
