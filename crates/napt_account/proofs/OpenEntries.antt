@@ -1,7 +1,7 @@
 -- What is kept of the entries that have not ended: what is put, changed and taken out.
 use Rattle.std.proofs.lemmas.{Grind.common_steps, Bool.Decides.nat_tests}
 use Rattle.std.proofs.Common.{◌≡◌, ◌≢◌, ℕ, ◌+◌, ◌<◌, ◌≤◌, true, false, ◌&&◌, cond, List, [], ◌∷◌, ◌++◌, ◌^◌, length, map, set, Option, Some, None, unwrap_or, refl, sym, ◌∙◌, ap, subst, arith, eqb, eqb-true, length-append, length-set}
-use Rattle.std.{specs.{Prelude.◌==◌, List.{slice_get, list_any}, Option.option_map}, proofs.lemmas.Bool.{and_parts, and_from, eq-eqb, eqb-false}}
+use Rattle.std.{specs.{Prelude.◌==◌, List.{slice_get, list_any}, Option.{option_and_then, option_map}}, proofs.lemmas.Bool.{and_parts, and_from, eq-eqb, eqb-false}}
 use Rattle.std.proofs.lemmas.Option.{same_Some, slice_get_within}
 use denote.Enum.Bare.{sameb}
 use denote.Enum.Declared.{tag_of}
@@ -14,7 +14,7 @@ use Rattle.napt_sequential.proofs.Lists.{get_before, get_last, get_set, get_set_
 use Rattle.napt_account.specs.declared.{account.Note.Note, log.{Entry.Entry, Listed.Listed}, open_entries.{Due.Due, ExternalKey.ExternalKey, Open.Open}}
 use Rattle.napt_account.specs.{declared.open_entries.OpenEntries.OpenEntries, Book.{noted, use_at}, Log.{counted, shares, is_of, place_of, through}}
 use Rattle.napt_account.{specs.{Telling.is_open, Uses.used}, proofs.{Books.{change_one, none_at, any_at, first_place, used_there}, Entries.shares_itself}}
-use Rattle.napt_account.specs.OpenEntries.{external_key, external_eq, open_at, listed_at, due_of, due_at, is_queued, is_at, listed_as, IsPlaced, IsIndexed, IsIndexedBut, IsListed, Shows}
+use Rattle.napt_account.specs.OpenEntries.{external_key, external_eq, open_at, listed_at, due_at, is_queued, is_at, listed_as, IsPlaced, IsIndexed, IsIndexedBut, IsListed, Shows}
 
 -- KEYS
 
@@ -63,7 +63,7 @@ queued_at all x was indexed d e = indexed.queued d ∙ ap (λ v. is_at (cond v w
 module _ (old new : OpenEntries) (x : ExternalKey) (was : Option ℕ) (indexed : IsIndexedBut x was old)
     (next : Option Open)
     (opens : (y : ExternalKey) → open_at new y ≡ cond (external_eq x y) next (open_at old y))
-    (queue : (d : Due) → is_queued new d ≡ cond (external_eq x d.key) (is_at (due_of next) d.at) (is_queued old d))
+    (queue : (d : Due) → is_queued new d ≡ cond (external_eq x d.key) (is_at (option_and_then (λ (o : Open). o.due) next) d.at) (is_queued old d))
     (its : (o : Open) → next ≡ Some o → IsPlaced x o) where
   pub moved : IsIndexed new
   moved = grind (arith, common_steps, nat_tests, external_is)
@@ -141,7 +141,7 @@ module _ (now most : ℕ) (old new : OpenEntries) (es : List Entry) (shows : Sho
       let never : None ≡ Some m = sym (ap (option_map (λ (o : Open). o.listed)) free) ∙ at in cc
 
   pub put_indexed : IsIndexedBut (external_key e.binding) None old
-  put_indexed = subst (λ (due : Option ℕ). IsIndexedBut (external_key e.binding) due old) (ap due_of free)
+  put_indexed = subst (λ (due : Option ℕ). IsIndexedBut (external_key e.binding) due old) (ap (option_and_then (λ (o : Open). o.due)) free)
       (indexed_but old shows.indexed (external_key e.binding))
 
   pub put_shows : is_before now e.end ≡ true → e.sent ≤ most → e.received ≤ most → new.made ≡ old.made + 1 →
@@ -311,7 +311,7 @@ module _ (way : Way) (now most : ℕ) (old : OpenEntries) (es : List Entry) (sho
         let received : e.received ≤ was.received + 1 =
         subst (λ (f : Entry). f.received ≤ was.received + 1) (sym counts) more.1 in
         let but : IsIndexedBut key o.due old =
-        subst (λ (d : Option ℕ). IsIndexedBut key d old) (ap due_of at) (indexed_but old shows.indexed key) in
+        subst (λ (d : Option ℕ). IsIndexedBut key d old) (ap (option_and_then (λ (o : Open). o.due)) at) (indexed_but old shows.indexed key) in
         let its : key ≡ external_key e.binding =
         (shows.indexed.placed key o at).0 ∙ ap external_key (sym same) in
         let indexed : IsIndexed new = moved old new key o.due but (Some changed) opens
