@@ -1,7 +1,6 @@
 -- What has ended is taken out, and what is listed is in order of end.
 use Rattle.std.proofs.lemmas.{Grind.common_steps, Bool.Decides.nat_tests}
 use Rattle.std.proofs.Common.{◌≡◌, ◌≢◌, ℕ, zero, suc, ◌+◌, ◌<◌, ◌^◌, ◌⊎◌, inl, inr, Bool, true, false, cond, unwrap_or, List, [], ◌∷◌, ◌++◌, length, map, Option, Some, None, refl, sym, ◌∙◌, ap, subst, arith}
-use Rattle.std.specs.Option.{option_and_then}
 use Rattle.std.specs.{Prelude.{filter, not}, List.{Contains, AllByRecursion, IsDistinct, slice_index_or, Sorted.{IsPermutation, IsSortedByKey}}}
 use Rattle.std.{specs.{Map.{lookup, keys_of, values_of}, Ordering.is_lt, HashMap.IsUnique}, proofs.lemmas.Bool.{and_parts, and_from, eq-eqb}}
 use Rattle.std.proofs.lemmas.{List.Sorted.{Contains-permutation, IsPermutation-sym}, Map.Keys.IsDistinct-IsPermutation, Option.same_Some}
@@ -10,7 +9,7 @@ use Rattle.napt_account.specs.declared.{log.{Entry.Entry, Listed.Listed}, open_e
 use Rattle.napt_account.specs.OpenEntries.{external_key, end_key_of, end_key, external_eq, end_cmp, open_at, listed_at, is_queued, is_at, kept, IsIndexed, IsListed, Shows, InOrder}
 use Rattle.napt_account.specs.Telling.{numbered, is_open, ends_within, ends_first, in_order_of_end}
 use Rattle.napt_account.proofs.InOrder.{Has, Differ, each_has, has_each, has_left, has_parts, has_filter, filter_has, first_then, is_order, has_number, number_has, numbered_differ}
-use Rattle.napt_account.proofs.OpenEntries.{external_is, external_itself, external_flip, same_place, under, listed_open, open_listed}
+use Rattle.napt_account.proofs.OpenEntries.{due_of, external_is, external_itself, external_flip, same_place, under, listed_open, open_listed}
 
 -- AGAINST THE ENTRIES
 
@@ -214,7 +213,7 @@ none_due now fits all indexed later x l at =
       | None ↦ λ e. fits
       | Some time ↦ λ e. later (record { at = time; key = x })
           (indexed.queued (record { at = time; key = x })
-          ∙ (ap (λ (v : Option Open). is_at (option_and_then (λ (o : Open). o.due) v) time) o.1
+          ∙ (ap (λ (v : Option Open). is_at (due_of v) time) o.1
           ∙ (ap (λ due. is_at due time) e ∙ eq-eqb time time refl)))
     ] refl))
 

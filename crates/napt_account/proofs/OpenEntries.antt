@@ -36,6 +36,9 @@ same_place es l m a b same = grind (arith, common_steps, nat_tests, same_Some)
 
 -- WHAT IS AT AN ENDPOINT
 
+abbrev pub due_of : Option Open → Option ℕ
+due_of found = option_and_then (λ (o : Open). o.due) found
+
 pub listed_open : (all : OpenEntries) (x : ExternalKey) (l : Listed) → listed_at all x ≡ Some l →
     (o : Open) × (open_at all x ≡ Some o) × (o.listed ≡ l)
 listed_open all x l at = elim (open_at all x) as (λ (v : Option Open). open_at all x ≡ v →
@@ -63,7 +66,7 @@ queued_at all x was indexed d e = indexed.queued d ∙ ap (λ v. is_at (cond v w
 module _ (old new : OpenEntries) (x : ExternalKey) (was : Option ℕ) (indexed : IsIndexedBut x was old)
     (next : Option Open)
     (opens : (y : ExternalKey) → open_at new y ≡ cond (external_eq x y) next (open_at old y))
-    (queue : (d : Due) → is_queued new d ≡ cond (external_eq x d.key) (is_at (option_and_then (λ (o : Open). o.due) next) d.at) (is_queued old d))
+    (queue : (d : Due) → is_queued new d ≡ cond (external_eq x d.key) (is_at (due_of next) d.at) (is_queued old d))
     (its : (o : Open) → next ≡ Some o → IsPlaced x o) where
   pub moved : IsIndexed new
   moved = grind (arith, common_steps, nat_tests, external_is)
@@ -141,7 +144,7 @@ module _ (now most : ℕ) (old new : OpenEntries) (es : List Entry) (shows : Sho
       let never : None ≡ Some m = sym (ap (option_map (λ (o : Open). o.listed)) free) ∙ at in cc
 
   pub put_indexed : IsIndexedBut (external_key e.binding) None old
-  put_indexed = subst (λ (due : Option ℕ). IsIndexedBut (external_key e.binding) due old) (ap (option_and_then (λ (o : Open). o.due)) free)
+  put_indexed = subst (λ (due : Option ℕ). IsIndexedBut (external_key e.binding) due old) (ap due_of free)
       (indexed_but old shows.indexed (external_key e.binding))
 
   pub put_shows : is_before now e.end ≡ true → e.sent ≤ most → e.received ≤ most → new.made ≡ old.made + 1 →
@@ -311,7 +314,7 @@ module _ (way : Way) (now most : ℕ) (old : OpenEntries) (es : List Entry) (sho
         let received : e.received ≤ was.received + 1 =
         subst (λ (f : Entry). f.received ≤ was.received + 1) (sym counts) more.1 in
         let but : IsIndexedBut key o.due old =
-        subst (λ (d : Option ℕ). IsIndexedBut key d old) (ap (option_and_then (λ (o : Open). o.due)) at) (indexed_but old shows.indexed key) in
+        subst (λ (d : Option ℕ). IsIndexedBut key d old) (ap due_of at) (indexed_but old shows.indexed key) in
         let its : key ≡ external_key e.binding =
         (shows.indexed.placed key o at).0 ∙ ap external_key (sym same) in
         let indexed : IsIndexed new = moved old new key o.due but (Some changed) opens

@@ -70,7 +70,8 @@ invariant_of-self-2 c = λ going.
     let added = trace_few entries trace in
     let few = is.few in
     subst (λ (ts : List Trace). IsOpenAfter it.config.now ts (it.many + 1) trace.now c.tell.new.self)
-    (sym (ap (λ (l : List (ℕ × Trace)). taken_in l) c.and-self-inside.ensures ∙ taken_more it.past.items 0 trace)) (record {
+    (sym (ap (λ (l : List (ℕ × Trace)). taken_in l) c.and-self-inside.ensures
+    ∙ taken_more it.past.items 0 trace)) (record {
       taken = ap (λ (n : ℕ). n + 1) is.taken ∙ sym long;
       time = sym (time_more 0 before trace);
       entries = subst
