@@ -6,7 +6,7 @@ use Rattle.napt_wire.specs.declared.Way.{Way}
 use Rattle.napt_sequential.specs.declared.passage.Trace.{Trace}
 use Rattle.napt_rules.specs.declared.Row.{Row}
 use Rattle.napt_account.specs.{declared.{log.Entry.Entry, account.{Note.Note, Use.Use}}, Log.{is_of, place_of, through}}
-use Rattle.napt_account.specs.{Book.{after_trace, noted, use_at, use_by_trace, uses_told}, Uses.used}
+use Rattle.napt_account.specs.{Book.{after_trace, noted, use_at, use_by_trace}, Uses.used}
 
 -- LISTS
 
@@ -112,6 +112,10 @@ used_there way es i e at note is = ap (λ (n : Note). used way n (Some i)) (is �
 pub any_used : (way : Way) (now : ℕ) (w : Row) (es : List Entry) (u : Use) →
     Some u ≡ use_at way es (place_of now w es) → list_any (is_of now w) es ≡ true
 any_used way now w es u is = grind (arith, common_steps, nat_tests, no_place)
+
+abbrev pub uses_told : List Entry → List Trace → List Use
+uses_told entries [] = []
+uses_told entries (trace ∷ traces) = use_by_trace entries trace ∷ uses_told (after_trace entries trace) traces
 
 pub uses_more : (es : List Entry) (traces : List Trace) (t : Trace) → uses_told es (traces ++ t ∷ [])
     ≡ uses_told es traces ++ use_by_trace (fold after_trace es traces) t ∷ []

@@ -6,10 +6,10 @@ use Rattle.std.{specs.{Map.{lookup, keys_of, values_of}, Ordering.is_lt, HashMap
 use Rattle.std.proofs.lemmas.{List.Sorted.{Contains-permutation, IsPermutation-sym}, Map.Keys.IsDistinct-IsPermutation, Option.same_Some}
 use Rattle.napt_rules.specs.Prelude.{Each}
 use Rattle.napt_account.specs.declared.{log.{Entry.Entry, Listed.Listed}, open_entries.{Due.Due, ExternalKey.ExternalKey, Open.Open, OpenEntries.OpenEntries}}
-use Rattle.napt_account.specs.OpenEntries.{external_key, end_key_of, end_key, external_eq, end_cmp, open_at, listed_at, due_of, is_queued, is_at, kept, IsIndexed, IsListed, Shows, InOrder}
+use Rattle.napt_account.specs.OpenEntries.{external_key, end_key_of, end_key, external_eq, end_cmp, open_at, listed_at, is_queued, is_at, kept, IsIndexed, IsListed, Shows, InOrder}
 use Rattle.napt_account.specs.Telling.{numbered, is_open, ends_within, ends_first, in_order_of_end}
 use Rattle.napt_account.proofs.InOrder.{Has, Differ, each_has, has_each, has_left, has_parts, has_filter, filter_has, first_then, is_order, has_number, number_has, numbered_differ}
-use Rattle.napt_account.proofs.OpenEntries.{external_is, external_itself, external_flip, same_place, under, listed_open, open_listed}
+use Rattle.napt_account.proofs.OpenEntries.{due_of, external_is, external_itself, external_flip, same_place, under, listed_open, open_listed}
 
 -- AGAINST THE ENTRIES
 

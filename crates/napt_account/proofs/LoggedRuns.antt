@@ -4,8 +4,8 @@ use Rattle.std.{proofs.lemmas.Bool.Decides.nat_tests, specs.{Prelude.{flat_map, 
 use Rattle.napt_config.specs.Rules.{Rules, KeepsRules}
 use Rattle.napt_rules.specs.Prelude.{opening, Arrival, OpeningIsSound, last_clock}
 use Rattle.napt_sequential.specs.{declared.passage.Trace.Trace, Traces.traces}
-use Rattle.napt_account.specs.{declared.log.Entry.Entry, Book.{after_trace, lost_by, use_by_trace, uses_told}, KnownRuns.inputs_in, Log.{begun, log_of}}
-use Rattle.napt_account.{specs.{TraceLogs.entries_after, Uses.uses_of}, proofs.{Attribution.retold, Books.{fold_joined, uses_more}, Lists.map_joined}}
+use Rattle.napt_account.specs.{declared.log.Entry.Entry, Book.{after_trace, lost_by, use_by_trace}, KnownLogs.taken_in, Log.{begun, log_of}}
+use Rattle.napt_account.{specs.{TraceLogs.entries_after, Uses.uses_of}, proofs.{Attribution.retold, Books.{fold_joined, uses_more, uses_told}, Lists.map_joined}}
 use Rattle.napt_account.{proofs.Retold.{flat_joined, log_is}, specs.Telling.{numbered, is_open, ends_within, in_order_of_end, told_by, living_of}}
 
 pub ended_told : (rules : Rules) (before : List Arrival) (input : Arrival) → (told_by rules before input).ended
@@ -28,10 +28,6 @@ pub living_is : (rules : Rules) (inputs : List Arrival) → living_of rules inpu
     ≡ in_order_of_end (filter (is_open (last_clock 0 inputs)) (numbered (log_of rules inputs).entries))
 unfolding living_of
 living_is rules inputs = refl
-
-pub inputs_more : (past : List (ℕ × Arrival)) (n : ℕ) (input : Arrival) →
-    inputs_in (past ++ (n, input) ∷ []) ≡ inputs_in past ++ input ∷ []
-inputs_more past n input = map_joined (λ taken. taken.1) past ((n, input) ∷ [])
 
 -- THE LOG, ONE INPUT LATER
 

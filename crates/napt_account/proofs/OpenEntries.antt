@@ -1,7 +1,7 @@
 -- What is kept of the entries that have not ended: what is put, changed and taken out.
 use Rattle.std.proofs.lemmas.{Grind.common_steps, Bool.Decides.nat_tests}
 use Rattle.std.proofs.Common.{◌≡◌, ◌≢◌, ℕ, ◌+◌, ◌<◌, ◌≤◌, true, false, ◌&&◌, cond, List, [], ◌∷◌, ◌++◌, ◌^◌, length, map, set, Option, Some, None, unwrap_or, refl, sym, ◌∙◌, ap, subst, arith, eqb, eqb-true, length-append, length-set}
-use Rattle.std.{specs.{Prelude.◌==◌, List.{slice_get, list_any}, Option.option_map}, proofs.lemmas.Bool.{and_parts, and_from, eq-eqb, eqb-false}}
+use Rattle.std.{specs.{Prelude.◌==◌, List.{slice_get, list_any}, Option.{option_and_then, option_map}}, proofs.lemmas.Bool.{and_parts, and_from, eq-eqb, eqb-false}}
 use Rattle.std.proofs.lemmas.Option.{same_Some, slice_get_within}
 use denote.Enum.Bare.{sameb}
 use denote.Enum.Declared.{tag_of}
@@ -14,7 +14,7 @@ use Rattle.napt_sequential.proofs.Lists.{get_before, get_last, get_set, get_set_
 use Rattle.napt_account.specs.declared.{account.Note.Note, log.{Entry.Entry, Listed.Listed}, open_entries.{Due.Due, ExternalKey.ExternalKey, Open.Open}}
 use Rattle.napt_account.specs.{declared.open_entries.OpenEntries.OpenEntries, Book.{noted, use_at}, Log.{counted, shares, is_of, place_of, through}}
 use Rattle.napt_account.{specs.{Telling.is_open, Uses.used}, proofs.{Books.{change_one, none_at, any_at, first_place, used_there}, Entries.shares_itself}}
-use Rattle.napt_account.specs.OpenEntries.{external_key, external_eq, open_at, listed_at, due_of, due_at, is_queued, is_at, listed_as, IsPlaced, IsIndexed, IsIndexedBut, IsListed, Shows}
+use Rattle.napt_account.specs.OpenEntries.{external_key, external_eq, open_at, listed_at, due_at, is_queued, is_at, listed_as, IsPlaced, IsIndexed, IsIndexedBut, IsListed, Shows}
 
 -- KEYS
 
@@ -35,6 +35,9 @@ pub same_place : (es : List Entry) (l m : Listed) → IsListed es l → IsListed
 same_place es l m a b same = grind (arith, common_steps, nat_tests, same_Some)
 
 -- WHAT IS AT AN ENDPOINT
+
+abbrev pub due_of : Option Open → Option ℕ
+due_of found = option_and_then (λ (o : Open). o.due) found
 
 pub listed_open : (all : OpenEntries) (x : ExternalKey) (l : Listed) → listed_at all x ≡ Some l →
     (o : Open) × (open_at all x ≡ Some o) × (o.listed ≡ l)

@@ -15,7 +15,7 @@ use Rattle.napt_sequential.specs.declared.passage.{Passage.Passage, Trace.Trace}
 use Rattle.napt_sequential.specs.Traces.{gone_through, lost_by, passage_by, passage_of, first_of, second_of, trace_of, traces_from}
 use Rattle.napt_account.specs.declared.{account.{Note.Note, Use.Use}, log.{Entry.Entry, Shortage.Shortage}}
 use Rattle.napt_account.specs.Log.{begun, shares, is_of, counted, place_of, through, logged_by, logged, shortage_by, shortage_at, shortages, entries_of, log_of}
-use Rattle.napt_account.{specs.Uses.{no_use, used, first_note, use_by, both_uses, use_of, uses_from}, proofs.Books.{fold_joined, no_place, any_at}}
+use Rattle.napt_account.{specs.Uses.{no_use, used, first_note, use_by, both_uses, use_of, uses_from}, proofs.Books.{fold_joined, no_place, any_at, uses_told}}
 use Rattle.napt_account.proofs.Entries.{hold, hold_of, binding_of, is_open, Tells, own_differ, differ_back, shares_itself, purge_holds, tells_later, told_turn}
 use Rattle.napt_account.proofs.{Lists.map_twice, Moves.{Differ, AllDiffer, of_moves}}
 use Rattle.napt_account.specs.declared.account.Note.TheVariants as notes
@@ -282,7 +282,7 @@ module _ (ends : EndsAreFirst) (rules : Rules) (t : AreTimers rules.timers) wher
       (entries : List Entry) : Type 0 where
     pub entries_are : fold books.after_trace entries (traces_from rules number clock inputs list)
         ≡ fold (logged rules.timers) entries (run_from rules number clock inputs list).acts
-    pub uses_are : books.uses_told entries (traces_from rules number clock inputs list)
+    pub uses_are : uses_told entries (traces_from rules number clock inputs list)
         ≡ uses_from rules number clock inputs list entries
     pub shortages_are : flat_map books.lost_by (traces_from rules number clock inputs list)
         ≡ shortages (run_from rules number clock inputs list).acts
@@ -309,9 +309,9 @@ module _ (ends : EndsAreFirst) (rules : Rules) (t : AreTimers rules.timers) wher
       record {
         entries_are = ap (λ (es : List Entry). fold books.after_trace es traces) told.entries_are
             ∙ (rest.entries_are ∙ sym (fold_joined (logged rules.timers) course.acts acts entries));
-        uses_are = ap (λ (u : Use). u ∷ books.uses_told (books.after_trace entries trace) traces) told.use_is
+        uses_are = ap (λ (u : Use). u ∷ uses_told (books.after_trace entries trace) traces) told.use_is
             ∙ ap (λ (us : List Use). use_of rules entries course.acts ∷ us)
-            (ap (λ (es : List Entry). books.uses_told es traces) told.entries_are ∙ rest.uses_are);
+            (ap (λ (es : List Entry). uses_told es traces) told.entries_are ∙ rest.uses_are);
         shortages_are = ap (λ (xs : List Shortage). xs
             ++ flat_map books.lost_by traces) told.shortages_are
             ∙ (ap (λ (xs : List Shortage). shortages course.acts ++ xs) rest.shortages_are

@@ -4,7 +4,7 @@ use Rattle.std.{proofs.Common.{◌≡◌, ℕ, ◌+◌, max, List, [], ◌∷◌
 use Rattle.napt_config.specs.Rules.{Rules, KeepsRules, pair_of}
 use Rattle.napt_rules.specs.Prelude.{Arrival, Binding, OpeningIsSound, last_clock, opening, redirected, step}
 use Rattle.napt_sequential.{specs.{Traces.{traces, traces_from}, declared.passage.Trace.Trace}, proofs.Passed.traces_grow}
-use Rattle.napt_account.specs.{declared.log.{Entry.Entry, Listed.Listed, Shortage.Shortage}, Book.after_trace, KnownLogs.traces_in, Log.{begun, log_of}}
+use Rattle.napt_account.specs.{declared.log.{Entry.Entry, Listed.Listed, Shortage.Shortage}, Book.after_trace, KnownLogs.taken_in, Log.{begun, log_of}}
 use Rattle.napt_account.specs.Telling.{Told, ends_within, in_order_of_end, numbered, told_by}
 use Rattle.napt_account.specs.TraceLogs.{entries_after, time_after, told_with, IsNext, TracesTellTheLog, TracesHaveTheLiving, TracesCome}
 use Rattle.napt_account.proofs.{Begun.long_mapped, Books.fold_joined, Leaves.last_leaves, Lists.map_joined}
@@ -29,9 +29,9 @@ pub first_long : (rules : Rules) → length (entries_after rules []) ≡ length 
 first_long rules = long_mapped (begun rules.timers 0) (opening rules)
     ∙ long_mapped (redirected (pair_of rules)) rules.redirects
 
-pub traces_more : (past : List (ℕ × Trace)) (n : ℕ) (trace : Trace) →
-    traces_in (past ++ (n, trace) ∷ []) ≡ traces_in past ++ trace ∷ []
-traces_more past n trace = map_joined (λ taken. taken.1) past ((n, trace) ∷ [])
+pub taken_more : {X : Type 0} (past : List (ℕ × X)) (n : ℕ) (one : X) →
+    taken_in (past ++ (n, one) ∷ []) ≡ taken_in past ++ one ∷ []
+taken_more past n one = map_joined (λ taken. taken.1) past ((n, one) ∷ [])
 
 -- TIMES
 

@@ -52,22 +52,13 @@ abbrev pub use_at : Way → List Entry → Option ℕ → Option Use
 use_at way entries place = option_map (λ i. used way (noted (slice_get entries i)) (Some i)) place
 
 abbrev pub out_at : List Entry → Option ℕ → Use
-out_at entries place =
-    unwrap_or (use_at Outgoing entries place) (used Outgoing notes.Made (Some (length entries)))
-
-abbrev pub in_at : List Entry → Option ℕ → Use
-in_at entries place = unwrap_or (use_at Incoming entries place) no_use
+out_at entries place = unwrap_or (use_at Outgoing entries place) (used Outgoing notes.Made (Some (length entries)))
 
 abbrev pub use_told : ℕ → Passage → List Entry → Use
 use_told now (Out timed) entries = out_at entries (place_of now timed.row entries)
-use_told now (In timed) entries = in_at entries (place_of now timed.row entries)
+use_told now (In timed) entries = unwrap_or (use_at Incoming entries (place_of now timed.row entries)) no_use
 use_told now _ entries = no_use
 
 abbrev pub use_by_trace : List Entry → Trace → Use
 use_by_trace entries trace = both_uses (use_told trace.now trace.first entries)
     (use_told trace.now trace.second (after trace.now trace.first entries))
-
-abbrev pub uses_told : List Entry → List Trace → List Use
-uses_told entries [] = []
-uses_told entries (trace ∷ traces) =
-    use_by_trace entries trace ∷ uses_told (after_trace entries trace) traces

@@ -10,9 +10,9 @@ pub record KnownTraces : Type 0 where
   -- it does not go on
   pub is_stopped : Bool
 
--- the traces of a record of what it took
-abbrev pub traces_in : List (ℕ × Trace) → List Trace
-traces_in past = map (λ taken. taken.1) past
+-- what a record of what was taken has
+abbrev pub taken_in : {X : Type 0} → List (ℕ × X) → List X
+taken_in past = map (λ taken. taken.1) past
 
 -- it took so many traces, these, the last at this time, and has what has not ended of the entries after them
 pub record IsOpenAfter (rules : Rules) (traces : List Trace) (many clock : ℕ) (kept : OpenEntries) : Type 0 where

@@ -18,10 +18,6 @@ IsOfInputs inputs reasons.TooMany = 2 ^ 32 ≤ length inputs
 IsOfInputs inputs reasons.Memory = Unit {0}
 IsOfInputs inputs (reasons.Pool fault) = ⊥
 
--- the inputs of a record of what it took
-abbrev pub inputs_in : List (ℕ × Arrival) → List Arrival
-inputs_in past = map (λ taken. taken.1) past
-
 -- it took these inputs, and its log the traces of the run over them
 pub record IsLogged (inputs : List Arrival) (it : SequentialRun) (log : KnownTraces) : Type 0 where
   pub keeps : KeepsRules log.rules

@@ -1,7 +1,7 @@
 -- The entries that have not ended, as they are kept while a run goes on: found by their endpoints, and queued by the
 -- times at which they are looked at.
 use Rattle.std.specs.Prelude.{◌≡◌, ℕ, ◌+◌, ◌^◌, ◌<◌, ◌≤◌, ◌==◌, nat_le, Bool, true, false, ◌&&◌, cond, List, [], ◌∷◌, length, map, filter, Option, Some, None, unwrap_or}
-use Rattle.std.specs.{List.slice_get, Option.option_map, Ordering.{ordering_then, nat_cmp, bool_cmp}, declared.cmp.Ordering.Ordering}
+use Rattle.std.specs.{List.slice_get, Option.{option_and_then, option_map}, Ordering.{ordering_then, nat_cmp, bool_cmp}, declared.cmp.Ordering.Ordering}
 use Rattle.std.specs.BTreeSet as sorted
 use Rattle.std.specs.HashMap as hash
 use denote.Enum.Bare.{sameb}
@@ -16,8 +16,7 @@ use Rattle.napt_account.specs.{declared.open_entries.OpenEntries.OpenEntries, Te
 -- KEYS
 
 abbrev pub external_key : Row → ExternalKey
-external_key row =
-    record { address = row.external.address; number = row.external.number; protocol = row.protocol }
+external_key row = record { address = row.external.address; number = row.external.number; protocol = row.protocol }
 
 abbrev pub end_key_of : Option ℕ → ℕ → EndKey
 end_key_of None number = record { is_endless = true; end = 0; number = number }
@@ -50,12 +49,8 @@ open_at all x = hash.get external_eq all.by_external x
 abbrev pub listed_at : OpenEntries → ExternalKey → Option Listed
 listed_at all x = option_map (λ (o : Open). o.listed) (open_at all x)
 
-abbrev pub due_of : Option Open → Option ℕ
-due_of None = None
-due_of (Some o) = o.due
-
 abbrev pub due_at : OpenEntries → ExternalKey → Option ℕ
-due_at all x = due_of (open_at all x)
+due_at all x = option_and_then (λ (o : Open). o.due) (open_at all x)
 
 abbrev pub is_queued : OpenEntries → Due → Bool
 is_queued all due = sorted.contains due_cmp all.queue due

@@ -8,8 +8,7 @@ use Rattle.napt_account.specs.{declared.log.{Entry.Entry, Listed.Listed, Shortag
 -- entries with their numbers, in the order of making: from a number on, and from 1 on
 abbrev pub numbered_from : ℕ → List Entry → List Listed
 numbered_from number [] = []
-numbered_from number (entry ∷ entries) =
-    record { number = number; entry = entry } ∷ numbered_from (number + 1) entries
+numbered_from number (entry ∷ entries) = record { number = number; entry = entry } ∷ numbered_from (number + 1) entries
 
 abbrev pub numbered : List Entry → List Listed
 numbered entries = numbered_from 1 entries
@@ -36,8 +35,7 @@ ends_first listed other = is_sooner listed.entry.end other.entry.end
 -- put before the first that it stands before
 abbrev pub placed : Listed → List Listed → List Listed
 placed listed [] = listed ∷ []
-placed listed (other ∷ others) =
-    cond (ends_first listed other) (listed ∷ other ∷ others) (other ∷ placed listed others)
+placed listed (other ∷ others) = cond (ends_first listed other) (listed ∷ other ∷ others) (other ∷ placed listed others)
 
 abbrev pub in_order_of_end : List Listed → List Listed
 in_order_of_end [] = []

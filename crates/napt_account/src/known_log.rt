@@ -50,14 +50,14 @@ pub struct LoggedTrace {
 
 impl<'a> Model for KnownLog<'a> {
     ghost use Rattle.std.specs.Prelude.{◌≡◌, false};
-    ghost use Rattle.napt_account.specs.KnownLogs.{IsOpenAfter, KnownTraces, traces_in};
+    ghost use Rattle.napt_account.specs.KnownLogs.{IsOpenAfter, KnownTraces, taken_in};
 
     ghost Value = { KnownTraces };
 
-    ghost view = { λ it. record { rules = it.config.now; traces = traces_in it.past.items; is_stopped = it.is_stopped } };
+    ghost view = { λ it. record { rules = it.config.now; traces = taken_in it.past.items; is_stopped = it.is_stopped } };
 
     ghost invariant = { λ it. it.is_stopped ≡ false →
-        IsOpenAfter it.config.now (traces_in it.past.items) it.many it.clock it.entries };
+        IsOpenAfter it.config.now (taken_in it.past.items) it.many it.clock it.entries };
 }
 
 impl<'a> KnownLog<'a> {

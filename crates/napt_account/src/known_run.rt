@@ -43,13 +43,13 @@ pub struct LoggedStep {
 
 impl<'a> Model for KnownRun<'a> {
     ghost use Rattle.std.specs.Prelude.{◌≡◌, false};
-    ghost use Rattle.napt_account.specs.KnownRuns.{IsLogged, KnownState, inputs_in};
+    ghost use Rattle.napt_account.specs.{KnownLogs.taken_in, KnownRuns.{IsLogged, KnownState}};
 
     ghost Value = { KnownState };
 
-    ghost view = { λ it. record { rules = it.log.rules; inputs = inputs_in it.past.items; is_stopped = it.is_stopped } };
+    ghost view = { λ it. record { rules = it.log.rules; inputs = taken_in it.past.items; is_stopped = it.is_stopped } };
 
-    ghost invariant = { λ it. it.is_stopped ≡ false → IsLogged (inputs_in it.past.items) it.run it.log };
+    ghost invariant = { λ it. it.is_stopped ≡ false → IsLogged (taken_in it.past.items) it.run it.log };
 }
 
 impl<'a> KnownRun<'a> {

@@ -11,7 +11,7 @@ use Rattle.napt_rules.specs.declared.End.TheVariants as ends
 use Rattle.napt_rules.specs.declared.Outcome.TheVariants as outcomes
 use Rattle.napt_dispatch.specs.declared.dispatcher.{holding.{Front.Front, Held.{Held, TheVariants.{Ready, Place}}, Owed.Owed}, progress.Progress.Progress}
 use Rattle.napt_dispatch.specs.declared.{dispatcher.progress.Progress.TheVariants.{Awaited, Returning, Answered}, departures.Departed.Departed}
-use Rattle.napt_dispatch.specs.{declared.dispatcher.Dispatcher.Dispatcher, Dispatch.{of_worker, fresh, Distinct, IsDispatched, Right, departed, departed_of}}
+use Rattle.napt_dispatch.specs.{declared.dispatcher.Dispatcher.Dispatcher, Dispatch.{of_worker, fresh, IsDispatched, Right, departed, departed_of}}
 use Rattle.napt_dispatch.specs.{Collecting.outcome_of, Passing.timed}
 use Rattle.napt_dispatch.specs.QueueStates.{QueueState, unused, queue_of, counts_in, all_held, count_held, front_of, owed_of, first_leg, readied, answered, with_offers, with_queue, Holds, AllHold, only_at, place_at}
 use Rattle.napt_dispatch.specs.Windows.{Window, Whole, whole_of, progress_in, times_in, is_incoming, departed_with, passages_after, refused, refused_at, asked_by, first_by, NoneBehind, IsKnown, AllKnown}
@@ -538,6 +538,10 @@ single_by rules at leg first (ends.Onward place packet) n = absurd (n place pack
 from_inside : (side : Side) → way_from side ≡ Outgoing → side ≡ Inside
 from_inside Inside h = refl
 from_inside Outside h = cc
+
+-- no address occurs twice
+abbrev Distinct : List ℕ → Type 0
+Distinct pool = (i j : ℕ) → i < length pool → j < length pool → slice_index pool i ≡ slice_index pool j → i ≡ j
 
 -- by the addresses of workers as by their places
 same_test : (pool : List ℕ) → Distinct pool → (v w : ℕ) → v < length pool → w < length pool →

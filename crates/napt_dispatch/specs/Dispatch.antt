@@ -69,10 +69,6 @@ departed tells rules inputs = map (departed_of tells) (steps rules inputs)
 
 -- LEGS
 
--- no address occurs twice
-abbrev pub Distinct : List ℕ → Type 0
-Distinct pool = (i j : ℕ) → i < length pool → j < length pool → slice_index pool i ≡ slice_index pool j → i ≡ j
-
 -- THE END
 
 -- a fault of dispatching is reported before one of the pool

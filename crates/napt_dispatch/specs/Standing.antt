@@ -177,8 +177,7 @@ pub record Noted {P : Type 0} (tells : Passage → P) (w : ℕ) (told : Told P) 
 
 -- taking out the second leg of an open input, if it has one
 abbrev pub IsSecondOf : {P : Type 0} → ℕ → OpenInput P → OpenInput P → Option Leg → Type 0
-IsSecondOf number input later None =
-    (later ≡ record input { has_place = false }) × (asked number input.progress ≡ None)
+IsSecondOf number input later None = (later ≡ record input { has_place = false }) × (asked number input.progress ≡ None)
 IsSecondOf {P} number input later (Some leg) = (first : P)
     × (later ≡ record input { progress = Returning first; has_place = false })
     × (asked number input.progress ≡ Some leg) × (first_in input.progress ≡ Some first)

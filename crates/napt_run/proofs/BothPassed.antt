@@ -18,7 +18,7 @@ use Rattle.napt_sequential.specs.declared.{outcome.Stepped.Stepped, passage.{Pas
 use Rattle.napt_sequential.proofs.Joined.{steps_long, steps_ran, steps_traces}
 use Rattle.napt_run.specs.{Leaving.{AreSound, FailsToBegin, Takes, Timed}, Logging.{EntersFront, FailsOver, Legs, LogsTo, as_run, legs_told}}
 use Rattle.napt_run.specs.LeavingWithLogs.{AreSettled, FailsEither, IsSamePlace, TakesBoth, legs_in, outcomes_in}
-use Rattle.napt_run.specs.Passed.{EntersBy, EntersFirst, EntersOr, EntersTo, FailsAfter, FailsFirst, PassesBy, PassesHalted, PassesOr, PassesTo}
+use Rattle.napt_run.specs.Passed.{EntersBy, EntersFirst, EntersTo, FailsAfter, FailsFirst, PassesBy, PassesHalted, PassesOr, PassesTo, passed_as}
 use Rattle.napt_run.specs.{Runs.{IfHeld, left_of}, Streams.AreTaken, declared.leaving.{Leaving.Leaving, OutputFault.OutputFault}}
 use Rattle.napt_run.specs.declared.{leaving_with_log.{LeavingFault.{LeavingFault, TheVariants.{Output, Log}}, LeavingWithLog.LeavingWithLog}, logging.Halt.Halt}
 use Rattle.napt_run.{specs.declared.passing.Totals.Totals, proofs.{Behind.{IfHeld-by, front, taken_is, whole_is}, TraceFronts.{TraceFront, trace_front}}}
@@ -263,7 +263,7 @@ module _ {R Q W V P K E : Type 0} {G : source.Ghosts R} {H : source.Ghosts Q} {S
   fails_over fault e = record { inputs = e.first; front = held e.first e.later e.come; failed = e.failed }
 
   pub logs_to : (result : Result Totals (Halt E)) → PassesOr open_gate rules from before left after (as_run result) →
-      EntersOr tells rules HandsOut EndsWith enters fails is_settled from old left new result →
+      EntersBy tells rules HandsOut EndsWith enters fails is_settled from old left new (passed_as result) →
       LogsTo tells rules enters fails is_settled bytes others old new result
   logs_to (Ok totals) p e = record {
     inputs = e.inputs;

@@ -93,8 +93,7 @@ abbrev pub IfKnown : Option (List ℕ) → Option (List ℕ) → (List ℕ → L
 IfKnown inside outside Holds = IfSome inside (λ bytes. IfSome outside (λ others. Holds bytes others))
 
 -- it got this share of its text
-abbrev pub Gets : Rules → Which → Share → Option (List ℕ) → Option (List ℕ) → Option (List ℕ) → Option (List ℕ) →
-    Type 0
+abbrev pub Gets : Rules → Which → Share → Option (List ℕ) → Option (List ℕ) → Option (List ℕ) → Option (List ℕ) → Type 0
 Gets rules which nothing inside outside old new = new ≡ old
 Gets rules which share inside outside old new = IfKnown inside outside (λ bytes others.
     IsOkAnd (texts rules bytes others) (λ all. Receives share (text_to which all) old new))

@@ -26,10 +26,8 @@ AreSound leaving = (leaving.to_outside.is_broken ≡ false) × (leaving.to_insid
 module _ {W V : Type 0} {S : Ghosts W} {T : Ghosts V} where
   -- these left: each output has their records, and they are counted
   pub record Takes (old : Leaving W V S T) (all : List Timed) (new : Leaving W V S T) : Type 0 where
-    pub to_outside : AreTimes all →
-        Grows old.to_outside (records_text sides.Outside all) new.to_outside
-    pub to_inside : AreTimes all →
-        Grows old.to_inside (records_text sides.Inside all) new.to_inside
+    pub to_outside : AreTimes all → Grows old.to_outside (records_text sides.Outside all) new.to_outside
+    pub to_inside : AreTimes all → Grows old.to_inside (records_text sides.Inside all) new.to_inside
     pub counts : (outcomes : List Outcome) → length (outcomes ++ map (λ timed. timed.1) all) < 2 ^ 64 →
         AreCountsOf outcomes old.counts → AreCountsOf (outcomes ++ map (λ timed. timed.1) all) new.counts
 
@@ -44,8 +42,7 @@ module _ {W V : Type 0} {S : Ghosts W} {T : Ghosts V} where
   FailsBy old all Report fault new = ⊥
 
   abbrev pub Fails : Leaving W V S T → List Timed → OutputFault → Leaving W V S T → Type 0
-  Fails old all fault new = AreSound old → AreTimes all →
-      FailsBy old all fault.which fault.fault new
+  Fails old all fault new = AreSound old → AreTimes all → FailsBy old all fault.which fault.fault new
 
   -- the headers were written
   pub record Begins (old new : Leaving W V S T) : Type 0 where
@@ -56,11 +53,9 @@ module _ {W V : Type 0} {S : Ghosts W} {T : Ghosts V} where
   -- writing a header failed; the one to the outside goes first
   abbrev pub FailsToBegin : Leaving W V S T → Fault → Leaving W V S T → Type 0
   FailsToBegin old (Write Outside fault) new =
-      Breaks old.to_outside file_header fault new.to_outside
-      × (new.to_inside ≡ old.to_inside)
+      Breaks old.to_outside file_header fault new.to_outside × (new.to_inside ≡ old.to_inside)
   FailsToBegin old (Write Inside fault) new =
-      Grows old.to_outside file_header new.to_outside
-      × Breaks old.to_inside file_header fault new.to_inside
+      Grows old.to_outside file_header new.to_outside × Breaks old.to_inside file_header fault new.to_inside
   FailsToBegin old other new = ⊥
 
 -- all that left is flushed

@@ -52,10 +52,8 @@ module _ {P W V K : Type 0} {S : Ghosts W} {T : Ghosts V} where
   FailsEither enters fails old all (Log fault) new = FailsLog fails old all fault new
 
   pub both_none : (enters : K → List (Legs P) → K → Type 0) → ((x : K) → enters x [] x) →
-      (x : LeavingWithLog W V K S T) →
-      TakesBoth enters x [] x
-  both_none enters none x =
-      record { took = takes_none x.leaving; entered = none x.log.now; same = refl }
+      (x : LeavingWithLog W V K S T) → TakesBoth enters x [] x
+  both_none enters none x = record { took = takes_none x.leaving; entered = none x.log.now; same = refl }
 
   pub both_more : (enters : K → List (Legs P) → K → Type 0) → ((x y z : K) (xs ys : List (Legs P)) →
       enters x xs y → enters y ys z → enters x (xs ++ ys) z) → (x y z : LeavingWithLog W V K S T)
@@ -64,8 +62,7 @@ module _ {P W V K : Type 0} {S : Ghosts W} {T : Ghosts V} where
   both_more enters more x y z first second one two = record {
     took = subst (λ (l : List Timed). Takes x.leaving l z.leaving)
         (sym (map-append (λ left. (left.0, left.1.outcome)) first second))
-        (takes_more x.leaving y.leaving z.leaving (outcomes_in first) (outcomes_in second) one.took
-        two.took);
+        (takes_more x.leaving y.leaving z.leaving _ _ one.took two.took);
     entered = subst (λ (l : List (Legs P)). enters x.log.now l z.log.now)
         (sym (map-append (λ left. (left.1.now, left.1.first, left.1.second)) first second))
         (more x.log.now y.log.now z.log.now (legs_in first) (legs_in second) one.entered two.entered);

@@ -33,8 +33,7 @@ DeviceGetsOr S rules which inside outside result old new =
 
 -- all of it, and there are no more inputs than a log can count
 abbrev pub HasLog : Rules → Inputs → Option (List ℕ) → Option (List ℕ) → Type 0
-HasLog rules all old new =
-    IsOk all.end × (length all.arrivals < 2 ^ 62) × Appends old new (log_text rules all.arrivals)
+HasLog rules all old new = IsOk all.end × (length all.arrivals < 2 ^ 62) × Appends old new (log_text rules all.arrivals)
 
 -- the rows of the inputs before a fault of a capture, without those of what lives at the end
 abbrev pub HasRows : Rules → Side → CaptureFault → Inputs → Option (List ℕ) → Option (List ℕ) → Type 0
@@ -128,8 +127,7 @@ pub record LogIsLeft {L : Type 0} {S : Ghosts L} (rules : Rules) (inside outside
   pub gets : LogGets S rules inside outside result old.device.now new.device.now
 
 -- and then its report was written, if that was to be
-abbrev pub reported_of : {T : Type 0} → Result T LoggedFault → Result (Unit {0}) Fault →
-    Result (Unit {0}) LoggedFault
+abbrev pub reported_of : {T : Type 0} → Result T LoggedFault → Result (Unit {0}) Fault → Result (Unit {0}) LoggedFault
 reported_of (Ok given) (Ok done) = Ok done
 reported_of (Ok given) (Err fault) = Err (Run fault)
 reported_of (Err fault) written = Err fault

@@ -22,8 +22,7 @@ Legs P = ℕ × P × P
 
 -- what a run over these inputs tells of their legs
 abbrev pub legs_told : {P : Type 0} → (Passage → P) → Rules → List Arrival → List (Legs P)
-legs_told tells rules inputs =
-    map (λ trace. (trace.now, tells trace.first, tells trace.second)) (traces rules inputs)
+legs_told tells rules inputs = map (λ trace. (trace.now, tells trace.first, tells trace.second)) (traces rules inputs)
 
 module _ {P K E : Type 0} (tells : Passage → P) (rules : Rules) (enters : K → List (Legs P) → K → Type 0)
     (fails : K → List (Legs P) → E → K → Type 0) (is_settled : K → Type 0) (inside outside : Option (List ℕ))

@@ -118,19 +118,11 @@ module _ {P A F K E : Type 0} (tells : Passage → P) (rules : Rules) (hands : A
   EntersBy (Err (stops.Departure (Log fault))) = FailsFirst fault
   EntersBy (Err (stops.Run fault)) = EntersFirst ⊎ ((fault : E) × FailsFirst fault)
 
--- over captures
-module _ {P A K E : Type 0} (tells : Passage → P) (rules : Rules) (hands : A → List Arrival → A → Type 0)
-    (ends : A → Option SideFault → A → Type 0) (enters : K → List (Legs P) → K → Type 0)
-    (fails : K → List (Legs P) → E → K → Type 0) (is_settled : K → Type 0) (from : A) (old : K) (left : A)
-    (new : K) where
-  abbrev pub EntersOr : Result Totals (Halt E) → Type 0
-  EntersOr (Ok totals) = EntersTo tells rules hands ends enters fails is_settled from old left new None
-  EntersOr (Err (halts.Run (Capture side fault))) = EntersTo tells rules hands ends enters fails is_settled from old
-      left new (Some (record { side = side; fault = fault }))
-  EntersOr (Err (halts.Run (Write which fault))) =
-      EntersFirst tells rules hands ends enters fails is_settled from old left new
-  EntersOr (Err (halts.Run (Run fault))) =
-      EntersFirst tells rules hands ends enters fails is_settled from old left new
-      ⊎ ((fault : E) × FailsFirst tells rules hands ends enters fails is_settled from old left new fault)
-  EntersOr (Err (halts.Log fault)) =
-      FailsFirst tells rules hands ends enters fails is_settled from old left new fault
+-- as a run over captures ends, so does the run from their arrivals
+abbrev pub passed_as : {E : Type 0} → Result Totals (Halt E) → Result Passed (Stopped SideFault (LeavingFault E))
+passed_as (Ok totals) = Ok totals.passed
+passed_as (Err (halts.Run (Capture side fault))) = Err (stops.Arrival (record { side = side; fault = fault }))
+passed_as (Err (halts.Run (Write which fault))) =
+    Err (stops.Departure (Output (record { which = which; fault = fault })))
+passed_as (Err (halts.Run (Run fault))) = Err (stops.Run fault)
+passed_as (Err (halts.Log fault)) = Err (stops.Departure (Log fault))

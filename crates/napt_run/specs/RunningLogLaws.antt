@@ -25,10 +25,8 @@ module _ {L : Type 0} {S : Ghosts L} where
       Enters y (traces_of ys) z → Enters x (traces_of (xs ++ ys)) z
   enters_more x y z xs ys one two = subst (λ (ts : List Trace). Enters x ts z) (sym (traces_join xs ys))
       (λ rules before at.
-      let first : GoesOn rules (before ++ traces_of xs) (rows_with rules before (traces_of xs)) x y =
-      one rules before at in
-      let second : GoesOn rules ((before ++ traces_of xs) ++ traces_of ys)
-      (rows_with rules (before ++ traces_of xs) (traces_of ys)) y z = two rules (before ++ traces_of xs) first.at in
+      let first = one rules before at in
+      let second = two rules (before ++ traces_of xs) first.at in
       record {
         at = subst (λ (l : List Trace). IsAt rules l z) (append_assoc before (traces_of xs) (traces_of ys)) second.at;
         wrote = subst (λ (l : Text). Grows x.output l z.output)
@@ -59,7 +57,6 @@ module _ {L : Type 0} {S : Ghosts L} where
       Enters x (traces_of xs) y → Fails y (traces_of ys) fault z → Fails x (traces_of (xs ++ ys)) fault z
   fails_more x y z xs ys fault one two = subst (λ (ts : List Trace). Fails x ts fault z) (sym (traces_join xs ys))
       (λ rules before at.
-      let first : GoesOn rules (before ++ traces_of xs) (rows_with rules before (traces_of xs)) x y =
-      one rules before at in
+      let first = one rules before at in
       fails_by rules before (traces_of xs) (traces_of ys) x y z fault first.wrote
       (two rules (before ++ traces_of xs) first.at))

@@ -59,8 +59,7 @@ module _ {L : Type 0} {S : Ghosts L} where
     pub of_traces : IsOfTraces (before ++ first) next fault
 
   abbrev pub FailsBy : Rules → List Trace → List Trace → LoggedFault → RunningLog L S → RunningLog L S → Type 0
-  FailsBy rules before traces (Log fault) old new =
-      Breaks old.output (rows_with rules before traces) fault new.output
+  FailsBy rules before traces (Log fault) old new = Breaks old.output (rows_with rules before traces) fault new.output
   FailsBy rules before traces (Run (faults.Run fault)) old new = Halts rules before traces fault old new
   FailsBy rules before traces (Run other) old new = ⊥
 
@@ -74,8 +73,7 @@ module _ {L : Type 0} {S : Ghosts L} where
     pub on : GoesOn rules traces text old new
     pub flushed : S.is_flushed new.output.device.now
 
-  abbrev pub Adds : Rules → List Trace → Text → RunningLog L S → Result (Unit {0}) LoggedFault → RunningLog L S →
-      Type 0
+  abbrev pub Adds : Rules → List Trace → Text → RunningLog L S → Result (Unit {0}) LoggedFault → RunningLog L S → Type 0
   Adds rules traces text old (Ok done) new = Flushes rules traces text old new
   Adds rules traces text old (Err (Log fault)) new = Breaks old.output text fault new.output
   Adds rules traces text old (Err (Run (faults.Run reasons.Memory))) new = Grows old.output [] new.output

@@ -124,8 +124,7 @@ ExplainsOf all (Run other) = Unit {0}
 ExplainsOf all (Write which fault) = Unit {0}
 
 abbrev pub Explains : Option (List ℕ) → Option (List ℕ) → Fault → Type 0
-Explains inside outside fault =
-    IfKnown inside outside (λ bytes others. ExplainsOf (files_until bytes others) fault)
+Explains inside outside fault = IfKnown inside outside (λ bytes others. ExplainsOf (files_until bytes others) fault)
 
 -- a fault of the run itself
 abbrev pub IsOfRun : {T : Type 0} → Result T Fault → Type 0

@@ -2,7 +2,7 @@
 ghost use Rattle.std.specs.Prelude.{IfErr};
 ghost use Rattle.napt_dispatch.specs.Passing.{IsStoppedUnder};
 ghost use Rattle.napt_records.specs.Merged.{EndsWith, HandsOut};
-ghost use Rattle.napt_run.specs.{LeavingWithLogs.IsSamePlace, Logging.as_run, Passed.{EntersBy, EntersOr, PassesBy, PassesOr}};
+ghost use Rattle.napt_run.specs.{LeavingWithLogs.IsSamePlace, Logging.as_run, Passed.{EntersBy, PassesBy, PassesOr, passed_as}};
 
 use crate::leaving_with_log::{LeavingFault, LeavingWithLog};
 use crate::logging::{Halt, Logging};
@@ -68,8 +68,8 @@ impl<T: Threads + Wait + Copy + Send + 'static, G: Gate + Send + Sync + Drop + '
     ) -> Result<Totals, Halt<K::Fault>>
         ensures outputs { PassesOr G.is_open self.entry.config.now inputs.old both.old.leaving
             inputs.new both.new.leaving (as_run result) }
-        ensures log { EntersOr K.Told.tells self.entry.config.now HandsOut EndsWith K.enters K.fails
-            K.is_settled inputs.old both.old.log.now inputs.new both.new.log.now result }
+        ensures log { EntersBy K.Told.tells self.entry.config.now HandsOut EndsWith K.enters K.fails
+            K.is_settled inputs.old both.old.log.now inputs.new both.new.log.now (passed_as result) }
         ensures same { IsSamePlace both.old both.new }
     {
         match self.run_all(inputs, both) {

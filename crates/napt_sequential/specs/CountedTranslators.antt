@@ -93,14 +93,12 @@ gone_by way (Some row) = gone_through way row
 
 abbrev pub found_by : Timers → ℕ → List Binding → ℕ → Seen → Option Protocol → End → Passage
 found_by timers now list address seen None end = Nothing
-found_by timers now list address seen (Some protocol) (ends.ToOutside packet) =
-    gone_by Outgoing (option_map (timed timers) (by_inside timers address now protocol seen.source list))
-found_by timers now list address seen (Some protocol) (ends.Onward place packet) =
-    gone_by Outgoing (option_map (timed timers) (by_inside timers address now protocol seen.source list))
 found_by timers now list address seen (Some protocol) (ends.ToInside packet) =
     gone_by Incoming (option_map (timed timers) (by_number timers address now protocol seen.destination.number list))
 found_by timers now list address seen (Some protocol) (ends.Dropped cause) =
     Dropped (record { protocol = protocol; host = seen.source.address; cause = cause })
+found_by timers now list address seen (Some protocol) _ =
+    gone_by Outgoing (option_map (timed timers) (by_inside timers address now protocol seen.source list))
 
 abbrev pub passage_seen : ℕ → Seen → End → TranslatorState → Passage
 passage_seen now seen end state =

@@ -6,8 +6,7 @@ use napt_table::{Row, TimedRow};
 use napt_wire::{Endpoint, Protocol};
 use std::marker::Model;
 
-/// A binding that a leg went through, and its end, in half the bytes of a `TimedRow`, which contracts see: two are kept for each
-/// input under way.
+/// A binding that a leg went through, and its end, in half the bytes of the `TimedRow` that contracts see.
 #[derive(Clone, Copy, Debug, PartialEq, Eq)]
 pub struct Through {
     /// Its end in ns, in units of 2^64, and what is less than one.

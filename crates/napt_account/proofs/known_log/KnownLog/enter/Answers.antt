@@ -1,14 +1,14 @@
 use Rattle.std.{proofs.Common.{◌≡◌, ℕ, ◌+◌, ◌*◌, List, [], ◌∷◌, ◌++◌, length, length-append, refl, sym, ◌∙◌, ap, subst, arith}, specs.Prelude.filter}
 use Rattle.napt_sequential.specs.declared.passage.Trace.{Trace}
-use Rattle.napt_account.specs.{declared.log.Entry.Entry, Book.use_by_trace, KnownLogs.{IsOpenAfter, KnownTraces, traces_in}, OpenEntries.Shows}
+use Rattle.napt_account.specs.{declared.log.Entry.Entry, Book.use_by_trace, KnownLogs.{IsOpenAfter, KnownTraces, taken_in}, OpenEntries.Shows}
 use Rattle.napt_account.{specs.{Telling.{Told, numbered, ends_within, in_order_of_end}, TraceLogs.{entries_after, told_with}}, proofs.MadeLegs.trace_few}
-use Rattle.napt_account.proofs.TraceLogs.{entries_more, time_more, told_as, traces_more}
+use Rattle.napt_account.proofs.TraceLogs.{entries_more, time_more, told_as, taken_more}
 use Rattle.napt_account.proofs.known_log.KnownLog.enter.Goals as goal
 
 pub tell-requires : goal.tell-requires
 tell-requires c =
     let it = c.self.inside in
-    let before : List Trace = traces_in it.past.items in
+    let before : List Trace = taken_in it.past.items in
     let is = c.self.invariant c.if-self.false in
     let next = c.if-not-is_next.ensures.yes refl in
     let few = is.few in
@@ -25,7 +25,7 @@ tell-requires c =
 pub returns-clause-tells : goal.returns-clause-tells
 returns-clause-tells c = λ going.
     let it = c.self.inside in
-    let before : List Trace = traces_in it.past.items in
+    let before : List Trace = taken_in it.past.items in
     let is = c.self.invariant (ap (λ (v : KnownTraces). v.is_stopped) c.self.view_is ∙ going) in
     let entries : List Entry = entries_after it.config.now before in
     let most : ℕ = 2 * length before in
@@ -46,7 +46,7 @@ returns-clause-tells c = λ going.
 pub returns-clause-uses : goal.returns-clause-uses
 returns-clause-uses c = λ going.
     let it = c.self.inside in
-    let before : List Trace = traces_in it.past.items in
+    let before : List Trace = taken_in it.past.items in
     let is = c.self.invariant (ap (λ (v : KnownTraces). v.is_stopped) c.self.view_is ∙ going) in
     let entries : List Entry = entries_after it.config.now before in
     let next = c.if-not-is_next.ensures.yes refl in
@@ -58,7 +58,7 @@ pub invariant_of-self-2 : goal.invariant_of-self-2
 invariant_of-self-2 c = λ going.
     let it = c.self.inside in
     let trace : Trace = c.args.trace in
-    let before : List Trace = traces_in it.past.items in
+    let before : List Trace = taken_in it.past.items in
     let is = c.self.invariant c.if-self.false in
     let entries : List Entry = entries_after it.config.now before in
     let most : ℕ = 2 * length before in
@@ -70,7 +70,8 @@ invariant_of-self-2 c = λ going.
     let added = trace_few entries trace in
     let few = is.few in
     subst (λ (ts : List Trace). IsOpenAfter it.config.now ts (it.many + 1) trace.now c.tell.new.self)
-    (sym (ap traces_in c.and-self-inside.ensures ∙ traces_more it.past.items 0 trace)) (record {
+    (sym (ap (λ (l : List (ℕ × Trace)). taken_in l) c.and-self-inside.ensures
+    ∙ taken_more it.past.items 0 trace)) (record {
       taken = ap (λ (n : ℕ). n + 1) is.taken ∙ sym long;
       time = sym (time_more 0 before trace);
       entries = subst

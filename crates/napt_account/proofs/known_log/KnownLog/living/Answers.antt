@@ -1,11 +1,11 @@
 use Rattle.std.{proofs.Common.{◌≡◌, ◌*◌, ℕ, length, ◌∙◌, ap, subst}, specs.Prelude.filter}
-use Rattle.napt_account.specs.{KnownLogs.{KnownTraces, traces_in}, Telling.{in_order_of_end, is_open, numbered}, TraceLogs.{entries_after, living_with}}
+use Rattle.napt_account.specs.{KnownLogs.{KnownTraces, taken_in}, Telling.{in_order_of_end, is_open, numbered}, TraceLogs.{entries_after, living_with}}
 use Rattle.napt_account.proofs.known_log.KnownLog.living.Goals as goal
 
 pub returns : goal.returns
 returns c = λ going.
     let it = c.self.inside in
-    let traces = traces_in it.past.items in
+    let traces = taken_in it.past.items in
     let is = c.self.invariant (ap (λ (v : KnownTraces). v.is_stopped) c.self.view_is ∙ going) in
     subst (λ (v : KnownTraces). c.in_ok-living.living.items ≡ living_with v.rules v.traces) c.self.view_is
     (c.in_ok-living.ensures it.clock (2 * length traces) (entries_after it.config.now traces) is.entries

@@ -7,8 +7,8 @@ use Rattle.napt_sequential.specs.{SequentialRuns.StandsAfter, Traces.traces, dec
 use Rattle.napt_sequential.{specs.declared.passage.Trace.Trace, proofs.Joined.traces_long}
 use Rattle.napt_sequential.specs.SequentialRuns as sequential
 use Rattle.napt_account.specs.{declared.{account.Use.Use, known_run.LoggedStep.LoggedStep}, Book.use_by_trace, KnownLogs.KnownTraces}
-use Rattle.napt_account.specs.{KnownRuns.{KnownState, IsOfInputs, TellsLast, inputs_in}, TraceLogs.{IsNext, IsOfTraces, entries_after, told_with}, Uses.uses_of}
-use Rattle.napt_account.proofs.LoggedRuns.{inputs_more, uses_next}
+use Rattle.napt_account.specs.{KnownLogs.taken_in, KnownRuns.{KnownState, IsOfInputs, TellsLast}, TraceLogs.{IsNext, IsOfTraces, entries_after, told_with}, Uses.uses_of}
+use Rattle.napt_account.proofs.{LoggedRuns.uses_next, TraceLogs.taken_more}
 use Rattle.napt_account.proofs.known_run.KnownRun.step.Goals as goal
 
 -- a log counts further than a run, and takes each trace of it
@@ -28,7 +28,7 @@ pub returns-in_err-told : goal.returns-in_err-told
 returns-in_err-told c =
     let it = c.self.inside in
     let rules : Rules = it.log.rules in
-    let before : List Arrival = inputs_in it.past.items in
+    let before : List Arrival = taken_in it.past.items in
     let input : Arrival = c.args.input.now in
     let trace : Trace = c.in_ok-stepped.stepped.trace in
     let is = c.self.invariant c.if-self.false in
@@ -55,7 +55,7 @@ pub returns-clause-tells : goal.returns-clause-tells
 returns-clause-tells c = λ going.
     let it = c.self.inside in
     let rules : Rules = it.log.rules in
-    let before : List Arrival = inputs_in it.past.items in
+    let before : List Arrival = taken_in it.past.items in
     let input : Arrival = c.args.input.now in
     let trace : Trace = c.in_ok-stepped.stepped.trace in
     let is = c.self.invariant (ap (λ (v : KnownState). v.is_stopped) c.self.view_is ∙ going) in
@@ -80,4 +80,4 @@ returns-clause-tells c = λ going.
     })
 
 pub invariant_of-self-2 : goal.invariant_of-self-2
-invariant_of-self-2 c = grind (arith, common_steps, nat_tests, inputs_more)
+invariant_of-self-2 c = grind (arith, common_steps, nat_tests, taken_more)
