@@ -1,16 +1,14 @@
 -- What the workers are left with shows what a run gives.
-use Rattle.std.proofs.Common.{◌≡◌, ◌≢◌, ℕ, zero, suc, ◌+◌, ◌<◌, ◌≤◌, max, Bool, true, false, List, [], ◌∷◌, ◌++◌, length, map, Result, Ok, Err, refl, sym, ◌∙◌, ap, subst, arith}
-use Rattle.std.{proofs.lemmas.List.{length-map, Folds.flat_map-map}, specs.Prelude.{slice_index, slice_index_or, flat_map, IfErr, OnOk}}
+use Rattle.std.proofs.lemmas.{Grind.common_steps, Bool.Decides.nat_tests}
+use Rattle.std.proofs.Common.{◌≡◌, ℕ, zero, suc, ◌+◌, ◌<◌, ◌≤◌, max, List, [], ◌∷◌, ◌++◌, length, map, Result, Ok, refl, sym, ◌∙◌, ap, subst, arith}
+use Rattle.std.{proofs.lemmas.List.{length-map, Folds.flat_map-map}, specs.Prelude.{slice_index, slice_index_or, flat_map, OnOk}}
 use Rattle.napt_config.specs.Rules.{Rules}
 use Rattle.napt_rules.specs.{declared.Row.Row, Prelude.{of, opening, Arrival, rows_of, rows, Course, run, last_clock, legs_at, Ran, ran, Kept, kept_after_all}}
 use Rattle.napt_rules.specs.declared.{Leg.Leg, Outcome.Outcome}
 use Rattle.napt_translate.specs.Translators.{TranslatorState, begun, kept_of, with_kept, left_by}
-use Rattle.napt_pool.specs.{declared.{closing.Ended.Ended, fault.PoolFault.PoolFault}, Pools.zip_with}
-use Rattle.napt_sequential.specs.{Faults.is_gate_fault, declared.fault.RunFault.RunFault}
-use Rattle.napt_sequential.specs.declared.fault.RunFault.TheVariants as faults
+use Rattle.napt_pool.specs.{declared.closing.Ended.Ended, Pools.zip_with}
 use Rattle.napt_laws.{specs.Agreeing.IsAtOnce, proofs.RunsLocal.seen}
-use Rattle.napt_dispatch.specs.Dispatch.{started, of_worker, fresh, rows_after, IsFaultUnder, IsDispatched, first_fault}
-use Rattle.napt_dispatch.proofs.Ended.{zip_index, zip_long, length_started, started_at}
+use Rattle.napt_dispatch.{specs.Dispatch.{started, of_worker, fresh, rows_after, IsDispatched}, proofs.Ended.{zip_index, zip_long, length_started, started_at}}
 
 -- LISTS
 
@@ -47,8 +45,7 @@ module _ (f : TranslatorState → List Leg → TranslatorState) where
       (last : ℕ) (bindings : List Row) →
       starts ≡ started rules (length rules.pool) → machines ≡ zip_with f starts accepts →
       IsDispatched rules inputs accepts outcomes numbers → last ≡ last_clock 0 inputs →
-      bindings ≡ flat_map (rows_after last) machines →
-      ((s : TranslatorState) → f s [] ≡ s) →
+      bindings ≡ flat_map (rows_after last) machines → ((s : TranslatorState) → f s [] ≡ s) →
       ((s : TranslatorState) (leg : Leg) (legs : List Leg) → f s (leg ∷ legs) ≡ f (left_by leg s) legs) →
       (let r : Ran = record { outcomes = outcomes; bindings = bindings; legs = numbers } in r ≡ ran rules inputs)
   unfolding ran
@@ -66,8 +63,7 @@ module _ (f : TranslatorState → List Leg → TranslatorState) where
       let all : flat_map (rows_after last) machines ≡ at_last =
       ap (flat_map (rows_after last)) states_are
       ∙ flat_each (rows_after last) (λ (address : ℕ). rows rules.timers (last_clock 0 inputs) (of address course.list))
-      states rules.pool (begun 0 rules) (zip_long f (started rules n) give (long ∙ sym long_give)
-      ∙ long_give)
+      states rules.pool (begun 0 rules) (zip_long f (started rules n) give (long ∙ sym long_give) ∙ long_give)
       (λ w lt.
       let address : ℕ = slice_index rules.pool w in
       let legs : List Leg = legs_at address course.acts in
@@ -93,34 +89,9 @@ started_more rules n = let e : n + 1 ≡ suc n = omega arith in ap (started rule
 pub rows_shown : {A : Type 0} (last : ℕ) (bindings : List Row) (ended lent : List (Ended TranslatorState Leg A)) →
     bindings ≡ flat_map (λ e. rows_after last e.machine) lent → lent ≡ ended →
     bindings ≡ flat_map (rows_after last) (map (λ e. e.machine) ended)
-rows_shown {A} last bindings ended lent is same =
-    is ∙ (ap (flat_map (λ (e : Ended TranslatorState Leg A). rows_after last e.machine)) same
-    ∙ sym (flat_map-map (rows_after last) (λ (e : Ended TranslatorState Leg A). e.machine) ended))
+rows_shown last bindings ended lent is same = grind (arith, common_steps, nat_tests, flat_map-map)
 
 -- FAULTS
 
-pub not_too_many : {X : Type 0} (gate : Bool) (r : Result X RunFault) → IfErr r (IsFaultUnder gate) →
-    r ≢ Err faults.TooMany
-not_too_many gate (Ok x) h e = cc
-not_too_many gate (Err faults.Memory) h e = cc
-not_too_many gate (Err faults.TooMany) h e = h
-not_too_many gate (Err (faults.Pool fault)) h e = cc
-
-pub not_shut : {X : Type 0} (gate : Bool) (r : Result X RunFault) → IfErr r (IsFaultUnder gate) → gate ≡ true →
-    IfErr r (λ fault. is_gate_fault fault ≡ false)
-not_shut gate (Ok x) h e = tt
-not_shut gate (Err faults.Memory) h e = refl
-not_shut gate (Err faults.TooMany) h e = refl
-not_shut gate (Err (faults.Pool fault)) h e = h e
-
 pub on_ok_at : {T E P : Type 0} (result : Result T E) (value : T) → result ≡ Ok value → OnOk result P → P
 on_ok_at {P = P} result value is holds = subst (λ (r : Result _ _). OnOk r P) is holds
-
--- where no fault is told there was none
-pub both_ended : {D C : Type 0} (dispatched : Result D RunFault) (closed : Result C PoolFault) (done : D) (ended : C)
-    → Ok (done, ended) ≡ first_fault dispatched closed → (dispatched ≡ Ok done) × (closed ≡ Ok ended)
-both_ended (Ok made) (Ok left) done ended is =
-    let same : (let both : _ × _ = (done, ended) in both) ≡ (made, left) = cc (is) in
-    (ap (λ both. Ok both.0) (sym same), ap (λ both. Ok both.1) (sym same))
-both_ended (Ok made) (Err fault) done ended is = absurd (cc (is))
-both_ended (Err fault) closed done ended is = absurd (cc (is))

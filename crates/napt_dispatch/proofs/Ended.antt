@@ -1,5 +1,6 @@
 -- What the end of a dispatch tells.
-use Rattle.std.proofs.Common.{◌≡◌, ℕ, zero, suc, ◌+◌, ◌<◌, List, [], ◌∷◌, ◌++◌, length, map, refl, sym, ap, ◌∙◌, arith, append-nil, length-append, inl, inr}
+use Rattle.std.proofs.lemmas.{Grind.common_steps, Bool.Decides.nat_tests}
+use Rattle.std.proofs.Common.{◌≡◌, ℕ, zero, suc, ◌<◌, List, [], ◌∷◌, length, map, refl, sym, ap, ◌∙◌, arith, append-nil, length-append, inl, inr}
 use Rattle.std.{specs.Prelude.{slice_index, slice_index_or}, proofs.{lemmas.Bool.cases_eq, Math.{ListN.get_or-append, Seq.get_or-append_seam}}}
 use Rattle.napt_config.specs.Rules.{Rules}
 use Rattle.napt_rules.specs.declared.Leg.{Leg}
@@ -52,11 +53,7 @@ begin_at (x ∷ xs) (y ∷ ys) (suc w) lt all = begin_at xs ys w (omega arith) a
 
 pub length_started : (rules : Rules) (n : ℕ) → length (started rules n) ≡ n
 length_started rules zero = refl
-length_started rules (suc n) =
-    let front : length (started rules n) ≡ n = length_started rules n in
-    let parts : length (started rules n ++ begun n rules ∷ []) ≡ length (started rules n) + 1 =
-    length-append (started rules n) (begun n rules ∷ []) in
-    omega arith
+length_started rules (suc n) = grind (arith, common_steps, nat_tests, length-append, length_started rules n)
 
 pub started_at : (rules : Rules) (n w : ℕ) (d : TranslatorState) → w < n → slice_index_or (started rules n) w d
     ≡ begun w rules

@@ -1,6 +1,6 @@
 -- What a run from arrivals to departures comes to.
-use Rattle.std.proofs.Common.{◌≡◌, ℕ, Bool, false, inr, List, [], ◌++◌, length, replicate, Option, Some, None, MatchOption, refl, sym, ◌∙◌, ap, subst, arith, append-nil}
-use Rattle.std.proofs.lemmas.List.{length-map}
+use Rattle.std.proofs.lemmas.{Grind.common_steps, Bool.Decides.nat_tests, List.length-map}
+use Rattle.std.proofs.Common.{◌≡◌, ℕ, Bool, false, inr, List, [], ◌++◌, length, replicate, Option, MatchOption, refl, sym, ◌∙◌, ap, subst, arith, append-nil}
 use Rattle.napt_config.specs.Rules.{Rules}
 use Rattle.napt_rules.specs.{Prelude.Arrival, declared.Leg.Leg}
 use Rattle.napt_laws.specs.Dispatching.{IsFront}
@@ -45,8 +45,7 @@ module _ {P : Type 0} {tells : Passage → P} {A F S B M G : Type 0} {rules : Ru
       MatchOption fault (ending ≡ endings.Whole) (λ f. ending ≡ endings.Arrival f) →
       EndsWith tells rules hands ends takes fails is_settled from before later_pool left after fault done →
       EndsBy tells rules hands ends takes fails is_settled from before later_pool left after done ending
-  ends_by done None ending is e = rw is e
-  ends_by done (Some f) ending is e = rw is e
+  ends_by done fault ending is e = grind (arith, common_steps, nat_tests)
 
   module _ (pool : Pool M G Leg (Told P)) (d : Dispatcher P) {later : Dispatcher P}
       (begun : (inputs : List Arrival) → Stands tells rules [] inputs (state_of pool d)) where
@@ -100,8 +99,7 @@ module _ {P : Type 0} {tells : Passage → P} {A F S B M G : Type 0} {rules : Ru
     -- and where there was a fault of dispatching
     pub ends_halted : (open_gate : Bool) (fault : RunFault) →
         ReadsToHalt tells rules hands ends takes fails is_settled pool d from before later_pool later left after
-        open_gate fault →
-        EndsHalted tells rules hands ends takes fails is_settled from before later_pool left after
+        open_gate fault → EndsHalted tells rules hands ends takes fails is_settled from before later_pool left after
     ends_halted open_gate fault r =
         let all : List Arrival = r.inputs ++ r.unread in
         let s : Stands tells rules r.inputs all (state_of r.last_pool r.last) = r.reads.served r.unread (begun all) in

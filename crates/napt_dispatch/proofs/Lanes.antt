@@ -1,6 +1,6 @@
 -- The lists of all workers, by the number of the worker.
+use Rattle.std.{proofs.lemmas.{Grind.common_steps, Bool.{Decides.nat_tests, cases_eq, eq-eqb, ne_eqb}}, specs.Prelude.{slice_index, slice_set, slice_get}}
 use Rattle.std.proofs.Common.{◌≡◌, ◌≢◌, ℕ, zero, suc, ◌<◌, ◌==◌, Bool, true, false, cond, subst, List, [], ◌∷◌, ◌++◌, length, Some, refl, sym, ◌∙◌, ap, arith, inl, inr, append-nil, append_assoc}
-use Rattle.std.{specs.Prelude.{slice_index, slice_set, slice_get}, proofs.lemmas.Bool.{cases_eq, eq-eqb, ne_eqb}}
 use Rattle.std.proofs.lemmas.List.{get_or-set_same, get_or-set_other, length-map}
 use Rattle.napt_rules.specs.declared.Leg.{Leg}
 use Rattle.napt_pool.specs.{declared.pool.Pool.Pool, Pools.{starts, accepts, takes}}
@@ -37,13 +37,10 @@ module _ {X : Type 0} (w : ℕ) (xs : List X) (lists : ℕ → List X) where
       [ true ↦ (xs, refl) | false ↦ front_none (lists v) ]
 
   pub added_more : (ys : List X) → added w (xs ++ ys) lists ≡ added w ys (added w xs lists)
-  added_more ys = everywhere (λ v. elim (v == w) as (λ b. cond b (lists v ++ (xs ++ ys)) (lists v)
-      ≡ cond b (cond b (lists v ++ xs) (lists v) ++ ys) (cond b (lists v ++ xs) (lists v)))
-      [ true ↦ sym (append_assoc (lists v) xs ys) | false ↦ refl ])
+  added_more ys = grind (arith, common_steps, nat_tests, everywhere, append_assoc)
 
 pub added_none : {X : Type 0} (w : ℕ) (lists : ℕ → List X) → added w [] lists ≡ lists
-added_none w lists = everywhere (λ v. elim (v == w) as (λ b. cond b (lists v ++ []) (lists v) ≡ lists v)
-    [ true ↦ append-nil (lists v) | false ↦ refl ])
+added_none w lists = grind (arith, common_steps, nat_tests, everywhere, append-nil)
 
 -- the same in a list of the lists
 pub set_added : {X : Type 0} (lists : List (List X)) (w : ℕ) (xs : List X) → w < length lists →
@@ -59,11 +56,7 @@ set_added lists w xs lt = everywhere (λ v. elim (cases_eq v w) [
 module _ {P M G : Type 0} where
   pub grows_not : {pool later_pool : Pool M G Leg (Told P)} → starts later_pool ≡ starts pool →
       accepts later_pool ≡ accepts pool → takes later_pool ≡ takes pool → Grows pool later_pool
-  grows_not {pool} began offered taken = record {
-    starts_stay = began;
-    offered = λ w. rw offered (front_none (of_worker (accepts pool) w));
-    taken = λ w. rw taken (front_none (of_worker (takes pool) w));
-  }
+  grows_not began offered taken = grind (arith, common_steps, nat_tests, front_none)
 
   pub grows_none : (pool : Pool M G Leg (Told P)) → Grows pool pool
   grows_none pool = grows_not refl refl refl

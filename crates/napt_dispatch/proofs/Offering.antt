@@ -1,17 +1,15 @@
 -- What is true of a worker after legs were offered and answers taken.
-use Rattle.std.proofs.Common.{◌≡◌, ◌≢◌, ◌⊎◌, ◌||◌, ℕ, zero, suc, ◌+◌, ◌<◌, ◌≤◌, min, Bool, true, false, List, [], ◌∷◌, ◌++◌, length, map, take, drop, length-append, length-drop, take-append-drop, Option, Some, None, refl, sym, ◌∙◌, ap, subst, arith, inl, inr}
-use Rattle.std.{specs.Prelude.slice_set, proofs.lemmas.{Bool.cases_lt, List.length-map}}
+use Rattle.std.{proofs.lemmas.{Grind.common_steps, Bool.{Decides.nat_tests, cases_lt}, List.length-map}, specs.Prelude.slice_set}
+use Rattle.std.proofs.Common.{◌≡◌, ◌≢◌, ◌⊎◌, ◌||◌, ℕ, zero, suc, ◌+◌, ◌<◌, ◌≤◌, min, Bool, true, false, List, [], ◌∷◌, ◌++◌, length, map, take, drop, length-append, length-drop, take-append-drop, Option, refl, sym, ◌∙◌, ap, subst, arith}
 use Rattle.napt_rules.specs.{Prelude.{opening, run}, declared.Leg.Leg}
 use Rattle.napt_pool.specs.{declared.pool.Pool.Pool, Pools.{starts, accepts, takes, capacity_of}}
 use Rattle.napt_dispatch.specs.declared.dispatcher.{Dispatcher.Dispatcher, holding.{Front.Front, Held.TheVariants.Ready}, progress.Progress.Progress}
-use Rattle.napt_dispatch.specs.{declared.dispatcher.progress.Progress.TheVariants.{Returning, Answered}, Dispatch.of_worker}
-use Rattle.napt_dispatch.specs.QueueStates.{QueueState, queue_of, all_held, many_owed, front_of, readied, answered, with_offers, with_queue}
+use Rattle.napt_dispatch.specs.{declared.{dispatcher.progress.Progress.TheVariants.{Returning, Answered}, departures.Departed.Departed}, Dispatch.of_worker}
+use Rattle.napt_dispatch.specs.QueueStates.{QueueState, queue_of, many_owed, front_of, readied, answered, with_offers, with_queue}
 use Rattle.napt_dispatch.specs.Windows.{Window, progress_in, IsWritten, IsMarked}
 use Rattle.napt_dispatch.specs.Standing.{Journal, journal_of, state_with, state_of, added, Keeps, KeepsAt, IsSizedFor, Continues, Noted, NotesAll, Forgets, IsSame, Resolves, waits, waits_behind, Readies, HasTaken, HasOffered, OffersOnlyTo, MovesLegsAt}
 use Rattle.napt_dispatch.proofs.Lanes.{grows_none, added_own, added_other, added_none, added_more, set_added}
 use Rattle.napt_dispatch.proofs.{QueueStates.{queue_own, queue_other, sum_with, nothing}, Standing.{queues_keep, offers_keep, readied_keeps, answer_keeps}}
-use Rattle.napt_dispatch.specs.declared.departures.Departed.{Departed}
-use Rattle.napt_dispatch.specs.declared.dispatcher.holding.Front.TheVariants as fronts
 use Rattle.napt_sequential.specs.declared.{telling.Told.Told, passage.Passage.Passage}
 
 -- WHAT STANDS FIRST
@@ -39,31 +37,15 @@ set_forgets (p ∷ ps) (suc number) first (suc i) h = set_forgets ps number firs
 resolved_on : {P : Type 0} (front : Front) (second : Option Leg) (window later : Window P) →
     Resolves front window second later →
     (journal_of later ≡ journal_of window) × Forgets (progress_in window) (progress_in later)
-resolved_on fronts.Nothing second window later is = (ap journal_of is, λ n h. rw is h)
-resolved_on fronts.FirstLeg second window later is = (ap journal_of is, λ n h. rw is h)
-resolved_on (fronts.FirstPlace number) None window later is =
-    (marked_same number false window later is.0, λ n h. rw is.0.progress_stays h)
-resolved_on (fronts.FirstPlace number) (Some leg) window later is = (
-  written_same number (Returning is.first) window later is.written,
-  rw is.written.progress_is (set_forgets (progress_in window) number is.first),
-)
+resolved_on front second window later is =
+    grind (arith, common_steps, nat_tests, marked_same, written_same, set_forgets)
 
 -- OFFERS
 
 -- what waits goes on waiting
 waits_on : {P : Type 0} (progress later : List (Progress P)) (front : Front) → Forgets progress later →
     waits progress front ≡ true → waits later front ≡ true
-waits_on progress later fronts.Nothing forgets h = refl
-waits_on progress later fronts.FirstLeg forgets h = h
-waits_on progress later (fronts.FirstPlace number) forgets h = forgets number h
-
-pub readies_none : {P : Type 0} {tells : Passage → P} (w : ℕ) (d : Dispatcher P) → Readies tells w d d
-readies_none w d = record {
-  journal_stays = refl;
-  keeps = λ offered taken rules done all s. s;
-  others = λ v n. refl;
-  forgets = λ number h. h;
-}
+waits_on progress later front forgets h = grind (arith, common_steps, nat_tests)
 
 pub readies_first : {P : Type 0} {tells : Passage → P} (w : ℕ) (d later : Dispatcher P) (second : Option Leg) →
     w < length d.queues →
@@ -97,23 +79,13 @@ readies_moved w d later within same m = record {
 
 pub readies_both : {P : Type 0} {tells : Passage → P} {w : ℕ} {d mid later : Dispatcher P} → Readies tells w d mid →
     Readies tells w mid later → Readies tells w d later
-readies_both a b = record {
-  journal_stays = b.journal_stays ∙ a.journal_stays;
-  keeps = λ offered taken rules done all s.
-      b.keeps offered taken rules done all (a.keeps offered taken rules done all s);
-  others = λ v n. b.others v n ∙ a.others v n;
-  forgets = λ number h. b.forgets number (a.forgets number h);
-}
+readies_both a b = grind (arith, common_steps, nat_tests)
 
 -- a message of as many legs as there are and as fit takes the ring's room, or all that can be offered
 pub offers_all : {P : Type 0} (progress : List (Progress P)) (q : QueueState) (most count : ℕ) →
     count ≡ min (length q.ready) most → (waits progress (front_of q.held) ≡ true) ⊎ (most ≤ length q.ready) →
     (waits progress (front_of (map (λ leg. Ready leg) (drop count q.ready) ++ q.held)) ≡ true) ⊎ (count ≡ most)
-offers_all progress q most count is (inr full) = inr (omega (arith, is, full))
-offers_all progress q most count is (inl goes) = elim (cases_lt (length q.ready) most) [
-  | inl lt ↦ inl (rw (nothing (drop count q.ready) (omega (arith, is, lt, length-drop count q.ready))) goes)
-  | inr le ↦ inr (omega (arith, is, le))
-]
+offers_all progress q most count is full = grind (arith, common_steps, nat_tests, cases_lt, nothing, length-drop)
 
 module _ {P M G : Type 0} where
   pub over_pool : {tells : Passage → P} {pool later_pool : Pool M G Leg (Told P)} {d later : Dispatcher P} →
@@ -126,10 +98,7 @@ module _ {P M G : Type 0} where
       (all : (waits_behind mid w ≡ true) ⊎ (most ≤ length (queue_of mid.queues w).ready)) where
     -- nothing could be sent
     pub none_sent : 0 ≡ min (length (queue_of mid.queues w).ready) most → HasOffered pool mid w
-    none_sent none = elim (offers_all (progress_in mid.progress) (queue_of mid.queues w) most 0 none all) [
-      | inl waits ↦ inl waits
-      | inr full ↦ inr (omega (arith, room, full))
-    ]
+    none_sent none = grind (arith, common_steps, nat_tests, offers_all)
 
     pub none_continue : IsSizedFor pool mid → Continues tells pool d pool mid
     none_continue sized = record {
@@ -141,15 +110,7 @@ module _ {P M G : Type 0} where
     }
 
     pub none_alone : OffersOnlyTo w pool d pool mid
-    none_alone = record {
-      capacity_stays = refl;
-      others = λ v n i. record {
-        offered = of_worker (accepts pool) v;
-        taken = of_worker (takes pool) v;
-        queue = r.others v n i;
-      };
-      forgets = r.forgets;
-    }
+    none_alone = grind (arith, common_steps, nat_tests)
 
     -- legs were sent
     module _ (legs : List Leg) (later_pool : Pool M G Leg (Told P)) (later : Dispatcher P)
@@ -158,8 +119,7 @@ module _ {P M G : Type 0} where
         (accepted : accepts later_pool ≡ slice_set (accepts pool) w (of_worker (accepts pool) w ++ legs))
         (took : takes later_pool ≡ takes pool) where
       offered_now : of_worker (accepts later_pool) ≡ added w legs (of_worker (accepts pool))
-      offered_now = ap of_worker accepted
-          ∙ set_added (accepts pool) w legs (rw length-map (rw length-map at within))
+      offered_now = ap of_worker accepted ∙ set_added (accepts pool) w legs (rw length-map (rw length-map at within))
 
       offered_own : of_worker (accepts later_pool) w ≡ of_worker (accepts pool) w ++ legs
       offered_own = ap (λ f. f w) offered_now ∙ added_own w legs (of_worker (accepts pool))
@@ -168,16 +128,7 @@ module _ {P M G : Type 0} where
       offered_other v n = ap (λ f. f v) offered_now ∙ added_other w legs (of_worker (accepts pool)) v n
 
       pub only_sent : capacity_of later_pool ≡ capacity_of pool → OffersOnlyTo w pool d later_pool later
-      only_sent capacity = record {
-        capacity_stays = capacity;
-        others = λ v n i. record {
-          offered = offered_other v n i;
-          taken = ap (λ lists. of_worker lists v) took i;
-          queue = (ap (λ qs. queue_of qs v) queues
-              ∙ (queue_other mid.queues w (with_offers legs) v n ∙ r.others v n)) i;
-        };
-        forgets = λ number h. rw same (r.forgets number h);
-      }
+      only_sent capacity = grind (arith, common_steps, nat_tests, offered_other, queue_other)
 
       pub sent_keeps : (count : ℕ) → legs ≡ take count (queue_of mid.queues w).ready → length legs ≡ count →
           Keeps tells (state_of pool d) (state_of later_pool later)
@@ -195,36 +146,18 @@ module _ {P M G : Type 0} where
       pub sent_all : length legs ≡ min (length (queue_of mid.queues w).ready) most →
           capacity_of later_pool ≡ capacity_of pool → HasOffered later_pool later w
       sent_all count capacity =
-          elim (offers_all (progress_in mid.progress) (queue_of mid.queues w) most (length legs) count all) [
-            | inl waits ↦ inl (rw (queues, queue_own mid.queues w (with_offers legs) inside, same) waits)
-            | inr full ↦
-                let long = ap length offered_own ∙ length-append (of_worker (accepts pool) w) legs in
-                let took_long = ap (λ lists. length (of_worker lists w)) took in
-                inr (omega (arith, long, took_long, capacity, room, full))
-          ]
+          grind (arith, common_steps, nat_tests, offers_all, queue_own, offered_own, length-append)
 
   -- what was offered all that it can be still is after offers to another worker
   pub offered_still : (w : ℕ) (pool : Pool M G Leg (Told P)) (d : Dispatcher P) (later_pool : Pool M G Leg (Told P))
       (later : Dispatcher P) → OffersOnlyTo w pool d later_pool later → (v : ℕ) → v ≢ w → HasOffered pool d v →
       HasOffered later_pool later v
-  offered_still w pool d later_pool later o v n (inl h) =
-      inl (ap (λ lane. waits (progress_in later.progress) (front_of (all_held lane.queue))) (o.others v n)
-      ∙ waits_on (progress_in d.progress) (progress_in later.progress) (front_of (all_held (queue_of d.queues v)))
-      o.forgets h)
-  offered_still w pool d later_pool later o v n (inr full) =
-      inr (ap (λ lane. length lane.offered) (o.others v n)
-      ∙ (full ∙ (ap (λ c. length (of_worker (takes pool) v) + c) (sym o.capacity_stays)
-      ∙ ap (λ lane. length lane.taken + capacity_of later_pool) (sym (o.others v n)))))
+  offered_still w pool d later_pool later o v n full = grind (arith, common_steps, nat_tests, waits_on)
 
 -- ANSWERS
 
 pub notes_none : {P : Type 0} {tells : Passage → P} (w : ℕ) (d : Dispatcher P) → NotesAll tells w [] d d
-notes_none {P} {tells} w d = record {
-  journal_stays = refl;
-  keeps = λ offered taken. subst
-      (λ (f : ℕ → List (Told P)). Keeps tells (state_with offered taken d) (state_with offered f d))
-      (sym (added_none w taken)) (λ rules done all s. s);
-}
+notes_none w d = grind (arith, common_steps, nat_tests, added_none)
 
 module _ {P : Type 0} {tells : Passage → P} (w : ℕ) (told : Told P) (mid later : Dispatcher P)
     (within : w < length mid.queues) (n : Noted tells w told mid later) where
@@ -248,13 +181,7 @@ module _ {P : Type 0} {tells : Passage → P} (w : ℕ) (told : Told P) (mid lat
 
   -- fewer are owed
   pub noted_less : many_owed later.queues + 1 ≡ many_owed mid.queues
-  noted_less =
-      let all = sum_with mid.queues w answered (λ q. length q.owed) within in
-      let one : length (queue_of mid.queues w).owed ≡ suc (length (drop 1 (queue_of mid.queues w).owed)) =
-      ap length n.answers.first in
-      let now : many_owed later.queues ≡ many_owed (with_queue w answered mid.queues) =
-      ap many_owed n.answers.later_is in
-      omega (arith, all, one, now)
+  noted_less = grind (arith, common_steps, nat_tests, sum_with)
 
 -- answers were taken from the pool and noted
 pub answered_keeps : {P : Type 0} {tells : Passage → P} {M G : Type 0} (w : ℕ) (answers : List (Told P))
@@ -266,8 +193,7 @@ answered_keeps {P} {tells} w answers pool d later_pool later within same took n 
     let taken_now : of_worker (takes later_pool) ≡ added w answers (of_worker (takes pool)) =
     ap of_worker took ∙ set_added (takes pool) w answers (rw length-map (rw length-map at within)) in
     subst (λ (f : ℕ → List (Told P)). Keeps tells (state_of pool d) (state_with (of_worker (accepts later_pool)) f
-    later))
-    (sym taken_now)
+    later)) (sym taken_now)
     (subst (λ (lists : List (List Leg)). Keeps tells (state_of pool d) (state_with (of_worker lists)
     (added w answers (of_worker (takes pool))) later)) (sym same)
     (n.keeps (of_worker (accepts pool)) (of_worker (takes pool))))
@@ -275,10 +201,7 @@ answered_keeps {P} {tells} w answers pool d later_pool later within same took n 
 -- some were taken after others, or none
 pub taken_more : {P : Type 0} (d mid later : Dispatcher P) (any more both : Bool) → both ≡ (more || any) →
     HasTaken d mid any → HasTaken mid later more → HasTaken d later both
-taken_more d mid later true true both e a b = rw e (omega arith)
-taken_more d mid later false true both e a b = rw e (rw a.0 at b)
-taken_more d mid later true false both e a b = rw (e, b.0) a
-taken_more d mid later false false both e a b = rw e (b.0 ∙ a.0, b.1 ∙ a.1)
+taken_more d mid later any more both e a b = grind (arith, common_steps, nat_tests)
 
 pub taken_on : {P : Type 0} (d mid later : Dispatcher P) (any more : Bool) → more ≡ true → HasTaken d mid any →
     HasTaken mid later more → HasTaken d later true

@@ -1,36 +1,29 @@
 -- Runs from arrivals to departures, step by step.
+use Rattle.std.{proofs.lemmas.{Grind.common_steps, Bool.Decides.nat_tests, List.{map-append, length-map}}, specs.Prelude.slice_get}
 use Rattle.std.proofs.Common.{◌≡◌, ℕ, max, Bool, List, [], ◌∷◌, ◌++◌, length, map, Option, Some, Result, Ok, Err, refl, sym, ◌∙◌, ap, subst, arith, append-nil, append_assoc}
-use Rattle.std.{specs.Prelude.slice_get, proofs.lemmas.List.{map-append, length-map}}
-use Rattle.napt_wire.specs.declared.{Way.Way, Side.{Side, TheVariants.{Inside, Outside}}}
+use Rattle.napt_wire.specs.declared.{Way.Way, Side.Side}
 use Rattle.napt_config.specs.Rules.{Rules}
 use Rattle.napt_rules.specs.{declared.Leg.Leg, Prelude.{opening, way_from, Arrival, run, last_clock}}
 use Rattle.napt_pool.specs.{declared.pool.Pool.Pool, Pools.{accepts, takes as taken}}
 use Rattle.napt_sequential.{specs.{Inputs.Came, declared.{fault.RunFault.RunFault, passage.Passage.Passage}}, proofs.{Joined.input_there, Traced.outside_alone}}
 use Rattle.napt_sequential.specs.declared.telling.Told.{Told}
 use Rattle.napt_laws.{specs.Places.second_legs, proofs.Grown.clock_more}
-use Rattle.napt_dispatch.specs.declared.dispatcher.Dispatcher.{Dispatcher}
-use Rattle.napt_dispatch.specs.{Windows.{Window, IsHandedOver, times_in, progress_in, expecting, NoneBehind, whole_of}, QueueStates.many_held}
-use Rattle.napt_dispatch.specs.Dispatch.{of_worker}
+use Rattle.napt_dispatch.specs.{declared.{dispatcher.Dispatcher.Dispatcher, departures.Departed.Departed}, Dispatch.of_worker}
+use Rattle.napt_dispatch.specs.Windows.{Window, IsHandedOver, times_in, progress_in, expecting, NoneBehind, whole_of}
 use Rattle.napt_dispatch.specs.Standing.{journal_of, state_of, IsSizedFor, Stands, Continues, ContinuesOr, HaltsBy, Admits, HasRoom, IsDone}
 use Rattle.napt_dispatch.proofs.{QueueStates.held_none, Lanes.{grows_none, grows_both, halts_after}, Standing.known_stands}
 use Rattle.napt_dispatch.{proofs.Windows.{known_push, times_long, expecting_times, expecting_progress}, specs.declared.stopped.Halted.Halted}
 use Rattle.napt_dispatch.specs.declared.dispatcher.{reading.EndOfInputs.EndOfInputs, progress.Progress.TheVariants.Awaited}
 use Rattle.napt_dispatch.specs.Passing.{Fails, GoesOn, LetsGo, HaltsIn, HaltsAt, Serves, Reads, HasCome, ReadsToEnd, ReadsHalted}
-use Rattle.napt_dispatch.specs.declared.departures.Departed.{Departed}
 use Rattle.napt_dispatch.specs.declared.stopped.Halted.TheVariants as halts
 
 pub many_read : {P : Type 0} (d : Dispatcher P) (inputs : List Arrival) →
     times_in d.progress ≡ map (λ i. i.time) inputs → length inputs ≡ length (progress_in d.progress)
-many_read d inputs times =
-    let one : length (map (λ (i : Arrival). i.time) inputs) ≡ length inputs =
-    length-map inputs (λ (i : Arrival). i.time) in
-    let two : length (times_in d.progress) ≡ length (progress_in d.progress) = times_long d.progress in
-    sym one ∙ (sym (ap length times) ∙ two)
+many_read d inputs times = grind (arith, common_steps, nat_tests, length-map, times_long)
 
 pub clock_on : (inputs : List Arrival) (input : Arrival) (clock own now : ℕ) → clock ≡ last_clock 0 inputs →
     own ≡ input.clock → now ≡ max clock own → now ≡ last_clock 0 (inputs ++ input ∷ [])
-clock_on inputs input clock own now was same is =
-    is ∙ (ap (λ t. max t own) was ∙ (ap (max (last_clock 0 inputs)) same ∙ sym (clock_more 0 inputs input)))
+clock_on inputs input clock own now was same is = grind (arith, common_steps, nat_tests, clock_more)
 
 -- OVER A POOL
 
@@ -38,20 +31,12 @@ clock_on inputs input clock own now was same is =
 none_behind : (rules : Rules) (all : List Arrival) (number : ℕ) (input : Arrival) →
     slice_get all number ≡ Some input → (side : Side) → input.side ≡ side →
     NoneBehind (way_from input.side) (second_legs number (run rules all (opening rules)).acts)
-none_behind rules all number input there Inside is = rw is tt
-none_behind rules all number input there Outside is = rw is (outside_alone rules all number input there is)
+none_behind rules all number input there side is = grind (arith, common_steps, nat_tests, outside_alone)
 
 module _ {P M G : Type 0} {tells : Passage → P} where
   -- nothing was done
   pub goes_none : {pool : Pool M G Leg (Told P)} {d : Dispatcher P} → IsSizedFor pool d → GoesOn tells pool d [] pool d
-  goes_none {pool} {d} sized = record {
-    starts_stay = refl;
-    grows = grows_none pool;
-    sized = sized;
-    times_stay = refl;
-    left_is = sym (append-nil d.progress.left);
-    keeps = λ rules done all s. s;
-  }
+  goes_none sized = grind (arith, common_steps, nat_tests, grows_none, append-nil)
 
   -- outcomes left, and nothing else was done
   pub goes_over : (pool : Pool M G Leg (Told P)) (d later : Dispatcher P) (went : List (ℕ × Departed P)) →
@@ -148,14 +133,7 @@ module _ {P M G : Type 0} {tells : Passage → P} where
 
   pub reads_none : (rules : Rules) (pool : Pool M G Leg (Told P)) (d : Dispatcher P) → IsSizedFor pool d →
       d.progress.left ≡ [] → d.progress.under_way ≡ [] → Reads tells rules pool d [] [] pool d
-  reads_none rules pool d sized left none = record {
-    starts_stay = refl;
-    grows = grows_none pool;
-    sized = sized;
-    times_are = rw (left, none) refl;
-    left_is = left;
-    served = λ rest s. s;
-  }
+  reads_none rules pool d sized left none = grind (arith, common_steps, nat_tests, grows_none)
 
   module _ {rules : Rules} {pool mid_pool later_pool : Pool M G Leg (Told P)} {d mid later : Dispatcher P}
       {inputs : List Arrival} where
@@ -175,27 +153,12 @@ module _ {P M G : Type 0} {tells : Passage → P} where
         Reads tells rules pool d inputs went mid_pool mid → now ≡ last_clock 0 (inputs ++ input ∷ []) →
         Serves tells rules now input mid_pool mid later_pool later →
         Reads tells rules pool d (inputs ++ input ∷ []) went later_pool later
-    reads_more {input = input} a clock b = record {
-      starts_stay = b.starts_stay ∙ a.starts_stay;
-      grows = grows_both a.grows b.grows;
-      sized = b.sized;
-      times_are = b.times_are ∙ (ap (λ ts. ts ++ input.time ∷ []) a.times_are
-          ∙ sym (map-append (λ (i : Arrival). i.time) inputs (input ∷ [])));
-      left_is = b.left_stays ∙ a.left_is;
-      served = λ rest s.
-          let whole : (inputs ++ input ∷ []) ++ rest ≡ inputs ++ (input ∷ rest) =
-          append_assoc inputs (input ∷ []) rest in
-          b.served inputs rest (many_read mid inputs a.times_are) (sym (clock ∙ clock_more 0 inputs input))
-          (subst (λ all. Stands tells rules inputs all (state_of mid_pool mid)) (sym whole)
-          (a.served (input ∷ rest) (subst (λ all. Stands tells rules [] all (state_of pool d)) whole s)));
-    }
+    reads_more a clock b =
+        grind (arith, common_steps, nat_tests, grows_both, map-append, append_assoc, many_read, clock_more)
 
 -- where nothing is held and all outcomes left there is room
 pub room_idle : {P : Type 0} (d : Dispatcher P) → IsDone d → d.progress.under_way ≡ [] → HasRoom d
-room_idle d done none =
-    let held : many_held d.queues ≡ 0 = held_none d.queues done.held in
-    let under_way : length d.progress.under_way ≡ 0 = ap length none in
-    record { held = omega arith; under_way = omega arith }
+room_idle d done none = grind (arith, common_steps, nat_tests, held_none)
 
 -- OUTCOMES THAT LEAVE
 

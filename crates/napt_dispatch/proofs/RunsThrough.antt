@@ -1,14 +1,14 @@
 -- What a run passes on, by what dispatching came to and the answers that the workers were right to give.
-use Rattle.std.proofs.Common.{◌≡◌, ℕ, List, [], ◌++◌, length, map, Option, None, Some, Result, Ok, Err, sym, ◌∙◌, ap, subst, append-nil, inl, inr}
-use Rattle.std.specs.Prelude.{IfOk, OnErr}
+use native.Mathlib.Omega.{arith}
+use Rattle.std.{proofs.lemmas.{Grind.common_steps, Bool.Decides.nat_tests}, specs.Prelude.{IfOk, OnErr}}
+use Rattle.std.proofs.Common.{◌≡◌, ℕ, List, [], ◌++◌, length, map, Option, None, Some, Result, Ok, Err, ◌∙◌, ap, subst, append-nil, inl, inr}
 use Rattle.napt_config.specs.Rules.{Rules}
-use Rattle.napt_rules.specs.{declared.{Leg.Leg, Outcome.Outcome}, Prelude.{Arrival, Ran, ran}}
+use Rattle.napt_rules.specs.{declared.Leg.Leg, Prelude.{Arrival, Ran, ran}}
 use Rattle.napt_pool.specs.{declared.pool.Pool.Pool, Pools.{accepts, takes as taken}}
 use Rattle.napt_sequential.{proofs.Inputs.came_whole, specs.declared.{fault.RunFault.RunFault, telling.{Told.Told, Untold.Untold}, passage.Passage.Passage}}
 use Rattle.napt_dispatch.specs.declared.{collected.Collected.Collected, dispatcher.{Dispatched.Dispatched, Ending.Ending}, workers.Passed.Passed}
-use Rattle.napt_dispatch.specs.{Collecting.{outcome_of, Collects}, Dispatch.{IsDispatched, Right}}
+use Rattle.napt_dispatch.specs.{Collecting.{outcome_of, Collects}, Dispatch.{IsDispatched, Right}, declared.departures.Departed.Departed}
 use Rattle.napt_dispatch.specs.Passing.{EndsWith, EndsEarly, EndsHalted, EndsBy, PassesTo, PassesWell, PassesEarly, PassesHalted}
-use Rattle.napt_dispatch.specs.declared.departures.Departed.{Departed}
 use Rattle.napt_dispatch.specs.declared.dispatcher.Ending.TheVariants as endings
 
 module _ {P : Type 0} {tells : Passage → P} {A F S B M G : Type 0} {rules : Rules}
@@ -104,9 +104,4 @@ pub dispatched_whole : {tells : Passage → Untold} {A F B M G : Type 0} (rules 
     (length (accepts pool) ≡ length rules.pool → Right tells rules (accepts pool) (taken pool)) →
     IsDispatched rules (list from) (accepts pool) some.outcomes.items done.legs.items
 dispatched_whole rules list fails is_settled from none pool left some done e empty right =
-    let outcomes : some.outcomes.items ≡ map outcome_of e.went = e.took
-    ∙ ap (λ l. l ++ map outcome_of e.went) empty in
-    subst (λ (inputs : List Arrival). IsDispatched rules inputs (accepts pool) some.outcomes.items done.legs.items)
-    (sym (came_whole list from left e.inputs None e.came))
-    (subst (λ (outs : List Outcome). IsDispatched rules e.inputs (accepts pool) outs done.legs.items) (sym outcomes)
-    (e.right (right e.offered_many)).1)
+    grind (arith, common_steps, nat_tests, came_whole)

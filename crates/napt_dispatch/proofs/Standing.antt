@@ -1,21 +1,21 @@
 -- What stands while a dispatcher hands out the legs of a run.
-use Rattle.std.proofs.Common.{◌≡◌, ◌≢◌, ℕ, zero, suc, ◌+◌, ◌<◌, ◌≤◌, ◌==◌, max, Bool, true, false, cond, List, [], ◌∷◌, ◌++◌, length, map, replicate, Option, Some, None, option_to_list, Ok, Err, refl, sym, ◌∙◌, ap, subst, arith, inl, inr, append_assoc, append-nil, length-append}
+use Rattle.std.proofs.lemmas.{Grind.common_steps, Bool.Decides.nat_tests}
+use Rattle.std.proofs.Common.{◌≡◌, ◌≢◌, ℕ, zero, suc, ◌+◌, ◌<◌, ◌≤◌, ◌==◌, max, Bool, false, cond, List, [], ◌∷◌, ◌++◌, length, map, replicate, Option, Some, None, option_to_list, Ok, Err, refl, sym, ◌∙◌, ap, subst, arith, inl, inr, append_assoc, append-nil, length-append}
 use Rattle.std.{specs.Prelude.{IfSome, drop, flat_map, slice_index, slice_get, slice_set}, proofs.lemmas.Bool.{cases_eq, eq-eqb, ne_eqb}}
 use Rattle.std.proofs.lemmas.{List.{length_push, map-append, length-replicate, length-map, get_or-map}, Grind.flat_map-append, Option.same_Some}
-use Rattle.napt_wire.specs.{declared.{Way.{Way, TheVariants.{Outgoing, Incoming}}, Cause.Cause, Side.{Side, TheVariants.{Inside, Outside}}}, Fields.destination}
-use Rattle.napt_wire.specs.Packet.{IsPacket}
+use Rattle.napt_wire.specs.{declared.{Way.{Way, TheVariants.Outgoing}, Cause.Cause, Side.{Side, TheVariants.Inside}}, Fields.destination, Packet.IsPacket}
 use Rattle.napt_config.specs.{Rules.{Rules, place_of}, declared.settings.Timers.Timers}
 use Rattle.napt_rules.specs.Prelude.{Each, opening, way_from, served_at, Acted, act, follow_by, Arrival, admission, Act, Course, run, last_clock, acts_at, legs_at, Kept, kept_after}
 use Rattle.napt_rules.specs.declared.{Leg.Leg, End.End, Outcome.Outcome}
 use Rattle.napt_rules.specs.declared.End.TheVariants as ends
 use Rattle.napt_rules.specs.declared.Outcome.TheVariants as outcomes
 use Rattle.napt_dispatch.specs.declared.dispatcher.{holding.{Front.Front, Held.{Held, TheVariants.{Ready, Place}}, Owed.Owed}, progress.Progress.Progress}
-use Rattle.napt_dispatch.specs.declared.{dispatcher.progress.Progress.TheVariants.{Awaited, Returning, Answered}, departures.Departed.Departed}
+use Rattle.napt_dispatch.specs.declared.{dispatcher.progress.Progress.TheVariants.{Returning, Answered}}
 use Rattle.napt_dispatch.specs.{declared.dispatcher.Dispatcher.Dispatcher, Dispatch.{of_worker, fresh, IsDispatched, Right, departed, departed_of}}
 use Rattle.napt_dispatch.specs.{Collecting.outcome_of, Passing.timed}
 use Rattle.napt_dispatch.specs.QueueStates.{QueueState, unused, queue_of, counts_in, all_held, count_held, front_of, owed_of, first_leg, readied, answered, with_offers, with_queue, Holds, AllHold, only_at, place_at}
 use Rattle.napt_dispatch.specs.Windows.{Window, Whole, whole_of, progress_in, times_in, is_incoming, departed_with, passages_after, refused, refused_at, asked_by, first_by, NoneBehind, IsKnown, AllKnown}
-use Rattle.napt_dispatch.specs.Standing.{Grows, Lane, DispatchState, state_with, state_of, LaneStands, resolved, lane_legs, IsRight, AreRight, Reaches, Stands, Keeps, Admits, Resolves, waits, IsDone, MovesLegs}
+use Rattle.napt_dispatch.specs.Standing.{Grows, Lane, DispatchState, state_with, state_of, LaneStands, resolved, lane_legs, IsRight, AreRight, Reaches, Stands, Keeps, Admits, Resolves, waits, IsDone}
 use Rattle.napt_dispatch.proofs.{Ended.map_at, Lanes.{fronts_both, place_within}, QueueStates.{queue_own, queue_other, length_with, nothing, of_replicate}}
 use Rattle.napt_dispatch.proofs.Windows.{known_set, returning_known, ended_known, second_known, left_front, left_whole, timed_outcomes, departed_long, departed_outcomes}
 use Rattle.napt_dispatch.specs.declared.dispatcher.holding.Front.TheVariants as fronts
@@ -176,16 +176,7 @@ pub known_stands : {P : Type 0} {tells : Passage → P} (rules : Rules) (done al
     (AllKnown (whole_of tells rules all) progress → AllKnown (whole_of tells rules all) later) →
     Stands tells rules done all (record { many = many; lane = lane; progress = progress }) →
     Stands tells rules done all (record { many = many; lane = lane; progress = later })
-known_stands {tells = tells} rules done all many lane progress later known s = record {
-  rest = s.rest;
-  whole = s.whole;
-  many = s.many;
-  lanes = s.lanes;
-  reaches = λ right.
-      let r : Reaches tells rules done all (record { many = many; lane = lane; progress = progress }) =
-      s.reaches right in
-      record { reached = r.reached; known = known r.known };
-}
+known_stands rules done all many lane progress later known s = grind (arith, common_steps, nat_tests)
 
 -- AN OFFER
 
@@ -232,8 +223,7 @@ resolves_known whole (fronts.FirstPlace number) window later None goes is known 
 resolves_known whole (fronts.FirstPlace number) window later (Some leg) goes is known =
     let legs = second_known whole (progress_in window) number (Some leg) goes is.asks known in
     rw is.written.progress_is (known_set whole (progress_in window) number (Returning is.first)
-    (returning_known whole number is.asks.p leg is.first legs is.first_is (known number is.asks.p is.asks.there))
-    known)
+    (returning_known whole number is.asks.p leg is.first legs is.first_is (known number is.asks.p is.asks.there)) known)
 
 first_stands : {P : Type 0} (whole : Whole P) (held : List Held) (window later : Window P) (second : Option Leg) →
     waits (progress_in window) (front_of held) ≡ false → Resolves (front_of held) window second later →
@@ -250,8 +240,7 @@ first_stands whole (Place number ∷ rest) window later (Some leg) goes is known
 
 -- it becomes a leg of the next message, or was a placeholder that stands for none
 pub readied_keeps : {P : Type 0} {tells : Passage → P} (rules : Rules) (all : List Arrival) (w : ℕ)
-    (offered : List Leg) (taken : List (Told P))
-    (q : QueueState) (window later : Window P) (second : Option Leg) →
+    (offered : List Leg) (taken : List (Told P)) (q : QueueState) (window later : Window P) (second : Option Leg) →
     waits (progress_in window) (front_of q.held) ≡ false → Resolves (front_of q.held) window second later →
     LaneKeeps tells rules all w (record { offered = offered; taken = taken; queue = q })
     (record { offered = offered; taken = taken; queue = readied second q }) (progress_in window) (progress_in later)
@@ -266,26 +255,11 @@ readied_keeps {tells = tells} rules all w offered taken q window later second go
       known = λ o right front known. resolves_known whole (front_of q.held) window later second goes is known;
     }
 
--- legs become legs of the next message
-pub moved_keeps : {P : Type 0} {tells : Passage → P} (rules : Rules) (all : List Arrival) (w : ℕ)
-    (offered : List Leg) (taken : List (Told P)) (q later : QueueState) (progress : List (Progress P)) →
-    MovesLegs q later →
-    LaneKeeps tells rules all w (record { offered = offered; taken = taken; queue = q })
-    (record { offered = offered; taken = taken; queue = later }) progress progress
-moved_keeps rules all w offered taken q later progress m = record {
-  stands = λ o. rw m.same o;
-  right = λ o right. right;
-  legs = λ known. ap (λ ls. offered ++ ls) (m.legs_stay (run rules all (opening rules)).acts);
-  known = λ o right front known. known;
-}
-
 -- AN ANSWER
 
 each_at : (P : Act → Type 0) (address : ℕ) (acts : List Act) → Each P acts → Each P (acts_at address acts)
 each_at P address [] h = tt
-each_at P address (a ∷ acts) h =
-    elim (a.address == address) as (λ v. Each P (cond v (a ∷ acts_at address acts) (acts_at address acts)))
-    [ true ↦ (h.0, each_at P address acts h.1) | false ↦ each_at P address acts h.1 ]
+each_at P address (a ∷ acts) h = grind (arith, common_steps, nat_tests, each_at P address acts h.1)
 
 -- the act of a leg and what is told of it, which stand at one place
 pub record ActOf {P : Type 0} (tells : Passage → P) (timers : Timers) (Q : Act → Type 0) (leg : Leg) (told : Told P)
@@ -301,12 +275,8 @@ act_at : {P : Type 0} (tells : Passage → P) (timers : Timers) (Q : Act → Typ
     (taken ++ told ∷ []) ++ rest ≡ map (told_of tells timers) acts → ActOf tells timers Q leg told
 act_at tells timers Q [] [] more leg taken rest told long each legs answers = cc (legs)
 act_at tells timers Q [] (l ∷ before) more leg taken rest told long each legs answers = cc (legs)
-act_at tells timers Q (a ∷ acts) [] more leg [] rest told long each legs answers = record {
-  a = a;
-  leg_is = sym (cc (legs));
-  told_is = sym (cc (answers));
-  holds = each.0;
-}
+act_at tells timers Q (a ∷ acts) [] more leg [] rest told long each legs answers =
+    grind (arith, common_steps, nat_tests)
 act_at tells timers Q (a ∷ acts) [] more leg (t ∷ taken) rest told long each legs answers = absurd (omega arith)
 act_at tells timers Q (a ∷ acts) (l ∷ before) more leg [] rest told long each legs answers = absurd (omega arith)
 act_at tells timers Q (a ∷ acts) (l ∷ before) more leg (t ∷ taken) rest told long each legs answers =
@@ -327,14 +297,10 @@ each_tells rules all (a ∷ acts) h g k =
     (record { told = h.0; seconded = g.0; traced = k.0 }, each_tells rules all acts h.1 g.1 k.1)
 
 second_asked : (leg : Leg) (e : End) → second_of leg e ≡ option_to_list (asked_by leg.number leg.now e)
-second_asked leg (ends.ToOutside packet) = refl
-second_asked leg (ends.ToInside packet) = refl
-second_asked leg (ends.Onward place packet) = refl
-second_asked leg (ends.Dropped cause) = refl
+second_asked leg e = grind (arith, common_steps, nat_tests)
 
 is_outgoing : (way : Way) → is_incoming way ≡ false → way ≡ Outgoing
-is_outgoing Outgoing h = refl
-is_outgoing Incoming h = absurd cc
+is_outgoing way h = grind (arith, common_steps, nat_tests)
 
 get_map : {X Y : Type 0} (f : X → Y) (xs : List X) (n : ℕ) (x : X) → slice_get xs n ≡ Some x →
     slice_get (map f xs) n ≡ Some (f x)
@@ -369,16 +335,7 @@ module _ {P : Type 0} (tells : Passage → P) (rules : Rules) (all : List Arriva
         (outcome : Option Outcome) →
         IfSome outcome (λ o. slice_get (run rules all (opening rules)).outcomes number ≡ Some o) →
         Departs first second outcome
-    departs first second one two None h = tt
-    departs first second one two (Some o) h =
-        get_map (departed_of tells) (steps rules all) number (record { outcome = o; trace = trace })
-        (steps_get rules all number o trace h said.traced.there)
-        ∙ ap Some (λ i. let d : Departed P = record {
-          outcome = o;
-          now = said.traced.time i;
-          first = one i;
-          second = two i;
-        } in d)
+    departs first second one two outcome h = grind (arith, common_steps, nat_tests, get_map, steps_get)
 
     -- or its packet goes onward
     onward : (first second : P) (place : ℕ) (packet : List ℕ) → a.end ≡ ends.Onward place packet →
@@ -390,64 +347,30 @@ module _ {P : Type 0} (tells : Passage → P) (rules : Rules) (all : List Arriva
 
     first_known : (first : P) → slice_get whole_here.firsts number ≡ Some first → (e : End) →
         IfSome (first_by first e) (λ f. slice_get whole_here.firsts number ≡ Some f)
-    first_known first is (ends.ToOutside packet) = tt
-    first_known first is (ends.ToInside packet) = tt
-    first_known first is (ends.Onward place packet) = is
-    first_known first is (ends.Dropped cause) = tt
+    first_known first is e = grind (arith, common_steps, nat_tests)
 
     abbrev IsKnownNow : P × P → Type 0
     IsKnownNow passages = IsKnown whole_here number (Answered (owed_of a.leg) a.end passages.0 passages.1)
 
     known_now : (first second : P) → slice_get whole_here.firsts number ≡ Some first →
         Departs first second (outcome_told a.end) → IsKnownNow (first, second)
-    known_now first second is departs = record {
-      departed = departs;
-      first = first_known first is a.end;
-      second = λ out. said.seconded (is_outgoing a.leg.way out) ∙ second_asked a.leg a.end;
-    }
+    known_now first second is departs = grind (arith, common_steps, nat_tests, first_known, is_outgoing, second_asked)
 
     -- a first leg
     first_told : (way : Way) → a.leg.way ≡ way → NoneBehind way legs_here →
         IsPlaced rules.timers trace legs_here a → IsKnownNow (did, tells Nothing)
-    first_told way goes none (inl only) =
-        known_now did (tells Nothing) (first_there ∙ ap (λ p. Some (tells p)) only.first)
-        (departs did (tells Nothing) (ap tells only.first) (ap tells only.second) (outcome_told a.end) said.told)
-    first_told way goes none (inr (inl first)) =
-        known_now did (tells Nothing) (first_there ∙ ap (λ p. Some (tells p)) first.first)
-        (onward did (tells Nothing) first.place first.packet first.goes)
-    first_told Outgoing goes none (inr (inr second)) =
-        let comes : a.leg.way ≡ Incoming = second.comes in
-        let out : Outgoing ≡ Incoming = sym goes ∙ comes in
-        absurd cc
-    first_told Incoming goes none (inr (inr second)) =
-        let some : legs_here ≡ second.leg ∷ [] = second.some in
-        let no : [] ≡ second.leg ∷ [] = sym none ∙ some in
-        absurd cc
+    first_told way goes none only = grind (arith, common_steps, nat_tests, known_now, first_there, departs, onward)
 
     -- the second
     second_told : (first : P) → slice_get whole_here.firsts number ≡ Some first →
         ((leg : Leg) × (legs_here ≡ leg ∷ [])) → IsPlaced rules.timers trace legs_here a → IsKnownNow (first, did)
-    second_told first is some (inl only) =
-        let no : [] ≡ some.0 ∷ [] = sym only.none ∙ some.1 in
-        absurd cc
-    second_told first is some (inr (inl early)) =
-        known_now first did is (onward first did early.place early.packet early.goes)
-    second_told first is some (inr (inr second)) =
-        known_now first did is (departs first did (same_Some _ _ (sym first_there ∙ is)) (ap tells second.second)
-        (outcome_told a.end) said.told)
+    second_told first is some only =
+        grind (arith, common_steps, nat_tests, known_now, onward, departs, same_Some, first_there)
 
     told_known : (was : Progress P) (way : Way) → a.leg.way ≡ way → IsKnown whole_here number was →
         (passages : P × P) → passages_after (tells Nothing) was way did ≡ Some passages → IsKnownNow passages
-    told_known (Awaited Outgoing) Outgoing goes known passages is =
-        subst IsKnownNow (same_Some _ _ is) (first_told Outgoing goes tt said.traced.placed)
-    told_known (Awaited Outgoing) Incoming goes known passages is = cc
-    told_known (Awaited Incoming) Outgoing goes known passages is = cc
-    told_known (Awaited Incoming) Incoming goes known passages is =
-        subst IsKnownNow (same_Some _ _ is) (first_told Incoming goes known.second said.traced.placed)
-    told_known (Returning first) Outgoing goes known passages is = cc
-    told_known (Returning first) Incoming goes known passages is =
-        subst IsKnownNow (same_Some _ _ is) (second_told first known.first known.second said.traced.placed)
-    told_known (Answered owed end first second) way goes known passages is = cc
+    told_known was way goes known passages is =
+        grind (arith, common_steps, nat_tests, same_Some, first_told, second_told)
 
 act_tells : {P : Type 0} (tells : Passage → P) (rules : Rules) (all : List Arrival) (leg : Leg) (told : Told P)
     (was : Progress P) (passages : P × P) → ActOf tells rules.timers (Tells rules all) leg told →
@@ -530,14 +453,10 @@ module _ {P : Type 0} (tells : Passage → P) (rules : Rules) (all : List Arriva
 single_by : (rules : Rules) (at : ℕ) (leg : Leg) (first : Acted) (e : End) →
     ((place : ℕ) (packet : List ℕ) → e ≢ ends.Onward place packet) → (follow_by rules at leg first e).acts
     ≡ record { address = at; leg = leg; end = first.end; through = first.through } ∷ []
-single_by rules at leg first (ends.ToOutside packet) n = refl
-single_by rules at leg first (ends.ToInside packet) n = refl
-single_by rules at leg first (ends.Dropped cause) n = refl
-single_by rules at leg first (ends.Onward place packet) n = absurd (n place packet refl)
+single_by rules at leg first e n = grind (arith, common_steps, nat_tests)
 
 from_inside : (side : Side) → way_from side ≡ Outgoing → side ≡ Inside
-from_inside Inside h = refl
-from_inside Outside h = cc
+from_inside side h = grind (arith, common_steps, nat_tests)
 
 -- no address occurs twice
 abbrev Distinct : List ℕ → Type 0
@@ -546,15 +465,10 @@ Distinct pool = (i j : ℕ) → i < length pool → j < length pool → slice_in
 -- by the addresses of workers as by their places
 same_test : (pool : List ℕ) → Distinct pool → (v w : ℕ) → v < length pool → w < length pool →
     (slice_index pool w == slice_index pool v) ≡ (v == w)
-same_test pool distinct v w lv lw = elim (cases_eq v w) [
-  | inl e ↦ rw (e, eq-eqb (slice_index pool w) (slice_index pool w) refl, eq-eqb w w refl) refl
-  | inr n ↦ rw (ne_eqb (slice_index pool w) (slice_index pool v) (λ h. n (distinct v w lv lw (sym h))), ne_eqb v w n)
-      refl
-]
+same_test pool distinct v w lv lw = grind (arith, common_steps, nat_tests, cases_eq, eq-eqb, ne_eqb)
 
 reads_if : {X Y : Type 0} (f : X → List Y) (b : Bool) (x : X) → flat_map f (cond b (x ∷ []) []) ≡ cond b (f x) []
-reads_if f true x = append-nil (f x)
-reads_if f false x = refl
+reads_if f b x = grind (arith, common_steps, nat_tests, append-nil)
 
 legs_behind : (acts : List Act) (legs : List Leg) (rest : List Held) →
     flat_map (resolved acts) (map (λ leg. Ready leg) legs ++ rest) ≡ legs ++ flat_map (resolved acts) rest
@@ -597,8 +511,7 @@ module _ {P : Type 0} (tells : Passage → P) (rules : Rules) (distinct : Distin
       ((v : ℕ) → v < length rules.pool → legs_at (at_place v) (run rules now_done (opening rules)).acts ≡ legs_at
       (at_place v) (run rules done (opening rules)).acts ++ flat_map (resolved acts_all) (extra v)) →
       (AllKnown (whole_of tells rules all_of) (progress_in d.progress) → AllKnown (whole_of tells rules all_of)
-      (progress_in later.progress)) →
-      Stands tells rules done all_of (state_with offered taken d) →
+      (progress_in later.progress)) → Stands tells rules done all_of (state_with offered taken d) →
       Stands tells rules now_done all_of (state_with offered taken later)
   grown_stands extra many holds legs known s = record {
     rest = rest;
@@ -711,10 +624,8 @@ pub refused_admits : {P : Type 0} {tells : Passage → P} (rules : Rules) (numbe
     Distinct rules.pool → admission rules input ≡ Err cause → later.queues ≡ d.queues →
     progress_in later.progress ≡ slice_set (progress_in d.progress) number (refused (tells Nothing) now cause) →
     Admits tells rules number now input d later
-refused_admits {tells = tells} rules number now input d later cause distinct is queues written =
-    λ offered taken done rest long clock s.
-    refused_stands tells rules distinct done rest input number now long clock offered taken d later cause is queues
-    written s
+refused_admits rules number now input d later cause distinct is queues written =
+    grind (arith, common_steps, nat_tests, refused_stands)
 
 -- an input with a first leg, and perhaps a place for its second
 pub admitted_admits : {P : Type 0} {tells : Passage → P} (rules : Rules) (number now : ℕ) (input : Arrival)
@@ -735,11 +646,9 @@ admitted_admits
     let p : (w < length rules.pool) × (slice_index rules.pool w ≡ served_at rules (way_from input.side) packet) =
     place_within rules.pool w (served_at rules (way_from input.side) packet) place in
     alone_stands tells rules distinct done rest input number now long clock offered taken d later packet admitted
-    foretold is
-    w p.0 p.1 same (none refl) many e s
+    foretold is w p.0 p.1 same (none refl) many e s
 admitted_admits {tells = tells} rules number now input d later packet w distinct foretold is admitted place same
-    (Some v) some none many
-    e =
+    (Some v) some none many e =
     λ offered taken done rest long clock s.
     let p : (w < length rules.pool) × (slice_index rules.pool w ≡ served_at rules (way_from input.side) packet) =
     place_within rules.pool w (served_at rules (way_from input.side) packet) place in
@@ -747,8 +656,7 @@ admitted_admits {tells = tells} rules number now input d later packet w distinct
     place_within rules.pool v (destination packet).address
     (stands_at rules.pool (destination packet).address v some.1) in
     placed_stands tells rules distinct done rest input number now long clock offered taken d later packet admitted
-    foretold is
-    w p.0 p.1 same v q.0 q.1 some.0 many e s
+    foretold is w p.0 p.1 same v q.0 q.1 some.0 many e s
 
 -- THE START
 
@@ -761,39 +669,15 @@ pub begin_stands : {P : Type 0} {tells : Passage → P} (rules : Rules) (inputs 
     (d : Dispatcher P) → d.queues ≡ replicate (length rules.pool) unused →
     offered ≡ replicate (length rules.pool) [] → taken ≡ replicate (length rules.pool) [] →
     progress_in d.progress ≡ [] → Stands tells rules [] inputs (state_with (of_worker offered) (of_worker taken) d)
-begin_stands {tells = tells} rules inputs offered taken d is no_legs no_answers progress =
-    let n : ℕ = length rules.pool in
-    let none : (v : ℕ) → of_worker offered v ≡ [] = λ v. rw no_legs (of_replicate n v []) in
-    let no : (v : ℕ) → of_worker taken v ≡ [] = λ v. rw no_answers (of_replicate n v []) in
-    let queue : (v : ℕ) → queue_of d.queues v ≡ unused = λ v. rw is (of_replicate n v unused) in
-    record {
-      rest = inputs;
-      whole = refl;
-      many = ap length is ∙ length-replicate n unused;
-      lanes = λ v lt. rw (none v, no v, queue v) (record {
-        before = [];
-        rest = [];
-        parts = refl;
-        long = refl;
-        owed_is = refl;
-        counted = refl;
-      });
-      reaches = λ right. record {
-        reached = λ v lt. rw (none v, queue v) refl;
-        known = λ i p h. none_known (whole_of tells rules inputs) i p (rw progress at h);
-      };
-    }
+begin_stands rules inputs offered taken d is no_legs no_answers progress =
+    grind (arith, common_steps, nat_tests, of_replicate, length-replicate, none_known)
 
 -- THE END
 
 -- all answers were taken
 pub all_taken : {P : Type 0} (lane : Lane P) → LaneStands lane → lane.queue.owed ≡ [] → length lane.taken
     ≡ length lane.offered
-all_taken lane o none =
-    let no_rest : length o.rest ≡ 0 = sym (length-map o.rest owed_of) ∙ ap length (sym o.owed_is ∙ none) in
-    let all : length lane.offered ≡ length o.before + length o.rest =
-    ap length o.parts ∙ length-append o.before o.rest in
-    omega (arith, no_rest, all, o.long)
+all_taken lane o none = grind (arith, common_steps, nat_tests, length-map, length-append)
 
 module _ {P : Type 0} {tells : Passage → P} (rules : Rules) (inputs : List Arrival) (offered : List (List Leg))
     (taken : ℕ → List (Told P)) (d : Dispatcher P)

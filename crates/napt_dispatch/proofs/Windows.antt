@@ -1,4 +1,5 @@
 -- What is known of the inputs that were read.
+use Rattle.std.proofs.lemmas.{Grind.common_steps, Bool.Decides.nat_tests}
 use Rattle.std.proofs.Common.{◌≡◌, ◌⊎◌, inl, inr, ℕ, zero, suc, ◌+◌, ◌<◌, ◌≤◌, Bool, true, false, List, [], ◌∷◌, ◌++◌, length, map, set, get_or, Option, Some, None, option_to_list, refl, sym, ◌∙◌, ap, subst, arith, append-nil, append_assoc, length-append}
 use Rattle.std.{specs.Prelude.{IfSome, slice_get, slice_set}, proofs.lemmas.List.{map-set, map-append, get_or-map, length-map}}
 use Rattle.napt_pool.proofs.Lists.{map-kept}
@@ -7,17 +8,15 @@ use Rattle.napt_rules.specs.{declared.{Leg.Leg, Outcome.Outcome}, Prelude.{openi
 use Rattle.napt_rules.specs.declared.Outcome.TheVariants as outcomes
 use Rattle.napt_config.specs.Rules.{Rules}
 use Rattle.napt_sequential.{specs.{declared.{outcome.Stepped.Stepped, passage.Passage.Passage}, Steps.steps}, proofs.Joined.{steps_long, steps_outcomes}}
-use Rattle.napt_dispatch.specs.{Dispatch.{departed, departed_of}, declared.dispatcher.progress.Progress.{Progress, TheVariants.{Awaited, Returning, Answered}}}
+use Rattle.napt_dispatch.specs.{Dispatch.{departed, departed_of}, declared.dispatcher.progress.Progress.{Progress, TheVariants.{Awaited, Returning}}}
 use Rattle.napt_dispatch.specs.{declared.dispatcher.progress.OpenInput.OpenInput, Collecting.outcome_of, Standing.{AnswersTo, IsSecond, IsSecondOf}}
-use Rattle.napt_dispatch.specs.Passing.{timed}
-use Rattle.napt_dispatch.specs.Windows.{Window, Whole, time_in, end_of, ended, ended_in, asked, Asks, first_by, first_in, unmarked, known_in, arrived, mark_of, progress_in, times_in, marks_in, departed_with, departed_in, is_unknown, passages_after, opened, expecting, IsUnmarked, IsWritten, HasMark, IsMarked, FirstMayLeave, Leaves, NoneBehind, KnowsSecond, IsKnown, AllKnown, IsHandedOver}
-use Rattle.napt_dispatch.specs.declared.departures.Departed.{Departed}
+use Rattle.napt_dispatch.specs.{Passing.timed, declared.departures.Departed.Departed}
+use Rattle.napt_dispatch.specs.Windows.{Window, Whole, time_in, end_of, ended, ended_in, asked, Asks, first_by, first_in, unmarked, known_in, arrived, mark_of, progress_in, times_in, marks_in, departed_with, departed_in, is_unknown, passages_after, expecting, IsUnmarked, IsWritten, HasMark, IsMarked, FirstMayLeave, Leaves, NoneBehind, KnowsSecond, IsKnown, AllKnown, IsHandedOver}
 use Rattle.napt_laws.specs.{Dispatching.{IsFront, outcome_told}, Places.second_legs}
 
 -- LISTS
 
-set_behind : {X : Type 0} (xs ys : List X) (n i : ℕ) (v : X) → n ≡ length xs + i → set (xs ++ ys) n v
-    ≡ xs ++ set ys i v
+set_behind : {X : Type 0} (xs ys : List X) (n i : ℕ) (v : X) → n ≡ length xs + i → set (xs ++ ys) n v ≡ xs ++ set ys i v
 set_behind [] ys n i v e = let same : n ≡ i = omega arith in ap (λ (m : ℕ). set ys m v) same
 set_behind (x ∷ xs) ys zero i v e = absurd (omega arith)
 set_behind (x ∷ xs) ys (suc n) i v e = ap (λ (l : List _). x ∷ l) (set_behind xs ys n i v (omega arith))
@@ -60,42 +59,26 @@ get_push (z ∷ xs) x (suc i) y h = elim (get_push xs x i y h) [ inl e ↦ inl e
 pub returning_known : {P : Type 0} (whole : Whole P) (n : ℕ) (p : Progress P) (leg : Leg) (first : P) →
     second_legs n whole.acts ≡ leg ∷ [] → first_in p ≡ Some first → IsKnown whole n p →
     IsKnown whole n (Returning first)
-returning_known whole n p leg first legs is known =
-    record { departed = tt; first = rw is at known.first; second = (leg, legs) }
+returning_known whole n p leg first legs is known = grind (arith, common_steps, nat_tests)
 
 told_end : (o : Outcome) → outcome_told (end_of o) ≡ Some o
-told_end (outcomes.ToOutside packet) = refl
-told_end (outcomes.ToInside packet) = refl
-told_end (outcomes.Dropped cause) = refl
+told_end o = grind (arith, common_steps, nat_tests)
 
 no_first : {P : Type 0} (first : P) (o : Outcome) → first_by first (end_of o) ≡ None
-no_first first (outcomes.ToOutside packet) = refl
-no_first first (outcomes.ToInside packet) = refl
-no_first first (outcomes.Dropped cause) = refl
+no_first first o = grind (arith, common_steps, nat_tests)
 
 departed_ended : {P : Type 0} (d : Departed P) → departed_in (ended d) ≡ Some d
 departed_ended d = ap (departed_with d.now d.first d.second) (told_end d.outcome)
 
 pub ended_known : {P : Type 0} (whole : Whole P) (n : ℕ) (d : Departed P) → slice_get whole.departed n ≡ Some d →
     IsKnown whole n (ended d)
-ended_known whole n d is = record {
-  departed = rw (told_end d.outcome) is;
-  first = rw (no_first d.first d.outcome) tt;
-  second = λ h. absurd cc;
-}
+ended_known whole n d is = grind (arith, common_steps, nat_tests, told_end, no_first)
 
 -- nothing is known of one more, but that none is behind a first leg that comes in
 pub known_push : {P : Type 0} (whole : Whole P) (progress : List (Progress P)) (way : Way) →
     NoneBehind way (second_legs (length progress) whole.acts) → AllKnown whole progress →
     AllKnown whole (progress ++ Awaited way ∷ [])
-known_push whole progress way none known = λ i p h. elim (get_push progress (Awaited way) i p h) [
-  | inl e ↦ known i p e
-  | inr e ↦ subst (IsKnown whole i) e.1 (record {
-    departed = tt;
-    first = tt;
-    second = subst (λ (k : ℕ). NoneBehind way (second_legs k whole.acts)) (sym e.0) none;
-  })
-]
+known_push whole progress way none known = grind (arith, common_steps, nat_tests, get_push)
 
 known_departed : {P : Type 0} (whole : Whole P) (i : ℕ) (p : Progress P) (d : Departed P) → departed_in p ≡ Some d →
     IsKnown whole i p → slice_get whole.departed i ≡ Some d
@@ -108,9 +91,7 @@ left_known whole i pair known = known_departed whole i (ended_in pair) pair.1 (d
 
 second_by : {P : Type 0} (legs : List Leg) (number : ℕ) (p : Progress P) → is_unknown (Some p) ≡ false →
     KnowsSecond legs number p → legs ≡ option_to_list (asked number p)
-second_by legs number (Awaited way) goes knows = absurd cc
-second_by legs number (Returning first) goes knows = absurd cc
-second_by legs number (Answered owed end first second) goes knows = knows goes
+second_by legs number p goes knows = grind (arith, common_steps, nat_tests)
 
 -- the second leg that is asked for
 pub second_known : {P : Type 0} (whole : Whole P) (progress : List (Progress P)) (number : ℕ) (second : Option Leg) →
@@ -130,10 +111,7 @@ module _ {P X : Type 0} (f : ℕ × Departed P → X) (h : OpenInput P → X) (l
     (items : List (OpenInput P)) (number place : ℕ) (later : OpenInput P) where
   reads_set : (x : X) → number ≡ length left + place → h later ≡ x →
       map f left ++ map h (set items place later) ≡ set (map f left ++ map h items) number x
-  reads_set x n same =
-      let place_is : number ≡ length (map f left) + place = omega (arith, n, length-map left f) in
-      ap (λ ys. map f left ++ ys) (map-set h items place later ∙ ap (set (map h items) place) same)
-      ∙ sym (set_behind (map f left) (map h items) number place x place_is)
+  reads_set x n same = grind (arith, common_steps, nat_tests, length-map, map-set, set_behind)
 
   reads_same : (o : OpenInput P) → o ≡ get_or items place o → h later ≡ h o →
       map f left ++ map h (set items place later) ≡ map f left ++ map h items
@@ -143,12 +121,10 @@ module _ {P : Type 0} (left : List (ℕ × Departed P)) (items : List (OpenInput
     (is : window_of left items ≡ window) (number place : ℕ) (n : number ≡ length window.left + place)
     (within : place < length window.under_way) (o : OpenInput P) (at : o ≡ get_or items place o) where
   lt : place < length items
-  lt = let one : length window.under_way ≡ length items = ap (λ (w : Window P). length w.under_way) (sym is) in
-      omega (arith, within, one)
+  lt = grind (arith, common_steps, nat_tests)
 
   n_is : number ≡ length left + place
-  n_is = let same : length window.left ≡ length left = ap (λ (w : Window P). length w.left) (sym is) in
-      omega (arith, n, same)
+  n_is = grind (arith, common_steps, nat_tests)
 
   -- the progress of an open input
   pub open_get : slice_get (progress_in window) number ≡ Some o.progress
@@ -163,34 +139,21 @@ module _ {P : Type 0} (left : List (ℕ × Departed P)) (items : List (OpenInput
   -- what is told of its legs, once this is told of one that it awaits
   pub open_answers : (none : P) (way : Way) (passage : P) (passages : Option (P × P)) →
       passages ≡ passages_after none o.progress way passage → IfSome passages (AnswersTo none window number way passage)
-  open_answers none way passage None e = tt
-  open_answers none way passage (Some both) e = record { was = o.progress; there = open_get; told = sym e }
+  open_answers none way passage passages e = grind (arith, common_steps, nat_tests, open_get)
 
   -- its progress is set
   pub open_written : (later : OpenInput P) (p : Progress P) → later.time ≡ o.time → later.progress ≡ p →
       IsWritten number p window (window_of left (set items place later))
-  open_written later p time same = record {
-    left_stays = ap (λ (w : Window P). w.left) is;
-    times_stay = reads_same time_in arrived left items number place later o at time ∙ ap times_in is;
-    progress_is = reads_set ended_in known_in left items number place later p n_is same
-        ∙ ap (λ (w : Window P). set (progress_in w) number p) is;
-  }
+  open_written later p time same = grind (arith, common_steps, nat_tests, reads_same, reads_set, n_is)
 
   -- its mark is set or cleared
   pub open_has_mark : (later : OpenInput P) (m : Bool) → later.has_place ≡ m →
       HasMark number m window (window_of left (set items place later))
-  open_has_mark later m same =
-      reads_set unmarked mark_of left items number place later m n_is same
-      ∙ ap (λ (w : Window P). set (marks_in w) number m) is
+  open_has_mark later m same = grind (arith, common_steps, nat_tests, reads_set, n_is)
 
   pub open_marked : (later : OpenInput P) (m : Bool) → later.time ≡ o.time → later.progress ≡ o.progress →
       later.has_place ≡ m → IsMarked number m window (window_of left (set items place later))
-  open_marked later m time progress mark = record {
-    left_stays = ap (λ (w : Window P). w.left) is;
-    times_stay = reads_same time_in arrived left items number place later o at time ∙ ap times_in is;
-    progress_stays = reads_same ended_in known_in left items number place later o at progress ∙ ap progress_in is;
-    marks_are = open_has_mark later m mark;
-  }
+  open_marked later m time progress mark = grind (arith, common_steps, nat_tests, reads_same, open_has_mark)
 
   -- or not
   pub open_unmarked : (later : OpenInput P) → later.has_place ≡ o.has_place →
@@ -230,44 +193,33 @@ length_of xs ys one two = omega (arith, one, two, length-append xs ys)
 
 pub length_all : {P : Type 0} (window : Window P) → length (progress_in window)
     ≡ length window.left + length window.under_way
-length_all window = length_of (map ended_in window.left) (map known_in window.under_way)
-    (length-map window.left ended_in) (length-map window.under_way known_in)
+length_all window = grind (arith, common_steps, nat_tests, length_of, length-map)
 
 length_marks : {P : Type 0} (window : Window P) → length (marks_in window)
     ≡ length window.left + length window.under_way
-length_marks window = length_of (map unmarked window.left) (map mark_of window.under_way)
-    (length-map window.left unmarked) (length-map window.under_way mark_of)
+length_marks window = grind (arith, common_steps, nat_tests, length_of, length-map)
 
 pub times_long : {P : Type 0} (window : Window P) → length (times_in window) ≡ length (progress_in window)
-times_long window =
-    length_of (map time_in window.left) (map arrived window.under_way) (length-map window.left time_in)
-    (length-map window.under_way arrived) ∙ sym (length_all window)
+times_long window = grind (arith, common_steps, nat_tests, length_of, length-map, length_all)
 
 -- a number that no open input has
 pub unread_unknown : {P : Type 0} (left : List (ℕ × Departed P)) (items : List (OpenInput P)) (number : ℕ) →
     length left + length items ≤ number → is_unknown (slice_get (progress_in (window_of left items)) number) ≡ true
-unread_unknown left items number le =
-    past_unknown (progress_in (window_of left items)) number (omega (arith, le, length_all (window_of left items)))
+unread_unknown left items number le = grind (arith, common_steps, nat_tests, past_unknown, length_all)
 
 -- STEPS
 
 pub expecting_times : {P : Type 0} (time : ℕ) (way : Way) (window : Window P) → times_in (expecting time way window)
     ≡ times_in window ++ time ∷ []
-expecting_times time way window =
-    rw (map-append arrived window.under_way (opened time way ∷ []))
-    (sym (append_assoc (map time_in window.left) (map arrived window.under_way) (time ∷ [])))
+expecting_times time way window = grind (arith, common_steps, nat_tests, map-append, append_assoc)
 
 pub expecting_progress : {P : Type 0} (time : ℕ) (way : Way) (window : Window P) →
     progress_in (expecting time way window) ≡ progress_in window ++ Awaited way ∷ []
-expecting_progress time way window =
-    rw (map-append known_in window.under_way (opened time way ∷ []))
-    (sym (append_assoc (map ended_in window.left) (map known_in window.under_way) (Awaited way ∷ [])))
+expecting_progress time way window = grind (arith, common_steps, nat_tests, map-append, append_assoc)
 
 pub expecting_marks : {P : Type 0} (time : ℕ) (way : Way) (window : Window P) → marks_in (expecting time way window)
     ≡ marks_in window ++ false ∷ []
-expecting_marks time way window =
-    rw (map-append mark_of window.under_way (opened time way ∷ []))
-    (sym (append_assoc (map unmarked window.left) (map mark_of window.under_way) (false ∷ [])))
+expecting_marks time way window = grind (arith, common_steps, nat_tests, map-append, append_assoc)
 
 pub expecting_unmarked : {P : Type 0} (time : ℕ) (way : Way) (number : ℕ) (window later : Window P) →
     number ≡ length (progress_in window) → later ≡ expecting time way window → IsUnmarked number later
@@ -286,18 +238,7 @@ pub first_leaves : {P : Type 0} (window : Window P) (first : OpenInput P) (rest 
     (left : List (ℕ × Departed P)) → window.under_way ≡ first ∷ rest → FirstMayLeave window.under_way →
     departed_in first.progress ≡ Some d → left ≡ window.left ++ (first.time, d) ∷ [] →
     Leaves (first.time, d) window (window_of left rest)
-first_leaves {P} window first rest d left is may ends more =
-    let mark : first.has_place ≡ false = (subst (λ (os : List (OpenInput P)). FirstMayLeave os) is may).1 in
-    record {
-      progress = first.progress;
-      first = is ∙ ap (λ (b : Bool). let o : OpenInput P = record {
-        time = first.time;
-        progress = first.progress;
-        has_place = b;
-      } in o ∷ rest) mark;
-      ended = ends;
-      left_is = more;
-    }
+first_leaves window first rest d left is may ends more = grind (arith, common_steps, nat_tests)
 
 -- one outcome left
 pub leaves_over : {P : Type 0} (pair : ℕ × Departed P) (window later : Window P) → Leaves pair window later →
@@ -334,21 +275,11 @@ leaves_over {P} pair window later l =
     }
 
 pub over_none : {P : Type 0} (window : Window P) → IsHandedOver [] window window
-over_none window = record {
-  left_is = sym (append-nil window.left);
-  times_stay = refl;
-  marks_stay = refl;
-  known = λ whole known. known;
-}
+over_none window = grind (arith, common_steps, nat_tests, append-nil)
 
 pub over_more : {P : Type 0} (xs ys : List (ℕ × Departed P)) (window middle later : Window P) →
     IsHandedOver xs window middle → IsHandedOver ys middle later → IsHandedOver (xs ++ ys) window later
-over_more xs ys window middle later a b = record {
-  left_is = b.left_is ∙ (ap (λ l. l ++ ys) a.left_is ∙ append_assoc window.left xs ys);
-  times_stay = b.times_stay ∙ a.times_stay;
-  marks_stay = b.marks_stay ∙ a.marks_stay;
-  known = λ whole known. b.known whole (a.known whole known);
-}
+over_more xs ys window middle later a b = grind (arith, common_steps, nat_tests, append_assoc)
 
 -- THE END
 
@@ -397,9 +328,7 @@ no_more : {X : Type 0} (xs ys zs : List X) → xs ++ ys ≡ zs → length xs ≡
 no_more [] [] zs e long = e
 no_more [] (y ∷ ys) zs e long = absurd (let h : suc (length ys) ≡ length zs = ap length e in omega arith)
 no_more (x ∷ xs) ys [] e long = absurd (omega arith)
-no_more (x ∷ xs) ys (z ∷ zs) e long = let rest : xs ≡ zs = no_more xs ys zs (cc (e)) (omega arith) in
-    let first : x ≡ z = cc (e) in
-    rw (first, rest) refl
+no_more (x ∷ xs) ys (z ∷ zs) e long = grind (arith, common_steps, nat_tests, no_more xs ys zs (cc (e)) (omega arith))
 
 length_timed : {X : Type 0} (inputs : List Arrival) (outs : List X) → length outs ≡ length inputs →
     length (timed inputs outs) ≡ length inputs
@@ -411,16 +340,7 @@ pub left_whole : {P : Type 0} (whole : Whole P) (window : Window P) (inputs : Li
     times_in window ≡ map (λ i. i.time) inputs → AllKnown whole (progress_in window) →
     length whole.departed ≡ length inputs → window.under_way ≡ [] → window.left ≡ timed inputs whole.departed
 left_whole whole window inputs times known long none =
-    let front : IsFront window.left (timed inputs whole.departed) = left_front whole window inputs times known long in
-    let all : map time_in window.left ≡ map (λ (i : Arrival). i.time) inputs =
-    sym (append-nil (map time_in window.left)) ∙ (ap (λ xs. map time_in window.left ++ map arrived xs) (sym none)
-    ∙ times) in
-    let one : length (map time_in window.left) ≡ length window.left = length-map window.left time_in in
-    let two : length (map (λ (i : Arrival). i.time) inputs) ≡ length inputs =
-    length-map inputs (λ (i : Arrival). i.time) in
-    let same : length (map time_in window.left) ≡ length (map (λ (i : Arrival). i.time) inputs) = ap length all in
-    no_more window.left front.0 (timed inputs whole.departed) front.1
-    (omega (arith, one, two, same, length_timed inputs whole.departed long))
+    grind (arith, common_steps, nat_tests, left_front, append-nil, length-map, no_more, length_timed)
 
 pub timed_outcomes : {P : Type 0} (inputs : List Arrival) (outs : List (Departed P)) → length outs ≡ length inputs →
     map outcome_of (timed inputs outs) ≡ map (λ d. d.outcome) outs

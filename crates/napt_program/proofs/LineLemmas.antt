@@ -1,36 +1,27 @@
 -- What clap's answer says of a command line.
-use Rattle.std.proofs.Common.{◌≡◌, ◌≤◌, ◌∙◌, Bool, true, false, List, [], ◌∷◌, length, refl, sym, ap, inl, inr, arith}
-use Rattle.std.specs.Prelude.{◌≢◌, IfOk, Option, None, Result, Ok, Err, codes, option_map, string_bytes}
-use Rattle.clap.specs.Words.{App, HasKind, HasMatchesOf, IsAmong, Kinds, Row, Text, fault_of, first_of, first_value, found_of, is_simple, is_simple_and_free, kind_of, matches_of, rows_of}
+use Rattle.std.{proofs.lemmas.{Grind.common_steps, Bool.Decides.nat_tests}, specs.Prelude.{◌≢◌, IfOk, Option, None, Result, codes, option_map, string_bytes}}
+use Rattle.std.proofs.Common.{◌≡◌, ◌≤◌, Bool, true, false, List, [], ◌∷◌, length, refl, sym, ap, inl, inr, arith}
+use Rattle.clap.specs.Words.{App, HasKind, HasMatchesOf, IsAmong, Kinds, Row, Text, fault_of, first_value, found_of, is_simple, is_simple_and_free, kind_of, rows_of}
 use Rattle.clap.{proofs.WalkLemmas.first_value-rows, specs.declared.{error.{kind.ErrorKind.ErrorKind, Error.Error}, parser.matches.ArgMatches.ArgMatches}}
 use Rattle.clap.specs.declared.error.kind.ErrorKind.TheVariants as kind
-use Rattle.napt_program.specs.CommandLine.{Files, app_for, files, files_in, files_of, files_with_log, help, line_by, line_for, log_in, mistake, napt_app, version}
+use Rattle.napt_program.specs.CommandLine.{Files, app_for, files, files_in, files_of, files_with_log, help, line_by, line_for, log_in, mistake, version}
 use Rattle.napt_program.{specs.declared.options_with_log.OptionsWithLog.OptionsWithLog, proofs.OneKind.one_fault}
 
 line_is_simple : (takes_log : Bool) → is_simple (app_for takes_log) ≡ true
-line_is_simple false = refl
-line_is_simple true = refl
+line_is_simple takes_log = grind (arith, common_steps, nat_tests)
 
 line_is_free : (takes_log : Bool) → is_simple_and_free (app_for takes_log) ≡ true
-line_is_free false = refl
-line_is_free true = refl
+line_is_free takes_log = grind (arith, common_steps, nat_tests)
 
 one_line_fault : (takes_log : Bool) (words : List Text) → length (fault_of (app_for takes_log) words) ≤ 1
-one_line_fault false words = one_fault napt_app refl refl words
-one_line_fault true words = one_fault (app_for true) refl refl words
+one_line_fault takes_log words = grind (arith, common_steps, nat_tests, one_fault)
 
 -- a line of which clap finds no fault gives its files
 pub taken_line : (takes_log : Bool) (app : App) (words : List Text) (m : ArgMatches) → app ≡ app_for takes_log
     → HasMatchesOf app words m → (is_simple_and_free app ≡ true → fault_of app words ≡ [])
     → line_for takes_log words ≡ files (files_in takes_log (rows_of (found_of m)))
 unfolding line_for
-taken_line takes_log app words m is matches none =
-    let free : is_simple_and_free app ≡ true = ap is_simple_and_free is ∙ line_is_free takes_log in
-    let simple : is_simple app ≡ true = ap is_simple is ∙ line_is_simple takes_log in
-    let no_fault : fault_of (app_for takes_log) words ≡ [] = ap (λ (a : App). fault_of a words) (sym is) ∙ none free in
-    let rows : rows_of (found_of m) ≡ matches_of (app_for takes_log) words = (matches simple).0
-    ∙ ap (λ (a : App). matches_of a words) is in
-    rw (no_fault, rows) refl
+taken_line takes_log app words m is matches none = grind (arith, common_steps, nat_tests, line_is_free, line_is_simple)
 
 -- a list of one kind at most, with this kind among them, is this kind alone
 only_kind : (k : ErrorKind) (kinds : Kinds) → length kinds ≤ 1 → IsAmong k kinds → kinds ≡ k ∷ []
@@ -42,12 +33,8 @@ only_kind k (x ∷ y ∷ more) h among = absurd (omega arith)
 fault_is : (takes_log : Bool) (app : App) (words : List Text) (e : Error) → app ≡ app_for takes_log
     → (is_simple_and_free app ≡ true → HasKind (fault_of app words) e) → kind_of e ≢ kind.OutOfMemory
     → fault_of (app_for takes_log) words ≡ kind_of e ∷ []
-fault_is takes_log app words e is fails memory = go (fails (ap is_simple_and_free is ∙ line_is_free takes_log))
-  where
-    go : HasKind (fault_of app words) e → fault_of (app_for takes_log) words ≡ kind_of e ∷ []
-    go (inl m) = absurd (memory m)
-    go (inr among) = only_kind (kind_of e) (fault_of (app_for takes_log) words) (one_line_fault takes_log words)
-        (rw is at among)
+fault_is takes_log app words e is fails memory =
+    grind (arith, common_steps, nat_tests, line_is_free, only_kind, one_line_fault)
 
 -- a line at which clap shows its help asks for it
 pub help_line : (takes_log : Bool) (app : App) (words : List Text) (e : Error) → app ≡ app_for takes_log
@@ -69,9 +56,7 @@ version_line takes_log app words e is fails shown =
 
 mistake_by : (k : ErrorKind) (named : Files) → k ≢ kind.DisplayHelp → k ≢ kind.DisplayVersion
     → line_by (k ∷ []) named ≡ mistake
-mistake_by kind.DisplayHelp named h v = absurd (h refl)
-mistake_by kind.DisplayVersion named h v = absurd (v refl)
-mistake_by _ named h v = refl
+mistake_by k named h v = grind (arith, common_steps, nat_tests)
 
 -- and one that it refuses for another cause than memory is a mistake
 pub mistaken_line : (takes_log : Bool) (app : App) (words : List Text) (e : Error) → app ≡ app_for takes_log
@@ -97,38 +82,19 @@ pub files_read : (m : ArgMatches) (config inside outside to_outside to_inside re
       log = None;
     }
 files_read m config inside outside to_outside to_inside report a b c d e f =
-    let read : (name : Text) → first_of name (rows_of (found_of m)) ≡ first_value (found_of m) name =
-    λ name. sym (first_value-rows (found_of m) name) in
-    rw (
-      read (codes "config"),
-      read (codes "inside"),
-      read (codes "outside"),
-      read (codes "to-outside"),
-      read (codes "to-inside"),
-      read (codes "report"),
-      a,
-      b,
-      c,
-      d,
-      e,
-      f,
-    ) refl
+    grind (arith, common_steps, nat_tests, first_value-rows)
 
 -- with the log, they are the files of the options
 pub log_read : (takes_log : Bool) (rows : List Row) (o : OptionsWithLog) → files_of o.files ≡ files_in false rows
     → option_map string_bytes o.log ≡ log_in takes_log rows → files_in takes_log rows ≡ files_with_log o
-log_read takes_log rows o read log =
-    ap (λ (named : Files). record named { log = log_in takes_log rows }) (sym read)
-    ∙ ap (λ (text : Option Text). record (files_of o.files) { log = text }) (sym log)
+log_read takes_log rows o read log = grind (arith, common_steps, nat_tests)
 
 -- of a program that takes it, the value of the log is that of its option
 pub log_named : (takes_log : Bool) (m : ArgMatches) → takes_log ≡ true
     → first_value (found_of m) (codes "log") ≡ log_in takes_log (rows_of (found_of m))
-log_named true m takes = first_value-rows (found_of m) (codes "log")
-log_named false m takes = absurd (cc)
+log_named takes_log m takes = grind (arith, common_steps, nat_tests, first_value-rows)
 
 -- what a value is, by another name
 pub if_ok_is : {V E : Type 0} (r : Result V E) (text : V → Option Text) (a b : Option Text) → a ≡ b
     → IfOk r (λ v. text v ≡ a) → IfOk r (λ v. text v ≡ b)
-if_ok_is (Ok v) text a b same is = is ∙ same
-if_ok_is (Err e) text a b same is = is
+if_ok_is r text a b same is = grind (arith, common_steps, nat_tests)

@@ -1,5 +1,7 @@
 -- Which option comes first, with the log behind all others.
-use Rattle.std.proofs.Common.{◌≡◌, ◌∙◌, ◌&&◌, ◌||◌, ℕ, List, option_map, Bool, true, false, not, is_some, Option, Some, None, if◌then◌else◌, refl}
+use native.Mathlib.Omega.{arith}
+use Rattle.std.proofs.lemmas.{Grind.common_steps, Bool.Decides.nat_tests}
+use Rattle.std.proofs.Common.{◌≡◌, ◌&&◌, ◌||◌, ℕ, List, option_map, Bool, true, false, not, is_some, Option, Some, None, if◌then◌else◌}
 use Rattle.napt_program.specs.{CommandLine.{Files, files_of, files_with_log}, Standard.{is_log_again, is_standard, is_stream, standard_again}}
 use Rattle.napt_program.specs.{Streams.closed_stream, declared.{options_with_log.OptionsWithLog.OptionsWithLog, role.Role.Role, streams.Streams.Streams}}
 use Rattle.napt_program.specs.declared.role.Role.TheVariants as role
@@ -10,31 +12,17 @@ first_role a b c d e f j k l m n o behind =
     if a then Some j
     else (if b then Some k
     else (if c then Some l
-    else (if d then Some m
-    else (if e then Some n
-    else (if f then Some o else behind)))))
+    else (if d then Some m else (if e then Some n else (if f then Some o else behind)))))
 
 -- what is behind changes nothing where one holds
 pub first_kept : (a b c d e f : Bool) (j k l m n o found : Role) (behind : Option Role)
     → first_role a b c d e f j k l m n o None ≡ Some found → first_role a b c d e f j k l m n o behind ≡ Some found
-first_kept true b c d e f j k l m n o found behind is = is
-first_kept false true c d e f j k l m n o found behind is = is
-first_kept false false true d e f j k l m n o found behind is = is
-first_kept false false false true e f j k l m n o found behind is = is
-first_kept false false false false true f j k l m n o found behind is = is
-first_kept false false false false false true j k l m n o found behind is = is
-first_kept false false false false false false j k l m n o found behind is = absurd (cc)
+first_kept a b c d e f j k l m n o found behind is = grind (arith, common_steps, nat_tests)
 
 -- and is all where none does
 pub first_behind : (a b c d e f : Bool) (j k l m n o : Role) (behind : Option Role)
     → first_role a b c d e f j k l m n o None ≡ None → first_role a b c d e f j k l m n o behind ≡ behind
-first_behind true b c d e f j k l m n o behind is = absurd (cc)
-first_behind false true c d e f j k l m n o behind is = absurd (cc)
-first_behind false false true d e f j k l m n o behind is = absurd (cc)
-first_behind false false false true e f j k l m n o behind is = absurd (cc)
-first_behind false false false false true f j k l m n o behind is = absurd (cc)
-first_behind false false false false false true j k l m n o behind is = absurd (cc)
-first_behind false false false false false false j k l m n o behind is = refl
+first_behind a b c d e f j k l m n o behind is = grind (arith, common_steps, nat_tests)
 
 -- the conditions of `standard_again`, in its order
 abbrev config_by_default : Files → Bool
@@ -67,30 +55,15 @@ again_kept o found is =
 -- and the log is, if there is none and it wants one
 pub again_behind : (o : OptionsWithLog) → standard_again (files_of o.files) ≡ None
     → is_log_again (files_with_log o) ≡ true → standard_again (files_with_log o) ≡ Some role.Log
-again_behind o none wants =
-    let n = files_of o.files in
-    let behind : log_if (is_log_again (files_with_log o)) ≡ Some role.Log = rw wants refl in
-    first_behind false (config_by_default n) (config_and_inside n) (outside_too n) (to_inside_too n) (report_too n)
-    role.Log role.Config role.Inside role.Outside role.ToInside role.Report
-    (log_if (is_log_again (files_with_log o))) none
-    ∙ behind
+again_behind o none wants = grind (arith, common_steps, nat_tests, first_behind)
 
 -- a closed stream that stands for an option before the log is the first
 pub closed_kept : (s : Streams) (o : OptionsWithLog) (found : Role) → closed_stream s (files_of o.files) ≡ Some found
     → closed_stream s (files_with_log o) ≡ Some found
-closed_kept s o found is =
-    let n = files_of o.files in
-    first_kept (not s.input && is_stream n role.Config) (not s.input && is_standard n role.Inside)
-    (not s.input && is_stream n role.Outside) (not s.output && is_standard n role.ToOutside)
-    (not s.output && is_stream n role.ToInside) (not s.output && is_stream n role.Report)
-    role.Config role.Inside role.Outside role.ToOutside role.ToInside role.Report found
-    (log_if (is_stream (files_with_log o) role.Log && not s.output)) is
+closed_kept s o found is = grind (arith, common_steps, nat_tests, first_kept)
 
 -- a log is open if it is named
 pub log_is_there : {A B : Type 0} (opened : Option A) (is : A → Bool) (named : Option B) (text : B → List ℕ)
     (dash : List ℕ → Bool) → option_map is opened ≡ option_map dash (option_map text named)
     → is_some opened ≡ is_some named
-log_is_there None is None text dash same = refl
-log_is_there (Some a) is (Some b) text dash same = refl
-log_is_there None is (Some b) text dash same = absurd (cc)
-log_is_there (Some a) is None text dash same = absurd (cc)
+log_is_there opened is named text dash same = grind (arith, common_steps, nat_tests)

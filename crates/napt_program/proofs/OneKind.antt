@@ -92,8 +92,7 @@ one-use again a vs rows = one-or_else
 
 one-settle : (c : List Rule) (again : Bool) (h : Held) → IsOne (settle_fault c again h)
 one-settle c again h = one-option h.pending (λ p. option_map_or (λ a. use_fault again a p.1 h.rows) (arg_by_id c p.0)
-    [])
-    (λ p. one-option (arg_by_id c p.0) (λ a. use_fault again a p.1 h.rows) (λ a. one-use again a p.1 h.rows))
+    []) (λ p. one-option (arg_by_id c p.0) (λ a. use_fault again a p.1 h.rows) (λ a. one-use again a p.1 h.rows))
 
 one-react : (c : List Rule) (again : Bool) (a : Rule) (vs : List Text) (h : Held) → IsOne (react_fault c again a vs h)
 one-react c again a vs h = one-or_else (settle_fault c again h) (use_fault again a vs (settled c h).rows)
@@ -150,8 +149,7 @@ one-word s is_trailing w word h = one-if is_trailing [] (other_fault s (subcomma
   where
     other : IsOne (other_fault s None word h)
     other = one-if (bytes_eq word (45 ∷ 45 ∷ [])) [] (flag_word_fault s.rules s.args_override_self
-        (long_of word) word h)
-        one_none (one-flag_word s.rules s.args_override_self (long_of word) word h)
+        (long_of word) word h) one_none (one-flag_word s.rules s.args_override_self (long_of word) word h)
 
     go : (v : Waiting) → IsOne (other_fault s (subcommand_met [] v word) word h)
     go idle = other

@@ -1,14 +1,13 @@
 -- What holds of merging holds step by step: its laws, its order and its clocks.
-use Rattle.std.proofs.Common.{◌≡◌, ℕ, zero, suc, ◌+◌, ◌<◌, ◌≤◌, max, inl, inr, Bool, true, false, ◌↔◌, List, [], ◌∷◌, ◌++◌, append-nil, length, map, take, All, Option, Some, None, Result, Ok, Err, refl, sym, ◌∙◌, ap, subst, arith}
-use Rattle.std.{specs.Prelude.{filter, slice_get, nat_lt}, proofs.lemmas.{Bool.{ltb-false, ltb-true, cases_Bool}, List.length-map}}
-use Rattle.std.proofs.lemmas.List.Elements.{All-nil, All-cons, All-head, All-tail}
+use Rattle.std.proofs.lemmas.{Grind.common_steps, Bool.Decides.nat_tests, List.Elements.{All-nil, All-cons, All-head, All-tail}}
+use Rattle.std.proofs.Common.{◌≡◌, ℕ, zero, suc, ◌+◌, ◌<◌, ◌≤◌, max, Bool, true, false, ◌↔◌, List, [], ◌∷◌, ◌++◌, append-nil, length, map, take, All, Option, Some, None, Result, Ok, Err, refl, sym, ◌∙◌, ap, subst, arith}
+use Rattle.std.{specs.Prelude.{filter, slice_get}, proofs.lemmas.{Bool.{ltb-false, ltb-true, cases_Bool}, List.length-map}}
 use Rattle.napt_wire.specs.declared.Side.{Side, TheVariants.{Inside, Outside}}
 use Rattle.napt_capture.specs.{Contents.Entry, Text.IsWritable, Capture.Held, declared.fault.CaptureFault.CaptureFault}
 use Rattle.napt_rules.specs.Prelude.{Arrival}
 use Rattle.napt_sequential.specs.Inputs.{IsTaken}
-use Rattle.napt_records.specs.Output.{IsTimely}
+use Rattle.napt_records.specs.{Output.IsTimely, MergeLaws.{HaveAll, MergeEnds, MergeMeets, MergesBefore, MergesFront, MergesWhole, TellsInsideFirst, held_of}}
 use Rattle.napt_records.specs.Taking.{Inputs, Takes, alone, alone_by, at_end, at_fault, before, input_of, inputs_from, inputs_until, is_outside_next, merged, merged_from, unless_fault, until}
-use Rattle.napt_records.specs.MergeLaws.{HaveAll, MergeEnds, MergeMeets, MergesBefore, MergesFront, MergesWhole, TellsInsideFirst, held_of}
 use Rattle.napt_records.specs.declared.merged_streams.{Cuts.Cuts, SideFault.SideFault}
 use Rattle.napt_records.specs.Merge.{of_record, of_input, is_from, latest, clock_at, reach, IsMerged}
 
@@ -23,39 +22,27 @@ IsKnown (entry ∷ entries) end = Unit {0}
 inside_first : (a b : Result Bool CaptureFault) (entry : Entry) (ins outs : List Entry) (clock : ℕ) → IsKnown outs b →
     is_outside_next (entry ∷ ins) outs ≡ false → inputs_from a b (entry ∷ ins) clock outs
     ≡ before (input_of Inside (max clock entry.time) entry) (inputs_from a b ins (max clock entry.time) outs)
-inside_first a (Ok cut) entry ins [] clock known next = refl
-inside_first a (Err fault) entry ins [] clock known next = absurd known
-inside_first a b entry ins (other ∷ outs) clock known next = rw next refl
+inside_first a b entry ins outs clock known next = grind (arith, common_steps, nat_tests)
 
 outside_first : (a b : Result Bool CaptureFault) (entry : Entry) (ins outs : List Entry) (clock : ℕ) → IsKnown ins a →
     is_outside_next ins (entry ∷ outs) ≡ true → inputs_from a b ins clock (entry ∷ outs)
     ≡ before (input_of Outside (max clock entry.time) entry) (inputs_from a b ins (max clock entry.time) outs)
-outside_first (Ok cut) b entry [] outs clock known next = refl
-outside_first (Err fault) b entry [] outs clock known next = absurd known
-outside_first a b entry (first ∷ ins) outs clock known next = rw next refl
+outside_first a b entry ins outs clock known next = grind (arith, common_steps, nat_tests)
 
 pub hands_until : (a b : Result Bool CaptureFault) (ins outs ins_left outs_left : List Entry) (clock : ℕ) (side : Side)
     (entry : Entry) → IsKnown ins a → IsKnown outs b → Takes ins outs (Some (side, entry)) ins_left outs_left
-    → inputs_from a b ins clock outs
-    ≡ before (input_of side (max clock entry.time) entry)
+    → inputs_from a b ins clock outs ≡ before (input_of side (max clock entry.time) entry)
     (inputs_from a b ins_left (max clock entry.time) outs_left)
-hands_until a b ins outs ins_left outs_left clock Inside entry in_known out_known taken =
-    rw (taken.0, taken.1) (inside_first a b entry ins_left outs_left clock (rw taken.1 at out_known)
-    (rw (taken.0, taken.1) at taken.2))
-hands_until a b ins outs ins_left outs_left clock Outside entry in_known out_known taken =
-    rw (taken.0, taken.1) (outside_first a b entry ins_left outs_left clock (rw taken.1 at in_known)
-    (rw (taken.0, taken.1) at taken.2))
+hands_until a b ins outs ins_left outs_left clock side entry in_known out_known taken =
+    grind (arith, common_steps, nat_tests, inside_first, outside_first)
 
 no_fault : (entries : List Entry) → IsKnown entries (Ok false)
-no_fault [] = tt
-no_fault (entry ∷ entries) = tt
+no_fault entries = grind (arith, common_steps, nat_tests)
 
 pub hands : (ins outs ins_left outs_left : List Entry) (clock : ℕ) (side : Side) (entry : Entry) →
     Takes ins outs (Some (side, entry)) ins_left outs_left → merged_from ins clock outs
     ≡ input_of side (max clock entry.time) entry ∷ merged_from ins_left (max clock entry.time) outs_left
-hands ins outs ins_left outs_left clock side entry taken =
-    ap (λ (i : Inputs). i.arrivals) (hands_until (Ok false) (Ok false) ins outs ins_left outs_left clock side entry
-    (no_fault ins) (no_fault outs) taken)
+hands ins outs ins_left outs_left clock side entry taken = grind (arith, common_steps, nat_tests, hands_until, no_fault)
 
 -- where none is left
 pub none_from : (a b : Bool) (clock : ℕ) → inputs_from (Ok a) (Ok b) [] clock [] ≡ at_end a (Ok b)
@@ -84,40 +71,29 @@ module _ (a b : Result Bool CaptureFault) (P : List Entry → ℕ → List Entry
     (steps : StepsUntil a b P) where
   of_end : (cut : Bool) (end : Result Bool CaptureFault) (clock : ℕ) → a ≡ Ok cut → b ≡ end →
       P [] clock [] (at_end cut end)
-  of_end cut (Ok other) clock is also = steps.ends cut other clock is also
-  of_end cut (Err fault) clock is also = steps.bad_outside fault [] clock also (known_end a cut is)
+  of_end cut end clock is also = grind (arith, common_steps, nat_tests, known_end)
 
   of_alone : (cut : Bool) (outs : List Entry) (clock : ℕ) → a ≡ Ok cut → P [] clock outs (alone cut b clock outs)
   of_alone cut [] clock is = of_end cut b clock is refl
   of_alone cut (other ∷ outs) clock is =
-      steps.outside other [] outs clock (alone cut b (max clock other.time) outs) (known_end a cut is) refl
-      (of_alone cut outs (max clock other.time) is)
+      grind (arith, common_steps, nat_tests, known_end, of_alone cut outs (max clock other.time) is)
 
   of_last : (first : Entry) (ins : List Entry) (clock : ℕ) (end : Result Bool CaptureFault) → b ≡ end →
       P ins (max clock first.time) [] (inputs_from a b ins (max clock first.time) [])
       → P (first ∷ ins) clock [] (unless_fault end (before (input_of Inside (max clock first.time) first)
       (inputs_from a b ins (max clock first.time) [])))
-  of_last first ins clock (Ok cut) is more =
-      steps.inside first ins [] clock (inputs_from a b ins (max clock first.time) []) (known_end b cut is) refl more
-  of_last first ins clock (Err fault) is more = steps.bad_outside fault (first ∷ ins) clock is tt
+  of_last first ins clock end is more = grind (arith, common_steps, nat_tests, known_end)
 
   of_until : (first : Entry) (ins outs : List Entry) (clock : ℕ) →
       ((now : ℕ) (left : List Entry) → P ins now left (inputs_from a b ins now left))
       → P (first ∷ ins) clock outs (until b first (inputs_from a b ins) clock outs)
   of_until first ins [] clock more = of_last first ins clock b refl (more (max clock first.time) [])
-  of_until first ins (other ∷ outs) clock more = elim (cases_Bool (nat_lt other.time first.time)) [
-    | inl earlier ↦ rw earlier (steps.outside other (first ∷ ins) outs clock
-        (until b first (inputs_from a b ins) (max clock other.time) outs) tt earlier
-        (of_until first ins outs (max clock other.time) more))
-    | inr later ↦ rw later (steps.inside first ins (other ∷ outs) clock
-        (inputs_from a b ins (max clock first.time) (other ∷ outs)) tt later
-        (more (max clock first.time) (other ∷ outs)))
-  ]
+  of_until first ins (other ∷ outs) clock more =
+      grind (arith, common_steps, nat_tests, cases_Bool, of_until first ins outs (max clock other.time) more)
 
   of_none : (end : Result Bool CaptureFault) (outs : List Entry) (clock : ℕ) → a ≡ end →
       P [] clock outs (alone_by end b clock outs)
-  of_none (Ok cut) outs clock is = of_alone cut outs clock is
-  of_none (Err fault) outs clock is = steps.bad_inside fault outs clock is
+  of_none end outs clock is = grind (arith, common_steps, nat_tests, of_alone)
 
   of_inputs : (ins outs : List Entry) (clock : ℕ) → P ins clock outs (inputs_from a b ins clock outs)
   of_inputs [] outs clock = of_none a outs clock refl
@@ -154,8 +130,7 @@ record IsFront (inputs : Inputs) (all : List Arrival) : Type 0 where
 
 front_before : (x : Arrival) (inputs : Inputs) (some all : List Arrival) → all ≡ x ∷ some → IsFront inputs some →
     IsFront (before x inputs) all
-front_before x inputs some all is p =
-    record { left = p.left; is = is ∙ ap (λ l. x ∷ l) p.is; whole = p.whole }
+front_before x inputs some all is p = record { left = p.left; is = is ∙ ap (λ l. x ∷ l) p.is; whole = p.whole }
 
 front_fault : (side : Side) (fault : CaptureFault) (all : List Arrival) → IsFront (at_fault side fault) all
 front_fault side fault all = record { left = all; is = refl; whole = λ cuts never. absurd cc }
@@ -188,10 +163,7 @@ abbrev EndAs : Result Bool CaptureFault → Result Bool CaptureFault → Inputs 
 EndAs a b inputs = (cuts : Cuts) → inputs.end ≡ Ok cuts → (a ≡ Ok cuts.inside) × (b ≡ Ok cuts.outside)
 
 ends_are : (a b : Result Bool CaptureFault) (x y : Bool) → a ≡ Ok x → b ≡ Ok y → EndAs a b (at_end x (Ok y))
-ends_are a b x y is also cuts end =
-    let both : Cuts = record { inside = x; outside = y } in
-    let same : both ≡ cuts = cc in
-    (is ∙ ap (λ (c : Cuts). Ok c.inside) same, also ∙ ap (λ (c : Cuts). Ok c.outside) same)
+ends_are a b x y is also = grind (arith, common_steps, nat_tests)
 
 ends_from : (a b : Result Bool CaptureFault) (ins outs : List Entry) (clock : ℕ) →
     EndAs a b (inputs_from a b ins clock outs)
@@ -232,12 +204,7 @@ record IsBefore (a b : Result Bool CaptureFault) (ins outs : List Entry) (inputs
       count Inside inputs.arrivals < length ins
 
 before_end : (a b : Result Bool CaptureFault) (x y : Bool) → IsBefore a b [] [] (at_end x (Ok y))
-before_end a b x y = record {
-  meets = λ f is. absurd cc;
-  all = λ f is. absurd cc;
-  least = λ k side its less is. absurd (let no : ⊥ = omega (arith, less) in no);
-  first = λ fault its is also. absurd cc;
-}
+before_end a b x y = grind (arith, common_steps, nat_tests)
 
 fault_is : (side : Side) (fault : CaptureFault) (f : SideFault) → (at_fault side fault).end ≡ Err f →
     (let at : SideFault = record { side = side; fault = fault } in at ≡ f)
@@ -248,68 +215,40 @@ at_once : (a b : Result Bool CaptureFault) (ins outs : List Entry) (side : Side)
     end_of side a b ≡ Err fault → records_of side ins outs ≡ []
     → ((its : CaptureFault) → side ≡ Outside → a ≡ Err its → 0 < length ins)
     → IsBefore a b ins outs (at_fault side fault)
-at_once a b ins outs side fault is none more = record {
-  meets = λ f same. subst (λ (g : SideFault). end_of g.side a b ≡ Err g.fault) (fault_is side fault f same) is;
-  all = λ f same. subst (λ (g : SideFault). HasAllOf g.side ins outs []) (fault_is side fault f same)
-      (sym (ap (λ l. map of_record l) none));
-  least = λ k other its less also. absurd (let no : ⊥ = omega (arith, less) in no);
-  first = λ other its same also. more its
-      (ap (λ (g : SideFault). g.side) (fault_is side fault (record { side = Outside; fault = other }) same)) also;
-}
+at_once a b ins outs side fault is none more = grind (arith, common_steps, nat_tests, fault_is)
 
 some_left : (entries : List Entry) (end : Result Bool CaptureFault) (fault : CaptureFault) → IsKnown entries end →
     end ≡ Err fault → 0 < length entries
-some_left [] end fault known is = absurd (let never : IsKnown [] (Err fault) = rw is at known in never)
-some_left (entry ∷ entries) end fault known is = omega arith
+some_left entries end fault known is = grind (arith, common_steps, nat_tests)
 
 -- behind one more inside record
 module _ (a b : Result Bool CaptureFault) (entry : Entry) (ins outs : List Entry) (inputs : Inputs) (now : ℕ) where
   all_in : (side : Side) → HasAllOf side ins outs inputs.arrivals →
       HasAllOf side (entry ∷ ins) outs (input_of Inside now entry ∷ inputs.arrivals)
-  all_in Inside has = ap (λ l. of_record entry ∷ l) has
-  all_in Outside has = has
+  all_in side has = grind (arith, common_steps, nat_tests)
 
   least_in : IsKnown outs b → IsBefore a b ins outs inputs → (k : ℕ) (side : Side) (its : CaptureFault) →
       k < length (input_of Inside now entry ∷ inputs.arrivals) → end_of side a b ≡ Err its →
       count side (take k (input_of Inside now entry ∷ inputs.arrivals)) < length (records_of side (entry ∷ ins) outs)
-  least_in known p zero Inside its less is = omega arith
-  least_in known p zero Outside its less is = some_left outs b its known is
-  least_in known p (suc k) Inside its less is =
-      let before = p.least k Inside its (omega (arith, less)) is in omega (arith, before)
-  least_in known p (suc k) Outside its less is = p.least k Outside its (omega (arith, less)) is
+  least_in known p k side its less is = grind (arith, common_steps, nat_tests, some_left)
 
   before_in : IsKnown outs b → IsBefore a b ins outs inputs →
       IsBefore a b (entry ∷ ins) outs (before (input_of Inside now entry) inputs)
-  before_in known p = record {
-    meets = p.meets;
-    all = λ f is. all_in f.side (p.all f is);
-    least = least_in known p;
-    first = λ fault its is also. let less = p.first fault its is also in omega (arith, less);
-  }
+  before_in known p = grind (arith, common_steps, nat_tests, all_in, least_in)
 
   -- and outside record
   all_out : (side : Side) → HasAllOf side ins outs inputs.arrivals →
       HasAllOf side ins (entry ∷ outs) (input_of Outside now entry ∷ inputs.arrivals)
-  all_out Inside has = has
-  all_out Outside has = ap (λ l. of_record entry ∷ l) has
+  all_out side has = grind (arith, common_steps, nat_tests)
 
   least_out : IsKnown ins a → IsBefore a b ins outs inputs → (k : ℕ) (side : Side) (its : CaptureFault) →
       k < length (input_of Outside now entry ∷ inputs.arrivals) → end_of side a b ≡ Err its →
       count side (take k (input_of Outside now entry ∷ inputs.arrivals)) < length (records_of side ins (entry ∷ outs))
-  least_out known p zero Inside its less is = some_left ins a its known is
-  least_out known p zero Outside its less is = omega arith
-  least_out known p (suc k) Inside its less is = p.least k Inside its (omega (arith, less)) is
-  least_out known p (suc k) Outside its less is =
-      let before = p.least k Outside its (omega (arith, less)) is in omega (arith, before)
+  least_out known p k side its less is = grind (arith, common_steps, nat_tests, some_left)
 
   before_out : IsKnown ins a → IsBefore a b ins outs inputs →
       IsBefore a b ins (entry ∷ outs) (before (input_of Outside now entry) inputs)
-  before_out known p = record {
-    meets = p.meets;
-    all = λ f is. all_out f.side (p.all f is);
-    least = least_out known p;
-    first = λ fault its is also. p.first fault its is also;
-  }
+  before_out known p = grind (arith, common_steps, nat_tests, all_out, least_out)
 
 out_is_in : Inside ≡ Outside → ⊥
 out_is_in is = cc
@@ -330,13 +269,11 @@ before_from a b = of_inputs a b (λ ins clock outs inputs. IsBefore a b ins outs
 
 held_end_of : (side : Side) (inside outside : Held) → (held_of side inside outside).end
     ≡ end_of side inside.end outside.end
-held_end_of Inside inside outside = refl
-held_end_of Outside inside outside = refl
+held_end_of side inside outside = grind (arith, common_steps, nat_tests)
 
 held_records_of : (side : Side) (inside outside : Held) → (held_of side inside outside).records
     ≡ records_of side inside.records outside.records
-held_records_of Inside inside outside = refl
-held_records_of Outside inside outside = refl
+held_records_of side inside outside = grind (arith, common_steps, nat_tests)
 
 pub merge_meets : MergeMeets
 merge_meets inside outside fault is =
@@ -346,11 +283,7 @@ merge_meets inside outside fault is =
 -- where all of a side's records were handed out, there are as many
 all_counted : (side : Side) (inside outside : Held) (inputs : List Arrival) → HaveAll side inside outside inputs →
     count side inputs ≡ length (records_of side inside.records outside.records)
-all_counted side inside outside inputs have =
-    sym (length-map (filter (is_from side) inputs) of_input)
-    ∙ ap (λ l. length l) have
-    ∙ length-map (held_of side inside outside).records of_record
-    ∙ ap (λ (l : List Entry). length l) (held_records_of side inside outside)
+all_counted side inside outside inputs have = grind (arith, common_steps, nat_tests, length-map, held_records_of)
 
 pub merges_before : MergesBefore
 merges_before inside outside fault is =
@@ -413,8 +346,7 @@ takes_timely ins outs ins_left outs_left now Outside entry taken all =
 -- ORDER AND CLOCKS
 
 take_more : (place : ℕ) (x : Arrival) (xs : List Arrival) → take (suc place + 1) (x ∷ xs) ≡ x ∷ take (place + 1) xs
-take_more place x xs = let more : suc place + 1 ≡ suc (place + 1) = omega arith in
-    ap (λ n. take n (x ∷ xs)) more
+take_more place x xs = grind (arith, common_steps, nat_tests)
 
 reach_more : (side : Side) (place : ℕ) (x : Arrival) (xs : List Arrival) → reach side (suc place) (x ∷ xs)
     ≡ latest (filter (is_from side) (x ∷ take (place + 1) xs))
@@ -440,32 +372,26 @@ MayOut m q [] = Unit {0}
 MayOut m q (entry ∷ entries) = m < max q (suc entry.time)
 
 in_reaches : (m q time : ℕ) (ins : List Entry) → MayIn m q ins → IsFloor ins time → q ≤ max m time
-in_reaches m q time [] may floor = absurd floor
-in_reaches m q time (entry ∷ ins) may floor = omega (arith, may, floor)
+in_reaches m q time ins may floor = grind (arith, common_steps, nat_tests)
 
 out_reaches : (m q time : ℕ) (outs : List Entry) → MayOut m q outs → IsFloor outs time → m < max q (suc time)
-out_reaches m q time [] may floor = absurd floor
-out_reaches m q time (entry ∷ outs) may floor = omega (arith, may, floor)
+out_reaches m q time outs may floor = grind (arith, common_steps, nat_tests)
 
 -- after an inside record
 in_in : (m q time : ℕ) (ins : List Entry) → q ≤ max m time → MayIn (max m time) q ins
-in_in m q time [] may = tt
-in_in m q time (entry ∷ ins) may = omega (arith, may)
+in_in m q time ins may = grind (arith, common_steps, nat_tests)
 
 in_out : (m q : ℕ) (entry : Entry) (ins outs : List Entry) → is_outside_next (entry ∷ ins) outs ≡ false →
     MayOut m q outs → MayOut (max m entry.time) q outs
-in_out m q entry ins [] next may = tt
-in_out m q entry ins (other ∷ outs) next may = omega (arith, may, ltb-false other.time entry.time next)
+in_out m q entry ins outs next may = grind (arith, common_steps, nat_tests, ltb-false)
 
 -- after an outside record
 out_out : (m q time : ℕ) (outs : List Entry) → m < max q (suc time) → MayOut m (max q (suc time)) outs
-out_out m q time [] may = tt
-out_out m q time (entry ∷ outs) may = omega (arith, may)
+out_out m q time outs may = grind (arith, common_steps, nat_tests)
 
 out_in : (m q : ℕ) (entry : Entry) (ins outs : List Entry) → is_outside_next ins (entry ∷ outs) ≡ true →
     MayIn m q ins → MayIn m (max q (suc entry.time)) ins
-out_in m q entry [] outs next may = tt
-out_in m q entry (first ∷ ins) outs next may = omega (arith, may, ltb-true entry.time first.time next)
+out_in m q entry ins outs next may = grind (arith, common_steps, nat_tests, ltb-true)
 
 some_side : (x a : Arrival) → Some x ≡ Some a → x.side ≡ a.side
 some_side x a is = let same : x ≡ a = cc in ap (λ (b : Arrival). b.side) same
@@ -488,10 +414,7 @@ order_in : (m q now : ℕ) (entry : Entry) (outs : List Entry) (xs : List Arriva
 order_in m q now entry outs xs may floors order i zero a b at also inside outside =
     absurd (in_out_apart (some_side (input_of Inside now entry) b also ∙ outside))
 order_in m q now entry outs xs may floors order zero (suc o) a b at also inside outside =
-    let reaches = out_reaches (max m entry.time) q (reach Outside o xs) outs may (floors o b also outside) in
-    let out_is : reach Outside (suc o) (input_of Inside now entry ∷ xs) ≡ reach Outside o xs =
-    reach_more Outside o (input_of Inside now entry) xs in
-    (λ before. omega (arith, reaches, out_is), λ less. omega arith)
+    grind (arith, common_steps, nat_tests, out_reaches, reach_more)
 order_in m q now entry outs xs may floors order (suc i) (suc o) a b at also inside outside =
     let older = order i o a b at also inside outside in
     let in_is : reach Inside (suc i) (input_of Inside now entry ∷ xs) ≡ max entry.time (reach Inside i xs) =
@@ -508,10 +431,7 @@ order_out : (m q now : ℕ) (entry : Entry) (ins : List Entry) (xs : List Arriva
 order_out m q now entry ins xs may floors order zero o a b at also inside outside =
     absurd (in_out_apart (sym inside ∙ sym (some_side (input_of Outside now entry) a at)))
 order_out m q now entry ins xs may floors order (suc i) zero a b at also inside outside =
-    let reaches = in_reaches m (max q (suc entry.time)) (reach Inside i xs) ins may (floors i a at inside) in
-    let in_is : reach Inside (suc i) (input_of Outside now entry ∷ xs) ≡ reach Inside i xs =
-    reach_more Inside i (input_of Outside now entry) xs in
-    (λ before. omega (arith, before), λ less. let none : ⊥ = omega (arith, less, reaches, in_is) in absurd none)
+    grind (arith, common_steps, nat_tests, in_reaches, reach_more)
 order_out m q now entry ins xs may floors order (suc i) (suc o) a b at also inside outside =
     let older = order i o a b at also inside outside in
     let in_is : reach Inside (suc i) (input_of Outside now entry ∷ xs) ≡ reach Inside i xs =
@@ -524,38 +444,22 @@ order_out m q now entry ins xs may floors order (suc i) (suc o) a b at also insi
 
 floor_own : (side : Side) (now : ℕ) (entry : Entry) (rest : List Entry) (xs : List Arrival) →
     Floors side (entry ∷ rest) (input_of side now entry ∷ xs)
-floor_own Inside now entry rest xs zero a at is = omega arith
-floor_own Outside now entry rest xs zero a at is = omega arith
-floor_own Inside now entry rest xs (suc place) a at is =
-    omega (arith, reach_more Inside place (input_of Inside now entry) xs)
-floor_own Outside now entry rest xs (suc place) a at is =
-    omega (arith, reach_more Outside place (input_of Outside now entry) xs)
+floor_own side now entry rest xs = grind (arith, common_steps, nat_tests, reach_more)
 
 floor_in : (now : ℕ) (entry : Entry) (ins : List Entry) (xs : List Arrival) → Floors Inside ins xs →
     Floors Inside ins (input_of Outside now entry ∷ xs)
-floor_in now entry ins xs floors zero a at is =
-    absurd (in_out_apart (sym is ∙ sym (some_side (input_of Outside now entry) a at)))
-floor_in now entry ins xs floors (suc place) a at is =
-    subst (IsFloor ins) (sym (reach_more Inside place (input_of Outside now entry) xs)) (floors place a at is)
+floor_in now entry ins xs floors = grind (arith, common_steps, nat_tests, in_out_apart, some_side, reach_more)
 
 floor_out : (now : ℕ) (entry : Entry) (outs : List Entry) (xs : List Arrival) → Floors Outside outs xs →
     Floors Outside outs (input_of Inside now entry ∷ xs)
-floor_out now entry outs xs floors zero a at is =
-    absurd (in_out_apart (some_side (input_of Inside now entry) a at ∙ is))
-floor_out now entry outs xs floors (suc place) a at is =
-    subst (IsFloor outs) (sym (reach_more Outside place (input_of Inside now entry) xs)) (floors place a at is)
+floor_out now entry outs xs floors = grind (arith, common_steps, nat_tests, in_out_apart, some_side, reach_more)
 
 abbrev ClocksFrom : ℕ → List Arrival → Type 0
 ClocksFrom clock xs = (place : ℕ) (a : Arrival) → slice_get xs place ≡ Some a → a.clock ≡ max clock (clock_at place xs)
 
 clocks_more : (side : Side) (clock : ℕ) (entry : Entry) (xs : List Arrival) → ClocksFrom (max clock entry.time) xs →
     ClocksFrom clock (input_of side (max clock entry.time) entry ∷ xs)
-clocks_more side clock entry xs clocks zero a at =
-    let same : a ≡ input_of side (max clock entry.time) entry = cc in
-    let is : a.clock ≡ max clock entry.time = ap (λ (b : Arrival). b.clock) same in
-    omega (arith, is)
-clocks_more side clock entry xs clocks (suc place) a at =
-    omega (arith, clocks place a at, clock_more place (input_of side (max clock entry.time) entry) xs)
+clocks_more side clock entry xs clocks = grind (arith, common_steps, nat_tests, clock_more)
 
 -- what the merged list of some records is
 record IsGood (ins : List Entry) (clock : ℕ) (outs : List Entry) (xs : List Arrival) : Type 0 where
@@ -606,12 +510,10 @@ good = record {
 }
 
 begin_in : (ins : List Entry) → MayIn 0 0 ins
-begin_in [] = tt
-begin_in (entry ∷ ins) = omega arith
+begin_in ins = grind (arith, common_steps, nat_tests)
 
 begin_out : (outs : List Entry) → MayOut 0 0 outs
-begin_out [] = tt
-begin_out (entry ∷ outs) = omega arith
+begin_out outs = grind (arith, common_steps, nat_tests)
 
 pub merged_good : (ins outs : List Entry) → IsMerged ins outs (merged ins outs)
 merged_good ins outs =
@@ -630,5 +532,4 @@ merged_good ins outs =
 -- where nothing was handed out, nothing is left
 pub none_left : (before after : List Arrival) (handed : Option Arrival) → ((x : Arrival) → handed ≡ Some x → ⊥) →
     IsTaken before handed after → before ≡ []
-none_left before after None never is = is.0
-none_left before after (Some x) never is = absurd (never x refl)
+none_left before after handed never is = grind (arith, common_steps, nat_tests)

@@ -1,4 +1,5 @@
 -- Texts that grow piece by piece.
+use Rattle.std.proofs.lemmas.{Grind.common_steps, Bool.Decides.nat_tests}
 use Rattle.std.proofs.Common.{◌≡◌, ℕ, ◌+◌, List, [], ◌∷◌, ◌++◌, length, ◌∙◌, refl, ap, append_assoc, flat_map, arith}
 use Rattle.napt_capture.specs.Text.{entry_of_packet, record_header, record_text}
 
@@ -7,12 +8,10 @@ two_pieces old a b first second is then = then ∙ ap (λ (t : List ℕ). t ++ b
 
 pub three_pieces : (old a b c first second third : List ℕ) → first ≡ old ++ a → second ≡ first ++ b → third ≡ second
     ++ c → third ≡ old ++ ((a ++ b) ++ c)
-three_pieces old a b c first second third is then last = two_pieces old (a ++ b) c second third
-    (two_pieces old a b first second is then) last
+three_pieces old a b c first second third is then last = grind (arith, common_steps, nat_tests, two_pieces)
 
 pub four_pieces : (old a b c d first second third fourth : List ℕ) → first ≡ old ++ a → second ≡ first ++ b →
-    third ≡ second ++ c → fourth ≡ third ++ d
-    → fourth ≡ old ++ (((a ++ b) ++ c) ++ d)
+    third ≡ second ++ c → fourth ≡ third ++ d → fourth ≡ old ++ (((a ++ b) ++ c) ++ d)
 four_pieces old a b c d first second third fourth is then after last =
     two_pieces old ((a ++ b) ++ c) d third fourth (three_pieces old a b c first second third is then after) last
 

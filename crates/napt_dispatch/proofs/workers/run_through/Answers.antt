@@ -34,8 +34,7 @@ returns-in-Whole-clause-passes g c =
     passes_ended pool
     (right_begin g.D.Told.Telling.tells c.args.config.now (starts pool) (accepts pool) (takes pool)
     (c.dispatch_to-dispatched.ensures.starts ∙ c.in_ok-pool.ensures.started) c.in_ok-dispatched.ensures.taken
-    (λ s leg. refl) (λ s leg. refl))
-    c.in_ok-dispatched.dispatched c.in_ok-dispatched.dispatched.ending
+    (λ s leg. refl) (λ s leg. refl)) c.in_ok-dispatched.dispatched c.in_ok-dispatched.dispatched.ending
     (IfOk-at_ok _ c.in_ok-dispatched.ensures.given c.dispatch_to-dispatched.ensures.ends)
 
 pub returns-in-Ok-clause-passes : goal.returns-in-Ok-clause-passes
@@ -45,8 +44,7 @@ returns-in-Ok-clause-passes g c =
     let closed = c.in_ok-dispatched.ensures in
     let e : EndsWith g.D.Told.Telling.tells c.args.config.now g.A.Arrivals.hands g.A.Arrivals.ends g.D.Departures.takes
     g.D.Departures.fails g.D.Departures.is_settled c.args.arrivals.now c.args.departures.now pool
-    c.dispatch_to-dispatched.new.arrivals c.dispatch_to-dispatched.new.departures None
-    c.in_ok-dispatched.dispatched =
+    c.dispatch_to-dispatched.new.arrivals c.dispatch_to-dispatched.new.departures None c.in_ok-dispatched.dispatched =
     subst (λ ending. EndsBy g.D.Told.Telling.tells c.args.config.now g.A.Arrivals.hands g.A.Arrivals.ends
     g.D.Departures.takes g.D.Departures.fails g.D.Departures.is_settled c.args.arrivals.now c.args.departures.now pool
     c.dispatch_to-dispatched.new.arrivals c.dispatch_to-dispatched.new.departures c.in_ok-dispatched.dispatched ending)
@@ -77,8 +75,7 @@ returns-in-Arrival-clause-passes g c =
     passes_to pool
     (right_begin g.D.Told.Telling.tells c.args.config.now (starts pool) (accepts pool) (takes pool)
     (c.dispatch_to-dispatched.ensures.starts ∙ c.in_ok-pool.ensures.started) closed.taken (λ s leg. refl)
-    (λ s leg. refl))
-    (Some c.in-Arrival.fault) c.in_ok-dispatched.dispatched e
+    (λ s leg. refl)) (Some c.in-Arrival.fault) c.in_ok-dispatched.dispatched e
 
 pub returns-clause-passes : goal.returns-clause-passes
 returns-clause-passes g c =

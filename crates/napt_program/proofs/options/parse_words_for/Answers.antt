@@ -9,8 +9,7 @@ returns-in-Ok-clause-ok c =
     c.in_ok-log_in-in-Ok.ensures.value in
     rw (← c.as_slice.ensures.value)
     (taken_line c.args.takes_log (app_of c.in_ok-command.command) _ c.in-Ok.matches c.in_ok-command.ensures
-    c.in-Ok.ensures.matches c.in-Ok.ensures.kinds
-    ∙ ap files read)
+    c.in-Ok.ensures.matches c.in-Ok.ensures.kinds ∙ ap files read)
 
 pub returns-clause-help : goal.returns-clause-help
 returns-clause-help c asked =

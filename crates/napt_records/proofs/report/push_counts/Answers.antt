@@ -13,8 +13,7 @@ returns c outcomes are =
     (slice_index c.args.counts.now.dropped (place_of cause))) (model.drop_line outcomes)
     (λ (cause : Cause). ap (λ (count : ℕ). codes "drop " ++ model.count_line (model.cause_name cause) count)
     (are.dropped cause)) model.causes in
-    four_pieces (string_bytes c.args.report.now)
-    (model.count_line (codes "packets") (length outcomes))
+    four_pieces (string_bytes c.args.report.now) (model.count_line (codes "packets") (length outcomes))
     (model.count_line (codes "to outside") (count_by model.is_to_outside outcomes))
     (model.count_line (codes "to inside") (count_by model.is_to_inside outcomes))
     (flat_map (model.drop_line outcomes) model.causes)

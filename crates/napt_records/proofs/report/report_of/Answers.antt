@@ -9,6 +9,4 @@ returns c outcomes are =
     (flat_map model.row_line c.args.bindings.now)
     (string_bytes c.push_counts.new.report) (string_bytes c.push_cuts.new.report) (string_bytes c.push_rows.new.report)
     (c.in_ok-push_counts.ensures outcomes are ∙ ap (λ (text : List ℕ). text ++ model.counts_text outcomes)
-    c.new-report.ensures.bytes)
-    c.in_ok-push_cuts.ensures
-    c.in_ok-push_rows.ensures
+    c.new-report.ensures.bytes) c.in_ok-push_cuts.ensures c.in_ok-push_rows.ensures

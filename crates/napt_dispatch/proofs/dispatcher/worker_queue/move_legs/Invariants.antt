@@ -7,8 +7,7 @@ abbrev pub invariant-loop-held : goal.invariant-loop-held
 invariant-loop-held l = record {
   legs : (acts : List Act) → turned acts l.ready.items l.held.items
       ≡ turned acts l.initial.ready.items l.initial.held.items;
-  count : length l.ready.items + length l.held.items
-      ≡ length l.initial.ready.items + length l.initial.held.items;
+  count : length l.ready.items + length l.held.items ≡ length l.initial.ready.items + length l.initial.held.items;
   shorter : length l.held.items ≤ length l.initial.held.items;
 }
 

@@ -5,8 +5,7 @@ use Rattle.napt_dispatch.proofs.dispatcher.run_progress.RunProgress.place_of.Goa
 pub returns-then-number-self : goal.returns-then-number-self
 returns-then-number-self g c =
     rw (← c.self.view_is) (
-      left_unknown c.self.inside.past.items _ c.args.number
-          (omega (arith, c.self.invariant.0, c.if-number-self.true)),
+      left_unknown c.self.inside.past.items _ c.args.number (omega (arith, c.self.invariant.0, c.if-number-self.true)),
       inl (omega (arith, c.self.invariant.0, c.if-number-self.true)),
     )
 
