@@ -3,13 +3,13 @@
 use crate::plan::figures::Figures;
 
 /// How many columns there are.
-const COLUMNS: usize = 22;
+const COLUMNS: usize = 23;
 
 /// How many of them, the first, are keys of which a column stands only where configurations differ in it.
-const KEYS: usize = 9;
+const KEYS: usize = 10;
 
 /// Their names.
-pub const NAMES: [&str; 22] = [
+pub const NAMES: [&str; 23] = [
     "pool",
     "filter",
     "refresh",
@@ -19,6 +19,7 @@ pub const NAMES: [&str; 22] = [
     "tcp-established",
     "tcp-transitory",
     "icmp",
+    "hold",
     "quota",
     "block",
     "to-outside",
@@ -76,6 +77,7 @@ pub fn cells_of(figures: Figures) -> [Cell; COLUMNS] {
         Cell::Number(keys.tcp_established),
         Cell::Number(keys.tcp_transitory),
         Cell::Number(keys.icmp),
+        Cell::Number(keys.hold),
         Cell::of(keys.quota),
         Cell::of(keys.block),
         Cell::Number(figures.to_outside),

@@ -18,6 +18,8 @@ pub struct Keys {
     pub tcp_established: u64,
     pub tcp_transitory: u64,
     pub icmp: u64,
+    /// How many seconds a number is held behind the end of its binding.
+    pub hold: u64,
     /// How many bindings a host is allowed, if they are bounded.
     pub quota: Option<u64>,
     /// How many numbers each host has for itself, if there are blocks.
@@ -52,6 +54,7 @@ impl Keys {
             tcp_established: timers.established,
             tcp_transitory: timers.transitory,
             icmp: timers.icmp,
+            hold: timers.hold,
             quota: config.quota().map(u64::from),
             block: config.block().map(u64::from),
         }
