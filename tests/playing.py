@@ -349,7 +349,7 @@ def option_of(shown):
 SETTINGS = {
     "pool": lambda wanted: shown_list(map(number_in, items_of(wanted))),
     "redirects": wanted_redirects,
-    "timers": lambda wanted: "Timers {{ udp: {}, established: {}, transitory: {}, icmp: {} }}".format(*wanted.split()),
+    "timers": lambda wanted: "Timers {{ udp: {}, established: {}, transitory: {}, icmp: {}, hold: {} }}".format(*wanted.split()),
     "choosing": shown_choosing,
     **dict.fromkeys(("quota", "block"), option_of(str)),
 }

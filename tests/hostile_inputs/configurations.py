@@ -25,12 +25,12 @@ VALUES = (
     "{", "", "x", '"', "'", '"""', "\0", "\x7f", "# x",
 )
 KEYS = (
-    "pool", "inside", "filter", "refresh", "parity", "numbers", "seed", "ring", "quota", "block", "timers", "pair", "redirect",
+    "pool", "inside", "filter", "refresh", "parity", "numbers", "seed", "hold", "ring", "quota", "block", "timers", "pair", "redirect",
     "udp", "tcp-established", "tcp-transitory", "icmp", "host", "external", "protocol", "x", "Pool", "\"pool\"", "'inside'", "\"po\\u006fl\"", "pool.x", "timers.udp", "", "a b", "é", "1", "-",
 )
 LINES = (
     "[timers]", "[[timers]]", "[pair]", "[[pair]]", "[redirect]", "[[redirect]]", "[pool]", "[]", "[[]]", "[x]", "[timers.udp]",
-    "[[pair.x]]", "[", "]", "=", "pool", "\0", "\xff", "\r", "# comment", "x = 1", "ring = 1", "quota = 1", "block = 64", "udp = 300",
+    "[[pair.x]]", "[", "]", "=", "pool", "\0", "\xff", "\r", "# comment", "x = 1", "ring = 1", "hold = 60", "quota = 1", "block = 64", "udp = 300",
     'parity = "free"', 'numbers = "random"', f'seed = "{SEED}"',
 )
 
@@ -56,11 +56,13 @@ class Configuration:
         self.quota = draw.choice(("", "", "quota = 1", "quota = 2", "quota = 65535"))
         self.timers = draw.choice(("", "[timers]", "[timers]\nudp = 120\ntcp-established = 7440\ntcp-transitory = 240\nicmp = 60"))
         self.block = draw.choice(("", "", "", "block = 64", "block = 128"))
+        self.hold = ""
         if self.block:
             # the hosts of a few small prefixes, whose redirects are below 1024
             self.prefixes = draw.choice((["10.0.0.0/24"], ["10.0.0.128/25", "10.0.0.0/25"], ["10.0.0.0/25", "10.0.0.128/26", "10.0.0.192/26"]))
             self.entries = self.redirects(draw, 80)
             return
+        self.hold = draw.choice(("", "", "hold = 0", "hold = 60", "hold = 120", "hold = 1000000000"))
         self.entries = self.pairs(draw) + self.redirects(draw, 8080)
         others = draw.choice(([], ["172.16.0.0/12", "192.168.0.0/16"], [f"172.{16 + n}.0.0/16" for n in range(15)]))
         self.prefixes = ["10.0.0.0/8"] + others
@@ -87,7 +89,7 @@ class Configuration:
 
     def lines(self):
         parts = [f"pool = {quoted(map(text_of, self.pool))}", f"inside = {quoted(self.prefixes)}"]
-        parts += [self.settings, self.choosing, self.ring, self.quota, self.block, self.timers, *self.entries]
+        parts += [self.settings, self.choosing, self.hold, self.ring, self.quota, self.block, self.timers, *self.entries]
         return "\n".join(part for part in parts if part).split("\n")
 
     def text(self):

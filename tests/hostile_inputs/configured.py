@@ -18,7 +18,7 @@ FIRST_OF_BLOCKS = 1024
 MOST_OF_BLOCKS = 65536 - FIRST_OF_BLOCKS
 LEAST_SECONDS = {"udp": 120, "tcp-established": 7440, "tcp-transitory": 240, "icmp": 60}
 DEFAULT_SECONDS = LEAST_SECONDS | {"udp": 300}
-KEYS = {"pool", "inside", "filter", "refresh", "parity", "numbers", "seed", "timers", "ring", "quota", "block", "pair", "redirect"}
+KEYS = {"pool", "inside", "filter", "refresh", "parity", "numbers", "seed", "timers", "hold", "ring", "quota", "block", "pair", "redirect"}
 KEYS_OF_ENTRIES = {"pair": {"host", "external"}, "redirect": {"protocol", "inside", "external"}}
 
 
@@ -121,6 +121,8 @@ class Configured:
         self.refresh = word_in(table, "refresh", "outbound", "both")
         self.choosing = choosing_in(table)
         self.timers = self.timers_of(table.get("timers", {}))
+        self.hold = number_in(table.get("hold", 0))
+        want(0 <= self.hold <= MOST_SECONDS, "bad-number")
         want(1 <= number_in(table.get("ring", 64)) <= 4096, "bad-number")
         self.quota = table.get("quota")
         want("quota" not in table or 1 <= number_in(self.quota) <= 65535, "bad-number")
@@ -159,6 +161,7 @@ class Configured:
         hosts = sum(2**free for _, free in self.prefixes)
         want(-(-hosts // len(self.pool)) * size <= MOST_OF_BLOCKS, "block-too-large")
         want("pair" not in table, "pair-with-block")
+        want(self.hold == 0, "hold-with-block")
         return size
 
     def index(self, host):

@@ -29,7 +29,7 @@ class Follower(Translator):
         binding = self.found(protocol, address, inside=inside)
         if binding:
             return binding.external
-        taken = {it.external[1] for it in self.bindings if (it.protocol, it.external[0]) == (protocol, address)}
+        taken = self.taken(protocol, address)
         number = next((number for number in range(1, 65536) if number not in taken), None)
         return None if number is None else (address, number)
 

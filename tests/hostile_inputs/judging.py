@@ -11,7 +11,7 @@ from .packets import summed
 NUMBER = "[1-9][0-9]*"
 CONFIG_FAULTS = (
     "not-toml unknown-key missing bad-shape too-many bad-address double-address bad-prefix pool-inside bad-word bad-seed "
-    "seed-unused bad-number timer-too-short prefixes-overlap block-too-large pair-with-block not-inside not-in-pool double-pair redirect-in-block "
+    "seed-unused bad-number timer-too-short prefixes-overlap block-too-large pair-with-block hold-with-block not-inside not-in-pool double-pair redirect-in-block "
     "double-redirect"
 ).split()
 CAPTURE_FAULTS = ("no-header", "bad-magic", "bad-version", "bad-link", "read", "too-large", f"bad-fraction {NUMBER}", f"too-long {NUMBER}")

@@ -5,7 +5,7 @@ since the packet before, the one that it made, and whether it got none."""
 import datetime
 
 from . import translating
-from .translating import NAMES, SECOND, TCP, Dropped, shown
+from .translating import SECOND, Dropped, shown
 
 FIELDS = """observationTimeNanoseconds time natEvent protocolIdentifier sourceIPv4Address sourceTransportPort postNATSourceIPv4Address
     postNAPTSourceTransportPort natQuotaExceededEvent binding redirect packets_out packets_in flowEndNanoseconds last_use""".split()
@@ -18,15 +18,6 @@ def dated(time):
     seconds, rest = divmod(time, SECOND)
     date = datetime.datetime.fromtimestamp(seconds, datetime.timezone.utc)
     return f"{date:%Y-%m-%dT%H:%M:%S}.{rest:09}Z"
-
-
-def end_of(binding, timers):
-    """The first time at which a binding is no longer live if no packet comes; None of a redirect."""
-    if binding.is_fixed:
-        return None
-    if binding.protocol != TCP:
-        return binding.last + SECOND * timers[NAMES[binding.protocol]]
-    return max(flow.last + SECOND * timers[flow.timer()] for flow in binding.flows)
 
 
 class Entry:
@@ -124,7 +115,7 @@ class Logger(translating.Translator):
             pass
         self.rows += [it.row(now, MADE) for it in self.entries[before:]] + self.refused
         for binding in self.bindings:
-            binding.entry.end = end_of(binding, self.rules.timers)
+            binding.entry.end = None if binding.is_fixed else binding.end(self.rules.timers)
 
 
 def logged(configured, inside, outside):

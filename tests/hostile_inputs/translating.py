@@ -1,6 +1,7 @@
 """What a run leaves, worked out in the plainest way: one list of bindings, one packet after another (RFC 3022, 4787, 5382, 5508, 6888;
 docs/REQUIREMENTS.md and docs/FORMATS.md say what napt chose where they leave a choice)."""
 
+import math
 import struct
 from collections import Counter
 
@@ -50,8 +51,12 @@ class Flow:
         is_established = len(self.syns) == 2 and not self.is_closing()
         return "tcp-established" if is_established else "tcp-transitory"
 
+    def end(self, timers):
+        """The first time at which it is no longer live if no packet comes."""
+        return self.last + SECOND * timers[self.timer()]
+
     def is_live(self, now, timers):
-        return now - self.last < SECOND * timers[self.timer()]
+        return now < self.end(timers)
 
 
 class Binding:
@@ -63,14 +68,20 @@ class Binding:
         self.last = 0
         self.flows = []
 
-    def lives(self, now, timers):
-        """Whether it is live; a TCP binding loses its dead flows."""
+    def end(self, timers):
+        """The first time at which it is no longer live if no packet comes; a redirect always is."""
         if self.is_fixed:
-            return True
+            return math.inf
         if self.protocol != TCP:
-            return now - self.last < SECOND * timers[NAMES[self.protocol]]
-        self.flows = [flow for flow in self.flows if flow.is_live(now, timers)]
-        return bool(self.flows)
+            return self.last + SECOND * timers[NAMES[self.protocol]]
+        return max(flow.end(timers) for flow in self.flows)
+
+    def lives(self, now, timers):
+        """Whether it is live; a TCP binding that is loses its dead flows."""
+        is_live = now < self.end(timers)
+        if is_live and self.protocol == TCP:
+            self.flows = [flow for flow in self.flows if flow.is_live(now, timers)]
+        return is_live
 
     def flow_of(self, remote):
         return next((flow for flow in self.flows if flow.remote == remote), None)
@@ -173,12 +184,15 @@ class Datagram:
 class Translator:
     def __init__(self, configured):
         self.rules = configured
-        self.bindings = []
+        # those that are live, and those that have ended and keep their numbers
+        self.bindings, self.held = [], []
         for protocol, inside, external in configured.redirects:
             self.bindings.append(Binding(PROTOCOLS[protocol], inside, external, is_fixed=True))
 
     def purge(self, now):
-        self.bindings = [binding for binding in self.bindings if binding.lives(now, self.rules.timers)]
+        timers, kept = self.rules.timers, self.bindings + self.held
+        self.bindings = [binding for binding in self.bindings if binding.lives(now, timers)]
+        self.held = [it for it in kept if it.end(timers) <= now < it.end(timers) + SECOND * self.rules.hold]
 
     def found(self, protocol, address, inside=None, number=None):
         for binding in self.bindings:
@@ -188,18 +202,32 @@ class Translator:
         return None
 
     def has_quota(self, address, host):
-        """Whether the host has all the bindings, of any protocol and not configured, that it may have (RFC 6888, REQ-4)."""
-        its = [binding for binding in self.bindings if (binding.external[0], binding.inside[0]) == (address, host) and not binding.is_fixed]
+        """Whether the host has all the bindings, of any protocol, held or not, and not configured, that it may have (RFC 6888, REQ-4)."""
+        known = self.bindings + self.held
+        its = [binding for binding in known if (binding.external[0], binding.inside[0]) == (address, host) and not binding.is_fixed]
         return self.rules.quota is not None and len(its) >= self.rules.quota
 
-    def made(self, protocol, address, inside):
+    def taken(self, protocol, address):
+        """The numbers that bindings have, held ones too."""
+        return {it.external[1] for it in self.bindings + self.held if (it.protocol, it.external[0]) == (protocol, address)}
+
+    def chosen(self, protocol, address, inside):
+        """The number of a new binding of which none is held."""
         if self.has_quota(address, inside[0]):
             raise Dropped("over-quota")
-        taken = {binding.external[1] for binding in self.bindings if (binding.protocol, binding.external[0]) == (protocol, address)}
+        taken = self.taken(protocol, address)
         wanted = self.rules.choosing.candidates(self.rules.block_of(inside[0]), protocol, inside)
         number = next((number for number in wanted if number not in taken), None)
         if number is None:
             raise Dropped("no-port")
+        return number
+
+    def made(self, protocol, address, inside):
+        """A new binding: where its endpoint has a held one with that number, and that goes (RFC 6888, REQ-8)."""
+        mine = next((it for it in self.held if (it.protocol, it.external[0], it.inside) == (protocol, address, inside)), None)
+        if mine:
+            self.held.remove(mine)
+        number = mine.external[1] if mine else self.chosen(protocol, address, inside)
         self.bindings.append(Binding(protocol, inside, (address, number)))
         return self.bindings[-1]
 

@@ -1,10 +1,10 @@
 -- The lines that say who had an external endpoint, and when.
-use Rattle.std.specs.Prelude.{ℕ, ◌-◌, ◌==◌, nat_le, Bool, true, false, not, is_some, Option, Some, None, [], ◌++◌, codes, decimal, if◌then◌else◌}
+use Rattle.std.specs.Prelude.{ℕ, ◌-◌, ◌==◌, nat_le, Bool, true, false, not, is_some, Option, Some, None, unwrap_or, [], ◌++◌, codes, decimal, if◌then◌else◌}
 use Rattle.napt_wire.specs.declared.Protocol.{Protocol}
 use Rattle.napt_config.specs.{Rules.{Rules, place_of}, Text.address_text}
 use Rattle.napt_records.specs.Report.{protocol_name, endpoint_text}
 use Rattle.napt_account.specs.declared.{log.Entry.Entry, question.Party.Party}
-use Rattle.napt_log_text.specs.{declared.request.{Request.Request, Nearest.Nearest, Span.Span}, Times.{Text, moment_text}}
+use Rattle.napt_log_text.specs.{declared.request.{Request.Request, Nearest.Nearest, Span.Span}, Times.{Text, seconds_text, moment_text}}
 
 -- an end after the last packet comes only if no packet does
 abbrev pub premise_text : ℕ → ℕ → Text
@@ -50,20 +50,38 @@ abbrev pub protocol_text : Option Protocol → Text
 protocol_text None = []
 protocol_text (Some protocol) = protocol_name protocol ++ codes " "
 
+-- whether a span is one ns
+abbrev pub is_single : Span → Bool
+is_single span = span.until - 1 == span.first
+
 -- a single ns, or from when until when
 abbrev pub asked_text : Option Span → Text
 asked_text None = []
-asked_text (Some span) = if span.until - 1 == span.first then codes " at " ++ moment_text span.first
+asked_text (Some span) = if is_single span then codes " at " ++ moment_text span.first
     else codes " from " ++ moment_text span.first ++ codes " until " ++ moment_text span.until
 
-abbrev pub holder_behind : Text → ℕ → Option Entry → Text
-holder_behind words last None = []
-holder_behind words last (Some entry) = words ++ holder_text last entry
+-- so many ns from a span, the entry of a holder
+abbrev pub near_text : ℕ → Text → ℕ → Entry → Text
+near_text apart words last entry = codes "; " ++ seconds_text apart ++ words ++ holder_text last entry
 
--- the last holder before, and the first after
-abbrev pub nearest_text : ℕ → Nearest → Text
-nearest_text last nearest =
-    holder_behind (codes "; before: ") last nearest.before ++ holder_behind (codes "; after: ") last nearest.after
+-- the last holder before a span, and how long before it had ended
+abbrev pub before_text : Span → ℕ → Option Entry → Text
+before_text span last None = []
+before_text span last (Some entry) =
+    near_text (span.first - unwrap_or entry.end 0) (codes " s before: ") last entry
+
+-- the last time that the text of a span shows
+abbrev pub shown_last : Span → ℕ
+shown_last span = if is_single span then span.first else span.until
+
+-- the first holder after a span, and how long after it was made
+abbrev pub after_text : Span → ℕ → Option Entry → Text
+after_text span last None = []
+after_text span last (Some entry) = near_text (entry.made - shown_last span) (codes " s after: ") last entry
+
+abbrev pub nearest_text : Option Span → ℕ → Nearest → Text
+nearest_text None last nearest = []
+nearest_text (Some span) last nearest = before_text span last nearest.before ++ after_text span last nearest.after
 
 -- whether an address is known to be none of the pool; without a configuration nothing is
 abbrev pub is_foreign : Option Rules → ℕ → Bool
@@ -73,7 +91,7 @@ is_foreign (Some rules) address = not (is_some (place_of rules address))
 abbrev pub reason_text : Option Rules → ℕ → Request → Nearest → Text
 reason_text rules last request nearest =
     if is_foreign rules request.party.address then codes ": it is no address of the pool"
-    else asked_text request.at ++ nearest_text last nearest
+    else asked_text request.at ++ nearest_text request.at last nearest
 
 unfoldable pub nobody_line : Option Rules → ℕ → Request → Nearest → Text
 nobody_line rules last request nearest =

@@ -157,7 +157,11 @@ fn add_reason(
         return text.push_str(": it is no address of the pool");
     }
     add_asked(request.at, text)?;
-    add_nearest(nearest, last, text)?;
+    let Some(span) = request.at else {
+        return Ok(());
+    };
+    add_before(span, &nearest.before, last, text)?;
+    add_after(span, &nearest.after, last, text)?;
     Ok(())
 }
 
@@ -178,7 +182,7 @@ fn add_asked(at: Option<Span>, text: &mut String) -> Result<(), AllocError>
     let Some(span) = at else {
         return Ok(());
     };
-    if span.until.saturating_sub(1) == span.first {
+    if is_single(span) {
         text.push_str(" at ")?;
         return Moment(span.first).add_to(text);
     }
@@ -189,28 +193,70 @@ fn add_asked(at: Option<Span>, text: &mut String) -> Result<(), AllocError>
     Ok(())
 }
 
-fn add_nearest(nearest: &Nearest, last: u64, text: &mut String) -> Result<(), AllocError>
-    ensures { OnOk result (string_bytes text.new
-        ≡ string_bytes text.old ++ holders.nearest_text last nearest.now) }
-{
-    add_behind("; before: ", &nearest.before, last, text)?;
-    add_behind("; after: ", &nearest.after, last, text)?;
-    Ok(())
-}
-
-/// Appends words and a binding, if there is one.
-fn add_behind(
-    words: &str,
+/// Appends the last holder before a span, and how long before it had ended.
+fn add_before(
+    span: Span,
     entry: &Option<Entry>,
     last: u64,
     text: &mut String,
 ) -> Result<(), AllocError>
     ensures { OnOk result (string_bytes text.new
-        ≡ string_bytes text.old ++ holders.holder_behind words.now last entry.now) }
+        ≡ string_bytes text.old ++ holders.before_text span last entry.now) }
 {
     let Some(entry) = entry else {
         return Ok(());
     };
+    let apart = span.first.saturating_sub(entry.end.unwrap_or(0));
+    add_near(apart, " s before: ", entry, last, text)
+}
+
+/// Appends the first holder after a span, and how long after it was made.
+fn add_after(
+    span: Span,
+    entry: &Option<Entry>,
+    last: u64,
+    text: &mut String,
+) -> Result<(), AllocError>
+    ensures { OnOk result (string_bytes text.new
+        ≡ string_bytes text.old ++ holders.after_text span last entry.now) }
+{
+    let Some(entry) = entry else {
+        return Ok(());
+    };
+    let apart = u128::from(entry.made).saturating_sub(shown_last(span));
+    add_near(apart, " s after: ", entry, last, text)
+}
+
+/// The last time that the text of a span shows.
+fn shown_last(span: Span) -> u128
+    ensures { result ≡ holders.shown_last span }
+{
+    if is_single(span) {
+        span.first
+    } else {
+        span.until
+    }
+}
+
+fn is_single(span: Span) -> bool
+    ensures { result ≡ holders.is_single span }
+{
+    span.until.saturating_sub(1) == span.first
+}
+
+/// Appends how many ns a holder is from a span, in seconds, and its entry.
+fn add_near(
+    apart: u128,
+    words: &str,
+    entry: &Entry,
+    last: u64,
+    text: &mut String,
+) -> Result<(), AllocError>
+    ensures { OnOk result (string_bytes text.new
+        ≡ string_bytes text.old ++ holders.near_text apart words.now last entry.now) }
+{
+    text.push_str("; ")?;
+    Moment(apart).add_seconds(text)?;
     text.push_str(words)?;
     add_binding(entry, last, text)?;
     Ok(())

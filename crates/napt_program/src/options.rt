@@ -66,6 +66,7 @@ words tells where in a file, and what to do):
        prefixes-overlap   two prefixes have an address in common, with blocks
        block-too-large    not every host has a block at the pool's addresses
        pair-with-block    there are pairs and blocks
+       hold-with-block    there are a hold and blocks
        double-pair        a host has two pairs
        not-in-pool        the external address of a pair is not in the pool
        not-inside         a host is in no prefix of inside

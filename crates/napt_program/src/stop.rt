@@ -246,6 +246,7 @@ pub fn name_of_config_fault(fault: ConfigFault) -> &'static str
         ConfigFault::PrefixesOverlap => "prefixes-overlap",
         ConfigFault::BlockTooLarge => "block-too-large",
         ConfigFault::PairWithBlock => "pair-with-block",
+        ConfigFault::HoldWithBlock => "hold-with-block",
         ConfigFault::DoublePair => "double-pair",
         ConfigFault::NotInPool => "not-in-pool",
         ConfigFault::NotInside => "not-inside",

@@ -1,7 +1,9 @@
 //! The same captures under several configurations: a table with a line for each.
 
+pub mod cells;
 pub mod figures;
 pub mod fullest;
+pub mod keys;
 pub mod planned_run;
 pub mod sheet;
 pub mod table;

@@ -2,6 +2,7 @@
 //! bindings lived: figures for sizing a pool, a quota (RFC 6888, REQ-4) and a block (RFC 7422). docs/FORMATS.md
 //! defines each.
 
+pub mod held;
 pub mod hosts;
 pub mod level;
 pub mod lifetimes;
@@ -12,6 +13,7 @@ pub mod trials;
 pub mod usage;
 
 use crate::coverage::Coverage;
+use crate::sizes::held::Held;
 use crate::sizes::lifetimes::Lifetimes;
 use crate::sizes::trials::Trials;
 use crate::sizes::usage::Usage;
@@ -20,9 +22,10 @@ use napt_commands::Passing;
 use napt_config::Config;
 use std::alloc::{AllocError, Global};
 
-/// The figures of a run so far. They keep counts for each inside host, and something of live bindings alone.
+/// The figures of a run so far. They keep counts for each inside host, and something of live and held bindings alone.
 #[derive(Drop)]
 pub struct Sizes {
+    held: Held,
     pub usage: Usage,
     pub trials: Trials,
     pub lifetimes: Lifetimes,
@@ -33,6 +36,7 @@ impl Sizes {
     /// Those of a run before its first packet, which begins with these redirects.
     pub fn of(alloc: Global, config: &Config, opening: &[Listed]) -> Result<Sizes, AllocError> {
         Ok(Sizes {
+            held: Held::of(alloc, config),
             usage: Usage::of(alloc, config, opening)?,
             trials: Trials::new(alloc)?,
             lifetimes: Lifetimes::default(),
@@ -42,11 +46,13 @@ impl Sizes {
 
     /// Takes what a packet did.
     pub fn take(&mut self, config: &Config, passing: Passing<'_>) -> Result<(), AllocError> {
-        let step = passing.step;
-        self.usage.take(config, step)?;
-        self.trials.take(&self.usage.hosts, step)?;
+        let (input, step) = (passing.input, passing.step);
+        self.held.take(input.clock, step)?;
+        let gone = &self.held.gone;
+        self.usage.take(config, gone, step)?;
+        self.trials.take(&self.usage.hosts, gone, &step.made)?;
         self.lifetimes.take(step);
-        self.coverage.take(passing.input, step);
+        self.coverage.take(input, step);
         Ok(())
     }
 }

@@ -6,7 +6,7 @@ use napt_config::ConfigFault;
 pub fn shape_of(key: &str, entry: Option<usize>, field: &str) -> &'static str {
     match key {
         "timers" if field.is_empty() => "a table",
-        "timers" | "ring" | "quota" | "block" => "a whole number",
+        "timers" | "hold" | "ring" | "quota" | "block" => "a whole number",
         "pair" | "redirect" if entry.is_some() => shape_in_entry(key, field),
         "pair" => "a list of tables: each begins with a line `[[pair]]`",
         "redirect" => "a list of tables: each begins with a line `[[redirect]]`",
@@ -50,7 +50,7 @@ pub fn expected_at(fault: ConfigFault, key: &str, field: &str) -> Option<&'stati
         (ConfigFault::UnknownKey, "pair") => Some("`host` or `external`"),
         (ConfigFault::UnknownKey, "redirect") => Some("`protocol`, `inside` or `external`"),
         (ConfigFault::UnknownKey, _) => Some(
-            "`pool`, `inside`, `filter`, `refresh`, `parity`, `numbers`, `seed`, `timers`, `ring`, `quota`, `block`, `pair` or `redirect`",
+            "`pool`, `inside`, `filter`, `refresh`, `parity`, `numbers`, `seed`, `timers`, `hold`, `ring`, `quota`, `block`, `pair` or `redirect`",
         ),
         (ConfigFault::BadSeed, _) => Some("32 hexadecimal digits"),
         (ConfigFault::SeedUnused, _) => Some("no `seed` without `numbers = \"random\"`"),

@@ -9,8 +9,8 @@ use toml::{Table, Value};
 
 /// The keys in the order they are checked.
 const KEYS: &[&str] = &[
-    "pool", "inside", "filter", "refresh", "parity", "numbers", "seed", "timers", "ring", "quota",
-    "block", "pair", "redirect",
+    "pool", "inside", "filter", "refresh", "parity", "numbers", "seed", "timers", "hold", "ring",
+    "quota", "block", "pair", "redirect",
 ];
 
 /// Those of which blocks are made.

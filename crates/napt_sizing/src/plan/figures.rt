@@ -3,6 +3,7 @@
 ghost use Rattle.std.specs.Prelude.{◌≡◌, ◌≢◌, ◌↔◌, true};
 
 use crate::plan::fullest::{Fullest, fullest_of};
+use crate::plan::keys::Keys;
 use crate::sizes::hosts::percentile;
 use crate::sizes::usage::Usage;
 use napt_config::Config;
@@ -14,10 +15,8 @@ use std::alloc::{AllocError, Global};
 /// The figures of a run. In CSV the names of the fields are those of their columns.
 #[derive(Clone, Copy, Serialize)]
 pub struct Figures {
-    /// How many bindings the configuration allows a host, if it bounds them.
-    pub quota: Option<u64>,
-    /// How many numbers each host has for itself, if there are blocks.
-    pub block: Option<u64>,
+    #[serde(flatten)]
+    pub keys: Keys,
     /// Packets that left for the outside.
     pub to_outside: u64,
     /// Packets that left for the inside.
@@ -51,8 +50,7 @@ impl Figures {
     ) -> Result<Figures, AllocError> {
         let ranked = usage.hosts.ranked(alloc)?;
         Ok(Figures {
-            quota: config.quota().map(u64::from),
-            block: config.block().map(u64::from),
+            keys: Keys::of(config),
             to_outside: counts.to_outside(),
             to_inside: counts.to_inside(),
             no_port: counts.dropped(Cause::NoPort),

@@ -2,6 +2,7 @@
 
 use crate::coverage::Coverage;
 use crate::plan::figures::Figures;
+use crate::sizes::held::Held;
 use crate::sizes::usage::Usage;
 use napt_account::KnownRun;
 use napt_commands::{Exit, Losses, Outside, copied};
@@ -14,6 +15,7 @@ use std::alloc::{AllocError, Global};
 #[derive(Drop)]
 pub struct PlannedRun<'a> {
     run: KnownRun<'a>,
+    held: Held,
     usage: Usage,
     counts: Counts,
     pub losses: Losses,
@@ -27,6 +29,7 @@ impl<'a> PlannedRun<'a> {
         let opening = run.living(alloc)?;
         Ok(PlannedRun {
             run,
+            held: Held::of(alloc, config),
             usage: Usage::of(alloc, config, &opening)?,
             counts: Counts::new(),
             losses: Losses::new(alloc, config)?,
@@ -40,7 +43,8 @@ impl<'a> PlannedRun<'a> {
         let step = self.run.step(alloc, input)?;
         self.counts.count(&step.outcome);
         self.losses.take(config, input, &step.outcome);
-        self.usage.take(config, &step)?;
+        self.held.take(input.clock, &step)?;
+        self.usage.take(config, &self.held.gone, &step)?;
         self.coverage.take(input, &step);
         Ok(())
     }

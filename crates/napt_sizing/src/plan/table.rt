@@ -1,5 +1,6 @@
 //! The table of a plan, for people.
 
+use crate::plan::cells::{Cell, NAMES, cells_of, width_of};
 use crate::plan::figures::Figures;
 use crate::plan::fullest::Fullest;
 use napt_commands::Exit;
@@ -7,26 +8,6 @@ use napt_config::Address;
 use napt_records::protocol_name;
 use std::alloc::{AllocError, Global};
 use std::fmt::Write;
-
-/// How many columns have numbers.
-const NUMBERS: usize = 13;
-
-/// Their names.
-const NAMES: [&str; 13] = [
-    "quota",
-    "block",
-    "to-outside",
-    "to-inside",
-    "no-port",
-    "over-quota",
-    "no-binding",
-    "filtered",
-    "truncated",
-    "bindings",
-    "median",
-    "99 %",
-    "refused",
-];
 
 /// The name of the first column.
 const HEAD: &str = "configuration";
@@ -67,54 +48,31 @@ fn add_path(text: &mut String, path: &str, longest: usize) -> Result<(), AllocEr
     write!(text, "{path}{:gap$}", "")
 }
 
-/// How wide a column of numbers is: as its name, or its greatest number in these lines.
-fn width_of(lines: &[Figures], column: usize) -> usize {
-    let numbers = lines
-        .iter()
-        .filter_map(|line| numbers_of(*line).get(column).copied().flatten());
-    let greatest = numbers.max().unwrap_or(0);
-    let tens = greatest.checked_ilog10().unwrap_or(0) as usize;
-    let name = NAMES.get(column).map_or(0, |name| name.len());
-    name.max(tens.saturating_add(1))
-}
-
 fn add_head(text: &mut String, lines: &[Figures]) -> Result<(), AllocError> {
     for (column, name) in NAMES.iter().enumerate() {
-        let wide = width_of(lines, column);
-        write!(text, "  {name:>wide$}")?;
+        if let Some(wide) = width_of(lines, column) {
+            write!(text, "  {name:>wide$}")?;
+        }
     }
     writeln!(text, "  {FULLEST}")
 }
 
 /// Appends the other columns of one of these lines.
 fn add_line(text: &mut String, lines: &[Figures], figures: Figures) -> Result<(), AllocError> {
-    for (column, number) in numbers_of(figures).iter().enumerate() {
-        let wide = width_of(lines, column);
-        match number {
-            Some(number) => write!(text, "  {number:>wide$}")?,
-            None => write!(text, "  {:>wide$}", "-")?,
+    for (column, cell) in cells_of(figures).iter().enumerate() {
+        if let Some(wide) = width_of(lines, column) {
+            add_cell(text, *cell, wide)?;
         }
     }
     add_fullest(text, figures.fullest)
 }
 
-/// The numbers of a line, in the order of the columns; a configuration may have no quota and no block.
-fn numbers_of(figures: Figures) -> [Option<u64>; NUMBERS] {
-    [
-        figures.quota,
-        figures.block,
-        Some(figures.to_outside),
-        Some(figures.to_inside),
-        Some(figures.no_port),
-        Some(figures.over_quota),
-        Some(figures.no_binding),
-        Some(figures.filtered),
-        Some(figures.truncated),
-        Some(figures.bindings),
-        Some(figures.median),
-        Some(figures.percentile_99),
-        Some(figures.refused_hosts as u64),
-    ]
+fn add_cell(text: &mut String, cell: Cell, wide: usize) -> Result<(), AllocError> {
+    match cell {
+        Cell::Nothing => write!(text, "  {:>wide$}", "-"),
+        Cell::Number(number) => write!(text, "  {number:>wide$}"),
+        Cell::Word(word) => write!(text, "  {word:>wide$}"),
+    }
 }
 
 /// Appends the last column: the class, and how much of it was used.

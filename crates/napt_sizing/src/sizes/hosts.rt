@@ -53,7 +53,7 @@ impl Hosts {
         Ok(())
     }
 
-    /// It has expired.
+    /// It is gone.
     pub fn end(&mut self, entry: &Entry) {
         if let Some(place) = self.place_of(entry.binding.inside.address)
             && let Some(host) = self.list.get_mut(place)

@@ -71,7 +71,7 @@ impl Quota {
         Ok(false)
     }
 
-    /// A binding that it allowed has expired.
+    /// A binding that it allowed is gone.
     pub fn end(&mut self, holder: Holder) {
         if let Some(kept) = self.count_of(holder) {
             *kept = kept.saturating_sub(1);

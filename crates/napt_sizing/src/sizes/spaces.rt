@@ -128,7 +128,7 @@ impl Space {
         self.used.get_mut(class)
     }
 
-    /// The binding of an entry has expired.
+    /// The binding of an entry is gone.
     pub fn end(&mut self, entry: &Entry) {
         self.bindings.fall();
         if let Some(level) = self.level_of(entry) {

@@ -2,7 +2,7 @@
 
 use crate::sizes::hosts::Hosts;
 use crate::sizes::quotas::{Holder, Quota, Scope};
-use napt_account::{Listed, LoggedStep};
+use napt_account::Listed;
 use std::alloc::{AllocError, Global};
 use std::collections::BTreeMap;
 
@@ -26,7 +26,7 @@ pub struct Trials {
     tried: Vec<Quota>,
     /// How many hosts they know.
     hosts: usize,
-    /// For each live binding that one of them refused, by its number: which refused it.
+    /// For each live or held binding that one of them refused, by its number: which refused it.
     refused: BTreeMap<u64, [bool; TRIED]>,
 }
 
@@ -53,14 +53,19 @@ impl Trials {
         self.tried.get(QUOTAS..).unwrap_or(&[])
     }
 
-    /// Takes what a packet did; its host is one of these.
-    pub fn take(&mut self, hosts: &Hosts, step: &LoggedStep) -> Result<(), AllocError> {
-        for listed in &step.ended {
+    /// Takes the bindings that a packet found gone and made; its host is one of these.
+    pub fn take(
+        &mut self,
+        hosts: &Hosts,
+        gone: &[Listed],
+        made: &[Listed],
+    ) -> Result<(), AllocError> {
+        for listed in gone {
             if let Some(holder) = holder_of(hosts, listed) {
                 self.end(holder, listed.number);
             }
         }
-        self.make_all(hosts, &step.made)
+        self.make_all(hosts, made)
     }
 
     fn make_all(&mut self, hosts: &Hosts, made: &[Listed]) -> Result<(), AllocError> {
@@ -96,7 +101,7 @@ impl Trials {
         Ok(())
     }
 
-    /// The binding of a number has expired.
+    /// The binding of a number is gone.
     fn end(&mut self, holder: Holder, number: u64) {
         let refused = self.refused.remove(&number).unwrap_or([false; TRIED]);
         for (quota, refused) in self.tried.iter_mut().zip(refused) {

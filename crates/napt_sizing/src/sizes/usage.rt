@@ -41,16 +41,21 @@ impl Usage {
         Ok(usage)
     }
 
-    /// Takes what a packet did. Bindings that ended leave before others are made.
-    pub fn take(&mut self, config: &Config, step: &LoggedStep) -> Result<(), AllocError> {
-        self.end(config, &step.ended);
+    /// Takes what a packet did. Bindings that it found gone leave before others are made.
+    pub fn take(
+        &mut self,
+        config: &Config,
+        gone: &[Listed],
+        step: &LoggedStep,
+    ) -> Result<(), AllocError> {
+        self.end(config, gone);
         self.make(config, &step.made)?;
         self.refuse(&step.refused)
     }
 
-    /// The bindings of these entries expired.
-    fn end(&mut self, config: &Config, ended: &[Listed]) {
-        for Listed { entry, .. } in ended {
+    /// The bindings of these entries are gone.
+    fn end(&mut self, config: &Config, gone: &[Listed]) {
+        for Listed { entry, .. } in gone {
             self.bindings.fall();
             if let Some(space) = self.space_of(config, entry) {
                 space.end(entry);
