@@ -4,10 +4,11 @@ ghost use Rattle.std.specs.Prelude.{◌<◌, ◌*◌, ◌^◌, length, All, IfOk
 ghost use Rattle.napt_capture.specs.Text.{IsWritable};
 
 use napt_capture::{
-    CaptureFault, Record, Sink, Source, Watched, WriteFault, read_capture, write_capture,
-    write_text,
+    CaptureFault, Faulty, Plan, Record, Sink, Source, Trouble, Watched, WriteFault, read_capture,
+    write_capture, write_text,
 };
 use napt_samples::captures::{ONE_PACKET, WRITTEN};
+use napt_samples::packets::UDP_QUERY;
 use std::alloc::Global;
 use std::io;
 use std::io::{Read, Write};
@@ -17,109 +18,81 @@ use std::test::*;
 /// How many records a capture has, and whether its last is cut.
 pub(crate) type Shape = (usize, bool);
 
-/// The shape of a capture that is read whole.
-pub(crate) fn shape_of<R: Read + Drop>(alloc: Global, source: R) -> Result<Shape, CaptureFault> {
-    let capture = read_capture(alloc, &mut Watched::new(source))?;
+/// Moves at most so many bytes at a time, but for 0, and goes wrong at a call, counted from 1, or at none.
+pub(crate) fn at_most(most: usize, call: u64, trouble: Trouble) -> Plan
+    ensures { 0 < result.most }
+{
+    Plan {
+        most: most.max(1),
+        call,
+        trouble,
+    }
+}
+
+/// The shape of a capture that is read whole from a device.
+pub(crate) fn shape_of(alloc: Global, bytes: &[u8], plan: Plan) -> Result<Shape, CaptureFault>
+    requires { 0 < plan.most }
+{
+    let capture = read_capture(alloc, &mut Faulty::new(Watched::new(bytes), plan))?;
+    for record in &capture.records {
+        if (record.time, record.original) != (1_500_000_000, 30)
+            || record.bytes.as_slice() != UDP_QUERY.as_slice()
+        {
+            return Err(CaptureFault::BadMagic);
+        }
+    }
     Ok((capture.records.len(), capture.cut))
 }
 
-/// Gives its bytes, at most so many at a time, and fails at one read.
-#[derive(Drop)]
-pub(crate) struct Flaky<'a> {
-    pub(crate) rest: &'a [u8],
-    pub(crate) most: usize,
-    pub(crate) good_reads: usize,
-    pub(crate) kind: io::ErrorKind,
-}
-
-impl<'a> Read for Flaky<'a> {
-    fn read(&mut self, buffer: &mut [u8]) -> io::Result<usize> {
-        match self.good_reads.checked_sub(1) {
-            None => {
-                self.good_reads = usize::MAX;
-                Err(io::Error::from(self.kind))
-            }
-            Some(left) => {
-                self.good_reads = left;
-                let count = self.most.min(buffer.len());
-                Read::read(&mut self.rest, &mut buffer[..count])
-            }
-        }
+/// What the capture of one packet comes to where it ends after so many of its bytes.
+fn shape_of_front(length: usize) -> Result<Shape, CaptureFault> {
+    match length {
+        0..=23 => Err(CaptureFault::NoHeader),
+        24 => Ok((0, false)),
+        25..=69 => Ok((0, true)),
+        _ => Ok((1, false)),
     }
 }
 
+/// How many bytes a read gives, and how many reads the capture takes: the last finds the end.
 #[test]
 fn each_read_fails_in_turn(rt: HostRuntime) {
-    // How many bytes a read gives, and how many reads the capture takes: the last finds the end.
-    let rows: &[(usize, usize)] = &[(100, 4), (16, 6), (1, 71)];
-    for (most, reads) in rows {
-        for good_reads in 0..=*reads {
-            let wanted = if good_reads == *reads {
-                Ok((1, false))
-            } else {
-                Err(CaptureFault::Read)
-            };
-            for kind in [io::ErrorKind::BrokenPipe, io::ErrorKind::Interrupted] {
-                let reader = Flaky {
-                    rest: ONE_PACKET.as_slice(),
-                    most: *most,
-                    good_reads,
-                    kind,
-                };
-                assert_eq!(rt; shape_of(rt.alloc(), reader), wanted);
-            }
+    for (most, reads) in [
+        (100, 4),
+        (70, 4),
+        (29, 5),
+        (16, 6),
+        (7, 13),
+        (2, 36),
+        (1, 71),
+    ] {
+        for call in 1..=reads {
+            let failed = shape_of(rt.alloc(), &ONE_PACKET, at_most(most, call, Trouble::Fails));
+            assert_eq!(rt;
+                failed,
+                Err(CaptureFault::Read),
+                "{most} bytes, read {call}"
+            );
         }
+        let whole = shape_of(rt.alloc(), &ONE_PACKET, at_most(most, 0, Trouble::Fails));
+        assert_eq!(rt; whole, Ok((1, false)), "{most} bytes");
     }
 }
 
-/// What a disk does once so many calls were good.
-#[derive(Clone, Copy, PartialEq)]
-enum DiskTrouble {
-    WriteFails,
-    WriteTakesNone,
-    FlushFails,
-}
-
-/// Keeps what is written, at most so many bytes at a time.
-#[derive(Drop)]
-struct Disk {
-    held: Vec<u8>,
-    most: usize,
-    good_writes: usize,
-    trouble: DiskTrouble,
-    flushes: usize,
-}
-
-impl Write for Disk {
-    fn write(&mut self, bytes: &[u8]) -> io::Result<usize> {
-        match self.good_writes.checked_sub(1) {
-            None if self.trouble == DiskTrouble::WriteTakesNone => Ok(0),
-            None => Err(io::Error::from(io::ErrorKind::Interrupted)),
-            Some(left) => {
-                self.good_writes = left;
-                let count = self.most.min(bytes.len());
-                self.held.extend_from_slice(&bytes[..count])?;
-                Ok(count)
-            }
-        }
-    }
-
-    fn flush(&mut self) -> io::Result<()> {
-        self.flushes = self.flushes.saturating_add(1);
-        match self.trouble {
-            DiskTrouble::FlushFails => Err(io::Error::from(io::ErrorKind::BrokenPipe)),
-            _ => Ok(()),
-        }
-    }
-}
-
-fn make_disk(alloc: Global, most: usize, good_writes: usize, trouble: DiskTrouble) -> Disk {
-    Disk {
-        held: Vec::new(alloc),
-        most,
-        good_writes,
-        trouble,
-        flushes: 0,
+/// A read that answers 0 is the end, as is that of the bytes.
+#[test]
+fn each_read_finds_the_end(rt: HostRuntime) {
+    for given in 0..=70u16 {
+        let front = usize::from(given);
+        let cut = shape_of(
+            rt.alloc(),
+            &ONE_PACKET[..front],
+            at_most(100, 0, Trouble::Fails),
+        );
+        assert_eq!(rt; cut, shape_of_front(front), "{given} bytes");
+        let plan = at_most(1, u64::from(given) + 1, Trouble::TakesNone);
+        let ended = shape_of(rt.alloc(), &ONE_PACKET, plan);
+        assert_eq!(rt; ended, shape_of_front(front), "none after {given} bytes");
     }
 }
 
@@ -135,92 +108,85 @@ fn packet(alloc: Global) -> Result<Record, Fail>
     })
 }
 
+/// What a disk holds, and how writing to it ended.
+type Written = (Result<(), WriteFault>, Vec<u8>);
+
 /// Writes a capture to a disk.
-fn write_to(disk: Disk, records: &[Record]) -> (Result<(), WriteFault>, Disk)
+fn write_to(alloc: Global, records: &[Record], plan: Plan) -> Written
     requires few { length records.now < 2 ^ 32 }
     requires writable { All IsWritable records.now }
+    requires plan { 0 < plan.most }
 {
-    let mut writer = Watched::new(disk);
-    let result = write_capture(&mut writer, records);
-    (result, writer.into_inner())
+    let mut disk = Faulty::new(Watched::new(Vec::new(alloc)), plan);
+    let result = write_capture(&mut disk, records);
+    (result, disk.into_inner().into_inner())
 }
 
 /// Writes the text of the one packet to a disk.
-fn write_text_to(disk: Disk) -> (Result<(), WriteFault>, Disk) {
-    let mut writer = Watched::new(disk);
-    let result = write_text(&mut writer, &WRITTEN);
-    (result, writer.into_inner())
+fn write_text_to(alloc: Global, plan: Plan) -> Written
+    requires { 0 < plan.most }
+{
+    let mut disk = Faulty::new(Watched::new(Vec::new(alloc)), plan);
+    let result = write_text(&mut disk, &WRITTEN);
+    (result, disk.into_inner().into_inner())
 }
 
 /// What a disk is to hold once it was written to, and how that is to have ended.
-fn assert_written(
-    rt: &impl Abort,
-    written: (Result<(), WriteFault>, Disk),
-    wanted: Result<(), WriteFault>,
-    front: usize,
-) {
-    let (result, disk) = written;
+fn assert_written(rt: &impl Abort, written: Written, wanted: Result<(), WriteFault>, front: usize) {
+    let (result, held) = written;
     assert_eq!(rt; result, wanted);
-    assert_eq!(rt; Some(disk.held.as_slice()), WRITTEN.get(..front));
+    assert_eq!(rt; Some(held.as_slice()), WRITTEN.get(..front));
 }
 
 #[test]
 fn one_packet_or_none_is_written(rt: HostRuntime) -> Result<(), Fail> {
     let records = [packet(rt.alloc())?];
-    let disk = make_disk(rt.alloc(), 100, 100, DiskTrouble::WriteFails);
-    let written = write_to(disk, &records);
-    assert_eq!(rt; written.1.flushes, 1);
-    assert_written(&rt, written, Ok(()), 70);
-    let disk = make_disk(rt.alloc(), 100, 100, DiskTrouble::WriteFails);
-    assert_written(&rt, write_to(disk, &[]), Ok(()), 24);
+    let plan = at_most(100, 0, Trouble::Fails);
+    assert_written(&rt, write_to(rt.alloc(), &records, plan), Ok(()), 70);
+    assert_written(&rt, write_to(rt.alloc(), &[], plan), Ok(()), 24);
     Ok(())
 }
 
+/// A byte at a time, the call behind the seventy writes is the flush, which takes no bytes, and there is no other.
 #[test]
 fn each_write_fails_in_turn(rt: HostRuntime) -> Result<(), Fail> {
     let records = [packet(rt.alloc())?];
-    for trouble in [
-        DiskTrouble::WriteFails,
-        DiskTrouble::WriteTakesNone,
-        DiskTrouble::FlushFails,
-    ] {
-        for good_writes in 0..=70u8 {
-            let front = good_writes as usize;
-            let wanted = if good_writes == 70 && trouble != DiskTrouble::FlushFails {
+    for trouble in [Trouble::Fails, Trouble::TakesNone] {
+        for taken in 0..=71u8 {
+            let front = usize::from(taken).min(70);
+            let wanted = if taken == 71 || taken == 70 && trouble == Trouble::TakesNone {
                 Ok(())
             } else {
-                Err(WriteFault {
-                    written: good_writes as u64,
-                })
+                let written = u64::from(taken);
+                Err(WriteFault { written })
             };
-            let disk = make_disk(rt.alloc(), 1, front, trouble);
-            assert_written(&rt, write_to(disk, &records), wanted, front);
-            let disk = make_disk(rt.alloc(), 1, front, trouble);
-            assert_written(&rt, write_text_to(disk), wanted, front);
+            let plan = at_most(1, u64::from(taken) + 1, trouble);
+            assert_written(&rt, write_to(rt.alloc(), &records, plan), wanted, front);
+            assert_written(&rt, write_text_to(rt.alloc(), plan), wanted, front);
         }
     }
     Ok(())
 }
 
-/// Counts the calls that reach it. Each is good, and moves a byte where it has room, or each is refused.
+/// Counts the calls that reach it. Each is good, and moves a byte where it has room, or each fails.
 #[derive(Drop)]
 struct Counted {
-    is_good: bool,
+    fault: Option<io::ErrorKind>,
     /// The reads, the writes and the flushes.
     calls: (u8, u8, u8),
 }
 
 impl Counted {
-    fn of(is_good: bool) -> Counted {
+    fn of(fault: Option<io::ErrorKind>) -> Counted {
         let calls = (0, 0, 0);
-        Counted { is_good, calls }
+        Counted { fault, calls }
     }
 
     fn answer(&self) -> io::Result<()> {
-        if self.is_good {
-            return Ok(());
+        match self.fault {
+            Some(kind) => Err(io::Error::from(kind)),
+            None => Ok(()),
         }
-        Err(io::Error::from(io::ErrorKind::BrokenPipe))
     }
 }
 
@@ -248,15 +214,20 @@ impl Write for Counted {
 /// Each call goes to the device once, and answers what that answers.
 #[test]
 fn calls_are_handed_on_once(rt: HostRuntime) {
-    for is_good in [true, false] {
-        let mut read = Watched::new(Counted::of(is_good));
-        assert_eq!(rt; read.read(&mut [0; 2]).is_ok(), is_good);
+    let faults = [
+        None,
+        Some(io::ErrorKind::BrokenPipe),
+        Some(io::ErrorKind::Interrupted),
+    ];
+    for fault in faults {
+        let mut read = Watched::new(Counted::of(fault));
+        assert_eq!(rt; read.read(&mut [0; 2]).is_ok(), fault.is_none());
         assert_eq!(rt; read.into_inner().calls, (1, 0, 0));
-        let mut written = Watched::new(Counted::of(is_good));
-        assert_eq!(rt; written.write(&[7; 2]).is_ok(), is_good);
+        let mut written = Watched::new(Counted::of(fault));
+        assert_eq!(rt; written.write(&[7; 2]).is_ok(), fault.is_none());
         assert_eq!(rt; written.into_inner().calls, (0, 1, 0));
-        let mut flushed = Watched::new(Counted::of(is_good));
-        assert_eq!(rt; flushed.flush().is_ok(), is_good);
+        let mut flushed = Watched::new(Counted::of(fault));
+        assert_eq!(rt; flushed.flush().is_ok(), fault.is_none());
         assert_eq!(rt; flushed.into_inner().calls, (0, 0, 1));
     }
 }

@@ -1,12 +1,10 @@
-//! The tests of the crates napt_wire, napt_capture, napt_config, napt_collections, napt_table and napt_translate, over what they make
-//! public. They stand in one crate of their own, so that the gate does not prove those again for them, and reads them once. What calls
+//! The tests of the crates napt_wire, napt_capture, napt_config, napt_collections and napt_table, over what they make public, that no
+//! text says. They stand in one crate of their own, so that the gate does not prove those again for them, and reads them once. What calls
 //! answer is in `tests/calls` and `tests/drawn_calls`, and what a run of the program shows in `tests/runs`.
 #![tactic(auto)]
 
 #[cfg(test)]
 mod bits;
-#[cfg(test)]
-mod calls;
 #[cfg(test)]
 mod captures;
 #[cfg(test)]

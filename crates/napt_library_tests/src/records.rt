@@ -1,21 +1,12 @@
 //! Records read one after another.
 
-use crate::captures::{Flaky, Shape, shape_of};
-use napt_capture::{CaptureFault, Next, Records, Watched};
+ghost use Rattle.std.specs.Prelude.{◌<◌};
+
+use crate::captures::{Shape, at_most, shape_of};
+use napt_capture::{CaptureFault, Faulty, Next, Plan, Records, Trouble, Watched};
 use napt_samples::captures::ONE_PACKET;
 use std::alloc::Global;
-use std::io;
 use std::test::*;
-
-/// A device that gives its bytes, at most so many at a time, and fails at the read behind the good ones.
-fn pieces(rest: &[u8], most: usize, good_reads: usize) -> Flaky<'_> {
-    Flaky {
-        rest,
-        most,
-        good_reads,
-        kind: io::ErrorKind::BrokenPipe,
-    }
-}
 
 /// Two packets, the second with a fraction of a whole second.
 fn two_packets(alloc: Global) -> Result<Vec<u8>, Fail> {
@@ -27,8 +18,10 @@ fn two_packets(alloc: Global) -> Result<Vec<u8>, Fail> {
 }
 
 /// How many records a capture has, read one after another, and whether its last is cut.
-fn shape_one_by_one(alloc: Global, pieces: Flaky<'_>) -> Result<Shape, CaptureFault> {
-    let mut source = Watched::new(pieces);
+fn shape_one_by_one(alloc: Global, bytes: &[u8], plan: Plan) -> Result<Shape, CaptureFault>
+    requires { 0 < plan.most }
+{
+    let mut source = Faulty::new(Watched::new(bytes), plan);
     let mut records = Records::open(alloc, &mut source)?;
     for count in 0..9 {
         match records.next(&mut source, Vec::new(alloc))? {
@@ -47,19 +40,18 @@ fn one_by_one_is_the_same_as_whole(rt: HostRuntime) -> Result<(), Fail> {
     for length in 20..=90 {
         let rest = &bytes[..bytes.len().min(length)];
         let most = [1, 7, 4096][length % 3];
-        let found = shape_one_by_one(rt.alloc(), pieces(rest, most, usize::MAX));
-        let whole = shape_of(rt.alloc(), rest);
+        let found = shape_one_by_one(rt.alloc(), rest, at_most(most, 0, Trouble::Fails));
+        let whole = shape_of(rt.alloc(), rest, at_most(usize::MAX, 0, Trouble::Fails));
         assert_eq!(rt; found, whole, "{length} bytes by {most}");
     }
     Ok(())
 }
 
-/// The read behind the good ones fails: then that is told.
+/// The header, then 16 bytes at a time: the sixth read finds the end.
 #[test]
 fn a_failed_read_is_told(rt: HostRuntime) {
-    for good_reads in 0..6 {
-        // The header, then 16 bytes at a time; the sixth read finds the end.
-        let found = shape_one_by_one(rt.alloc(), pieces(&ONE_PACKET, 16, good_reads));
-        assert_eq!(rt; found, Err(CaptureFault::Read), "{good_reads} good reads");
+    for call in 1..=6 {
+        let found = shape_one_by_one(rt.alloc(), &ONE_PACKET, at_most(16, call, Trouble::Fails));
+        assert_eq!(rt; found, Err(CaptureFault::Read), "read {call}");
     }
 }

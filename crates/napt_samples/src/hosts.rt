@@ -7,9 +7,6 @@ use napt_wire::Endpoint;
 /// A second in ns.
 pub const SECOND: u64 = 1_000_000_000;
 
-/// 203.0.113.1, the first address of each pool.
-pub const EXTERNAL: u32 = 0xCB00_7101;
-
 /// 10.0.0.2:5000, inside.
 pub const CLIENT: Endpoint = Endpoint {
     address: 0x0A00_0002,
