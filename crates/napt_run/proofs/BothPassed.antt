@@ -14,7 +14,7 @@ use Rattle.napt_laws.specs.Dispatching.{IsFront}
 use Rattle.napt_records.specs.{Begun.AreBegun, Counts.AreCountsOf, Merged.{AreLive, EndsWith, HandsOut}, declared.Fault.Fault}
 use Rattle.napt_records.specs.declared.{Fault.TheVariants.{Capture, Run, Write}, merged_streams.MergedStreams.MergedStreams}
 use Rattle.napt_rules.specs.{Prelude.Arrival, declared.Outcome.Outcome}
-use Rattle.napt_sequential.specs.{Steps.steps, Traces.traces, declared.{outcome.Stepped.Stepped, passage.{Passage.Passage, Trace.Trace}}}
+use Rattle.napt_sequential.specs.{Steps.steps, declared.{outcome.Stepped.Stepped, passage.{Passage.Passage, Trace.Trace}}}
 use Rattle.napt_sequential.proofs.Joined.{steps_long, steps_ran, steps_traces}
 use Rattle.napt_run.specs.{Files.files_until, Leaving.{AreSound, FailsToBegin, Takes, Timed}}
 use Rattle.napt_run.specs.LeavingWithLogs.{AreSettled, FailsEither, IsSamePlace, TakesBoth, legs_in, outcomes_in}

@@ -1,4 +1,4 @@
-use Rattle.std.proofs.Common.{◌≡◌, ◌+◌, ◌^◌, ◌<◌, [], ◌∷◌, ◌++◌, length, refl, sym, ◌∙◌, ap, subst}
+use Rattle.std.proofs.Common.{◌+◌, ◌^◌, ◌<◌, [], ◌∷◌, ◌++◌, length, refl, sym, ◌∙◌, ap, subst}
 use Rattle.napt_account.specs.{KnownLogs.KnownTraces, TraceLogs.told_with}
 use Rattle.napt_log_text.specs.Logs.{told_rows}
 use Rattle.napt_run.proofs.running_log.RunningLog.rows.Goals as goal
