@@ -1,11 +1,11 @@
 -- A run with its log as it runs: what it tells of one more input.
-use Rattle.std.proofs.{Common.{arith, ◌≡◌, ℕ, max, List, [], ◌∷◌, ◌++◌, length, map, append-nil, sym, ◌∙◌, ap, drop, refl}, lemmas.Grind.common_steps}
+use Rattle.std.proofs.{Common.{arith, ◌≡◌, max, List, [], ◌∷◌, ◌++◌, length, map, append-nil, sym, ◌∙◌, ap, drop, refl}, lemmas.Grind.common_steps}
 use Rattle.std.{proofs.lemmas.Bool.Decides.nat_tests, specs.{Prelude.{flat_map, filter}, List.fold}}
 use Rattle.napt_config.specs.Rules.{Rules, KeepsRules}
 use Rattle.napt_rules.specs.Prelude.{opening, Arrival, OpeningIsSound, last_clock}
 use Rattle.napt_sequential.specs.{declared.passage.Trace.Trace, Traces.traces}
-use Rattle.napt_account.specs.{declared.log.Entry.Entry, Book.{after_trace, lost_by, use_by_trace}, KnownLogs.taken_in, Log.{begun, log_of}}
-use Rattle.napt_account.{specs.{TraceLogs.entries_after, Uses.uses_of}, proofs.{Attribution.retold, Books.{fold_joined, uses_more, uses_told}, Lists.map_joined}}
+use Rattle.napt_account.specs.{declared.log.Entry.Entry, Book.{after_trace, lost_by, use_by_trace}, Log.{begun, log_of}}
+use Rattle.napt_account.{specs.{TraceLogs.entries_after, Uses.uses_of}, proofs.{Attribution.retold, Books.{fold_joined, uses_more, uses_told}}}
 use Rattle.napt_account.{proofs.Retold.{flat_joined, log_is}, specs.Telling.{numbered, is_open, ends_within, in_order_of_end, told_by, living_of}}
 
 pub ended_told : (rules : Rules) (before : List Arrival) (input : Arrival) → (told_by rules before input).ended

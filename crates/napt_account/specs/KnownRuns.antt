@@ -1,5 +1,5 @@
 -- A run with its log as it runs, by the inputs that it took.
-use Rattle.std.specs.Prelude.{◌≡◌, ℕ, ◌^◌, ◌≤◌, Bool, false, List, [], ◌∷◌, ◌++◌, length, map}
+use Rattle.std.specs.Prelude.{◌≡◌, ◌^◌, ◌≤◌, Bool, false, List, [], ◌∷◌, ◌++◌, length}
 use Rattle.napt_config.specs.Rules.{Rules, KeepsRules}
 use Rattle.napt_rules.specs.Prelude.{opening, Arrival, run}
 use Rattle.napt_sequential.specs.{SequentialRuns.StandsAfter, Traces.traces, declared.{fault.RunFault.RunFault, sequential_run.SequentialRun.SequentialRun}}

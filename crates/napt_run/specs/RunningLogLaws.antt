@@ -7,7 +7,7 @@ use Rattle.napt_log_text.{specs.{Logs.rows_with, Times.Text}, proofs.Logs.rows_w
 use Rattle.napt_records.specs.declared.fault.Fault.TheVariants as faults
 use Rattle.napt_sequential.specs.declared.passage.{Passage.Passage, Trace.Trace}
 use Rattle.napt_run.specs.{LeavingLaws.{breaks_more, grows_more, grows_none}, Logging.Legs, Outputs.{Breaks, Grows}}
-use Rattle.napt_run.specs.{RunningLogs.{Enters, Fails, FailsBy, GoesOn, IsAt, traces_of}, declared.logged_fault.LoggedFault.LoggedFault}
+use Rattle.napt_run.specs.{RunningLogs.{Enters, Fails, FailsBy, IsAt, traces_of}, declared.logged_fault.LoggedFault.LoggedFault}
 use Rattle.napt_run.specs.declared.{logged_fault.LoggedFault.TheVariants.{Run, Log}, running_log.RunningLog.RunningLog}
 
 traces_join : (xs ys : List (Legs Passage)) → traces_of (xs ++ ys) ≡ traces_of xs ++ traces_of ys
