@@ -1,6 +1,6 @@
 -- A part of a buffer, and what is read behind it.
-use Rattle.std.proofs.Common.{◌≡◌, ℕ, ◌+◌, ◌-◌, ◌≤◌, List, ◌++◌, length, take, drop, slice_range, Option, None, Some, sym, ap, ◌∙◌, arith, append_assoc, length-take-le, drop-drop}
-use Rattle.std.{specs.Io.KnownBytes.{Consumes, Keeps, prepend_known}, proofs.lemmas.{List.drop-take, Slice.between_from_start}}
+use Rattle.std.proofs.Common.{◌≡◌, ℕ, ◌+◌, ◌-◌, ◌≤◌, List, ◌++◌, length, take, drop, slice_range, sym, ap, ◌∙◌, arith, length-take-le, drop-drop}
+use Rattle.std.proofs.lemmas.{List.drop-take, Slice.between_from_start}
 use lib.Seq.{take-append-le, take-append-add}
 use borrow.Rule.Slice.PartMut.{put_mid, post_of}
 
@@ -8,17 +8,8 @@ use borrow.Rule.Slice.PartMut.{put_mid, post_of}
 pub slice_range-from : (xs : List ℕ) (a e n : ℕ) → n ≤ e - a → slice_range xs (a + n) e ≡ drop n (slice_range xs a e)
 slice_range-from xs a e n within =
     let whole : n + (e - (a + n)) ≡ e - a = omega (arith, within) in
-    ap (take (e - (a + n))) (sym (drop-drop n a xs))
-    ∙ sym (drop-take n (e - (a + n)) (drop a xs))
+    ap (take (e - (a + n))) (sym (drop-drop n a xs)) ∙ sym (drop-take n (e - (a + n)) (drop a xs))
     ∙ ap (λ k. drop n (take k (drop a xs))) whole
-
--- what a reader gave is behind what was read before
-pub Keeps-read : (a b : Option (List ℕ)) (old new bytes : List ℕ) → Consumes a b bytes → new ≡ old ++ bytes →
-    Keeps (prepend_known old a) (prepend_known new b)
-Keeps-read None b old new bytes consumed is = tt
-Keeps-read (Some x) None old new bytes consumed is = absurd consumed
-Keeps-read (Some x) (Some y) old new bytes consumed is =
-    ap (λ l. l ++ y) is ∙ append_assoc old bytes y ∙ ap (λ l. old ++ l) (sym consumed)
 
 -- what a read put behind the part that begins a buffer
 pub slice_range-read : (end room count : ℕ) (xs ys : List ℕ) → end ≤ length xs → count ≤ length ys →

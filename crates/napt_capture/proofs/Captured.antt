@@ -1,7 +1,6 @@
 -- What a text begins with, and what it holds.
-use Rattle.std.proofs.lemmas.{Grind.common_steps, Bool.Decides.nat_tests}
+use Rattle.std.proofs.lemmas.{Grind.common_steps, Bool.{Decides.nat_tests, cases_Bool, cases_lt, lt-ltb, le-ltb}}
 use Rattle.std.proofs.Common.{◌≡◌, ℕ, zero, suc, ◌+◌, ◌-◌, ◌<◌, ◌≤◌, inl, inr, Bool, true, false, List, [], ◌∷◌, length, take, drop, Option, Result, Ok, Err, refl, sym, ◌∙◌, ap, arith, length-drop, length-take-le, nat_lt}
-use Rattle.std.proofs.lemmas.Bool.{cases_Bool, cases_lt, lt-ltb, le-ltb}
 use Rattle.napt_capture.specs.Prelude.{LARGEST_RECORD, CaptureFault, TooLarge, Next, Whole, End, Spelling, spelling_of, units_per_second, Entry, Held, announced, asked_first, asked_records, captured, captured_by, captured_of, entry_in, fraction_of, held, held_by, next_by, next_in, number_behind, size_in, spelling_by, spelling_in}
 use Rattle.byteorder.specs.Endian.{big_number}
 
@@ -200,5 +199,4 @@ captured_never (Ok s) text never is = held_never s 1 0 text is
 captured_never (Err fault) text never is = let same : fault ≡ TooLarge = cc in never (ap (λ f. Err f) same)
 
 pub never_large : (bytes : List ℕ) → (captured bytes).end ≡ Err TooLarge → ⊥
-never_large bytes is =
-    captured_never (spelling_in (take 24 bytes)) (drop 24 bytes) (spelling_never (take 24 bytes)) is
+never_large bytes is = captured_never (spelling_in (take 24 bytes)) (drop 24 bytes) (spelling_never (take 24 bytes)) is

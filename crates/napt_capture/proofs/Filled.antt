@@ -1,7 +1,6 @@
 -- The steps of reading over known bytes.
-use Rattle.std.proofs.lemmas.{Grind.common_steps, Bool.Decides.nat_tests}
-use Rattle.std.proofs.Common.{◌≡◌, ℕ, ◌+◌, ◌<◌, ◌≤◌, min, List, [], ◌++◌, length, take, drop, Option, Some, None, Result, Ok, Err, arith, take_all, length-take-le, length-append, append-nil, take_at, drop_at, drop_of_length-le, IfSome}
-use Rattle.std.specs.Io.KnownBytes.{Consumes, IsAtEnd}
+use Rattle.std.{proofs.lemmas.{Grind.common_steps, Bool.Decides.nat_tests}, specs.Io.KnownBytes.{Consumes, IsAtEnd}}
+use Rattle.std.proofs.Common.{◌≡◌, ℕ, ◌+◌, ◌<◌, ◌≤◌, min, List, [], ◌++◌, length, take, drop, Option, Some, None, Result, Ok, Err, arith, take_all, length-take-le, length-append, append-nil, take_at, drop_at, drop_of_length-le}
 use Rattle.napt_capture.specs.Prelude.{CaptureFault, Gives, Says}
 
 -- unless the device or memory failed
@@ -24,11 +23,6 @@ Gives-map None new f p = tt
 Gives-map (Some bytes) None f p = absurd p
 Gives-map (Some bytes) (Some left) f p = f bytes left p
 
-pub Gives-same : (old : Option (List ℕ)) (P : List ℕ → List ℕ → Type 0) → ((bytes : List ℕ) → P bytes bytes) →
-    Gives old old P
-Gives-same None P p = tt
-Gives-same (Some bytes) P p = p bytes
-
 pub Gives-both : (old mid new : Option (List ℕ)) {P Q R : List ℕ → List ℕ → Type 0} →
     ((bytes text left : List ℕ) → P bytes text → Q text left → R bytes left) → Gives old mid P → Gives mid new Q
     → Gives old new R
@@ -36,12 +30,6 @@ Gives-both None mid new f p q = tt
 Gives-both (Some bytes) None new f p q = absurd p
 Gives-both (Some bytes) (Some text) None f p q = absurd q
 Gives-both (Some bytes) (Some text) (Some left) f p q = f bytes text left p q
-
-pub Gives-known : (P : List ℕ → Type 0) (old new : Option (List ℕ)) → Gives old new (λ bytes left. P bytes) →
-    IfSome old P
-Gives-known P None new p = tt
-Gives-known P (Some bytes) None p = absurd p
-Gives-known P (Some bytes) (Some left) p = p
 
 -- a buffer of which so many bytes were filled has the front of the bytes
 pub record Fills (filled : ℕ) (buffer bytes left : List ℕ) : Type 0 where
@@ -66,8 +54,7 @@ fills filled buffer bytes left within consumed at_end =
     )
 
 pub filled_by : (old new : Option (List ℕ)) (filled : ℕ) (buffer : List ℕ) → filled ≤ length buffer →
-    Consumes old new (take filled buffer) → (filled < length buffer → IsAtEnd new)
-    → Gives old new (Fills filled buffer)
+    Consumes old new (take filled buffer) → (filled < length buffer → IsAtEnd new) → Gives old new (Fills filled buffer)
 filled_by None new filled buffer within consumed at_end = tt
 filled_by (Some bytes) None filled buffer within consumed at_end = absurd consumed
 filled_by (Some bytes) (Some left) filled buffer within consumed at_end =

@@ -19,8 +19,7 @@ next_none s asked n text room large = grind (arith, common_steps, nat_tests, lar
 
 -- the header ends early
 pub next_early : (s : Spelling) (asked n filled : ℕ) (buffer text left : List ℕ) → length buffer ≡ 16 → filled < 16 →
-    asked + 16 ≤ MOST_ASKED → Fills filled buffer text left
-    → ReadsNext s asked n (Ok (End (nat_lt 0 filled))) text left
+    asked + 16 ≤ MOST_ASKED → Fills filled buffer text left → ReadsNext s asked n (Ok (End (nat_lt 0 filled))) text left
 next_early s asked n filled buffer text left size early room p =
     grind (arith, common_steps, nat_tests, asked_short, few_is, next_short, drop_of_length-le)
 

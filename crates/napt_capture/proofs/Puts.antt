@@ -1,9 +1,8 @@
 -- Texts that are written one behind the other.
-use Rattle.std.proofs.lemmas.{Grind.common_steps, Bool.Decides.nat_tests}
+use Rattle.std.proofs.{lemmas.{Grind.common_steps, Bool.Decides.nat_tests}, KnownBytes.{Appends-trans, Appends-kept}}
 use Rattle.std.proofs.Common.{◌≡◌, ℕ, zero, suc, nat_eq, false, rules, ◌+◌, ◌*◌, ◌^◌, ◌<◌, ◌≤◌, List, [], ◌∷◌, ◌++◌, length, take, drop, get_or, All, Option, Result, Ok, Err, OnOk, IfErr, refl, sym, ap, ◌∙◌, subst, arith, length-append, length-drop, length-take-le, take_all, append_assoc, append-nil, take-append-drop}
 use Rattle.std.{specs.{Io.{WritesAtMost, KnownBytes.{WriteAppends, Appends, Keeps}}, Result.result_unwrap_or}, proofs.Math.Seq.take-append-add}
 use Rattle.std.{proofs.lemmas.List.{take-append-le, take_more, Elements.{All-head, All-tail}, Concat.flat_map-append}, specs.List.flat_map}
-use Rattle.std.proofs.KnownBytes.{Appends-trans, Appends-kept}
 use lib.Seq.{take-add}
 use Rattle.napt_capture.specs.Prelude.{failed_writes, DeviceFault, WriteFault, Entry, IsWritable, entry_of_packet, file_header, record_header, record_text, text, Puts, PutsAll, PutsFront}
 
@@ -45,8 +44,7 @@ PutsFront-longer {old} {new} xs ys p = record {
 pub takes_more : (r : Result ℕ DeviceFault) (old mid new : Option (List ℕ)) (bytes : List ℕ)
     (done count failed-0 failed-1 failed-2 : ℕ)
     → count ≡ result_unwrap_or r 0 → (count ≡ 0 → ⊥) → WritesAtMost r (drop done bytes) →
-    WriteAppends mid new r (drop done bytes)
-    → failed-2 ≡ failed-1 + failed_writes r (drop done bytes)
+    WriteAppends mid new r (drop done bytes) → failed-2 ≡ failed-1 + failed_writes r (drop done bytes)
     → done ≤ length bytes → Appends old mid (take done bytes) → failed-1 ≡ failed-0
     → (done + count ≤ length bytes) × Appends old new (take (done + count) bytes) × (failed-2 ≡ failed-0)
 takes_more (Err _) old mid new bytes done count f0 f1 f2 is some most appended counted within before same =
@@ -59,8 +57,7 @@ takes_more (Ok (suc n)) old mid new bytes done count f0 f1 f2 is some most appen
     let none : failed_writes {E = DeviceFault} (Ok (suc n)) (drop done bytes) ≡ 0 = let isnt : nat_eq (suc n) 0
     ≡ false = search rules in rw isnt refl in (
       omega (arith, is, most, length-drop done bytes),
-      subst (Appends old new) all
-          (Appends-trans old mid new _ _ before appended),
+      subst (Appends old new) all (Appends-trans old mid new _ _ before appended),
       omega (arith, counted, none, same),
     )
 

@@ -1,7 +1,6 @@
 -- What is written holds the records that were written.
-use Rattle.std.proofs.lemmas.{Grind.common_steps, Bool.Decides.nat_tests}
+use Rattle.std.{proofs.lemmas.{Grind.common_steps, Bool.Decides.nat_tests, List.Elements.{All-head, All-tail}}, specs.List.flat_map}
 use Rattle.std.proofs.Common.{◌≡◌, ℕ, ◌+◌, ◌/◌, ◌%◌, List, [], ◌∷◌, ◌++◌, length, take, drop, map, All, Ok, false, ap, ◌∙◌, arith, refl, append_assoc, length-append, take_at, drop_at, drop_of_length-le, sym, ◌≤◌, le-ltb}
-use Rattle.std.{specs.List.flat_map, proofs.lemmas.List.Elements.{All-head, All-tail}}
 use Rattle.byteorder.specs.Numbers.{little_number-reads_back}
 use Rattle.napt_capture.specs.Prelude.{Little, Nanosecond, Spelling, Whole, Entry, Held, asked_first, asked_of, asked_records, captured, captured_by, captured_of, contents_by, entry_in, fraction_of, held, next_in, number_behind, original_of, read_whole, size_in, spelling_in, time_of, long_number, IsWritable, as_written, file_header, record_header, record_text, text, MOST_ASKED}
 use Rattle.napt_capture.proofs.{Whole.{asked_all, asked_is}, Captured.{held_record, next_whole, size_good, with_first}}
@@ -45,8 +44,7 @@ size_in-written : (n : ℕ) (r : Entry) → IsWritable r → size_in written_spe
     ≡ Ok (length r.bytes)
 size_in-written n r h =
     size_good written_spelling n (record_header r) (omega (arith, fraction_of-written r))
-    (omega (arith, captured_of-written r h, h.bytes))
-    ∙ ap (λ k. Ok k) (captured_of-written r h)
+    (omega (arith, captured_of-written r h, h.bytes)) ∙ ap (λ k. Ok k) (captured_of-written r h)
 
 -- the text of a record begins with it
 next_in-written : (n : ℕ) (r : Entry) (more : List ℕ) → IsWritable r →
@@ -61,8 +59,7 @@ next_in-written n r more h =
     ∙ take_at r.bytes more (length r.bytes) refl in
     let same : entry_in written_spelling (length r.bytes) all ≡ as_written r =
     rw (header, bytes, time_of-written r h, original_of-written r h) refl in
-    next_whole written_spelling n all (length r.bytes)
-    (ap (size_in written_spelling n) header ∙ size_in-written n r h)
+    next_whole written_spelling n all (length r.bytes) (ap (size_in written_spelling n) header ∙ size_in-written n r h)
     (omega (
       arith,
       length-append (record_header r) (r.bytes ++ more),
@@ -96,8 +93,7 @@ captured_text rs h =
     let header : take 24 (text rs) ≡ file_header = take_at file_header more 24 length-file_header in
     let behind : drop 24 (text rs) ≡ more = drop_at file_header more 24 length-file_header in
     ap (λ l. captured_by (spelling_in l) (drop 24 (text rs))) header
-    ∙ ap (λ s. captured_by s (drop 24 (text rs))) spelling_in-written
-    ∙ ap (held written_spelling 1 0) behind
+    ∙ ap (λ s. captured_by s (drop 24 (text rs))) spelling_in-written ∙ ap (held written_spelling 1 0) behind
     ∙ held-written 1 rs h
 
 -- READ WHOLE
@@ -123,8 +119,7 @@ read_text rs h short =
     drop_of_length-le (text rs) (let few : length (text rs) ≤ 24 + asked_records (map as_written rs) =
     omega (arith, long, asked-written rs) in few) in
     let asks : asked_of (text rs) ≡ (24 + asked_records (map as_written rs)) + 16 =
-    asked_is written_spelling (text rs) spelled
-    ∙ ap (asked_all written_spelling (text rs)) records
+    asked_is written_spelling (text rs) spelled ∙ ap (asked_all written_spelling (text rs)) records
     ∙ ap (λ l. (24 + asked_records (map as_written rs)) + asked_first written_spelling l) none in
     rw (le-ltb MOST_ASKED (asked_of (text rs)) (omega (arith, asks, short, long, asked-written rs)))
     (ap (λ (a : Held). contents_by a.records a.end) holds)

@@ -1,7 +1,6 @@
 -- A capture that is read whole: how far reading has come, and what it comes to.
-use Rattle.std.proofs.lemmas.{Grind.common_steps, Bool.Decides.nat_tests}
+use Rattle.std.proofs.lemmas.{Grind.common_steps, Bool.{Decides.nat_tests, cases_lt, lt-ltb, le-ltb}}
 use Rattle.std.proofs.Common.{◌≡◌, ℕ, ◌+◌, ◌^◌, ◌<◌, ◌≤◌, min, inl, inr, Bool, true, List, [], ◌∷◌, ◌++◌, length, take, drop, Option, Result, Ok, Err, refl, sym, ◌∙◌, ap, subst, arith, append-nil, append_assoc, length-append, length-drop, drop-drop, IfSome, nat_lt}
-use Rattle.std.proofs.lemmas.Bool.{cases_lt, lt-ltb, le-ltb}
 use Rattle.napt_capture.specs.Prelude.{MOST_ASKED, CaptureFault, TooLarge, Memory, Next, Whole, End, Spelling, Entry, Contents, Held, asked_by, asked_first, asked_of, asked_records, captured, captured_by, contents_by, entry_in, held, next_in, number_behind, read_whole, spelling_in, Gives, IsForRecords, Leaves, ReadsNext, ReadsWhole, Says, StopsBehind, TakesAtMost, TakesMemory, next_within}
 use Rattle.napt_capture.proofs.Filled.{Gives-both, Gives-map, Says-err}
 use Rattle.napt_capture.proofs.Captured.{FirstOf, asked_least, asked_most, first_of, held_end, held_fault, held_record, is_bad, is_cut, is_short, is_whole, next_asked, next_cut, next_fault, next_short, next_whole, records_within}
@@ -16,8 +15,7 @@ asked_all s bytes records =
 pub asked_is : (s : Spelling) (bytes : List ℕ) → spelling_in (take 24 bytes) ≡ Ok s → asked_of bytes
     ≡ asked_all s bytes (held s 1 0 (drop 24 bytes)).records
 asked_is s bytes is =
-    ap (λ r. asked_by r bytes) is
-    ∙ ap (λ r. asked_all s bytes (captured_by r (drop 24 bytes)).records) is
+    ap (λ r. asked_by r bytes) is ∙ ap (λ r. asked_all s bytes (captured_by r (drop 24 bytes)).records) is
 
 captured_is : (s : Spelling) (bytes : List ℕ) → spelling_in (take 24 bytes) ≡ Ok s → captured bytes
     ≡ held s 1 0 (drop 24 bytes)
@@ -69,8 +67,7 @@ Progress-start s bytes left is left_is = grind (arith, common_steps, nat_tests)
 -- where it is not too large
 within_is : (s : Spelling) (asked n : ℕ) (text : List ℕ) (result : Result Next CaptureFault) →
     asked + asked_first s text ≤ MOST_ASKED → next_within s asked n text ≡ result → next_in s n text ≡ result
-within_is s asked n text result few is =
-    sym (rw (le-ltb MOST_ASKED (asked + asked_first s text) few) refl) ∙ is
+within_is s asked n text result few is = sym (rw (le-ltb MOST_ASKED (asked + asked_first s text) few) refl) ∙ is
 
 large_is : (s : Spelling) (asked n : ℕ) (text : List ℕ) → MOST_ASKED < asked + asked_first s text →
     next_within s asked n text ≡ Err TooLarge
@@ -170,8 +167,7 @@ asked_more s records asked bytes text counted p =
 
 -- where no record is left, and it is not too large
 read_last : (s : Spelling) (records : List Entry) (asked : ℕ) (bytes text : List ℕ) (end : Result Bool CaptureFault) →
-    asked ≡ 24 + asked_records records → Progress s records asked bytes text
-    → asked + asked_first s text ≤ MOST_ASKED
+    asked ≡ 24 + asked_records records → Progress s records asked bytes text → asked + asked_first s text ≤ MOST_ASKED
     → held s (length records + 1) 0 text ≡ record { records = []; end = end }
     → read_whole bytes ≡ contents_by records end
 read_last s records asked bytes text end counted p few none =
@@ -211,8 +207,7 @@ read_fault s records asked bytes text left fault counted p q =
 
 takes : (s : Spelling) (records : List Entry) (asked : ℕ) (bytes text left : List ℕ) (result : Result Next CaptureFault)
     → asked ≡ 24 + asked_records records → Progress s records asked bytes text
-    → ReadsNext s asked (length records + 1) result text left
-    → TakesAtMost (min MOST_ASKED (asked_of bytes)) bytes left
+    → ReadsNext s asked (length records + 1) result text left → TakesAtMost (min MOST_ASKED (asked_of bytes)) bytes left
 takes s records asked bytes text left result counted p q = (
   asked + q.taken,
   omega (arith, q.room, q.within, asked_more s records asked bytes text counted p),
@@ -244,8 +239,7 @@ module _ (s : Spelling) (records : List Entry) (asked number : ℕ) (counted : a
     (numbered : number ≡ length records + 1) (old mid new : Option (List ℕ))
     (progress : Gives old mid (Progress s records
     asked)) where
-  pub reads_on : (entry : Entry) → number + 1 < 2 ^ 64 →
-      Gives mid new (ReadsNext s asked number (Ok (Whole entry)))
+  pub reads_on : (entry : Entry) → number + 1 < 2 ^ 64 → Gives mid new (ReadsNext s asked number (Ok (Whole entry)))
       → Gives old new (Progress s (records ++ entry ∷ []) (asked + (16 + length entry.bytes)))
   reads_on entry few next =
       Gives-both old mid new (λ bytes text left p q.

@@ -3,12 +3,11 @@ use Rattle.std.proofs.Common.{rules, ◌≡◌, ℕ, zero, suc, ◌+◌, ◌<◌
 use Rattle.std.{specs.Prelude.{Result, Ok, Err, OnOk, IfOk, IfErr, MatchResult, Contains, replicate}, proofs.lemmas.List.{length-map, nil_from_length}}
 use Rattle.std.{proofs.lemmas.Result.IfOk-weaker, specs.Vec.Iter.{into_iter_items, into_iter_len}}
 use Rattle.napt_pool.specs.declared.{fault.{PoolFault.PoolFault, Stop.{Stop, TheVariants.{Memory, GateShut, Ring}}}, machine.Machine.Ghosts}
-use Rattle.napt_pool.specs.declared.{closing.{Closing.Closing, Ended.Ended}, message.Reply.TheVariants.Stopped, pool.Pool.Pool}
+use Rattle.napt_pool.{specs.declared.{closing.{Closing.Closing, Ended.Ended}, message.Reply.TheVariants.Stopped, pool.Pool.Pool}, proofs.Steps.map-snoc}
 use Rattle.napt_pool.specs.{declared.thread_state.ThreadState.ThreadState, Faults.{is_shut, is_gate_shut, fault_of, IsFaultOf, IsFaultUpTo, IsLeastFault}}
 use Rattle.napt_pool.specs.Histories.{after, replies, AllBegin}
 use Rattle.napt_pool.specs.Workers.{IsEnd, AreEnds, closing_machine, closing_thread_state, closing_accepted, closing_taken, closing_heard}
 use Rattle.napt_pool.{specs.Pools.{starts, accepts, takes, heard, thread_states, zip_with, HasTold, HaveReceived, IsLeastStop}, proofs.Ending.length-replies}
-use Rattle.napt_pool.proofs.Steps.{map-snoc}
 
 no_rest : {A : Type 0} (t rest : List A) → length (t ++ rest) ≡ length t → t ++ rest ≡ t
 no_rest [] [] e = refl
@@ -129,8 +128,7 @@ module _ {M G I A : Type 0} (g : Ghosts M I A) (open_gate : Bool) where
       (es : List (Result (Ended M I A) Stop)) (ms : List M) (xs : List (List I))
       → AreEnds g open_gate ws es → map closing_machine ws ≡ ms → map closing_accepted ws ≡ xs
       → (ts : List (List A)) (r : Result T PoolFault) → map closing_taken ws ≡ ts → map length ts ≡ map length xs →
-      IfOk r (λ v. map Ok (items v) ≡ es)
-      → OnOk r (ts ≡ zip_with (replies g) ms xs)
+      IfOk r (λ v. map Ok (items v) ≡ es) → OnOk r (ts ≡ zip_with (replies g) ms xs)
   settled_at items ws es ms xs h k j ts r p q s = grind (arith, settled)
 
   AreEnds-length : (ws : List (Closing M G I A)) (es : List (Result (Ended M I A) Stop)) → AreEnds g open_gate ws es →
@@ -141,8 +139,7 @@ module _ {M G I A : Type 0} (g : Ghosts M I A) (open_gate : Bool) where
   AreEnds-length (w ∷ ws) (e ∷ es) h = ap suc (AreEnds-length ws es h.1)
 
   pub fault_if_err : {T : Type 0} (ws : List (Closing M G I A)) (es : List (Result (Ended M I A) Stop)) (ms : List M)
-      (r : Result T PoolFault)
-      → AreEnds g open_gate ws es → map closing_machine ws ≡ ms
+      (r : Result T PoolFault) → AreEnds g open_gate ws es → map closing_machine ws ≡ ms
       → IfErr r (λ fault. IsLeastFault es fault) → IfErr r (λ fault. IsFaultOf (λ v. v < length ms) fault)
   fault_if_err ws es ms (Ok v) h began least = tt
   fault_if_err ws es ms (Err fault) h began least =
@@ -183,8 +180,7 @@ module _ {M G I A : Type 0} (g : Ghosts M I A) (open_gate : Bool) where
   least_up_to (v ∷ ws) (b ∷ bs) s rest h (suc w) stop c = grind (arith, least_up_to ws bs s rest h.1 w stop c)
 
   pub told_is : {T : Type 0} (p : Pool M G I A) (items : T → List (Ended M I A)) (ws : List (Closing M G I A))
-      (es : List (Result (Ended M I A) Stop))
-      → AreEnds g open_gate ws es → map closing_heard ws ≡ heard p
+      (es : List (Result (Ended M I A) Stop)) → AreEnds g open_gate ws es → map closing_heard ws ≡ heard p
       → (r : Result T PoolFault) → IfOk r (λ v. map Ok (items v) ≡ es) → IfErr r (λ fault. IsLeastFault es fault)
       → (w : ℕ) (fault : PoolFault) → HasTold p w fault → MatchResult r (λ _. ⊥) (IsFaultUpTo w fault)
   told_is p items ws es h listened (Ok v) ended least w fault told =
@@ -208,8 +204,7 @@ module _ {M G I A : Type 0} (g : Ghosts M I A) (open_gate : Bool) where
   received_are (w ∷ ws) (e ∷ es) h = (h.0.has_received, received_are ws es h.1)
 
   pub received_on_ok : {T : Type 0} (items : T → List (Ended M I A)) (ws : List (Closing M G I A))
-      (es : List (Result (Ended M I A) Stop))
-      (states : List (ThreadState M G I A)) (xs : List (List I))
+      (es : List (Result (Ended M I A) Stop)) (states : List (ThreadState M G I A)) (xs : List (List I))
       → AreEnds g open_gate ws es → map closing_thread_state ws ≡ states → map closing_accepted ws ≡ xs
       → (r : Result T PoolFault) → IfOk r (λ v. map Ok (items v) ≡ es) → OnOk r (HaveReceived g open_gate states xs)
   received_on_ok items ws es states xs h given accepted (Ok v) ended =

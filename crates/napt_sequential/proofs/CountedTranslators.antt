@@ -1,13 +1,12 @@
 -- The translators after a leg, at its address and at the others.
-use Rattle.std.proofs.Common.{◌≡◌, ◌≢◌, ℕ, suc, ◌+◌, ◌≤◌, true, false, List, [], ◌∷◌, ◌++◌, map, length, cond, Some, refl, sym, ◌∙◌, ap, subst, arith, eqb, eq-eqb, append-nil, get_or, set}
+use Rattle.std.proofs.lemmas.{Grind.common_steps, Bool.Decides.nat_tests, Option.{slice_get_within, slice_get-get_or, get_or_from_slice_get, same_Some}}
+use Rattle.std.proofs.Common.{◌≡◌, ◌≢◌, ℕ, ◌+◌, ◌≤◌, true, false, List, [], ◌∷◌, ◌++◌, map, length, cond, Some, refl, sym, ◌∙◌, ap, subst, arith, eqb, eq-eqb, append-nil, get_or, set}
 use Rattle.std.{specs.List.slice_get, proofs.lemmas.{Bool.{ne_eqb, eqb-true, eqb-false}, List.{length-set, Elements.filter-append}}}
-use Rattle.std.proofs.lemmas.Option.{slice_get_within, slice_get-get_or, get_or_from_slice_get, same_Some}
 use Rattle.napt_config.specs.Rules.{Rules, KeepsRules}
-use Rattle.napt_rules.specs.{declared.Leg.Leg, Prelude.{act, Act, acts_at, legs_at, kept_after}}
+use Rattle.napt_rules.specs.{declared.Leg.Leg, Prelude.{act, Act, legs_at, kept_after}}
 use Rattle.napt_translate.specs.Translators.{begun, with_kept, left_by}
-use Rattle.napt_sequential.specs.declared.counted_translator.CountedTranslator.{CountedTranslator}
+use Rattle.napt_sequential.{specs.declared.counted_translator.CountedTranslator.CountedTranslator, proofs.{Lists.{get_set, get_set_other}, ToldAlone.acts_same}}
 use Rattle.napt_sequential.specs.CountedTranslators.{RunState, IsCountedTranslator, AreCountedTranslators, act_of, act_there, told_of, told_at, state_after, counted_after}
-use Rattle.napt_sequential.proofs.{Lists.{get_set, get_set_other}, ToldAlone.acts_same}
 use Rattle.napt_laws.proofs.RunsLocal.{leg_at_once, other_at_once}
 
 -- one leg more, at its address and at another
@@ -15,33 +14,15 @@ legs_more : (address : ℕ) (acts : List Act) (a : Act) → a.address ≡ addres
     ≡ length (legs_at address acts) + 1
 legs_more address [] a here = ap (λ v. length (map (λ (x : Act). x.leg) (cond v (a ∷ []) [])))
     (eq-eqb a.address address here)
-legs_more address (x ∷ acts) a here =
-    elim (eqb x.address address) as (λ v.
-    length (map (λ (y : Act). y.leg) (cond v (x ∷ acts_at address (acts ++ a ∷ []))
-    (acts_at address (acts ++ a ∷ []))))
-    ≡ length (map (λ (y : Act). y.leg) (cond v (x ∷ acts_at address acts) (acts_at address acts))) + 1) [
-      | true ↦ let more = legs_more address acts a here in omega arith
-      | false ↦ legs_more address acts a here
-    ]
+legs_more address (x ∷ acts) a here = grind (arith, common_steps, nat_tests, eqb, legs_more address acts a here)
 
 legs_few : (address : ℕ) (acts : List Act) → length (legs_at address acts) ≤ length acts
 legs_few address [] = omega arith
-legs_few address (x ∷ acts) =
-    let few = legs_few address acts in
-    elim (eqb x.address address) as (λ v.
-    length (map (λ (y : Act). y.leg) (cond v (x ∷ acts_at address acts) (acts_at address acts)))
-    ≤ suc (length acts)) [
-      | true ↦ omega arith
-      | false ↦ omega arith
-    ]
+legs_few address (x ∷ acts) = grind (arith, common_steps, nat_tests, eqb, legs_few address acts)
 
 legs_other : (address : ℕ) (acts : List Act) (a : Act) → address ≢ a.address → legs_at address (acts ++ a ∷ [])
     ≡ legs_at address acts
-legs_other address acts a differ =
-    ap (map (λ (x : Act). x.leg))
-    (filter-append (λ (x : Act). eqb x.address address) acts (a ∷ [])
-    ∙ (ap (λ v. acts_at address acts ++ cond v (a ∷ []) []) (ne_eqb a.address address (λ e. differ (sym e)))
-    ∙ append-nil (acts_at address acts)))
+legs_other address acts a differ = grind (arith, common_steps, nat_tests, filter-append, eqb, ne_eqb, append-nil)
 
 module _ (rules : Rules) (place address : ℕ) (at : get_or rules.pool place 0 ≡ address) (state : RunState)
     (counted : CountedTranslator) (is : IsCountedTranslator rules place address state counted) (leg : Leg)
@@ -100,22 +81,17 @@ module _ (rules : Rules) (keeps : KeepsRules rules) (state : RunState) (translat
   counted = get_or translators place default
 
   is_there : slice_get translators place ≡ Some counted
-  is_there =
-      let many = are.many in
-      let within = slice_get_within rules.pool place address at in
-      slice_get-get_or translators place default (omega (arith, within))
+  is_there = grind (arith, common_steps, nat_tests, slice_get_within, slice_get-get_or)
 
   own : IsCountedTranslator rules place address state counted
   own = are.each place address counted at is_there
 
   pub told_same : told_at (λ passage. passage) leg counted.translator
       ≡ told_of (λ passage. passage) rules.timers (act_of address leg (act rules address leg state.list))
-  told_same =
-      own_told rules place address (get_or_from_slice_get rules.pool place address 0 at) state counted own leg later
+  told_same = grind (arith, common_steps, nat_tests, own_told, get_or_from_slice_get, own)
 
   pub few_legs : counted.legs ≤ length state.acts
-  few_legs = let few = legs_few address state.acts in let is : counted.legs ≡ length (legs_at address state.acts) =
-      own.legs in omega arith
+  few_legs = grind (arith, common_steps, nat_tests, legs_few, own)
 
   counted_later : (other there : ℕ) (s : CountedTranslator) → slice_get rules.pool other ≡ Some there →
       slice_get (set translators place (counted_after leg counted)) other ≡ Some s →
@@ -139,8 +115,7 @@ module _ (rules : Rules) (keeps : KeepsRules rules) (state : RunState) (translat
             subst (λ (p : ℕ). IsCountedTranslator rules p there (state_after rules address leg state) s) (sym here)
             (subst (λ (a : ℕ). IsCountedTranslator rules place a (state_after rules address leg state) s) (sym same)
             (subst (λ (x : CountedTranslator). IsCountedTranslator rules place address
-            (state_after rules address leg state) x)
-            (sym new) stays))
+            (state_after rules address leg state) x) (sym new) stays))
         | false ↦ λ e.
             let ne : other ≢ place = eqb-false other place e in
             let before : slice_get translators other ≡ Some s =
@@ -151,7 +126,4 @@ module _ (rules : Rules) (keeps : KeepsRules rules) (state : RunState) (translat
 
   pub translators_after : AreCountedTranslators rules (state_after rules address leg state)
       (set translators place (counted_after leg counted))
-  translators_after = record {
-    many = length-set translators place (counted_after leg counted) ∙ are.many;
-    each = counted_later;
-  }
+  translators_after = grind (arith, common_steps, nat_tests, length-set, counted_later)

@@ -1,10 +1,11 @@
 -- The steps of a run: one for each input, and what they begin with.
+use Rattle.std.proofs.lemmas.{Grind.common_steps, Bool.Decides.nat_tests}
 use Rattle.std.{proofs.Common.{◌≡◌, ℕ, zero, suc, ◌+◌, max, List, [], ◌∷◌, ◌++◌, length, map, Some, Err, refl, sym, ◌∙◌, ap, arith}, specs.List.slice_get}
 use Rattle.napt_wire.specs.declared.Cause.{Cause}
 use Rattle.napt_config.specs.Rules.{Rules}
 use Rattle.napt_rules.specs.{Prelude.{Binding, opening, admission, Arrival, Course, first_leg, step_as, step, run, last_clock, ran}, declared.Outcome.Outcome}
 use Rattle.napt_laws.{specs.Dispatching.IsFront, proofs.Grown.outcomes_long}
-use Rattle.napt_sequential.specs.{declared.{outcome.Stepped.Stepped, passage.{Passage.TheVariants.Nothing, Trace.Trace}}, Steps.{joined, steps}}
+use Rattle.napt_sequential.specs.{declared.passage.{Passage.TheVariants.Nothing, Trace.Trace}, Steps.{joined, steps}}
 use Rattle.napt_sequential.{specs.Traces.{trace_of, traces_from, traces}, proofs.Passed.traces_grow}
 
 -- LISTS
@@ -13,14 +14,10 @@ pub joined_get : (os : List Outcome) (ts : List Trace) (n : ℕ) (o : Outcome) (
     slice_get ts n ≡ Some t → slice_get (joined os ts) n ≡ Some (record { outcome = o; trace = t })
 joined_get [] ts n o t h g = cc
 joined_get (x ∷ os) [] n o t h g = cc
-joined_get (x ∷ os) (y ∷ ts) zero o t h g =
-    let one : x ≡ o = cc (h) in
-    let two : y ≡ t = cc (g) in
-    ap Some (λ i. let s : Stepped = record { outcome = one i; trace = two i } in s)
+joined_get (x ∷ os) (y ∷ ts) zero o t h g = grind (arith, common_steps, nat_tests)
 joined_get (x ∷ os) (y ∷ ts) (suc n) o t h g = joined_get os ts n o t h g
 
-joined_long : (os : List Outcome) (ts : List Trace) (n : ℕ) → length os ≡ n → length ts ≡ n →
-    length (joined os ts) ≡ n
+joined_long : (os : List Outcome) (ts : List Trace) (n : ℕ) → length os ≡ n → length ts ≡ n → length (joined os ts) ≡ n
 joined_long [] ts n h g = h
 joined_long (o ∷ os) [] n h g = absurd (omega arith)
 joined_long (o ∷ os) (t ∷ ts) zero h g = absurd (omega arith)
@@ -58,13 +55,11 @@ traces_begin rules number clock (x ∷ xs) ys list =
     (more.0, ap (λ (l : List Trace). trace_of rules.timers now first ∷ l) more.1)
 
 pub steps_long : (rules : Rules) (inputs : List Arrival) → length (steps rules inputs) ≡ length inputs
-steps_long rules inputs = joined_long _ _ _ (outcomes_long rules 0 0 inputs (opening rules))
-    (traces_long rules 0 0 inputs (opening rules))
+steps_long rules inputs = grind (arith, common_steps, nat_tests, joined_long, outcomes_long, traces_long)
 
 pub steps_outcomes : (rules : Rules) (inputs : List Arrival) →
     map (λ s. s.outcome) (steps rules inputs) ≡ (run rules inputs (opening rules)).outcomes
-steps_outcomes rules inputs = joined_outcomes _ _ (outcomes_long rules 0 0 inputs (opening rules)
-    ∙ sym (traces_long rules 0 0 inputs (opening rules)))
+steps_outcomes rules inputs = grind (arith, common_steps, nat_tests, joined_outcomes, outcomes_long, traces_long)
 
 pub steps_get : (rules : Rules) (inputs : List Arrival) (n : ℕ) (o : Outcome) (t : Trace) →
     slice_get (run rules inputs (opening rules)).outcomes n ≡ Some o → slice_get (traces rules inputs) n ≡ Some t →
@@ -74,8 +69,7 @@ steps_get rules inputs n o t = joined_get (run rules inputs (opening rules)).out
 -- the trace of an input that is refused
 pub refused_trace : (rules : Rules) (done rest : List Arrival) (input : Arrival) (number now : ℕ) →
     length done ≡ number → max (last_clock 0 done) input.clock ≡ now → (cause : Cause) →
-    admission rules input ≡ Err cause →
-    slice_get (traces rules ((done ++ input ∷ []) ++ rest)) number
+    admission rules input ≡ Err cause → slice_get (traces rules ((done ++ input ∷ []) ++ rest)) number
     ≡ Some (record { now = now; first = Nothing; second = Nothing })
 refused_trace rules done rest input number now long clock cause is =
     let list : List Binding = (run rules done (opening rules)).list in
@@ -86,8 +80,7 @@ refused_trace rules done rest input number now long clock cause is =
     ∙ ap (λ a. traces rules done ++ trace_of rules.timers now (step_as rules (first_leg number now input.side) a list)
     ∷ []) is) in
     let front = traces_begin rules 0 0 (done ++ input ∷ []) rest (opening rules) in
-    ap (λ (ts : List Trace). slice_get ts number)
-    (sym front.1 ∙ ap (λ (ts : List Trace). ts ++ front.0) grown)
+    ap (λ (ts : List Trace). slice_get ts number) (sym front.1 ∙ ap (λ (ts : List Trace). ts ++ front.0) grown)
     ∙ get_at (traces rules done) none front.0 number (traces_long rules 0 0 done (opening rules) ∙ long)
 
 pub input_there : (done rest : List Arrival) (input : Arrival) (number : ℕ) → length done ≡ number →
@@ -100,8 +93,7 @@ pub steps_ran : (rules : Rules) (inputs : List Arrival) →
 unfolding ran
 steps_ran rules inputs = steps_outcomes rules inputs
 
-joined_traces : (os : List Outcome) (ts : List Trace) → length os ≡ length ts →
-    map (λ s. s.trace) (joined os ts) ≡ ts
+joined_traces : (os : List Outcome) (ts : List Trace) → length os ≡ length ts → map (λ s. s.trace) (joined os ts) ≡ ts
 joined_traces [] [] e = refl
 joined_traces [] (t ∷ ts) e = absurd (omega arith)
 joined_traces (o ∷ os) [] e = absurd (omega arith)
@@ -110,5 +102,4 @@ joined_traces (o ∷ os) (t ∷ ts) e = ap (λ (l : List Trace). t ∷ l) (joine
 -- and its traces
 pub steps_traces : (rules : Rules) (inputs : List Arrival) →
     map (λ s. s.trace) (steps rules inputs) ≡ traces rules inputs
-steps_traces rules inputs = joined_traces _ _ (outcomes_long rules 0 0 inputs (opening rules)
-    ∙ sym (traces_long rules 0 0 inputs (opening rules)))
+steps_traces rules inputs = grind (arith, common_steps, nat_tests, joined_traces, outcomes_long, traces_long)

@@ -1,11 +1,11 @@
 -- A run whose inputs come one at a time: one more of them, and what is left after all.
-use Rattle.std.{proofs.Common.{◌≡◌, ℕ, ◌+◌, ◌*◌, ◌^◌, ◌<◌, ◌≤◌, max, List, [], ◌∷◌, ◌++◌, length, map, refl, sym, ◌∙◌, ap, arith}, specs.Prelude.flat_map}
+use Rattle.std.proofs.lemmas.{Grind.common_steps, Bool.Decides.nat_tests}
+use Rattle.std.{proofs.Common.{◌≡◌, ℕ, ◌+◌, ◌^◌, ◌<◌, ◌≤◌, max, List, [], ◌∷◌, ◌++◌, length, map, refl, ◌∙◌, ap, arith}, specs.Prelude.flat_map}
 use Rattle.napt_config.specs.Rules.{Rules}
-use Rattle.napt_rules.specs.{declared.{Outcome.Outcome, Row.Row}, Prelude.{Binding, opening, Arrival, step, run, last_clock, Ran, ran}}
-use Rattle.napt_sequential.specs.declared.{counted_translator.CountedTranslator.CountedTranslator, outcome.Stepped.Stepped, passage.Trace.Trace}
+use Rattle.napt_rules.specs.{declared.{Outcome.Outcome, Row.Row}, Prelude.{opening, Arrival, step, run, last_clock, Ran, ran}}
+use Rattle.napt_sequential.specs.declared.{counted_translator.CountedTranslator.CountedTranslator, outcome.Stepped.Stepped}
 use Rattle.napt_sequential.specs.{declared.sequential_run.SequentialRun.SequentialRun, CountedTranslators.{CanTake, Steps, rows_at, state_of}}
-use Rattle.napt_sequential.{specs.{SequentialRuns.{StandsAfter, TellsLast}, Traces.{trace_of, traces}}, proofs.{Passed.traces_grow, Shown.run_shown}}
-use Rattle.napt_sequential.proofs.SoFar.{RunSoFar, after_one}
+use Rattle.napt_sequential.{specs.SequentialRuns.{StandsAfter, TellsLast}, proofs.{Passed.traces_grow, Shown.run_shown, SoFar.{RunSoFar, after_one}}}
 use Rattle.napt_laws.proofs.Grown.{acts_few}
 
 -- ONE MORE INPUT
@@ -16,10 +16,7 @@ module _ (rules : Rules) (before : List Arrival) (input : Arrival) (it : Sequent
   is_later = let was = stands.clock in omega arith
 
   pub has_room : length before + 1 < 2 ^ 32 → CanTake rules now 2 it.translators.items
-  has_room few =
-      let acts : length (run rules before (opening rules)).acts ≤ 2 * length before =
-      acts_few rules 0 0 before (opening rules) in
-      (state_of rules before, stands.translators, is_later, omega arith)
+  has_room few = grind (arith, common_steps, nat_tests, acts_few, is_later)
 
   module _ (translators : List CountedTranslator) (told : Stepped)
       (steps : Steps rules now (step rules it.many now input (state_of rules before).list) (state_of rules before)
@@ -33,32 +30,18 @@ module _ (rules : Rules) (before : List Arrival) (input : Arrival) (it : Sequent
         translators told.outcome refl steps.0
 
     pub tells_last : TellsLast rules before input told
-    tells_last =
-        let list : List Binding = (state_of rules before).list in
-        let first : List Trace = traces rules before in
-        record {
-          outcome = sym goes_on.outcomes;
-          time = ap (λ (x : Trace). x.now) steps.1 ∙ goes_on.clock;
-          trace = traces_grow rules 0 0 before input (opening rules) it.many
-              (let many = stands.many in omega arith)
-              ∙ (ap (λ (t : ℕ). first ++ trace_of rules.timers t (step rules it.many t input list) ∷ []) (sym at)
-              ∙ ap (λ (x : Trace). first ++ x ∷ []) (sym steps.1));
-        }
+    tells_last = grind (arith, common_steps, nat_tests, goes_on, traces_grow, at)
 
 -- AFTER ALL
 
 module _ (rules : Rules) (inputs : List Arrival) (it : SequentialRun) (stands : StandsAfter rules inputs it) where
   pub bindings_shown : (bindings : List Row) → bindings ≡ flat_map (rows_at it.clock) it.translators.items →
       bindings ≡ (ran rules inputs).bindings
-  bindings_shown bindings shown = ap (λ (r : Ran). r.bindings)
-      (run_shown rules inputs (run rules inputs (opening rules)).outcomes it.clock it.translators.items bindings
-      (map (λ (s : CountedTranslator). s.legs) it.translators.items) refl stands.clock stands.translators shown refl)
+  bindings_shown bindings shown = grind (arith, common_steps, nat_tests, run_shown)
 
   pub legs_shown : (legs : List ℕ) → legs ≡ map (λ (s : CountedTranslator). s.legs) it.translators.items →
       legs ≡ (ran rules inputs).legs
-  legs_shown legs shown = ap (λ (r : Ran). r.legs)
-      (run_shown rules inputs (run rules inputs (opening rules)).outcomes it.clock it.translators.items
-      (flat_map (rows_at it.clock) it.translators.items) legs refl stands.clock stands.translators refl shown)
+  legs_shown legs shown = grind (arith, common_steps, nat_tests, run_shown)
 
 pub is_ran : (rules : Rules) (inputs : List Arrival) (outcomes : List Outcome) (bindings : List Row) (legs : List ℕ) →
     outcomes ≡ (run rules inputs (opening rules)).outcomes → bindings ≡ (ran rules inputs).bindings →

@@ -1,23 +1,15 @@
 -- The translators after all inputs have the bindings and counts of the run.
-use Rattle.std.{proofs.Common.{◌≡◌, ℕ, ◌≤◌, max, List, length, map, refl, sym, ◌∙◌, ap, arith}, specs.Prelude.flat_map}
+use Rattle.std.{proofs.{lemmas.{Grind.common_steps, Bool.Decides.nat_tests}, Common.{◌≡◌, ℕ, List, length, map, refl, ◌∙◌, ap, arith}}, specs.Prelude.flat_map}
 use Rattle.napt_config.specs.Rules.{Rules}
-use Rattle.napt_rules.specs.{declared.{Row.Row, Outcome.Outcome}, Prelude.{of, opening, Arrival, rows_of, rows, run, last_clock, legs_at, Ran, ran}}
-use Rattle.napt_translate.specs.Translators.{TranslatorState}
-use Rattle.napt_sequential.specs.declared.counted_translator.CountedTranslator.{CountedTranslator}
+use Rattle.napt_rules.specs.{declared.{Row.Row, Outcome.Outcome}, Prelude.{of, opening, Arrival, rows, run, last_clock, legs_at, Ran, ran}}
+use Rattle.napt_sequential.{specs.declared.counted_translator.CountedTranslator.CountedTranslator, proofs.Lists.{map_alike, flat_alike}}
 use Rattle.napt_sequential.specs.CountedTranslators.{RunState, IsCountedTranslator, AreCountedTranslators, rows_at, state_of}
-use Rattle.napt_sequential.proofs.Lists.{map_alike, flat_alike}
 use Rattle.napt_laws.proofs.RunsLocal.{latest}
 
 counted_rows : (rules : Rules) (place address : ℕ) (state : RunState) (counted : CountedTranslator) →
     IsCountedTranslator rules place address state counted → (now : ℕ) → now ≡ state.clock → rows_at now counted
     ≡ rows rules.timers now (of address state.list)
-counted_rows rules place address state counted is now e =
-    let past : is.own.at ≤ state.clock = is.at_once.past in
-    ap (λ (t : TranslatorState). rows t.rules.timers (max now t.table.at) t.table.list) is.translator
-    ∙ (ap (λ (t : ℕ). rows rules.timers t is.own.list) (latest now is.own.at (omega arith))
-    ∙ (ap (λ (t : ℕ). rows rules.timers t is.own.list) e
-    ∙ (ap rows_of is.at_once.agrees.same
-    ∙ ap (λ (t : ℕ). rows rules.timers t (of address state.list)) (sym e))))
+counted_rows rules place address state counted is now e = grind (arith, common_steps, nat_tests, latest)
 
 pub run_shown : (rules : Rules) (inputs : List Arrival) (outcomes : List Outcome) (last : ℕ)
     (translators : List CountedTranslator) (bindings : List Row) (legs : List ℕ) →

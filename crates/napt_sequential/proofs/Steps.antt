@@ -1,11 +1,13 @@
 -- A step at the translators: the legs of one input.
-use Rattle.std.proofs.Common.{◌≡◌, ℕ, ◌≤◌, List, [], ◌∷◌, ◌++◌, length, Result, refl, sym, ◌∙◌, ap, subst, append-nil, append_assoc}
+use native.Mathlib.Omega.{arith}
+use Rattle.std.proofs.lemmas.{Grind.common_steps, Bool.Decides.nat_tests}
+use Rattle.std.proofs.Common.{◌≡◌, ℕ, ◌≤◌, List, length, Result, refl, sym, ap, subst, append-nil, append_assoc}
 use Rattle.napt_wire.specs.{declared.{Way.TheVariants.Incoming, Cause.Cause}, Fields.destination, Reading.reading}
 use Rattle.napt_config.specs.Rules.{Rules}
-use Rattle.napt_rules.specs.{Prelude.{Acted, act, Arrival, Act, Course, ahead, outcome_of, once, follow_by, refused, admitted, legs_at}, declared.Leg.Leg}
+use Rattle.napt_rules.specs.{Prelude.{act, Arrival, Act, outcome_of, once, follow_by, refused, admitted, legs_at}, declared.Leg.Leg}
 use Rattle.napt_rules.specs.declared.{End.{End, TheVariants.Onward}, Outcome.{Outcome, TheVariants.Dropped}}
 use Rattle.napt_sequential.specs.declared.counted_translator.CountedTranslator.{CountedTranslator}
-use Rattle.napt_sequential.specs.CountedTranslators.{RunState, IsCountedTranslator, AreCountedTranslators, act_of, state_after, Follows}
+use Rattle.napt_sequential.specs.CountedTranslators.{RunState, IsCountedTranslator, AreCountedTranslators, state_after, Follows}
 use Rattle.napt_sequential.specs.declared.input.Input.TheInside as fields
 use Rattle.napt_laws.proofs.RunsLocal.{later_at_once}
 
@@ -17,13 +19,7 @@ pub follows_once : (rules : Rules) (address : ℕ) (leg : Leg) (state : RunState
     ≡ once address leg (act rules address leg state.list) →
     AreCountedTranslators rules (state_after rules address leg state) translators → (outcome : Outcome) →
     outcome ≡ outcome_of end → Follows rules leg.now (admitted rules address leg state.list) state translators outcome
-follows_once rules address leg state translators end is alone are outcome told =
-    let first : Acted = act rules address leg state.list in
-    let e : admitted rules address leg state.list ≡ once address leg first = ap (follow_by rules address leg first) is
-    ∙ alone in
-    let held : Follows rules leg.now (once address leg first) state translators outcome =
-    (ap (λ (o : Outcome). o ∷ []) (ap outcome_of is ∙ sym told), are) in
-    subst (λ (s : Course). Follows rules leg.now s state translators outcome) (sym e) held
+follows_once rules address leg state translators end is alone are outcome told = grind (arith, common_steps, nat_tests)
 
 pub follows_twice : (rules : Rules) (address : ℕ) (leg : Leg) (state : RunState) (translators : List CountedTranslator)
     (place : ℕ) (packet : List ℕ) → (act rules address leg state.list).end ≡ Onward place packet →
@@ -33,24 +29,7 @@ pub follows_twice : (rules : Rules) (address : ℕ) (leg : Leg) (state : RunStat
     AreCountedTranslators rules (state_after rules to next between) translators → (outcome : Outcome) →
     outcome ≡ outcome_of (act rules to next between.list).end →
     Follows rules leg.now (admitted rules address leg state.list) state translators outcome)
-follows_twice rules address leg state translators place packet is are outcome told =
-    let first : Acted = act rules address leg state.list in
-    let next : Leg = record leg { way = Incoming; packet = packet } in
-    let to : ℕ = (destination packet).address in
-    let second : Acted = act rules to next first.list in
-    let both : Course = ahead (record (once address leg first) { outcomes = [] }) (once to next second) in
-    let e : admitted rules address leg state.list ≡ both =
-    ap (follow_by rules address leg first) is in
-    let one : Act = act_of address leg first in
-    let other : Act = act_of to next second in
-    let acts : (state.acts ++ one ∷ []) ++ other ∷ [] ≡ state.acts ++ (one ∷ other ∷ []) =
-    append_assoc state.acts (one ∷ []) (other ∷ []) in
-    let held : Follows rules leg.now both state translators outcome = (
-      ap (λ (o : Outcome). o ∷ []) (sym told),
-      subst (λ (xs : List Act). AreCountedTranslators rules (record { clock = leg.now; acts = xs; list = second.list })
-          translators) acts are,
-    ) in
-    subst (λ (s : Course). Follows rules leg.now s state translators outcome) (sym e) held
+follows_twice rules address leg state translators place packet is = grind (arith, common_steps, nat_tests, append_assoc)
 
 -- NO LEG
 
@@ -75,14 +54,12 @@ follows_none rules now state translators later are cause = (
 
 -- what contracts see of an input, of its fields
 abbrev pub arrival_of : fields.Inside → Arrival
-arrival_of input =
-    record { side = input.side; time = input.time; clock = input.clock; bytes = input.bytes.items }
+arrival_of input = record { side = input.side; time = input.time; clock = input.clock; bytes = input.bytes.items }
 
 -- a copy of the bytes reads as the input does
 pub reads_as : (input copy : Arrival) (bytes : List ℕ) (read : Result (List ℕ) Cause) → copy ≡ input →
     bytes ≡ copy.bytes → reading copy.side bytes ≡ read → reading input.side input.bytes ≡ read
-reads_as input copy bytes read shown copied is = ap (λ (a : Arrival). reading a.side a.bytes) (sym shown)
-    ∙ (ap (reading copy.side) (sym copied) ∙ is)
+reads_as input copy bytes read shown copied is = grind (arith, common_steps, nat_tests)
 
 pub side_as : (input copy : Arrival) → copy ≡ input → copy.side ≡ input.side
 side_as input copy shown = ap (λ (a : Arrival). a.side) shown

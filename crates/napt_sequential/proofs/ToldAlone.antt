@@ -1,28 +1,17 @@
 -- What a translator of one address tells of its legs is what the whole run has of them.
-use Rattle.std.proofs.Common.{◌≡◌, ℕ, ◌≤◌, true, false, cond, List, [], ◌∷◌, ◌++◌, map, Option, refl, sym, ◌∙◌, ap, subst, arith, eqb, append_assoc}
-use Rattle.std.proofs.lemmas.Bool.{eqb-true, eqb-false}
+use Rattle.std.proofs.lemmas.{Grind.common_steps, Bool.{Decides.nat_tests, eqb-true, eqb-false}}
+use Rattle.std.proofs.Common.{◌≡◌, ℕ, ◌≤◌, true, false, cond, List, [], ◌∷◌, ◌++◌, map, refl, sym, ◌∙◌, ap, subst, arith, eqb, append_assoc}
 use Rattle.napt_config.specs.Rules.{Rules}
-use Rattle.napt_rules.specs.{Prelude.{Through, Binding, of, Acted, act, Arrival, Act, run, last_clock, acts_at, legs_at, Kept, kept_after}, declared.Leg.Leg}
-use Rattle.napt_rules.specs.declared.End.{End}
-use Rattle.napt_laws.{specs.{Agreeing.IsAtOnce, Dispatching.IsFront}, proofs.LegsLocal.{ActsAlike, alike}}
-use Rattle.napt_laws.proofs.{RunsLocal.{ActsOnTime, on_time, leg_at_once, other_at_once}, Turns.{InTurn, run_turn}}
-use Rattle.napt_sequential.specs.{declared.{passage.Passage.Passage, telling.Told.Told}, CountedTranslators.{act_of, act_there, told_of, told_by}}
-use Rattle.napt_sequential.specs.Steps.{told_replies}
+use Rattle.napt_rules.specs.{Prelude.{Binding, of, Acted, act, Arrival, Act, run, last_clock, acts_at, legs_at, Kept, kept_after}, declared.Leg.Leg}
+use Rattle.napt_laws.{specs.{Agreeing.IsAtOnce, Dispatching.IsFront}, proofs.LegsLocal.alike}
+use Rattle.napt_laws.proofs.{RunsLocal.{on_time, leg_at_once, other_at_once}, Turns.{InTurn, run_turn}}
+use Rattle.napt_sequential.specs.{declared.{passage.Passage.Passage, telling.Told.Told}, CountedTranslators.{act_of, act_there, told_of}, Steps.told_replies}
 
 -- a leg acts there as in the run
 pub acts_same : {X : Type 0} (f : Act → X) (rules : Rules) (address clock : ℕ) (own : Kept) (list : List Binding) →
     IsAtOnce rules address clock own list → (leg : Leg) → clock ≤ leg.now →
     f (act_there rules address leg own) ≡ f (act_of address leg (act rules address leg list))
-acts_same f rules address clock own list once leg later =
-    let past : own.at ≤ leg.now = omega (arith, once.past) in
-    let timely : ActsOnTime rules address leg own = on_time rules address leg own past in
-    let same : ActsAlike rules address leg.now (act rules address leg own.list) (act rules address leg list) =
-    alike rules address clock own.list list once.agrees leg later in
-    let by : End → Option Through → Act = λ end through.
-    record { address = address; leg = leg; end = end; through = through } in
-    ap (λ (acted : Acted). f (act_of address leg acted)) timely.is
-    ∙ (ap (λ (end : End). f (by end (act rules address leg own.list).through)) same.end
-    ∙ ap (λ (through : Option Through). f (by (act rules address leg list).end through)) same.through)
+acts_same f rules address clock own list once leg later = grind (arith, common_steps, nat_tests, on_time, alike)
 
 module _ {P : Type 0} (tells : Passage → P) (rules : Rules) (address : ℕ) where
   alone : (clock : ℕ) (own : Kept) (list : List Binding) (acts : List Act) (last : ℕ) (new : List Binding) →
@@ -51,8 +40,7 @@ module _ {P : Type 0} (tells : Passage → P) (rules : Rules) (address : ℕ) wh
             ap (λ (t : Told P). t ∷ told_replies tells rules address (map (λ (b : Act). b.leg) (acts_at address acts))
             (kept_after rules address a.leg own))
             (acts_same (told_of tells rules.timers) rules address clock own list once a.leg p.0.later
-            ∙ ap (told_of tells rules.timers) is)
-            ∙ ap (λ (ts : List (Told P)). told_of tells rules.timers a ∷ ts) rest
+            ∙ ap (told_of tells rules.timers) is) ∙ ap (λ (ts : List (Told P)). told_of tells rules.timers a ∷ ts) rest
         | false ↦ λ h.
             alone a.leg.now own (act rules a.address a.leg list).list acts last new
             (other_at_once rules address clock own list once a.address
@@ -74,8 +62,7 @@ module _ {P : Type 0} (tells : Passage → P) (rules : Rules) (address : ℕ) wh
       IsFront (told_replies tells rules address xs own) (told_replies tells rules address (xs ++ rest) own)
   told_front [] rest own = (told_replies tells rules address rest own, refl)
   told_front (x ∷ xs) rest own =
-      let more = told_front xs rest (kept_after rules address x own) in
-      (more.0, ap (λ (l : List (Told P)). told_by tells rules address x own ∷ l) more.1)
+      grind (arith, common_steps, nat_tests, told_front xs rest (kept_after rules address x own))
 
   front_front : {X : Type 0} (xs ys zs : List X) → IsFront xs ys → IsFront ys zs → IsFront xs zs
   front_front xs ys zs h g = (h.0 ++ g.0, sym (append_assoc xs h.0 g.0) ∙ (ap (λ (l : List _). l ++ g.0) h.1 ∙ g.1))

@@ -1,10 +1,10 @@
 -- What each leg of a run did is in the trace of its input.
-use Rattle.std.proofs.Common.{◌≡◌, ◌≢◌, ◌⊎◌, inl, inr, true, ℕ, zero, suc, ◌+◌, ◌-◌, ◌≤◌, max, cond, List, [], ◌∷◌, ◌++◌, map, Option, Some, refl, sym, ◌∙◌, ap, subst, arith}
-use Rattle.std.{proofs.lemmas.Bool.{eq-eqb, ne_eqb}, specs.List.slice_get}
+use Rattle.std.{proofs.lemmas.{Grind.common_steps, Bool.{Decides.nat_tests, eq-eqb, ne_eqb}}, specs.List.slice_get}
+use Rattle.std.proofs.Common.{◌≡◌, ◌≢◌, ◌⊎◌, inl, true, ℕ, zero, suc, ◌+◌, ◌-◌, ◌≤◌, max, List, [], ◌∷◌, ◌++◌, map, Option, Some, refl, ◌∙◌, ap, arith}
 use Rattle.napt_wire.specs.declared.{Side.TheVariants.Outside, Way.TheVariants.Incoming}
 use Rattle.napt_config.specs.{Rules.Rules, declared.settings.Timers.Timers}
 use Rattle.napt_rules.specs.declared.{Leg.Leg, End.{End, TheVariants.{ToOutside, ToInside, Onward, Dropped}}}
-use Rattle.napt_rules.specs.Prelude.{Through, Binding, Each, opening, way_from, served_at, Acted, act, Arrival, Act, Course, follow_by, first_leg, step, run_from, run, is_in_or_dropped}
+use Rattle.napt_rules.specs.Prelude.{Through, Binding, Each, opening, Acted, act, Arrival, Act, Course, follow_by, step, run_from, run, is_in_or_dropped}
 use Rattle.napt_laws.{specs.Places.{numbered, all_but_first, second_legs}, proofs.{AnyStep.{of_input, of_step}, LegLaws.in_stays_in}}
 use Rattle.napt_laws.proofs.Lists.{each_weaker, each_append}
 use Rattle.napt_sequential.specs.{declared.passage.{Passage.TheVariants.Nothing, Trace.Trace}, Traces.{passage_of, trace_of, traces_from, traces}}
@@ -52,64 +52,29 @@ follow_here rules address leg through list (ToInside packet) =
     (record { number_is = refl; now_is = refl; placed = inl (record { first = refl; second = refl; none = refl }) }, tt)
 follow_here rules address leg through list (Dropped cause) =
     (record { number_is = refl; now_is = refl; placed = inl (record { first = refl; second = refl; none = refl }) }, tt)
-follow_here rules address leg through list (Onward place packet) = (
-  record {
-    number_is = refl;
-    now_is = refl;
-    placed = inr (inl (record { first = refl; place = place; packet = packet; goes = refl }));
-  },
-  (
-    record {
-      number_is = refl;
-      now_is = refl;
-      placed = inr (inr (record {
-        second = refl;
-        comes = refl;
-        leg = record leg { way = Incoming; packet = packet };
-        some = refl;
-      }));
-    },
-    tt,
-  ),
-)
+follow_here rules address leg through list (Onward place packet) = grind (arith, common_steps, nat_tests)
 
 step_here : (rules : Rules) (number now : ℕ) (input : Arrival) (list : List Binding) →
     (let course : Course = step rules number now input list in
     Each (IsHere rules.timers number now course) course.acts)
-step_here rules number now input list =
-    of_step rules number now list (λ (s : Course). Each (IsHere rules.timers number now s) s.acts) (λ cause. tt)
-    (λ address side packet. let leg : Leg = first_leg number now side packet in
-    let acted : Acted = act rules address leg list in
-    follow_here rules address leg acted.through acted.list acted.end) input
+step_here rules number now input list = grind (arith, common_steps, nat_tests, of_step, follow_here)
 
 -- NUMBERS
-
-all_numbered : (k : ℕ) (acts : List Act) → Each (λ a. a.leg.number ≡ k) acts → numbered k acts ≡ acts
-all_numbered k [] h = refl
-all_numbered k (a ∷ acts) h =
-    ap (λ b. cond b (a ∷ numbered k acts) (numbered k acts)) (eq-eqb a.leg.number k h.0)
-    ∙ ap (λ (xs : List Act). a ∷ xs) (all_numbered k acts h.1)
 
 none_numbered : (k : ℕ) (acts rest : List Act) → Each (λ a. a.leg.number ≢ k) acts →
     numbered k (acts ++ rest) ≡ numbered k rest
 none_numbered k [] rest h = refl
-none_numbered k (a ∷ acts) rest h =
-    ap (λ b. cond b (a ∷ numbered k (acts ++ rest)) (numbered k (acts ++ rest))) (ne_eqb a.leg.number k h.0)
-    ∙ none_numbered k acts rest h.1
+none_numbered k (a ∷ acts) rest h = grind (arith, common_steps, nat_tests, ne_eqb, none_numbered k acts rest h.1)
 
 none_later : (k : ℕ) (acts : List Act) → Each (λ a. k + 1 ≤ a.leg.number) acts → numbered k acts ≡ []
 none_later k [] h = refl
-none_later k (a ∷ acts) h =
-    let le : k + 1 ≤ a.leg.number = h.0 in
-    ap (λ b. cond b (a ∷ numbered k acts) (numbered k acts)) (ne_eqb a.leg.number k (λ e. absurd (omega arith)))
-    ∙ none_later k acts h.1
+none_later k (a ∷ acts) h = grind (arith, common_steps, nat_tests, ne_eqb, none_later k acts h.1)
 
 first_numbered : (k : ℕ) (firsts rests : List Act) → Each (λ a. a.leg.number ≡ k) firsts →
     Each (λ a. k + 1 ≤ a.leg.number) rests → numbered k (firsts ++ rests) ≡ firsts
 first_numbered k [] rests h g = none_later k rests g
 first_numbered k (a ∷ firsts) rests h g =
-    ap (λ b. cond b (a ∷ numbered k (firsts ++ rests)) (numbered k (firsts ++ rests))) (eq-eqb a.leg.number k h.0)
-    ∙ ap (λ (xs : List Act). a ∷ xs) (first_numbered k firsts rests h.1 g)
+    grind (arith, common_steps, nat_tests, eq-eqb, first_numbered k firsts rests h.1 g)
 
 -- A RUN
 
@@ -130,42 +95,16 @@ module _ (timers : Timers) (number now : ℕ) (first : Course) (rests : List Act
   trace_here = trace_of timers now first
 
   firsts_are : numbered number whole ≡ first.acts
-  firsts_are = first_numbered number first.acts rests
-      (each_weaker (IsHere timers number now first) (λ (a : Act). a.leg.number ≡ number) (λ a h. h.number_is)
-      first.acts here)
-      (each_weaker (IsFrom timers (number + 1) later rests) (λ (a : Act). number + 1 ≤ a.leg.number) (λ a h. h.from)
-      rests behind)
+  firsts_are = grind (arith, common_steps, nat_tests, first_numbered, each_weaker)
 
   rests_are : (k : ℕ) → number + 1 ≤ k → numbered k whole ≡ numbered k rests
-  rests_are k le = none_numbered k first.acts rests
-      (each_weaker (IsHere timers number now first) (λ (a : Act). a.leg.number ≢ k) (λ a h.
-      let e : a.leg.number ≡ number = h.number_is in λ same. absurd (omega arith)) first.acts here)
+  rests_are k le = grind (arith, common_steps, nat_tests, none_numbered, each_weaker)
 
   first_from : (a : Act) → IsHere timers number now first a → IsFrom timers number (trace_here ∷ later) whole a
-  first_from a h =
-      let e : a.leg.number ≡ number = h.number_is in
-      let none : a.leg.number - number ≡ 0 = omega arith in
-      record {
-        from = omega arith;
-        trace = trace_here;
-        there = ap (slice_get (trace_here ∷ later)) none;
-        time = sym h.now_is;
-        placed = subst (λ (seconds : List Leg). IsPlaced timers trace_here seconds a)
-            (sym (ap (λ (k : ℕ). second_legs k whole) e ∙ ap legs_behind firsts_are)) h.placed;
-      }
+  first_from a h = grind (arith, common_steps, nat_tests, firsts_are)
 
   rest_from : (a : Act) → IsFrom timers (number + 1) later rests a → IsFrom timers number (trace_here ∷ later) whole a
-  rest_from a h =
-      let le : number + 1 ≤ a.leg.number = h.from in
-      let more : a.leg.number - number ≡ suc (a.leg.number - (number + 1)) = omega arith in
-      record {
-        from = omega arith;
-        trace = h.trace;
-        there = ap (slice_get (trace_here ∷ later)) more ∙ h.there;
-        time = h.time;
-        placed = subst (λ (seconds : List Leg). IsPlaced timers h.trace seconds a)
-            (sym (ap legs_behind (rests_are a.leg.number le))) h.placed;
-      }
+  rest_from a h = grind (arith, common_steps, nat_tests, rests_are)
 
   all_from : Each (IsFrom timers number (trace_here ∷ later) whole) whole
   all_from =
@@ -196,41 +135,21 @@ pub record IsTraced (timers : Timers) (all : List Trace) (acts : List Act) (a : 
 pub legs_traced : (rules : Rules) (inputs : List Arrival) →
     (let acts : List Act = (run rules inputs (opening rules)).acts in
     Each (IsTraced rules.timers (traces rules inputs) acts) acts)
-legs_traced rules inputs =
-    let acts : List Act = (run rules inputs (opening rules)).acts in
-    each_weaker (IsFrom rules.timers 0 (traces rules inputs) acts) (IsTraced rules.timers (traces rules inputs) acts)
-    (λ a h. let same : a.leg.number ≡ a.leg.number - 0 = omega arith in
-    record {
-      trace = h.trace;
-      there = ap (slice_get (traces rules inputs)) same ∙ h.there;
-      time = h.time;
-      placed = h.placed;
-    }) acts (run_traced rules 0 0 inputs (opening rules))
+legs_traced rules inputs = grind (arith, common_steps, nat_tests, each_weaker, run_traced)
 
 -- AN INPUT FROM OUTSIDE HAS ONE LEG AT MOST
 
 single : (rules : Rules) (address : ℕ) (leg : Leg) (first : Acted) (e : End) → is_in_or_dropped e ≡ true →
     legs_behind (follow_by rules address leg first e).acts ≡ []
-single rules address leg first (ToOutside packet) h = refl
-single rules address leg first (ToInside packet) h = refl
-single rules address leg first (Dropped cause) h = refl
-single rules address leg first (Onward place packet) h = cc
+single rules address leg first e h = grind (arith, common_steps, nat_tests)
 
 comes_in : (rules : Rules) (address : ℕ) (leg : Leg) (list : List Binding) → leg.way ≡ Incoming →
     is_in_or_dropped (act rules address leg list).end ≡ true
-comes_in rules address leg list way =
-    let same : max leg.now 0 ≡ leg.now = omega arith in
-    subst (λ (t : ℕ). is_in_or_dropped (act rules address (record leg { now = t }) list).end ≡ true) same
-    (in_stays_in rules address leg (record { list = list; at = 0 }) way)
+comes_in rules address leg list way = grind (arith, common_steps, nat_tests, in_stays_in)
 
 outside_single : (rules : Rules) (number now : ℕ) (input : Arrival) (list : List Binding) → input.side ≡ Outside →
     legs_behind (step rules number now input list).acts ≡ []
-outside_single rules number now input list side =
-    of_input rules number now list (λ (s : Course). legs_behind s.acts ≡ []) (λ cause. refl) input
-    (λ packet is. let leg : Leg = first_leg number now input.side packet in
-    let address : ℕ = served_at rules leg.way packet in
-    let acted : Acted = act rules address leg list in
-    single rules address leg acted acted.end (comes_in rules address leg list (ap way_from side)))
+outside_single rules number now input list side = grind (arith, common_steps, nat_tests, of_input, single, comes_in)
 
 outside_from : (rules : Rules) (number clock : ℕ) (inputs : List Arrival) (list : List Binding) (i : ℕ)
     (input : Arrival) → slice_get inputs i ≡ Some input → input.side ≡ Outside →
@@ -258,8 +177,7 @@ outside_from rules number clock (x ∷ inputs) list (suc i) input at side =
     ∙ outside_from rules (number + 1) now inputs first.list i input at side)
 
 pub outside_alone : (rules : Rules) (inputs : List Arrival) (n : ℕ) (input : Arrival) →
-    slice_get inputs n ≡ Some input → input.side ≡ Outside →
-    second_legs n (run rules inputs (opening rules)).acts ≡ []
+    slice_get inputs n ≡ Some input → input.side ≡ Outside → second_legs n (run rules inputs (opening rules)).acts ≡ []
 outside_alone rules inputs n input at side =
     let same : n ≡ 0 + n = omega arith in
     ap (λ (k : ℕ). second_legs k (run rules inputs (opening rules)).acts) same

@@ -1,9 +1,8 @@
 -- What a read puts behind what was filled is what it consumed.
-use Rattle.std.proofs.lemmas.{Grind.common_steps, Bool.Decides.nat_tests}
+use Rattle.std.{proofs.{lemmas.{Grind.common_steps, Bool.Decides.nat_tests, Slice.take-put_mid_below}, KnownBytes.Consumes-trans}, specs.Io.KnownBytes.Consumes}
 use Rattle.std.proofs.Common.{◌≡◌, ℕ, ◌+◌, ◌-◌, ◌≤◌, List, ◌++◌, rules, arith, length, take, slice_range, sym, ap, ◌∙◌, subst, le_refl, drop_at, length-take-le}
-use Rattle.std.{proofs.{lemmas.Slice.take-put_mid_below, KnownBytes.Consumes-trans}, specs.Io.KnownBytes.Consumes}
-use borrow.Rule.Slice.PartMut.{put_mid, post_of}
-use lib.Seq.{take-add, take-append-le}
+use borrow.Rule.Slice.PartMut.{put_mid}
+use lib.Seq.{take-add}
 use Rattle.napt_capture.proofs.reading.fill.Goals as goal
 
 -- the first bytes, and those behind them up to b

@@ -39,8 +39,7 @@ returns-in-Ok-Stopped-clause-stopped g c =
     (c.in_default.ensures.items ∙ left) popped.0 left
 
 pub returns-in-Ok-Done-clause-some : goal.returns-in-Ok-Done-clause-some
-returns-in-Ok-Done-clause-some g c =
-    taken_grown _ _ (c.in-Ok-Done.answer ∷ []) (returns-in-Ok-Done-clause-heard g c)
+returns-in-Ok-Done-clause-some g c = taken_grown _ _ (c.in-Ok-Done.answer ∷ []) (returns-in-Ok-Done-clause-heard g c)
 
 pub returns-in-Ok-Many-clause-some : goal.returns-in-Ok-Many-clause-some
 returns-in-Ok-Many-clause-some g c =

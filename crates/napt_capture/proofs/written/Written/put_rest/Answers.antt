@@ -15,5 +15,4 @@ loop-done-preserved g c =
     takes_more c.write.result _ _ _ bytes done c.unwrap_or-count.result _ _ _ c.unwrap_or-count.ensures
     c.if-count-eq0.false
     (subst (WritesAtMost c.write.result) rest call.bound) (subst (WriteAppends _ _ c.write.result) rest call.bytes)
-    counted
-    c.loop-done.invariant.0 c.loop-done.invariant.1 c.loop-done.invariant.2
+    counted c.loop-done.invariant.0 c.loop-done.invariant.1 c.loop-done.invariant.2

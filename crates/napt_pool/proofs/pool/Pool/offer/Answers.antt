@@ -17,5 +17,4 @@ returns-clause-accepted g c = grind (arith, common_steps, nat_tests, grown_on_ok
 pub returns-clause-refused : goal.returns-clause-refused
 returns-clause-refused g c =
     kept_if_err accepted_of c.args.self.now.workers.items c.args.w c.offer.new.self c.index_mut-worker.result.now
-    c.index_mut-worker.ensures.value
-    (λ e. item_back e ≡ c.args.item) c.offer.result c.offer.ensures.refused
+    c.index_mut-worker.ensures.value (λ e. item_back e ≡ c.args.item) c.offer.result c.offer.ensures.refused

@@ -20,15 +20,13 @@ pub returns-in-Ok-clause-some : goal.returns-in-Ok-clause-some
 returns-in-Ok-clause-some g c =
     let below : c.args.w < length c.args.self.now.workers.items = grind (arith, common_steps) in
     grown_if_some taken_of c.args.self.now.workers.items c.args.w c.take.new.self c.index_mut-worker.result.now
-    c.index_mut-worker.ensures.value
-    (λ a. a) c.in-Ok.answer below c.in-Ok.ensures.some
+    c.index_mut-worker.ensures.value (λ a. a) c.in-Ok.answer below c.in-Ok.ensures.some
 
 pub returns-in-Ok-clause-silent : goal.returns-in-Ok-clause-silent
 returns-in-Ok-clause-silent g c =
     let below : c.args.w < length c.args.self.now.workers.items = grind (arith, common_steps) in
     grown_if_some heard_of c.args.self.now.workers.items c.args.w c.take.new.self c.index_mut-worker.result.now
-    c.index_mut-worker.ensures.value
-    (λ a. Done a) c.in-Ok.answer below c.in-Ok.ensures.heard
+    c.index_mut-worker.ensures.value (λ a. Done a) c.in-Ok.answer below c.in-Ok.ensures.heard
 
 pub returns-in-Err-clause-err : goal.returns-in-Err-clause-err
 returns-in-Err-clause-err g c = map-kept taken_of _ _ _ _ c.index_mut-worker.ensures.value c.in-Err.ensures.err

@@ -4,8 +4,7 @@ use Rattle.napt_pool.proofs.worker.Worker.offer.Goals as goal
 
 pub invariant_of-self-2-clause-open : goal.invariant_of-self-2-clause-open
 invariant_of-self-2-clause-open g c =
-    work-only _ _ _ c.args.self.now.open
-    (pushed_last _ c.push_reserved.ensures.sent.0 c.has_slot.ensures.looked.1)
+    work-only _ _ _ c.args.self.now.open (pushed_last _ c.push_reserved.ensures.sent.0 c.has_slot.ensures.looked.1)
 
 pub invariant_of-self-2-clause-counted : goal.invariant_of-self-2-clause-counted
 invariant_of-self-2-clause-counted g c =
