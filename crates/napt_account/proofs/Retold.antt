@@ -157,7 +157,8 @@ module _ (ends : EndsAreFirst) (rules : Rules) (t : AreTimers rules.timers) (add
       (entries ++ counted way leg.now (end_of rules.timers new) (begun rules.timers leg.now new) ∷ []) notes.Made
       (Some (length entries))) (sym out)
       (says_made rules.timers leg.now new entries
-      (none_open leg.now (row new) entries (subst (Each (λ r. Differ r (row new))) (sym rows_are) (others tells.differ)))))
+      (none_open leg.now (row new) entries
+          (subst (Each (λ r. Differ r (row new))) (sym rows_are) (others tells.differ)))))
 
 -- SHORTAGES
 
