@@ -35,13 +35,13 @@ fn faults_of_captures_are_told(rt: HostRuntime) -> Result<(), Fail> {
 fn faults_of_configurations_are_told(rt: HostRuntime) -> Result<(), Fail> {
     assert_messages! {rt, ConfigFault:
         NotToml "expected TOML in UTF-8"
-        UnknownKey "unknown key: expected `pool`, `inside`, `filter`, `refresh`, `parity`, `numbers`, `seed`, `timers`, `ring`, `quota`, `block`, `pair` or `redirect`; in `timers` `udp`, `tcp-established`, `tcp-transitory` or `icmp`; in a `pair` `host` or `external`; in a `redirect` `protocol`, `inside` or `external`"
+        UnknownKey "unknown key: expected `pool`, `inside`, `filter`, `refresh`, `parity`, `numbers`, `seed`, `timers`, `hold`, `ring`, `quota`, `block`, `pair` or `redirect`; in `timers` `udp`, `tcp-established`, `tcp-transitory` or `icmp`; in a `pair` `host` or `external`; in a `redirect` `protocol`, `inside` or `external`"
         Missing "expected `pool` and `inside` with at least one entry each, a `seed` with random `numbers`, `host` and `external` in each `pair`, and `protocol`, `inside` and `external` in each `redirect`"
         BadShape "expected a value of another kind: a text, a whole number, a list or a table, as its key asks for"
         TooMany "expected at most 16 entries in `pool` and in `inside`, and at most 256 of `pair` and of `redirect`"
         BadAddress "expected an IPv4 address, as `203.0.113.1`, or in a `redirect` an endpoint, as `10.0.0.3:7000`, without leading zeros"
         BadPrefix "expected an IPv4 prefix, as `10.0.0.0/8`, whose bits past its length are 0"
-        BadNumber "expected a timer of 0 to 1000000000 seconds, a `ring` of 1 to 4096, a `quota` of 1 to 65535, an even `block` of 64 to 32256, or an `external` port of 1 to 65535"
+        BadNumber "expected a timer or a `hold` of 0 to 1000000000 seconds, a `ring` of 1 to 4096, a `quota` of 1 to 65535, an even `block` of 64 to 32256, or an `external` port of 1 to 65535"
         BadWord "expected `independent`, `address` or `address-port` as `filter`, `outbound` or `both` as `refresh`, `kept` or `free` as `parity`, `preserved` or `random` as `numbers`, or `udp` or `tcp` as `protocol`"
         BadSeed "expected 32 hexadecimal digits as `seed`"
         SeedUnused "expected no `seed` without random `numbers`"
@@ -50,6 +50,7 @@ fn faults_of_configurations_are_told(rt: HostRuntime) -> Result<(), Fail> {
         PrefixesOverlap "expected, with a `block`, prefixes of `inside` that have no address in common"
         BlockTooLarge "expected a `block` that every host can have: the hosts of `inside` by the addresses of `pool`, rounded up, times `block`, at most 64512"
         PairWithBlock "expected no `pair` with a `block`"
+        HoldWithBlock "expected no `hold` above 0 with a `block`, whose numbers go to no other host"
         DoublePair "expected at most one `pair` for each host"
         NotInPool "expected an `external` address that is in `pool`"
         NotInside "expected a host that is in a prefix of `inside`"

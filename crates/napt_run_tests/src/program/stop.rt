@@ -99,6 +99,7 @@ fn names_faults_of_configurations(rt: HostRuntime) -> Result<(), Fail> {
         Stop::Config(ConfigFault::PrefixesOverlap) => "config prefixes-overlap"
         Stop::Config(ConfigFault::BlockTooLarge) => "config block-too-large"
         Stop::Config(ConfigFault::PairWithBlock) => "config pair-with-block"
+        Stop::Config(ConfigFault::HoldWithBlock) => "config hold-with-block"
         Stop::Config(ConfigFault::DoublePair) => "config double-pair"
         Stop::Config(ConfigFault::NotInPool) => "config not-in-pool"
         Stop::Config(ConfigFault::NotInside) => "config not-inside"
