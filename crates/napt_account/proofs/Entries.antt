@@ -11,7 +11,7 @@ use Rattle.napt_laws.proofs.{Endpoints.{protocol_is, end_is, same_itself, end_it
 use Rattle.napt_binding.{specs.Ends.{end_of, is_before, EndsAreFirst}, proofs.FirstEnds.{before_sooner, end_without_dead}}
 use Rattle.napt_account.specs.{declared.log.Entry.Entry, Log.{begun, shares, is_of, counted, through, logged_by, logged, stands_at}}
 use Rattle.napt_account.proofs.Lists.{filter_seen, filter_agrees, filter_agrees_each, filter_joined, map_joined, map_twice, map_agrees, each_mapped, each_shown}
-use Rattle.napt_account.proofs.Moves.{Differ, of_moves}
+use Rattle.napt_account.proofs.Moves.{Differ, AllDiffer, differ_kept, differ_act, of_moves}
 
 abbrev pub living : Timers → ℕ → List Binding → List Binding
 living timers now list = filter (is_live timers now) list
@@ -36,11 +36,6 @@ named now entries = map binding_of (filter (stands_at now) entries)
 abbrev Holds : Timers → ℕ → List Binding → List Entry → Type 0
 Holds timers now live entries = map hold (filter (is_open now) entries) ≡ map (hold_of timers) live
 
--- no two rows of one protocol share the external endpoint
-abbrev pub AllDiffer : List Row → Type 0
-AllDiffer [] = Unit {0}
-AllDiffer (r ∷ rs) = Each (Differ r) rs × AllDiffer rs
-
 -- what entries are after the legs up to a time, that left the list
 pub record Tells (timers : Timers) (now : ℕ) (list : List Binding) (entries : List Entry) : Type 0 where
   pub made : Each (λ e. e.made ≤ now) entries
@@ -53,15 +48,6 @@ pub apart_differ : (rs : List Row) → Apart rs → AllDiffer rs
 apart_differ [] h = tt
 apart_differ (r ∷ rs) h = grind (arith, common_steps, nat_tests, each_weaker, apart_differ rs h.1)
 
-pub differ_kept : (p : Binding → Bool) (xs : List Binding) → AllDiffer (map row xs) → AllDiffer (map row (filter p xs))
-differ_kept p [] h = h
-differ_kept p (x ∷ xs) h = elim (p x) as (λ v. AllDiffer (map row (cond v (x ∷ filter p xs) (filter p xs))))
-    [ true ↦ (each_kept (Differ (row x)) row p xs h.0, differ_kept p xs h.1) | false ↦ differ_kept p xs h.1 ]
-
-differ_push : (rs : List Row) (r : Row) → AllDiffer rs → Each (λ x. Differ x r) rs → AllDiffer (rs ++ r ∷ [])
-differ_push [] r h g = (tt, tt)
-differ_push (x ∷ rs) r h g = (each_pushed (Differ x) rs r h.0 g.0, differ_push rs r h.1 g.1)
-
 is_false : (v : Bool) → (v ≡ true → ⊥) → v ≡ false
 is_false true h = absurd (h refl)
 is_false false h = refl
@@ -71,11 +57,6 @@ differ_shares a b differ = grind (arith, common_steps, nat_tests, is_false, and_
 
 pub differ_back : (a b : Row) → Differ a b → shares b a ≡ false
 differ_back a b differ = differ_shares b a (λ p e. differ (sym p) (sym e))
-
-rows_change : (p : Binding → Bool) (f : Binding → Binding) → ((b : Binding) → row (f b) ≡ row b) →
-    (xs : List Binding) → map row (change_first p f xs) ≡ map row xs
-rows_change p f same [] = refl
-rows_change p f same (x ∷ xs) = grind (arith, common_steps, nat_tests, rows_change p f same xs)
 
 pub rows_purge : (timers : Timers) (now : ℕ) (list : List Binding) → map row (purge timers now list)
     ≡ map row (living timers now list)
@@ -225,9 +206,11 @@ module _ (ends : EndsAreFirst) (rules : Rules) (t : AreTimers rules.timers) (add
   abbrev own : List Binding
   own = purge rules.timers leg.now list
 
-  -- with the entries before it
-  abbrev NowTells : List Entry → Option Through → List Binding → Type 0
-  NowTells entries went left = Tells rules.timers leg.now left (logged_by rules.timers leg went entries)
+  -- what entries are beside what lives
+  abbrev Now : List Entry → Option Through → List Binding → Type 0
+  Now entries went left =
+      Each (λ e. e.made ≤ leg.now) (logged_by rules.timers leg went entries)
+      × Holds rules.timers leg.now left (logged_by rules.timers leg went entries)
 
   new_open : (b : Binding) → IsFresh rules.timers leg.now b → is_before leg.now (end_of rules.timers b) ≡ true
   new_open b fresh = sym (ends rules.timers t leg.now b) ∙ fresh.live
@@ -236,37 +219,29 @@ module _ (ends : EndsAreFirst) (rules : Rules) (t : AreTimers rules.timers) (add
   own_differ h = subst AllDiffer (sym (rows_purge rules.timers leg.now list))
       (differ_kept (is_live rules.timers leg.now) list h)
 
-  -- from the live to the whole
-  tells_fresh : (left : List Binding) (entries : List Entry) → Each (λ e. e.made ≤ leg.now) entries →
-      Each (IsFresh rules.timers leg.now) left → Holds rules.timers leg.now left entries → AllDiffer (map row left) →
-      Tells rules.timers leg.now left entries
-  tells_fresh left entries made fresh holds differ = grind (arith, common_steps, nat_tests, all_live)
-
   pub tells_act : (entries : List Entry) → Tells rules.timers leg.now list entries →
-      NowTells entries (act rules address leg list).through (act rules address leg list).list
+      Tells rules.timers leg.now (act rules address leg list).list
+      (logged_by rules.timers leg (act rules address leg list).through entries)
   tells_act entries tells =
       let holds : Holds rules.timers leg.now own entries =
       tells.holds ∙ sym (purge_holds rules.timers t leg.now list) in
       let fresh : Each (IsFresh rules.timers leg.now) own = fresh_purged rules.timers leg.now list in
       let differ : AllDiffer (map row own) = own_differ tells.differ in
-      of_moves rules t address leg list (NowTells entries) tells
-      (tells_fresh own entries tells.made fresh holds differ)
+      let now = of_moves rules t address leg list (Now entries) (tells.made, holds)
       (λ p f b found same keeps.
       let new : IsFresh rules.timers leg.now (f b) = keeps b (find_passes p (IsFresh rules.timers leg.now) own b fresh
       found).1 in
       let end : Option ℕ = end_of rules.timers (f b) in
       let opened : is_before leg.now end ≡ true = new_open (f b) new in
-      let change : Entry → Entry = through leg.now (row (f b)) (counted leg.way leg.now end) in
-      tells_fresh (change_first p f own) (map change entries)
-      (each_mapped (λ e. e.made ≤ leg.now) change entries
-      (each_weaker (λ e. e.made ≤ leg.now) (λ e. (change e).made ≤ leg.now)
-      (λ e le. subst (λ (m : ℕ). m ≤ leg.now) (sym (changed_made leg.way leg.now (row (f b)) end opened e)) le) entries
-      tells.made))
-      (each_changed (IsFresh rules.timers leg.now) p f keeps own fresh)
-      (holds_changed leg.way leg.now (row (f b)) end opened entries
-      ∙ (ap (map (hold_changed leg.way leg.now (row (f b)) end opened)) holds
-      ∙ change_holds rules.timers p f b same own differ found))
-      (subst AllDiffer (sym (rows_change p f same own)) differ))
+      let change : Entry → Entry = through leg.now (row (f b)) (counted leg.way leg.now end) in (
+        each_mapped (λ e. e.made ≤ leg.now) change entries
+            (each_weaker (λ e. e.made ≤ leg.now) (λ e. (change e).made ≤ leg.now)
+            (λ e le. subst (λ (m : ℕ). m ≤ leg.now) (sym (changed_made leg.way leg.now (row (f b)) end opened e)) le)
+            entries tells.made),
+        holds_changed leg.way leg.now (row (f b)) end opened entries
+            ∙ (ap (map (hold_changed leg.way leg.now (row (f b)) end opened)) holds
+            ∙ change_holds rules.timers p f b same own differ found),
+      ))
       (λ new out is others.
       let change : Entry → Entry = counted leg.way leg.now (end_of rules.timers new) in
       let entry : Entry = change (begun rules.timers leg.now new) in
@@ -276,18 +251,21 @@ module _ (ends : EndsAreFirst) (rules : Rules) (t : AreTimers rules.timers) (add
       let made : entry.made ≡ leg.now =
       counted_made leg.way leg.now (end_of rules.timers new) (begun rules.timers leg.now new) in
       let bound : entry.binding ≡ row new =
-      counted_binding leg.way leg.now (end_of rules.timers new) (begun rules.timers leg.now new) in
-      tells_fresh (own ++ new ∷ []) (entries ++ entry ∷ [])
-      (each_pushed (λ e. e.made ≤ leg.now) entries entry tells.made (omega (arith, made)))
-      (each_pushed (IsFresh rules.timers leg.now) own new fresh is)
-      (ap (map hold) (filter_joined (is_open leg.now) entries (entry ∷ [])
-      ∙ ap (λ v. filter (is_open leg.now) entries ++ cond v (entry ∷ []) []) opened)
-      ∙ (map_joined hold (filter (is_open leg.now) entries) (entry ∷ [])
-      ∙ (ap (λ (hs : List (Row × Option ℕ)). hs ++ hold entry ∷ []) holds
-      ∙ (ap (λ (r : Row). map (hold_of rules.timers) own ++ (r, entry.end) ∷ []) bound
-      ∙ (ap (λ (o : Option ℕ). map (hold_of rules.timers) own ++ (row new, o) ∷ []) end
-      ∙ sym (map_joined (hold_of rules.timers) own (new ∷ [])))))))
-      (subst AllDiffer (sym (map_joined row own (new ∷ []))) (differ_push (map row own) (row new) differ others)))
+      counted_binding leg.way leg.now (end_of rules.timers new) (begun rules.timers leg.now new) in (
+        each_pushed (λ e. e.made ≤ leg.now) entries entry tells.made (omega (arith, made)),
+        ap (map hold) (filter_joined (is_open leg.now) entries (entry ∷ [])
+            ∙ ap (λ v. filter (is_open leg.now) entries ++ cond v (entry ∷ []) []) opened)
+            ∙ (map_joined hold (filter (is_open leg.now) entries) (entry ∷ [])
+            ∙ (ap (λ (hs : List (Row × Option ℕ)). hs ++ hold entry ∷ []) holds
+            ∙ (ap (λ (r : Row). map (hold_of rules.timers) own ++ (r, entry.end) ∷ []) bound
+            ∙ (ap (λ (o : Option ℕ). map (hold_of rules.timers) own ++ (row new, o) ∷ []) end
+            ∙ sym (map_joined (hold_of rules.timers) own (new ∷ [])))))),
+      )) in
+      record {
+        made = now.0;
+        holds = now.1 ∙ purge_holds rules.timers t leg.now (act rules address leg list).list;
+        differ = differ_act rules address leg list tells.differ;
+      }
 
   -- what was named before the leg's time
   pub past_act : (past : ℕ) → past < leg.now → (entries : List Entry) →
@@ -295,7 +273,7 @@ module _ (ends : EndsAreFirst) (rules : Rules) (t : AreTimers rules.timers) (add
   past_act past lt entries =
       let fresh : Each (IsFresh rules.timers leg.now) own = fresh_purged rules.timers leg.now list in
       of_moves rules t address leg list
-      (λ went left. named past (logged_by rules.timers leg went entries) ≡ named past entries) refl refl
+      (λ went left. named past (logged_by rules.timers leg went entries) ≡ named past entries) refl
       (λ p f b found same keeps.
       let new : IsFresh rules.timers leg.now (f b) = keeps b (find_passes p (IsFresh rules.timers leg.now) own b fresh
       found).1 in

@@ -28,7 +28,7 @@ module _ (first : EndsAreFirst) (rules : Rules) (t : AreTimers rules.timers) whe
       Opens rules.timers leg.now (act rules address leg list).through
   act_opens address leg list =
       let own : List Binding = purge rules.timers leg.now list in
-      of_moves rules t address leg list (λ went left. Opens rules.timers leg.now went) tt tt
+      of_moves rules t address leg list (λ went left. Opens rules.timers leg.now went) tt
       (λ p f b found same keeps. fresh_open leg.now (f b) (keeps b (find_passes p (IsFresh rules.timers leg.now) own b
       (fresh_purged rules.timers leg.now list) found).1))
       (λ new out is others. fresh_open leg.now new is)

@@ -16,8 +16,8 @@ use Rattle.napt_sequential.specs.Traces.{gone_through, lost_by, passage_by, pass
 use Rattle.napt_account.specs.declared.{account.{Note.Note, Use.Use}, log.{Entry.Entry, Shortage.Shortage}}
 use Rattle.napt_account.specs.Log.{begun, shares, is_of, counted, place_of, through, logged_by, logged, shortage_by, shortage_at, shortages, entries_of, log_of}
 use Rattle.napt_account.{specs.Uses.{no_use, used, first_note, use_by, both_uses, use_of, uses_from}, proofs.Books.{fold_joined, no_place, any_at}}
-use Rattle.napt_account.proofs.Entries.{hold, hold_of, binding_of, is_open, AllDiffer, Tells, own_differ, differ_back, shares_itself, purge_holds, tells_later, told_turn}
-use Rattle.napt_account.proofs.{Lists.map_twice, Moves.{Differ, of_moves}}
+use Rattle.napt_account.proofs.Entries.{hold, hold_of, binding_of, is_open, Tells, own_differ, differ_back, shares_itself, purge_holds, tells_later, told_turn}
+use Rattle.napt_account.proofs.{Lists.map_twice, Moves.{Differ, AllDiffer, of_moves}}
 use Rattle.napt_account.specs.declared.account.Note.TheVariants as notes
 use Rattle.napt_account.specs.Book as books
 
@@ -151,14 +151,14 @@ module _ (ends : EndsAreFirst) (rules : Rules) (t : AreTimers rules.timers) (add
 
   retold_act : Retells (act rules address leg list).through (act rules address leg list).list
   retold_act = of_moves rules t address leg list Retells (idle leg.now entries carried host end)
-      (idle leg.now entries carried host end)
       (λ p f b is same keeps. says_found rules.timers leg.now (f b) entries
       (subst (λ (r : Row). Stands leg.now r entries) (sym (same b)) (found_stands p b is)) leg.way)
       (λ new out is others. subst (λ (way : Way). Says rules.timers leg.now new entries way
       (entries ++ counted way leg.now (end_of rules.timers new) (begun rules.timers leg.now new) ∷ []) notes.Made
       (Some (length entries))) (sym out)
       (says_made rules.timers leg.now new entries
-      (none_open leg.now (row new) entries (subst (Each (λ r. Differ r (row new))) (sym rows_are) others))))
+      (none_open leg.now (row new) entries
+      (subst (Each (λ r. Differ r (row new))) (sym rows_are) (others tells.differ)))))
 
 -- SHORTAGES
 

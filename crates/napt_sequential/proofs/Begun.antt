@@ -45,7 +45,7 @@ begin_translators rules translators many are = record {
             let is : counted ≡ fresh rules place = are place counted is_there in
             ap (λ (s : CountedTranslator). s.translator) is
             ∙ ap (λ (a : ℕ). with_kept (begun place rules) (record { list = of a (opening rules); at = 0 })) here;
-        at_once = record { agrees = record { same = refl }; past = omega arith };
+        at_once = record { agrees = record { same = refl; taken = refl }; past = omega arith };
         legs = ap (λ (s : CountedTranslator). s.legs) (are place counted is_there);
       };
 }

@@ -2,8 +2,8 @@
 use Rattle.std.{proofs.Common.{◌≡◌, ℕ, ◌≤◌, true, false, max, List, Some, refl, sym, ◌∙◌, ap, subst, arith, eqb, set}, specs.List.slice_get}
 use Rattle.std.proofs.lemmas.{Bool.{eqb-true, eqb-false}, List.length-set, Option.{slice_get_within, same_Some}}
 use Rattle.napt_config.specs.Rules.{Rules}
-use Rattle.napt_rules.specs.Prelude.{Kept, purge}
-use Rattle.napt_laws.proofs.{Purges.purge_purge, LegsLocal.agrees_later, RunsLocal.latest}
+use Rattle.napt_rules.specs.Prelude.{Kept, hold_ago, taken}
+use Rattle.napt_laws.proofs.{Purges.purge_purge, LegsLocal.{agree, agrees_later}, RunsLocal.latest}
 use Rattle.napt_translate.specs.Translators.{TranslatorState, begun, with_kept}
 use Rattle.napt_sequential.specs.declared.counted_translator.CountedTranslator.{CountedTranslator}
 use Rattle.napt_sequential.specs.CountedTranslators.{RunState, IsCountedTranslator, AreCountedTranslators, at_time, StaysCounted, StayCounted}
@@ -23,10 +23,10 @@ unchanged now counted rules place address state later is = record {
   legs = is.legs;
 }
 
--- without what has ended
+-- without what had ended the hold before
 abbrev pub purged : ℕ → TranslatorState → TranslatorState
 purged now state = with_kept state (record {
-  list = purge state.rules.timers (max now state.table.at) state.table.list;
+  list = taken state.rules.timers (max now state.table.at) state.table.list;
   at = max now state.table.at;
 })
 
@@ -36,17 +36,16 @@ pub without_ended : (now : ℕ) (counted : CountedTranslator) (after : Translato
 without_ended now counted after after_is rules place address state later is =
     let own : Kept = is.own in
     let past : own.at ≤ state.clock = is.at_once.past in
-    let next : Kept = record { list = purge rules.timers now own.list; at = now } in
+    let next : Kept = record { list = taken rules.timers now own.list; at = now } in
     record {
       own = next;
       translator = after_is ∙ ap (purged now) is.translator
-          ∙ ap (λ (t : ℕ). with_kept (begun place rules) (record { list = purge rules.timers t own.list; at = t }))
+          ∙ ap (λ (t : ℕ). with_kept (begun place rules) (record { list = taken rules.timers t own.list; at = t }))
           (latest now own.at (omega arith));
       at_once = record {
-        agrees = record {
-          same = purge_purge rules.timers now now (omega arith) own.list
-              ∙ (agrees_later rules address state.clock now later own.list state.list is.at_once.agrees).same;
-        };
+        agrees = agree rules address now next.list state.list
+            (purge_purge rules.timers (hold_ago rules.timers now) (hold_ago rules.timers now) (omega arith) own.list
+            ∙ (agrees_later rules address state.clock now later own.list state.list is.at_once.agrees).taken);
         past = omega arith;
       };
       legs = is.legs;

@@ -67,7 +67,7 @@ module _ {P : Type 0} (tells : Passage → P) (rules : Rules) (address : ℕ) wh
       ≡ map (told_of tells rules.timers) (acts_at address (run rules inputs list).acts)
   told_alone inputs list =
       alone 0 (fresh_of list) list (run rules inputs list).acts (last_clock 0 inputs) (run rules inputs list).list
-      (record { agrees = record { same = refl }; past = omega arith }) (run_turn rules 0 0 inputs list)
+      (record { agrees = record { same = refl; taken = refl }; past = omega arith }) (run_turn rules 0 0 inputs list)
 
   -- what is told of a front of the legs begins what is told of all
   told_front : (xs rest : List Leg) (own : Kept) →

@@ -1,5 +1,5 @@
 use Rattle.std.{proofs.Common.{ℕ, max, sym, ◌∙◌}, specs.Option.is_some}
-use Rattle.napt_rules.specs.Prelude.{by_inside, by_number}
+use Rattle.napt_rules.specs.Prelude.{by_inside, by_number, hold_ago}
 use Rattle.napt_translate.specs.Translators.{TranslatorState}
 use Rattle.napt_sequential.proofs.{Later.{unchanged, without_ended}, Numbers.{least_is, none_by}}
 use Rattle.napt_sequential.proofs.counted_translator.CountedTranslator.number.Goals as goal
@@ -11,7 +11,8 @@ pub returns-clause-value : goal.returns-clause-value
 returns-clause-value c =
     let t : TranslatorState = c.args.self.now.translator in
     let now : ℕ = max c.args.now t.table.at in
-    least_is (λ n. is_some (by_number t.rules.timers t.table.address now c.args.protocol n t.table.list))
+    least_is (λ n. is_some (by_number t.rules.timers t.table.address (hold_ago t.rules.timers now) c.args.protocol n
+    t.table.list))
     c.spare.result c.spare.ensures.answer
     ∙ sym (none_by t.rules t.table.address now t.table.list c.args.protocol
     (by_inside t.rules.timers t.table.address now c.args.protocol c.args.inside t.table.list)
