@@ -77,15 +77,15 @@ each_shown_rows b x here xs h = each_weaker (λ y. Differ (row x) (row y)) (λ y
 
 -- AN ENTRY AFTER A LEG
 
-counted_end : (way : Way) (now : ℕ) (end : Option ℕ) (e : Entry) → (counted way now end e).end ≡ end
+pub counted_end : (way : Way) (now : ℕ) (end : Option ℕ) (e : Entry) → (counted way now end e).end ≡ end
 counted_end Outgoing now end e = refl
 counted_end Incoming now end e = refl
 
-counted_binding : (way : Way) (now : ℕ) (end : Option ℕ) (e : Entry) → (counted way now end e).binding ≡ e.binding
+pub counted_binding : (way : Way) (now : ℕ) (end : Option ℕ) (e : Entry) → (counted way now end e).binding ≡ e.binding
 counted_binding Outgoing now end e = refl
 counted_binding Incoming now end e = refl
 
-counted_made : (way : Way) (now : ℕ) (end : Option ℕ) (e : Entry) → (counted way now end e).made ≡ e.made
+pub counted_made : (way : Way) (now : ℕ) (end : Option ℕ) (e : Entry) → (counted way now end e).made ≡ e.made
 counted_made Outgoing now end e = refl
 counted_made Incoming now end e = refl
 

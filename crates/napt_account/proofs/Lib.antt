@@ -1,6 +1,7 @@
 pub mod AllTold
 pub mod Attribution
 pub mod Entries
+pub mod HeldNumbers
 pub mod Moves
 pub mod Retold
 pub mod Books

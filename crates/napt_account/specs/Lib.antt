@@ -2,6 +2,7 @@ pub mod AllTold
 pub mod Attribution
 pub mod Book
 pub mod Ended
+pub mod HeldNumbers
 pub mod Log
 pub mod OpenEntries
 pub mod KnownRuns

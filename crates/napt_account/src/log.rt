@@ -3,13 +3,13 @@
 ghost use Rattle.std.specs.{Prelude.{◌≡◌, ◌+◌, ◌<◌, ◌^◌, List, map, IfOk}, List.Sorted.IsPermutation};
 ghost use Rattle.napt_config.specs.Rules.{pair_of};
 ghost use Rattle.napt_rules.specs.Prelude.{redirected, row};
-ghost use Rattle.napt_account.specs.{Log.is_shortage, Attribution.{LogNamesTheHolders, LogListsTheLiving}, Ended.EndedEntriesStay, AllTold.ToldIsTheLog};
+ghost use Rattle.napt_account.specs.{Log.is_shortage, Attribution.{LogNamesTheHolders, LogListsTheLiving}, HeldNumbers.HeldNumbersHaveOneHolder, Ended.EndedEntriesStay, AllTold.ToldIsTheLog};
 ghost use Rattle.napt_account.specs.{Telling.numbered, declared.log.Entry.Entry as Logged};
 ghost use Rattle.napt_binding.specs.Ends.{EndsAreFirst, is_before};
 
 use napt_config::{Config, Redirect};
 use napt_table::{Row, TimedRow, opening_is_sound};
-use napt_wire::{Cause, Endpoint, Protocol, Way};
+use napt_wire::{Cause, Endpoint, Protocol, Way, packets_carry_numbers};
 use std::alloc::{AllocError, Global};
 
 /// A binding of a run, from when it was made until it ended, with times in ns.
@@ -170,6 +170,16 @@ pub fn log_attributes()
     ensures names { LogNamesTheHolders }
     ensures lists { LogListsTheLiving }
 {
+    opening_is_sound();
+}
+
+/// Of two entries of one protocol and external endpoint with different inside endpoints, the later one was made no sooner
+/// than the hold after the earlier one's end (RFC 6888, REQ-8).
+pub fn held_numbers_have_one_holder()
+    ensures ends { EndsAreFirst }
+    ensures held { HeldNumbersHaveOneHolder }
+{
+    packets_carry_numbers();
     opening_is_sound();
 }
 
