@@ -1,4 +1,5 @@
--- A number goes to another inside endpoint only once its last binding had ended the hold before, in the words of the log.
+-- A number goes to another inside endpoint only once its last binding had ended the hold before, in the words of the
+-- log.
 use Rattle.std.proofs.Common.{◌≡◌, ◌≢◌, ℕ, ◌≤◌, Bool, true, false, ◌&&◌, cond, List, [], ◌∷◌, ◌++◌, map, filter, find, Option, Some, None, Ok, inl, inr, refl, sym, ◌∙◌, ap, subst, arith, true≢false}
 use Rattle.std.{specs.List.fold, proofs.lemmas.{Bool.{and_parts, and_from}, Option.same_Some}}
 use Rattle.napt_wire.specs.declared.Protocol.TheVariants as protocols
@@ -137,7 +138,8 @@ module _ (timers : Timers) (h : Holder) (r : Row) where
   one_inside [] apart c o p x = absurd c
   one_inside (b ∷ xs) apart (inl c) (inl o) p x = ap (λ (r : Row). r.inside) (sym o) ∙ c.ends.inside
   one_inside (b ∷ xs) apart (inl c) (inr o) p x =
-      let (y, is, far) = one_each IsRow (λ y. AreRowsApart (row b) (row y)) xs (each_rows (AreRowsApart (row b)) xs apart.0)
+      let (y, is, far) = one_each IsRow (λ y. AreRowsApart (row b) (row y)) xs
+      (each_rows (AreRowsApart (row b)) xs apart.0)
       o in
       absurd ((far (c.ends.protocol ∙ (sym p ∙ ap (λ (r : Row). r.protocol) (sym is)))).0
       (c.ends.external ∙ (sym x ∙ ap (λ (r : Row). r.external) (sym is))))
@@ -152,7 +154,8 @@ module _ (timers : Timers) (h : Holder) (r : Row) where
 one_found : (p q : Binding → Bool) (f : Binding → Binding) → ((x : Binding) → row (f x) ≡ row x) → (xs : List Binding)
     (b : Binding) → find p (map f (filter q xs)) ≡ Some b → OneOf (λ x. row x ≡ row b) xs
 one_found p q f rows [] b e = cc
-one_found p q f rows (x ∷ xs) b e = elim (q x) as (λ v. find p (map f (cond v (x ∷ filter q xs) (filter q xs))) ≡ Some b →
+one_found p q f rows (x ∷ xs) b e =
+    elim (q x) as (λ v. find p (map f (cond v (x ∷ filter q xs) (filter q xs))) ≡ Some b →
     OneOf (λ x. row x ≡ row b) (x ∷ xs)) [
       | true ↦ λ e. elim (p (f x)) as (λ w. cond w (Some (f x)) (find p (map f (filter q xs))) ≡ Some b →
           OneOf (λ x. row x ≡ row b) (x ∷ xs)) [
@@ -182,7 +185,8 @@ module _ (ends : EndsAreFirst) (carry : PacketsCarryNumbers) (rules : Rules) (ke
   -- a leg that changes nothing
   later_one : (h : Holder) → IsAccounted timers (hold_ago timers clock) list h →
       IsAccounted timers (hold_ago timers leg.now) list h
-  later_one h (inl d) = inl (dead (hold_ago timers clock) (hold_ago timers leg.now) (ago_later timers clock leg.now later)
+  later_one h (inl d) =
+      inl (dead (hold_ago timers clock) (hold_ago timers leg.now) (ago_later timers clock leg.now later)
       h.binding d)
   later_one h (inr o) = inr o
 
@@ -190,7 +194,8 @@ module _ (ends : EndsAreFirst) (carry : PacketsCarryNumbers) (rules : Rules) (ke
   on = record {
     apart = a.apart;
     past = each_weaker (λ h. h.made ≤ clock) (λ h. h.made ≤ leg.now) (λ h p. omega (arith, p, later)) holders a.past;
-    each = each_weaker (IsAccounted timers (hold_ago timers clock) list) (IsAccounted timers (hold_ago timers leg.now) list)
+    each = each_weaker (IsAccounted timers (hold_ago timers clock) list)
+        (IsAccounted timers (hold_ago timers leg.now) list)
         later_one holders a.each;
   }
 
@@ -294,7 +299,8 @@ module _ (ends : EndsAreFirst) (timers : Timers) (t : AreTimers timers) where
   apart_each e h l (d ∷ es) (k ∷ hs) alike apart =
       (apart_one e d h k l alike.0 apart.0, apart_each e h l es hs alike.1 apart.1)
 
-  apart_all : (es : List Entry) (hs : List Holder) → Alike timers es hs → AllHoldersApart timers hs → HeldApart timers es
+  apart_all : (es : List Entry) (hs : List Holder) → Alike timers es hs → AllHoldersApart timers hs →
+      HeldApart timers es
   apart_all [] hs alike apart = tt
   apart_all (e ∷ es) [] alike apart = absurd alike
   apart_all (e ∷ es) (h ∷ hs) alike apart =
