@@ -139,7 +139,7 @@ module _ (timers : Timers) (h : Holder) (r : Row) where
   one_inside (b ∷ xs) apart (inl c) (inl o) p x = ap (λ (r : Row). r.inside) (sym o) ∙ c.ends.inside
   one_inside (b ∷ xs) apart (inl c) (inr o) p x =
       let (y, is, far) = one_each IsRow (λ y. AreRowsApart (row b) (row y)) xs
-          (each_rows (AreRowsApart (row b)) xs apart.0)
+      (each_rows (AreRowsApart (row b)) xs apart.0)
       o in
       absurd ((far (c.ends.protocol ∙ (sym p ∙ ap (λ (r : Row). r.protocol) (sym is)))).0
       (c.ends.external ∙ (sym x ∙ ap (λ (r : Row). r.external) (sym is))))

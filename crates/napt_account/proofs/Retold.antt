@@ -158,7 +158,7 @@ module _ (ends : EndsAreFirst) (rules : Rules) (t : AreTimers rules.timers) (add
       (Some (length entries))) (sym out)
       (says_made rules.timers leg.now new entries
       (none_open leg.now (row new) entries
-          (subst (Each (λ r. Differ r (row new))) (sym rows_are) (others tells.differ)))))
+      (subst (Each (λ r. Differ r (row new))) (sym rows_are) (others tells.differ)))))
 
 -- SHORTAGES
 

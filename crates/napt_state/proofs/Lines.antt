@@ -1,0 +1,179 @@
+-- A line is split into its words again, since no word has a space, and a text into its lines, since no line has a line
+-- feed.
+use Rattle.std.proofs.lemmas.{Grind.common_steps, Bool.Decides.nat_tests}
+use Rattle.std.proofs.Common.{ℕ, zero, suc, ◌≡◌, ◌≢◌, ◌<◌, get_or, ◌==◌, ◌||◌, ◌/◌, ◌%◌, ◌∙◌, Bool, true, false, List, [], ◌∷◌, ◌++◌, codes, decimal, length, Option, Some, IfSome, refl, sym, ap, subst, append_assoc, append-nil, length-append, if◌then◌else◌, arith}
+use Rattle.std.{proofs.{BufReadLemmas.{take_through-append, drop_through-append}, Math.Seq.get_or-append_seam}, specs.Fmt.{digit_glyph, digits, digits_onto}}
+use Rattle.std.specs.{Io.{BufRead.{take_through, drop_through}, KnownBytes.IsAtEnd}, List.{All, list_any, slice_split}, Net.Text.dotted_text}
+use Rattle.std.proofs.lemmas.{Bool.{both_ways, eqb-false, false_from_ne_true, or_parts}, List.{append_cancel_right, Elements.{All-append, All-cons}}}
+use Rattle.std.proofs.lemmas.List.{Folds.{list_any-append, list_any_at}, Splits.{slice_split_at, slice_split_none}}
+use Rattle.napt_wire.specs.declared.Protocol.{Protocol, TheVariants.{Icmp, Tcp, Udp}}
+use Rattle.napt_config.specs.Text.{address_text}
+use Rattle.napt_state.specs.declared.line.StateLine.{StateLine}
+use Rattle.napt_state.specs.declared.line.StateLine.TheVariants as lines
+use Rattle.napt_state.specs.Saved.{IsFirst}
+use Rattle.napt_state.specs.StateText.{Text, is_space, words_in, words_text, flag_text, kind_text, protocol_name, words, line_text}
+
+-- what ends a word
+abbrev is_mark : ℕ → Bool
+is_mark byte = is_space byte || (byte == 10)
+
+abbrev has_mark : Text → Bool
+has_mark text = list_any is_mark text
+
+no_mark_at : (text : Text) → has_mark text ≡ false → All (λ byte. is_mark byte ≡ false) text
+no_mark_at text none k d within =
+    false_from_ne_true _ (λ is. both_ways _ none (list_any_at is_mark text k d within is))
+
+no_space_at : (text : Text) → has_mark text ≡ false → All (λ byte. is_space byte ≡ false) text
+no_space_at text none k d within = (or_parts (is_space (get_or text k d)) _ (no_mark_at text none k d within)).0
+
+abbrev pub IsLine : Text → Type 0
+IsLine text = All (λ byte. byte ≢ 10) text
+
+no_end_at : (text : Text) → has_mark text ≡ false → IsLine text
+no_end_at text none k d within =
+    eqb-false (get_or text k d) 10 (or_parts (is_space (get_or text k d)) _ (no_mark_at text none k d within)).1
+
+-- WORDS WITHOUT A MARK
+
+glyph : (digit : ℕ) → is_mark (digit_glyph false digit) ≡ false
+glyph digit = grind (arith, nat_tests)
+
+in_digits : (many number : ℕ) (text : Text) → has_mark text ≡ false →
+    has_mark (digits_onto many 10 false number text) ≡ false
+in_digits zero number text none = none
+in_digits (suc many) number text none =
+    let here : has_mark (digit_glyph false (number % 10) ∷ text) ≡ false = rw (glyph (number % 10)) none in
+    elim (number / 10 == 0) as (λ b. has_mark (if b then digit_glyph false (number % 10) ∷ text
+    else digits_onto many 10 false (number / 10) (digit_glyph false (number % 10) ∷ text)) ≡ false)
+    [ true ↦ here | false ↦ in_digits many (number / 10) (digit_glyph false (number % 10) ∷ text) here ]
+
+in_decimal : (number : ℕ) → has_mark (decimal number) ≡ false
+unfolding digits
+in_decimal number = in_digits 64 number [] refl
+
+in_dotted : (a b c d : ℕ) → has_mark (dotted_text a b c d) ≡ false
+in_dotted a b c d = simp (list_any-append, in_decimal a, in_decimal b, in_decimal c, in_decimal d)
+
+in_address : (address : ℕ) → has_mark (address_text address) ≡ false
+unfolding address_text
+in_address address = in_dotted _ _ _ _
+
+in_flag : (flag : Bool) → has_mark (flag_text flag) ≡ false
+in_flag true = refl
+in_flag false = refl
+
+in_kind : (fixed : Bool) → has_mark (kind_text fixed) ≡ false
+in_kind true = refl
+in_kind false = refl
+
+in_protocol : (protocol : Protocol) → has_mark (protocol_name protocol) ≡ false
+in_protocol Icmp = refl
+in_protocol Tcp = refl
+in_protocol Udp = refl
+
+abbrev have_marks : List Text → Bool
+have_marks texts = list_any has_mark texts
+
+in_words : (entry : StateLine) → have_marks (words entry) ≡ false
+in_words (lines.Clock clock) = simp (in_decimal)
+in_words (lines.Binding row last) = simp (in_kind, in_protocol, in_address, in_decimal)
+in_words (lines.Flow flow) = simp (in_address, in_decimal, in_flag)
+in_words (lines.End bindings flows) = simp (in_decimal)
+
+many : (entry : StateLine) → 0 < length (words entry)
+many (lines.Clock clock) = omega arith
+many (lines.Binding row last) = omega arith
+many (lines.Flow flow) = omega arith
+many (lines.End bindings flows) = omega arith
+
+-- LINES
+
+-- a line before the line feed at its end
+abbrev joined : Text → List Text → Text
+joined first [] = first
+joined first (word ∷ more) = first ++ 32 ∷ joined word more
+
+words_text-joined : (first : Text) (more : List Text) → words_text (first ∷ more) ≡ joined first more ++ codes "\n"
+words_text-joined first [] = refl
+words_text-joined first (word ∷ more) = rw (words_text-joined word more) (simp append_assoc)
+
+split-joined : (first : Text) (more : List Text) → have_marks (first ∷ more) ≡ false →
+    slice_split is_space (joined first more) ≡ first ∷ more
+split-joined first [] none =
+    slice_split_none is_space first (no_space_at first (or_parts (has_mark first) false none).0)
+split-joined first (word ∷ more) none =
+    let (here, behind) = or_parts (has_mark first) (have_marks (word ∷ more)) none in
+    slice_split_at is_space first 32 (joined word more) (no_space_at first here) refl
+    ∙ ap (λ parts. first ∷ parts) (split-joined word more behind)
+
+words_in-line : (line : Text) (texts : List Text) → 0 < length texts → have_marks texts ≡ false →
+    words_text texts ≡ line ++ codes "\n" → words_in line ≡ texts
+words_in-line line [] some none is = absurd (omega arith)
+words_in-line line (first ∷ more) some none is =
+    ap (slice_split is_space) (append_cancel_right _ _ (codes "\n") (sym is ∙ words_text-joined first more))
+    ∙ split-joined first more none
+
+pub words_read : (entry : StateLine) (line : Text) → line_text entry ≡ line ++ codes "\n" → words_in line ≡ words entry
+unfolding line_text
+words_read entry line is = words_in-line line (words entry) (many entry) (in_words entry) is
+
+joined-line : (first : Text) (more : List Text) → have_marks (first ∷ more) ≡ false → IsLine (joined first more)
+joined-line first [] none = no_end_at first (or_parts (has_mark first) false none).0
+joined-line first (word ∷ more) none =
+    let (here, behind) = or_parts (has_mark first) (have_marks (word ∷ more)) none in
+    All-append (λ byte. byte ≢ 10) first (32 ∷ joined word more) (no_end_at first here)
+    (All-cons (λ byte. byte ≢ 10) 32 (joined word more) (λ is. omega arith) (joined-line word more behind))
+
+abbrev pub Line : Text → Type 0
+Line text = (line : Text) × (text ≡ line ++ codes "\n") × IsLine line
+
+line_of : (texts : List Text) → 0 < length texts → have_marks texts ≡ false → Line (words_text texts)
+line_of [] some none = absurd (omega arith)
+line_of (first ∷ more) some none = (joined first more, words_text-joined first more, joined-line first more none)
+
+pub line_text-ended : (entry : StateLine) → Line (line_text entry)
+unfolding line_text
+line_text-ended entry = line_of (words entry) (many entry) (in_words entry)
+
+module _ (left new : Option (List ℕ)) (old line : Text) (text rest : Text) (none : old ≡ [])
+    (got : IfSome left (λ xs. line ≡ old ++ take_through 10 xs)) (left_is : left ≡ Some (text ++ rest)) where
+  -- a line that is read is the first of what is left, which loses it
+  pub line_read : IfSome left (λ xs. new ≡ Some (drop_through 10 xs)) → Line text → (line ≡ text) × (new ≡ Some rest)
+  line_read h k = grind (arith, common_steps, nat_tests, append_assoc, take_through-append, drop_through-append)
+
+  -- and so something is left
+  pub line_left : IsAtEnd left → Line text → ⊥
+  line_left end (row, is, whole) =
+      let empty : text ++ rest ≡ [] = subst IsAtEnd left_is end in
+      omega (arith, ap length empty, ap length is, length-append text rest, length-append row (codes "\n"))
+
+-- what breaks off has no end of a line
+pub torn_read : (left : Option (List ℕ)) (old line torn front : Text) → old ≡ [] →
+    IfSome left (λ xs. line ≡ old ++ take_through 10 xs) → left ≡ Some torn → IsLine torn →
+    line ≡ front ++ codes "\n" → ⊥
+torn_read left old line torn front none got left_is whole ended =
+    let is : torn ≡ front ++ codes "\n" =
+    sym (append-nil torn) ∙ sym (take_through-append 10 torn [] whole) ∙ ap (take_through 10) (append-nil torn)
+    ∙ ap (λ l. l ++ take_through 10 torn) (sym none)
+    ∙ sym (subst (λ o. IfSome o (λ xs. line ≡ old ++ take_through 10 xs)) left_is got) ∙ ended in
+    whole (length front) 0 (omega (arith, ap length is, length-append front (codes "\n")))
+    (ap (λ l. get_or l (length front) 0) is ∙ get_or-append_seam front 10 [] 0)
+
+both_parts : (xs : Text) → take_through 10 xs ++ drop_through 10 xs ≡ xs
+both_parts [] = refl
+both_parts (x ∷ xs) = elim (x == 10) as (λ b. (if b then x ∷ [] else x ∷ take_through 10 xs)
+    ++ (if b then xs else drop_through 10 xs) ≡ x ∷ xs) [ true ↦ refl | false ↦ ap (λ l. x ∷ l) (both_parts xs) ]
+
+-- what is read begins what was left
+pub first_read : (left new : Option (List ℕ)) (old line : Text) (all : Text) (is : StateLine) → old ≡ [] →
+    IfSome left (λ xs. line ≡ old ++ take_through 10 xs) → IfSome left (λ xs. new ≡ Some (drop_through 10 xs)) →
+    left ≡ Some all → line ≡ line_text is → IsFirst is all new
+first_read left new old line all is none got gone left_is same =
+    let first : line ≡ old ++ take_through 10 all =
+    subst (λ o. IfSome o (λ xs. line ≡ old ++ take_through 10 xs)) left_is got in (
+      drop_through 10 all,
+      sym (both_parts all) ∙ ap (λ l. l ++ drop_through 10 all)
+          (ap (λ l. l ++ take_through 10 all) (sym none) ∙ sym first ∙ same),
+      subst (λ o. IfSome o (λ xs. new ≡ Some (drop_through 10 xs))) left_is gone,
+    )

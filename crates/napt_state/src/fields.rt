@@ -1,0 +1,154 @@
+//! The words of a line, as they are written and read.
+ghost use Rattle.std.specs.Prelude.{◌≡◌, ◌+◌, ◌++◌, ◌<◌, ◌^◌, ℕ, [], Bool, Some, OnOk, codes, decimal, slice_index_or, string_bytes};
+ghost use Rattle.napt_config.specs.Text.{address_text};
+ghost use Rattle.napt_wire.specs.declared.{Endpoint.Endpoint as End, Protocol.Protocol as Carried};
+ghost use Rattle.napt_rules.specs.declared.Marks.{Marks as Noted};
+ghost use Rattle.napt_state.specs.StateText as texts;
+
+use itoa::Buffer;
+use napt_config::Address;
+use napt_rules::Marks;
+use napt_wire::{Endpoint, Protocol};
+use std::alloc::AllocError;
+
+/// Appends a number in decimal. Fails only if memory runs out.
+pub(crate) fn add_number(text: &mut String, number: u64) -> Result<(), AllocError>
+    ensures { OnOk result (string_bytes text.new ≡ string_bytes text.old ++ decimal number) }
+{
+    let mut digits = Buffer::new();
+    text.push_str(digits.format(number))
+}
+
+/// Appends an address, such as `10.0.0.2`. Fails only if memory runs out.
+fn add_address(text: &mut String, address: u32) -> Result<(), AllocError>
+    ensures { OnOk result (string_bytes text.new ≡ string_bytes text.old ++ address_text address) }
+{
+    let [first, second, third, fourth] = address.to_be_bytes();
+    add_number(text, u64::from(first))?;
+    text.push_str(".")?;
+    add_number(text, u64::from(second))?;
+    text.push_str(".")?;
+    add_number(text, u64::from(third))?;
+    text.push_str(".")?;
+    add_number(text, u64::from(fourth))?;
+    Ok(())
+}
+
+/// Appends the two words of an endpoint, with a space behind each. Fails only if memory runs out.
+pub(crate) fn add_endpoint(text: &mut String, endpoint: Endpoint) -> Result<(), AllocError>
+    ensures { OnOk result (string_bytes text.new ≡ string_bytes text.old
+        ++ (address_text endpoint.address ++ codes " " ++ decimal endpoint.number ++ codes " ")) }
+{
+    add_address(text, endpoint.address)?;
+    text.push_str(" ")?;
+    add_number(text, u64::from(endpoint.number))?;
+    text.push_str(" ")?;
+    Ok(())
+}
+
+/// Appends the words of marks, with a space before each. Fails only if memory runs out.
+pub(crate) fn add_marks(text: &mut String, marks: Marks) -> Result<(), AllocError>
+    ensures { OnOk result (string_bytes text.new ≡ string_bytes text.old
+        ++ (codes " " ++ texts.flag_text marks.syn_out ++ codes " " ++ texts.flag_text marks.syn_in
+        ++ codes " " ++ texts.flag_text marks.fin_out ++ codes " " ++ texts.flag_text marks.fin_in
+        ++ codes " " ++ texts.flag_text marks.reset)) }
+{
+    text.push_str(flag_name(marks.syn_out))?;
+    text.push_str(flag_name(marks.syn_in))?;
+    text.push_str(flag_name(marks.fin_out))?;
+    text.push_str(flag_name(marks.fin_in))?;
+    text.push_str(flag_name(marks.reset))
+}
+
+fn flag_name(is_set: bool) -> &'static str
+    ensures { result.now ≡ codes " " ++ texts.flag_text is_set }
+{
+    if is_set { " 1" } else { " 0" }
+}
+
+pub(crate) fn protocol_name(protocol: Protocol) -> &'static str
+    ensures { result.now ≡ texts.protocol_name protocol }
+{
+    match protocol {
+        Protocol::Icmp => "icmp",
+        Protocol::Tcp => "tcp",
+        Protocol::Udp => "udp",
+    }
+}
+
+/// A word of a line by its place, from 0; empty where there are not so many.
+pub(crate) fn word(line: &str, place: usize) -> &str
+    ensures { result.now ≡ slice_index_or (texts.words_in line.now) place [] }
+{
+    line.split(' ').nth(place).unwrap_or("")
+}
+
+/// The number that the word at a place is.
+pub(crate) fn number(line: &str, place: usize) -> Option<u64>
+    ensures { (number : ℕ) → number < 2 ^ 64 →
+        slice_index_or (texts.words_in line.now) place [] ≡ decimal number → result ≡ Some number }
+{
+    word(line, place).parse::<u64>().ok()
+}
+
+/// The endpoint that the words from a place on are.
+pub(crate) fn endpoint(line: &str, place: usize) -> Option<Endpoint>
+    requires { place < 100 }
+    ensures { (endpoint : End) → texts.IsEndpoint endpoint →
+        slice_index_or (texts.words_in line.now) place [] ≡ address_text endpoint.address →
+        slice_index_or (texts.words_in line.now) (place + 1) [] ≡ decimal endpoint.number →
+        result ≡ Some endpoint }
+{
+    let address = word(line, place).parse::<Address>().ok()?;
+    let number = word(line, place + 1).parse::<u16>().ok()?;
+    Some(Endpoint {
+        address: address.0,
+        number,
+    })
+}
+
+/// The protocol that the word at a place is.
+pub(crate) fn protocol(line: &str, place: usize) -> Option<Protocol>
+    ensures { (protocol : Carried) →
+        slice_index_or (texts.words_in line.now) place [] ≡ texts.protocol_name protocol →
+        result ≡ Some protocol }
+{
+    match word(line, place) {
+        "icmp" => Some(Protocol::Icmp),
+        "tcp" => Some(Protocol::Tcp),
+        "udp" => Some(Protocol::Udp),
+        _ => None,
+    }
+}
+
+fn flag(line: &str, place: usize) -> Option<bool>
+    ensures { (is_set : Bool) →
+        slice_index_or (texts.words_in line.now) place [] ≡ texts.flag_text is_set →
+        result ≡ Some is_set }
+{
+    match word(line, place) {
+        "0" => Some(false),
+        "1" => Some(true),
+        _ => None,
+    }
+}
+
+/// The marks that the five words from a place on are.
+pub(crate) fn marks(line: &str, place: usize) -> Option<Marks>
+    requires { place < 100 }
+    ensures { (marks : Noted) →
+        slice_index_or (texts.words_in line.now) place [] ≡ texts.flag_text marks.syn_out →
+        slice_index_or (texts.words_in line.now) (place + 1) [] ≡ texts.flag_text marks.syn_in →
+        slice_index_or (texts.words_in line.now) (place + 2) [] ≡ texts.flag_text marks.fin_out →
+        slice_index_or (texts.words_in line.now) (place + 3) [] ≡ texts.flag_text marks.fin_in →
+        slice_index_or (texts.words_in line.now) (place + 4) [] ≡ texts.flag_text marks.reset →
+        result ≡ Some marks }
+{
+    Some(Marks {
+        syn_out: flag(line, place)?,
+        syn_in: flag(line, place + 1)?,
+        fin_out: flag(line, place + 2)?,
+        fin_in: flag(line, place + 3)?,
+        reset: flag(line, place + 4)?,
+    })
+}
