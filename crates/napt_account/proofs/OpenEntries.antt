@@ -262,9 +262,6 @@ module _ (now most : ℕ) (all : OpenEntries) (es : List Entry) (shows : Shows n
       pub row_changed : (f : Entry → Entry) → set es place (f l.entry) ≡ map (through now r f) es
       row_changed f = change_one (is_of now r) f es place l.entry row_there row_of row_only
 
-      pub row_any : list_any (is_of now r) es ≡ true
-      row_any = any_at (is_of now r) es place l.entry row_there row_of
-
 -- A PACKET WENT THROUGH
 
 counted_end : (way : Way) (now : ℕ) (end : Option ℕ) (e : Entry) → (counted way now end e).end ≡ end

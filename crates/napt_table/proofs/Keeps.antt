@@ -54,7 +54,8 @@ row_before timers now o b is t le =
     ∙ ap (λ (x : Binding). Some (row x)) s.3)
 
 module _ (timers : Timers) (now address : ℕ) (old new : Holdings) (all left : List Binding)
-    (apart : Apart (map row left)) (before : (q : Protocol) → Holds timers (hold_ago timers now) address q (held_at old q) all)
+    (apart : Apart (map row left)) (before : (q : Protocol) → Holds timers (hold_ago timers now) address q
+    (held_at old q) all)
     (live : AllShow timers now address new (purge timers now left)) (unseen : KeepsUnseen timers now old new)
     (stays : (q : Protocol) (n : ℕ) → seen timers now (find (λ b. has_number address q n b.row) left) ≡ None →
     find (λ b. has_number address q n b.row) left ≡ find (λ b. has_number address q n b.row) all) where
@@ -90,7 +91,8 @@ module _ (timers : Timers) (now address : ℕ) (old new : Holdings) (all left : 
 -- what had ended the hold before goes
 pub purged_keeps : (timers : Timers) (now address : ℕ) (old new : Holdings) (all : List Binding) →
     AllKeep timers now address old all →
-    ((k : ExternalKey) → seen timers (hold_ago timers now) (held new k) ≡ seen timers (hold_ago timers now) (held old k)) →
+    ((k : ExternalKey) → seen timers (hold_ago timers now) (held new k) ≡ seen timers (hold_ago timers now)
+    (held old k)) →
     AllKeep timers now address new all
 purged_keeps timers now address old new all keeps same =
     let ago : ℕ = hold_ago timers now in
@@ -125,7 +127,8 @@ module _ {X : Type 0} (s p : X → Bool) (f : X → X) (same : (x : X) → s (f 
   find_either (x ∷ xs) = elim (p x) as (λ v. p x ≡ v →
       (find s (cond v (f x ∷ xs) (x ∷ change_first p f xs)) ≡ cond (s x) (Some x) (find s xs))
       ⊎ ((y : X) × (find s (cond v (f x ∷ xs) (x ∷ change_first p f xs)) ≡ Some (f y)) × (p y ≡ true))) [
-        | true ↦ λ e. elim (s x) as (λ w. s x ≡ w → (cond (s (f x)) (Some (f x)) (find s xs) ≡ cond w (Some x) (find s xs))
+        | true ↦ λ e. elim (s x) as (λ w. s x ≡ w →
+        (cond (s (f x)) (Some (f x)) (find s xs) ≡ cond w (Some x) (find s xs))
             ⊎ ((y : X) × (cond (s (f x)) (Some (f x)) (find s xs) ≡ Some (f y)) × (p y ≡ true))) [
               | true ↦ λ h. inr (x, ap (λ v. cond v (Some (f x)) (find s xs)) (same x ∙ h), e)
               | false ↦ λ h. inl (ap (λ v. cond v (Some (f x)) (find s xs)) (same x ∙ h))

@@ -42,7 +42,8 @@ in_is_shown timers t inbound address packet all =
     ≡ (shown_found inbound live address packet o).list)) [
       | None ↦ (refl, refl)
       | Some b ↦ elim (permits inbound b packet.remote) as (λ v.
-          ((in_passed timers inbound all address packet b v).inside ≡ (shown_passed inbound live address packet b v).inside)
+          ((in_passed timers inbound all address packet b v).inside ≡
+          (shown_passed inbound live address packet b v).inside)
           × (purge timers packet.now (in_passed timers inbound all address packet b v).list
           ≡ (shown_passed inbound live address packet b v).list))
           [ true ↦ (refl, received_seen timers t inbound address packet all) | false ↦ (refl, refl) ]

@@ -195,7 +195,8 @@ impl Bindings {
         ensures keeps { KeepsSeen self.old.timers (hold_ago self.old.timers self.old.at)
             self.old.held self.new.held }
         ensures room { HasRoom self.old → HasRoom self.new }
-        ensures fewer { result ≡ true → come_up (hold_ago self.old.timers self.old.at) self.new.due.entries
+        ensures fewer { result ≡ true →
+            come_up (hold_ago self.old.timers self.old.at) self.new.due.entries
             < come_up (hold_ago self.old.timers self.old.at) self.old.due.entries }
         ensures none { result ≡ false → All (λ e. hold_ago self.old.timers self.old.at ≤ e.0)
             self.new.due.entries }

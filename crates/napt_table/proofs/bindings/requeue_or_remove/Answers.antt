@@ -14,7 +14,8 @@ returns-then-is_live-clause-due c = entered_due c.args.timers c.args.at c.args.h
     (c.requires.due.used c.args.key c.in-Some.binding.now (sym c.in-Some.ensures))
 
 pub returns-then-is_live-clause-come_up : goal.returns-then-is_live-clause-come_up
-returns-then-is_live-clause-come_up c = none_more (hold_ago c.args.timers c.args.at) c.until.result c.args.key c.args.due.now.entries
+returns-then-is_live-clause-come_up c = none_more (hold_ago c.args.timers c.args.at) c.until.result c.args.key
+    c.args.due.now.entries
     c.put.new.self.entries c.put.ensures.entries (rw (← c.hold_ago-ago.ensures) c.until.ensures.later)
 
 pub returns-then-is_live-clause-far : goal.returns-then-is_live-clause-far

@@ -27,7 +27,8 @@ returns-in_default-clause-begins c =
     is_live x.timers (hold_ago x.timers p.now) b ≡ true) (sym c.self.view_is) c.requires.live in
     rw (← c.self.view_is) (λ list apart is_taken keeps. (
       sym (ap (λ o. ok_or o NoPort) (choice_is s.held.address p (held_at s.held p.protocol) list
-          (rows_of (record { timers = s.timers; at = s.at; held = s.held; due = s.due }) p list apart is_taken keeps live)
+          (rows_of (record { timers = s.timers; at = s.at; held = s.held; due = s.due }) p list apart is_taken keeps
+          live)
           s.held.granting.choosing ∙ sym c.in_default.ensures)),
       record { live = keeps.live; unseen = λ k h at from. refl },
     ))

@@ -11,7 +11,8 @@ invariant_of-self c =
     let p = c.args.packet in
     let n = c.args.number in
     let state : BindingsState = record { timers = s.timers; at = s.at; held = s.held; due = s.due } in
-    let has = subst (λ (x : BindingsState). HasInside x.held p.protocol p.inside n) (sym c.self.view_is) c.requires.its in
+    let has = subst (λ (x : BindingsState). HasInside x.held p.protocol p.inside n) (sym c.self.view_is) c.requires.its
+    in
     let unseen = subst (λ (x : BindingsState). seen x.timers p.now (held_at x.held p.protocol n) ≡ None)
     (sym c.self.view_is) c.requires.unseen in
     let begun = subst (λ (x : BindingsState). live_flows x.timers p.now p.protocol c.args.flows
@@ -30,7 +31,8 @@ returns-clause-renews c =
     let s = c.self.inside in
     let p = c.args.packet in
     let n = c.args.number in
-    let has = subst (λ (x : BindingsState). HasInside x.held p.protocol p.inside n) (sym c.self.view_is) c.requires.its in
+    let has = subst (λ (x : BindingsState). HasInside x.held p.protocol p.inside n) (sym c.self.view_is) c.requires.its
+    in
     let unseen = subst (λ (x : BindingsState). seen x.timers p.now (held_at x.held p.protocol n) ≡ None)
     (sym c.self.view_is) c.requires.unseen in
     let begun = subst (λ (x : BindingsState). live_flows x.timers p.now p.protocol c.args.flows
@@ -40,7 +42,8 @@ returns-clause-renews c =
     (ap (seen s.timers p.now) (sym has.1) ∙ unseen) in
     let new = c.renew.new.self in
     let left = c.renew.ensures.left has.0 has.1 in
-    let is = again_seen s.timers c.keep_limits.ensures s.held.address p n c.args.flows begun s.held new has.0 row_is has.1
+    let is = again_seen s.timers c.keep_limits.ensures s.held.address p n c.args.flows begun s.held new has.0 row_is
+    has.1
     c.renew.ensures.one left in
     let holds = again_holds s.timers c.keep_limits.ensures s.held.address p n c.args.flows begun s.held new has.0 row_is
     has.1 c.renew.ensures.one left in

@@ -10,7 +10,8 @@ returns-in-Some-clause-sends c list apart is_taken keeps left =
     let p = c.args.packet in
     let old = c.args.self.now in
     let new = c.send_held.new.self in
-    let t : AreTimers old.timers = subst (λ (x : BindingsState). AreTimers x.timers) c.self.view_is c.keep_limits.ensures in
+    let t : AreTimers old.timers = subst (λ (x : BindingsState). AreTimers x.timers) c.self.view_is
+    c.keep_limits.ensures in
     let went : WentThrough old.timers p old.held new.held c.in-Some.number =
     subst (WentOut old.timers p old.held new.held) c.in-Some.is c.in_ok-number.ensures.went in (
       went_answer old.timers t old.held.granting p old.held new.held c.keep_names.ensures c.in-Some.number went list
@@ -61,7 +62,8 @@ returns-in-Some-number_of-clause-sends c list apart is_taken keeps left =
     let first : Stands old c.send_held.new.self =
     record { timers_is = c.send_held.ensures.timers; at_is = at; same = none.same } in
     let same = stands_then old c.send_held.new.self mid first c.prepare.ensures.same in
-    let t : AreTimers old.timers = subst (λ (x : BindingsState). AreTimers x.timers) c.self.view_is c.keep_limits.ensures in
+    let t : AreTimers old.timers = subst (λ (x : BindingsState). AreTimers x.timers) c.self.view_is
+    c.keep_limits.ensures in
     let n = c.in-Some-number_of.number in
     let has : HasInside gone.held p.protocol p.inside n =
     subst (λ (x : BindingsState). HasInside x.held p.protocol p.inside n) c.self-2.view_is
@@ -91,7 +93,8 @@ returns-then-reaches-clause-sends c list apart is_taken keeps left =
     let first : Stands old c.send_held.new.self =
     record { timers_is = c.send_held.ensures.timers; at_is = at; same = none.same } in
     let same = stands_then old c.send_held.new.self mid first c.prepare.ensures.same in
-    let t : AreTimers old.timers = subst (λ (x : BindingsState). AreTimers x.timers) c.self.view_is c.keep_limits.ensures in
+    let t : AreTimers old.timers = subst (λ (x : BindingsState). AreTimers x.timers) c.self.view_is
+    c.keep_limits.ensures in
     let absent : IsAbsent gone.held p.protocol p.inside = absent_from gone.held p.protocol p.inside
     c.number_of.result (subst (λ (x : BindingsState). IsNumberOf x.held p.protocol p.inside c.number_of.result)
     c.self-2.view_is c.number_of.ensures) c.in_default-number_of.is in
@@ -115,7 +118,8 @@ returns-clause-sends c list apart is_taken keeps left =
     let first : Stands old c.send_held.new.self =
     record { timers_is = c.send_held.ensures.timers; at_is = at; same = none.same } in
     let same = stands_then old c.send_held.new.self mid first c.prepare.ensures.same in
-    let t : AreTimers old.timers = subst (λ (x : BindingsState). AreTimers x.timers) c.self.view_is c.keep_limits.ensures in
+    let t : AreTimers old.timers = subst (λ (x : BindingsState). AreTimers x.timers) c.self.view_is
+    c.keep_limits.ensures in
     let absent : IsAbsent gone.held p.protocol p.inside = absent_from gone.held p.protocol p.inside
     c.number_of.result (subst (λ (x : BindingsState). IsNumberOf x.held p.protocol p.inside c.number_of.result)
     c.self-2.view_is c.number_of.ensures) c.in_default-number_of.is in
@@ -123,5 +127,6 @@ returns-clause-sends c list apart is_taken keeps left =
     subst (λ (x : BindingsState). reaches x.held.granting.quota (count_all x.held p.inside.address)
     ≡ false) c.self-2.view_is
     (sym c.reaches.ensures ∙ c.if-reaches.false) in
-    begun_sends old mid gone p same c.purge_at.ensures none.none c.keep_names.ensures c.keep_names-2.ensures t list apart
+    begun_sends old mid gone p same c.purge_at.ensures none.none c.keep_names.ensures c.keep_names-2.ensures t list
+    apart
     is_taken keeps absent under c.begin.new.self c.begin.result c.begin.ensures.begins left

@@ -10,8 +10,10 @@ returns-clause-spare c =
     let protocol = c.args.protocol in
     let held_is : c.self.inside.held ≡ c.purge_at.new.self.held = ap (λ (s : BindingsState). s.held) c.self.view_is in
     first_agrees (λ n. is_some (held_at c.self.inside.held protocol n))
-    (λ n. is_some (seen c.args.self.now.timers (hold_ago c.args.self.now.timers c.args.now) (held_at c.args.self.now.held protocol n))) 1 65536
+    (λ n. is_some (seen c.args.self.now.timers (hold_ago c.args.self.now.timers c.args.now)
+    (held_at c.args.self.now.held protocol n))) 1 65536
     (λ n small. ap (λ (h : Holdings). is_some (held_at h protocol n)) held_is
-    ∙ sym (live_is_seen c.args.self.now.timers (hold_ago c.args.self.now.timers c.args.now) (held_at c.purge_at.new.self.held protocol n)
+    ∙ sym (live_is_seen c.args.self.now.timers (hold_ago c.args.self.now.timers c.args.now)
+    (held_at c.purge_at.new.self.held protocol n)
     (k.live (external_key protocol n)))
     ∙ ap is_some (k.keeps.seen_same (external_key protocol n))) c.least_free.result c.least_free.ensures

@@ -39,7 +39,8 @@ returns-in-Some-clause-known c block =
     let same = sym (k.any_block list apart keeps block) in
     rw (← c.self.view_is) (record {
       answered = (k.sends list apart (all_taken t c.self.invariant packet.now le) keeps
-          (table_out (shown t) c.self.invariant.state packet c.requires.number c.requires.block).sound.apart).0 ∙ ap (λ (o : Out). o.number) same;
+          (table_out (shown t) c.self.invariant.state packet c.requires.number c.requires.block).sound.apart).0 ∙ ap
+          (λ (o : Out). o.number) same;
       left = shown_after t (record t { past = c.and-self-inside.result; bindings = c.send_known.new.self }) packet.now
           (Sent packet) refl c.in_ok-number.ensures.timers k.place k.at c.and-self-inside.ensures
           ∙ ap (λ (o : Out). let s : TableState = record (shown t) { list = o.list; at = packet.now } in s) same;
@@ -57,8 +58,10 @@ returns-in-Some-clause-named c =
     let sound = all_sound t c.self.invariant packet.now le in
     let list = all t c.self.invariant packet.now le in
     subst (λ (r : Result ℕ Cause). IfOk r (IsNumber packet.protocol))
-    (sym (k.sends list sound.apart (all_taken t c.self.invariant packet.now le) (keep_now t c.self.invariant packet.now le)
+    (sym (k.sends list sound.apart (all_taken t c.self.invariant packet.now le)
+    (keep_now t c.self.invariant packet.now le)
     (table_out (shown t) c.self.invariant.state packet c.requires.number c.requires.block).sound.apart).0)
-    (out_named (λ host. t.bindings.held.address) t.bindings.held.address t.bindings.timers t.bindings.held.granting packet
+    (out_named (λ host. t.bindings.held.address) t.bindings.held.address t.bindings.timers t.bindings.held.granting
+    packet
     c.requires.block
     list sound)

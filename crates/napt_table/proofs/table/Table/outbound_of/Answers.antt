@@ -28,7 +28,8 @@ returns-clause-answer c =
     subst (λ (s : TableState). s.at ≤ packet.now) (sym c.self.view_is) c.requires.later in
     rw (← c.self.view_is) (c.in_ok-answer.ensures.sends (all t c.self.invariant packet.now le)
     (all_sound t c.self.invariant packet.now le).apart (all_taken t c.self.invariant packet.now le)
-    (keep_now t c.self.invariant packet.now le) (table_out (shown t) c.self.invariant.state packet c.requires.number c.requires.block).sound.apart).0
+    (keep_now t c.self.invariant packet.now le)
+    (table_out (shown t) c.self.invariant.state packet c.requires.number c.requires.block).sound.apart).0
 
 pub returns-clause-left : goal.returns-clause-left
 returns-clause-left c =
@@ -48,6 +49,7 @@ returns-clause-named c =
     rw (c.in_ok-answer.ensures.sends (all t c.self.invariant packet.now le) sound.apart
     (all_taken t c.self.invariant packet.now le) (keep_now t c.self.invariant packet.now le)
     (table_out (shown t) c.self.invariant.state packet c.requires.number c.requires.block).sound.apart).0
-    (out_named (λ host. t.bindings.held.address) t.bindings.held.address t.bindings.timers t.bindings.held.granting packet
+    (out_named (λ host. t.bindings.held.address) t.bindings.held.address t.bindings.timers t.bindings.held.granting
+    packet
     c.requires.block
     (all t c.self.invariant packet.now le) sound)
