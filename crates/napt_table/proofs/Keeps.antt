@@ -128,7 +128,7 @@ module _ {X : Type 0} (s p : X → Bool) (f : X → X) (same : (x : X) → s (f 
       (find s (cond v (f x ∷ xs) (x ∷ change_first p f xs)) ≡ cond (s x) (Some x) (find s xs))
       ⊎ ((y : X) × (find s (cond v (f x ∷ xs) (x ∷ change_first p f xs)) ≡ Some (f y)) × (p y ≡ true))) [
         | true ↦ λ e. elim (s x) as (λ w. s x ≡ w →
-        (cond (s (f x)) (Some (f x)) (find s xs) ≡ cond w (Some x) (find s xs))
+            (cond (s (f x)) (Some (f x)) (find s xs) ≡ cond w (Some x) (find s xs))
             ⊎ ((y : X) × (cond (s (f x)) (Some (f x)) (find s xs) ≡ Some (f y)) × (p y ≡ true))) [
               | true ↦ λ h. inr (x, ap (λ v. cond v (Some (f x)) (find s xs)) (same x ∙ h), e)
               | false ↦ λ h. inl (ap (λ v. cond v (Some (f x)) (find s xs)) (same x ∙ h))
