@@ -1,10 +1,13 @@
-//! The two calls that make a run, each in one place: they promise nothing, so that the proof of a test is short. A test sees what
-//! comes of them when it runs.
+//! The two calls that make a run, each in one place, and inputs for them: they promise nothing, so that the proof of a test is short. A
+//! test sees what comes of them when it runs.
 
 use crate::gates::Hold;
+use crate::sample_inputs::input;
 use napt_config::Config;
 use napt_run::{Input, Run, RunFault, run_plain, run_workers};
-use std::alloc::Global;
+use napt_samples::hosts::SECOND;
+use napt_wire::{Endpoint, Side};
+use std::alloc::{AllocError, Global};
 use std::sync::{Arc, Wait};
 use std::test::Fail;
 use std::thread::Threads;
@@ -32,4 +35,17 @@ pub(crate) fn workers_run<R: Threads + Wait + AllocGlobal + Copy + Send + 'stati
     let alloc = rt.alloc();
     let config = with_rings(alloc, settings, ring)?;
     Ok(run_workers(rt, alloc, &config, inputs, gate))
+}
+
+/// The side that a packet comes from, its source and its destination.
+pub(crate) type Sent = (Side, Endpoint, Endpoint);
+
+/// These packets, a second apart.
+pub(crate) fn inputs_of(alloc: Global, sent: &[Sent]) -> Result<Vec<Input>, AllocError> {
+    let mut inputs = Vec::new(alloc);
+    for (second, (side, source, destination)) in sent.iter().enumerate() {
+        let time = (second as u64).saturating_mul(SECOND);
+        inputs.push(input(alloc, *side, time, *source, *destination)?)?;
+    }
+    Ok(inputs)
 }

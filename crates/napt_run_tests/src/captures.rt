@@ -8,7 +8,7 @@ use crate::packets::udp;
 use crate::sample_inputs::{THREE_ADDRESSES, thousand_inputs};
 use napt_capture::{Faulty, Plan, Trouble, Watched};
 use napt_config::Config;
-use napt_run::{Fault, run_captures, run_streams};
+use napt_run::{Fault, LoggedFault, run_captures, run_streams, run_streams_with_log};
 use napt_samples::hosts::{RESOLVER, external};
 use std::alloc::{AllocError, Global};
 use std::sync::{Arc, Wait};
@@ -51,6 +51,7 @@ pub(crate) struct Devices {
     pub(crate) to_outside: Device,
     pub(crate) to_inside: Device,
     pub(crate) report: Device,
+    pub(crate) log: Device,
 }
 
 pub(crate) const ALL_GOOD: Devices = Devices {
@@ -59,13 +60,15 @@ pub(crate) const ALL_GOOD: Devices = Devices {
     to_outside: GOOD,
     to_inside: GOOD,
     report: GOOD,
+    log: GOOD,
 };
 
-/// The call that a program makes: `napt` runs over whole captures, `stream` over captures as they come.
+/// The call that a program makes: `napt` runs over whole captures, `stream` over captures as they come, with a log or without.
 #[derive(Clone, Copy, Debug, PartialEq, Eq)]
 pub(crate) enum Call {
     Captures,
     Streams,
+    StreamsWithLog,
 }
 
 /// What a run is given: the call, both captures, and the devices that they and what it writes are on. Without settings it is in the built-in
@@ -82,10 +85,16 @@ pub(crate) struct Given<'a> {
 /// What a run answers and writes.
 #[derive(Drop)]
 pub(crate) struct Written {
-    pub(crate) answer: Result<(), Fault>,
+    pub(crate) answer: Result<(), LoggedFault>,
     pub(crate) to_outside: Vec<u8>,
     pub(crate) to_inside: Vec<u8>,
     pub(crate) report: Vec<u8>,
+    pub(crate) log: Vec<u8>,
+}
+
+/// The answer of a run without a log.
+pub(crate) fn told(answer: Result<(), Fault>) -> Result<(), LoggedFault> {
+    Ok(answer?)
 }
 
 fn config_of(alloc: Global, settings: Option<&str>) -> Result<Config, Fail> {
@@ -109,35 +118,25 @@ pub(crate) fn captured<T: Threads + Wait + AllocGlobal + Copy + Send + 'static>(
     let mut to_outside = Faulty::new(Watched::new(Vec::new(alloc)), devices.to_outside.plan());
     let mut to_inside = Faulty::new(Watched::new(Vec::new(alloc)), devices.to_inside.plan());
     let mut report = Faulty::new(Watched::new(Vec::new(alloc)), devices.report.plan());
+    let mut log = Faulty::new(Watched::new(Vec::new(alloc)), devices.log.plan());
+    macro_rules! answer_of {
+        ($run:ident $($log:expr)?) => {
+            $run(
+                rt, alloc, &config, &mut inside, &mut outside, &mut to_outside, &mut to_inside, &mut report, $($log,)? gate,
+            )
+        };
+    }
     let answer = match given.call {
-        Call::Captures => run_captures(
-            rt,
-            alloc,
-            &config,
-            &mut inside,
-            &mut outside,
-            &mut to_outside,
-            &mut to_inside,
-            &mut report,
-            gate,
-        ),
-        Call::Streams => run_streams(
-            rt,
-            alloc,
-            &config,
-            &mut inside,
-            &mut outside,
-            &mut to_outside,
-            &mut to_inside,
-            &mut report,
-            gate,
-        ),
+        Call::Captures => told(answer_of!(run_captures)),
+        Call::Streams => told(answer_of!(run_streams)),
+        Call::StreamsWithLog => answer_of!(run_streams_with_log &mut log),
     };
     Ok(Written {
         answer,
         to_outside: to_outside.into_inner().into_inner(),
         to_inside: to_inside.into_inner().into_inner(),
         report: report.into_inner().into_inner(),
+        log: log.into_inner().into_inner(),
     })
 }
 

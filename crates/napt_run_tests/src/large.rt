@@ -3,9 +3,9 @@
 use crate::calls::{plain_run, workers_run};
 use crate::gates::{Hold, Way};
 use crate::sample_inputs::{SIXTEEN_ADDRESSES, THREE_ADDRESSES, all_to_all, thousand_inputs};
-use napt_run::{Input, Outcome, Run};
+use napt_run::{Input, Outcome};
 use std::process::Abort;
-use std::sync::Wait;
+use std::sync::{Arc, Wait};
 use std::test::Fail;
 use std::thread::Threads;
 
@@ -39,15 +39,6 @@ fn counts(outcomes: &[Outcome]) -> (u32, u32, u32) {
     (outside, inside, dropped)
 }
 
-fn assert_numbers(rt: &impl Abort, run: &Run, wanted: &Numbers<'_>) {
-    assert_eq!(rt;
-        counts(&run.outcomes),
-        (wanted.to_outside, wanted.to_inside, 0)
-    );
-    assert_eq!(rt; run.bindings.len(), wanted.bindings);
-    assert_eq!(rt; run.legs.as_slice(), wanted.legs);
-}
-
 fn is_same(found: &Outcome, wanted: &Outcome) -> bool {
     match (found, wanted) {
         (Outcome::ToOutside(found), Outcome::ToOutside(wanted)) => found.bytes() == wanted.bytes(),
@@ -64,6 +55,26 @@ pub(crate) fn assert_same(rt: &impl Abort, outcomes: &[Outcome], all_wanted: &[O
     }
 }
 
+/// A run over workers under a gate is that on one thread, and has so many legs at each external address. Returns how much the gate
+/// counted.
+pub(crate) fn compared<R: Threads + Wait + Abort + AllocGlobal + Copy + Send + 'static>(
+    rt: &R,
+    settings: &str,
+    ring: &str,
+    inputs: &[Input],
+    legs: &[u64],
+    way: Way,
+) -> Result<u64, Fail> {
+    let alloc = rt.alloc();
+    let gate = Hold::new(alloc, way)?;
+    let plain = plain_run(alloc, settings, inputs)?;
+    let run = workers_run(rt, settings, ring, inputs, Arc::try_clone(&gate)?)??;
+    assert_same(rt, &run.outcomes, &plain.outcomes);
+    assert_eq!(rt; run.bindings.as_slice(), plain.bindings.as_slice());
+    assert_eq!(rt; (run.legs.as_slice(), plain.legs.as_slice()), (legs, legs));
+    Ok(gate.count())
+}
+
 /// The run over workers is that on one thread, through rings of each size.
 fn assert_large<R: Threads + Wait + Abort + AllocGlobal + Copy + Send + 'static>(
     rt: &R,
@@ -71,14 +82,14 @@ fn assert_large<R: Threads + Wait + Abort + AllocGlobal + Copy + Send + 'static>
     inputs: &[Input],
     wanted: &Numbers<'_>,
 ) -> Result<(), Fail> {
-    let alloc = rt.alloc();
-    let plain = plain_run(alloc, settings, inputs)?;
-    assert_numbers(rt, &plain, wanted);
+    let plain = plain_run(rt.alloc(), settings, inputs)?;
+    let went = (wanted.to_outside, wanted.to_inside, 0);
+    assert_eq!(rt;
+        (counts(&plain.outcomes), plain.bindings.len()),
+        (went, wanted.bindings)
+    );
     for ring in ["1", "2", "3", "64", "4096"] {
-        let run = workers_run(rt, settings, ring, inputs, Hold::new(alloc, Way::Open)?)??;
-        assert_numbers(rt, &run, wanted);
-        assert_same(rt, &run.outcomes, &plain.outcomes);
-        assert_eq!(rt; run.bindings.as_slice(), plain.bindings.as_slice());
+        compared(rt, settings, ring, inputs, wanted.legs, Way::Open)?;
     }
     Ok(())
 }

@@ -22,8 +22,6 @@ mod held;
 #[cfg(test)]
 mod large;
 #[cfg(test)]
-mod logs;
-#[cfg(test)]
 mod merging;
 mod packets;
 #[cfg(test)]
@@ -31,12 +29,8 @@ mod pool;
 #[cfg(test)]
 mod program;
 #[cfg(test)]
-mod report;
-#[cfg(test)]
 mod running_logs;
 pub mod sample_inputs;
-#[cfg(test)]
-mod steps;
 #[cfg(test)]
 mod taking;
 #[cfg(test)]

@@ -1,12 +1,10 @@
 //! A run with its log, over captures as they arrive: the log, written out by hand, and what a log that fails leaves.
-ghost use Rattle.std.specs.Prelude.{◌<◌};
-
-use crate::captures::{HEADER, push_packet};
+use crate::captures::{ALL_GOOD, Call, Devices, Given, HEADER, Written, captured, push_packet};
+use crate::devices::failing;
 use crate::gates::{Hold, Way};
 use crate::packets::udp;
-use napt_capture::{Faulty, Plan, Trouble, Watched, WriteFault};
-use napt_config::Config;
-use napt_run::{LoggedFault, run_streams_with_log};
+use napt_capture::WriteFault;
+use napt_run::LoggedFault;
 use napt_samples::hosts::{CLIENT, RESOLVER};
 use std::alloc::{AllocError, Global};
 use std::process::Abort;
@@ -33,16 +31,6 @@ const ROWS: &str =
 20000,1970-01-01T00:00:00.000020000Z\n\
 ,,,17,10.0.0.3,7000,203.0.113.1,7000,,1,1,0,0,,\n";
 
-/// What a run answers, and what it leaves.
-#[derive(Drop)]
-struct Left {
-    answer: Result<(), LoggedFault>,
-    to_outside: Vec<u8>,
-    to_inside: Vec<u8>,
-    report: Vec<u8>,
-    log: Vec<u8>,
-}
-
 /// Two packets of one host, 10 us and 20 us after the start.
 fn sent_twice(alloc: Global) -> Result<Vec<u8>, AllocError> {
     let mut text = Vec::from_slice(alloc, &HEADER)?;
@@ -56,38 +44,19 @@ fn sent_twice(alloc: Global) -> Result<Vec<u8>, AllocError> {
 fn run_with<T: Threads + Wait + AllocGlobal + Copy + Send + 'static>(
     rt: &T,
     call: u64,
-) -> Result<Left, Fail> {
-    let alloc = rt.alloc();
-    let config = Config::read(alloc, SETTINGS.as_bytes())?;
-    let inside = sent_twice(alloc)?;
-    let plan = Plan {
-        most: usize::MAX,
-        call,
-        trouble: Trouble::Fails,
+) -> Result<Written, Fail> {
+    let inside = sent_twice(rt.alloc())?;
+    let given = Given {
+        call: Call::StreamsWithLog,
+        settings: Some(SETTINGS),
+        inside: &inside,
+        outside: &HEADER,
+        devices: Devices {
+            log: failing(call),
+            ..ALL_GOOD
+        },
     };
-    let mut to_outside = Watched::new(Vec::new(alloc));
-    let mut to_inside = Watched::new(Vec::new(alloc));
-    let mut report = Watched::new(Vec::new(alloc));
-    let mut log = Faulty::new(Watched::new(Vec::new(alloc)), plan);
-    let answer = run_streams_with_log(
-        rt,
-        alloc,
-        &config,
-        &mut Watched::new(inside.as_slice()),
-        &mut Watched::new(HEADER.as_slice()),
-        &mut to_outside,
-        &mut to_inside,
-        &mut report,
-        &mut log,
-        Hold::new(alloc, Way::Open)?,
-    );
-    Ok(Left {
-        answer,
-        to_outside: to_outside.into_inner(),
-        to_inside: to_inside.into_inner(),
-        report: report.into_inner(),
-        log: log.into_inner().into_inner(),
-    })
+    captured(rt, &given, Hold::new(rt.alloc(), Way::Open)?)
 }
 
 #[test]

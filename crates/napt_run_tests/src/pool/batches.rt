@@ -4,7 +4,7 @@
 use super::checked::CheckedPool;
 use super::keeper::Keeper;
 use super::rounds::keepers;
-use super::watch::{Echo, REFUSED, Says, Watch};
+use super::watch::{Echo, REFUSED, Says, Watch, so_far};
 use super::watched::{Watched, make_watched};
 use napt_pool::{Answered, Batch, OfferRefused, OpenGate, PoolFault, Taken};
 use std::alloc::{AllocError, Global};
@@ -14,7 +14,11 @@ use std::test::Fail;
 use std::thread::Threads;
 
 /// These items in one message.
-fn batch(rt: &impl Abort, alloc: Global, items: &[u64]) -> Result<Batch<u64, u64>, AllocError> {
+pub(super) fn batch(
+    rt: &impl Abort,
+    alloc: Global,
+    items: &[u64],
+) -> Result<Batch<u64, u64>, AllocError> {
     let items = items.to_vec(alloc)?;
     let room = Vec::with_capacity(alloc, items.len())?;
     assert!(rt; items.len() <= room.capacity());
@@ -53,6 +57,19 @@ fn alone(rt: &impl Abort, pool: &mut CheckedPool<Keeper, OpenGate>) -> u64 {
     .expect(rt, "an answer")
 }
 
+/// The one worker of a pool has kept these items, and is left with these answers.
+fn assert_ended<R: Threads + Abort>(
+    rt: &R,
+    pool: CheckedPool<Keeper, OpenGate>,
+    items: &[u64],
+    answers: &[u64],
+) {
+    let ended = pool.closed(rt);
+    assert_eq!(rt; ended.len(), 1);
+    assert_eq!(rt; ended[0].machine.items.as_slice(), items);
+    assert_eq!(rt; ended[0].answers.as_slice(), answers);
+}
+
 #[test]
 fn batches_and_items_are_answered_in_order(rt: HostRuntime) -> Result<(), Fail> {
     let alloc = rt.alloc();
@@ -72,13 +89,7 @@ fn batches_and_items_are_answered_in_order(rt: HostRuntime) -> Result<(), Fail> 
     assert_eq!(rt; answers.as_slice(), [5, 6].as_slice());
     assert!(rt; spent.is_empty() && spent.capacity() >= 2);
     assert!(rt; matches!(pool.take_all(&rt, 0), Ok(None)));
-    let ended = pool.closed(&rt);
-    assert_eq!(rt; ended.len(), 1);
-    assert_eq!(rt;
-        ended[0].machine.items.as_slice(),
-        [40, 41, 42, 43, 44, 45, 46].as_slice()
-    );
-    assert!(rt; ended[0].answers.is_empty());
+    assert_ended(&rt, pool, &[40, 41, 42, 43, 44, 45, 46], &[]);
     Ok(())
 }
 
@@ -95,13 +106,7 @@ fn close_hands_back_the_rest_of_a_batch(rt: HostRuntime) -> Result<(), Fail> {
         pool.give_all(&rt, 0, more);
     }
     assert!(rt; pool.take_soon(&rt, 0) == Ok(Some(0)));
-    let ended = pool.closed(&rt);
-    assert_eq!(rt; ended.len(), 1);
-    assert_eq!(rt;
-        ended[0].machine.items.as_slice(),
-        [7, 8, 9, 10, 11].as_slice()
-    );
-    assert_eq!(rt; ended[0].answers.as_slice(), [1, 2, 3, 4].as_slice());
+    assert_ended(&rt, pool, &[7, 8, 9, 10, 11], &[1, 2, 3, 4]);
     Ok(())
 }
 
@@ -125,10 +130,7 @@ fn batch_that_does_not_fit_comes_back(rt: HostRuntime) -> Result<(), Fail> {
     };
     assert!(rt; pool.take_soon(&rt, 0) == Ok(Some(0)));
     pool.give_all(&rt, 0, two);
-    let ended = pool.closed(&rt);
-    assert_eq!(rt; ended.len(), 1);
-    assert_eq!(rt; ended[0].machine.items.as_slice(), [7, 8, 9].as_slice());
-    assert_eq!(rt; ended[0].answers.as_slice(), [1, 2].as_slice());
+    assert_ended(&rt, pool, &[7, 8, 9], &[1, 2]);
     Ok(())
 }
 
@@ -170,40 +172,6 @@ fn batch_rounds(rt: HostRuntime) -> Result<(), Fail> {
     Ok(())
 }
 
-/// A worker asks the gate before each step of a batch, with the number of the steps that it has made, and shows it the size of
-/// its machine after each.
-fn take_turns<R: Threads + Wait + Abort + AllocGlobal + Copy + Send + 'static>(
-    rt: &R,
-    says: Says,
-    asks: u64,
-) -> Result<(), Fail> {
-    let all = [
-        batch(rt, rt.alloc(), &[7, 8])?,
-        batch(rt, rt.alloc(), &[9, 10])?,
-    ];
-    let Watched { mut pool, watch } = make_watched(rt, &[false], says)?;
-    for more in all {
-        pool.give_all(rt, 0, more);
-    }
-    let ended = pool.closed(rt);
-    assert_eq!(rt; ended.len(), 1);
-    assert_eq!(rt; ended[0].answers.as_slice(), [7, 8, 9, 10].as_slice());
-    assert_eq!(rt; watch.asks(), asks);
-    assert_eq!(rt; watch.shown(), 4);
-    assert_eq!(rt; watch.strange(), 0);
-    Ok(())
-}
-
-#[test]
-fn gate_is_asked_before_each_step_of_a_batch(rt: HostRuntime) -> Result<(), Fail> {
-    take_turns(&rt, Says::Yes, 4)
-}
-
-#[test]
-fn gate_is_asked_again_in_a_batch(rt: HostRuntime) -> Result<(), Fail> {
-    take_turns(&rt, Says::NoFirst, 8)
-}
-
 /// Takes the answers 0, 1, .. of a worker that stops, and returns how many came and why it stopped.
 fn until_stopped(rt: &impl Abort, pool: &mut CheckedPool<Echo, Watch>) -> (u64, Option<PoolFault>) {
     for count in 0..100 {
@@ -230,7 +198,7 @@ fn gate_is_shut_in_a_batch(rt: HostRuntime) -> Result<(), Fail> {
         assert_eq!(rt; told, Some(PoolFault::GateShut(0)));
         assert_eq!(rt; ended, Some(PoolFault::GateShut(0)));
         assert_eq!(rt; begun, Some(shut));
-        assert_eq!(rt; watch.asks(), 1_000_000 + shut);
+        assert_eq!(rt; so_far(&watch.asks), 1_000_000 + shut);
     }
     Ok(())
 }

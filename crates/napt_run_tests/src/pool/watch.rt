@@ -20,6 +20,11 @@ pub(crate) enum Says {
     NoFrom(u64),
 }
 
+/// What was counted so far.
+pub(crate) fn so_far(count: &AtomicU64) -> u64 {
+    count.load(Ordering::SeqCst)
+}
+
 /// A gate, and the counts of a pool.
 #[derive(Drop)]
 pub(crate) struct Watch {
@@ -29,15 +34,15 @@ pub(crate) struct Watch {
     /// How many steps each machine has begun.
     steps: Vec<AtomicU64>,
     /// How many steps saw that all machines had begun as many.
-    met: AtomicU64,
+    pub(crate) met: AtomicU64,
     /// How often the gate was asked, and how often it was told what is not so: another turn than that of the worker's next step, or
     /// another size.
-    asks: AtomicU64,
-    strange: AtomicU64,
+    pub(crate) asks: AtomicU64,
+    pub(crate) strange: AtomicU64,
     /// How often the gate was shown a size; that of one worker's machine is then the number of its steps.
-    shown: AtomicU64,
+    pub(crate) shown: AtomicU64,
     /// How many machines were dropped.
-    drops: AtomicU64,
+    pub(crate) drops: AtomicU64,
 }
 
 impl Watch {
@@ -63,26 +68,6 @@ impl Watch {
             drops: AtomicU64::new(0),
         };
         Ok(Arc::new(alloc, watch)?)
-    }
-
-    pub(crate) fn met(&self) -> u64 {
-        self.met.load(Ordering::SeqCst)
-    }
-
-    pub(crate) fn asks(&self) -> u64 {
-        self.asks.load(Ordering::SeqCst)
-    }
-
-    pub(crate) fn strange(&self) -> u64 {
-        self.strange.load(Ordering::SeqCst)
-    }
-
-    pub(crate) fn shown(&self) -> u64 {
-        self.shown.load(Ordering::SeqCst)
-    }
-
-    pub(crate) fn drops(&self) -> u64 {
-        self.drops.load(Ordering::SeqCst)
     }
 
     /// Whether each machine has begun this many steps.

@@ -1,7 +1,8 @@
 //! What threads do: they step at the same time and unasked, ask the gate before each step, stop, and drop their machines.
 
+use super::batches::batch;
 use super::checked::CheckedPool;
-use super::watch::{Echo, Says, Watch};
+use super::watch::{Echo, Says, Watch, so_far};
 use napt_pool::{OpenGate, PoolFault};
 use std::process::Abort;
 use std::sync::{Arc, Wait};
@@ -25,7 +26,7 @@ pub(super) fn make_watched<R: Threads + Wait + Abort + AllocGlobal + Copy + Send
     let watch = Watch::new(alloc, refuse.len(), says, false)?;
     let machines = Echo::several(alloc, &watch, refuse)?;
     let started = CheckedPool::start(rt, alloc, machines, 4, Arc::try_clone(&watch)?);
-    assert!(rt; started.is_ok() || watch.drops() == refuse.len() as u64);
+    assert!(rt; started.is_ok() || so_far(&watch.drops) == refuse.len() as u64);
     let pool = started?;
     Ok(Watched { pool, watch })
 }
@@ -47,7 +48,7 @@ fn step_together<R: Threads + Wait + Abort + AllocGlobal + Copy + Send + 'static
         }
     }
     pool.closed(rt);
-    assert_eq!(rt; watch.met(), 3 * u64::from(workers));
+    assert_eq!(rt; so_far(&watch.met), 3 * u64::from(workers));
     Ok(())
 }
 
@@ -68,34 +69,53 @@ fn steps_unasked(rt: HostRuntime) -> Result<(), Fail> {
     Ok(())
 }
 
-/// One worker takes three items in order, asks the gate so often, each time with the number of the steps that it has made, and shows
-/// it the size of its machine after each step.
+/// One worker takes four items in order, one by one or two in a message, asks the gate so often, each time with the number of the steps
+/// that it has made, and shows it the size of its machine after each step.
 fn take_turns<R: Threads + Wait + Abort + AllocGlobal + Copy + Send + 'static>(
     rt: &R,
     says: Says,
+    are_batches: bool,
     asks: u64,
 ) -> Result<(), Fail> {
+    let (first, second) = (
+        batch(rt, rt.alloc(), &[7, 8])?,
+        batch(rt, rt.alloc(), &[9, 10])?,
+    );
     let Watched { mut pool, watch } = make_watched(rt, &[false], says)?;
-    for item in 7..10 {
-        pool.give(rt, 0, item);
+    if are_batches {
+        pool.give_all(rt, 0, first);
+        pool.give_all(rt, 0, second);
+    } else {
+        for item in 7..11 {
+            pool.give(rt, 0, item);
+        }
     }
     let ended = pool.closed(rt);
     assert_eq!(rt; ended.len(), 1);
-    assert_eq!(rt; ended[0].answers.as_slice(), [7, 8, 9].as_slice());
-    assert_eq!(rt; watch.asks(), asks);
-    assert_eq!(rt; watch.shown(), 3);
-    assert_eq!(rt; watch.strange(), 0);
+    assert_eq!(rt; ended[0].answers.as_slice(), [7, 8, 9, 10].as_slice());
+    let counts = (
+        so_far(&watch.asks),
+        so_far(&watch.shown),
+        so_far(&watch.strange),
+    );
+    assert_eq!(rt; counts, (asks, 4, 0));
     Ok(())
 }
 
 #[test]
 fn gate_is_asked_before_the_step(rt: HostRuntime) -> Result<(), Fail> {
-    take_turns(&rt, Says::Yes, 3)
+    take_turns(&rt, Says::Yes, false, 4)
+}
+
+#[test]
+fn gate_is_asked_before_each_step_of_a_batch(rt: HostRuntime) -> Result<(), Fail> {
+    take_turns(&rt, Says::Yes, true, 4)
 }
 
 #[test]
 fn gate_is_asked_again(rt: HostRuntime) -> Result<(), Fail> {
-    take_turns(&rt, Says::NoFirst, 6)
+    take_turns(&rt, Says::NoFirst, false, 8)?;
+    take_turns(&rt, Says::NoFirst, true, 8)
 }
 
 #[test]
@@ -107,7 +127,7 @@ fn shut_gate_is_asked_a_million_times(rt: HostRuntime) -> Result<(), Fail> {
     let ended = pool.close(&rt).err();
     assert_eq!(rt; told, Some(PoolFault::GateShut(1)));
     assert_eq!(rt; ended, Some(PoolFault::GateShut(1)));
-    assert_eq!(rt; watch.asks(), 1_000_000);
+    assert_eq!(rt; so_far(&watch.asks), 1_000_000);
     Ok(())
 }
 
@@ -124,7 +144,7 @@ fn least_fault_is_told(rt: HostRuntime) -> Result<(), Fail> {
             pool.give(&rt, w, 5);
         }
         assert_eq!(rt; pool.close(&rt).err(), Some(fault));
-        assert_eq!(rt; watch.drops(), 3);
+        assert_eq!(rt; so_far(&watch.drops), 3);
     }
     Ok(())
 }
@@ -149,10 +169,10 @@ fn machines_are_dropped(rt: HostRuntime) -> Result<(), Fail> {
     let Watched { mut pool, watch } = make_watched(&rt, &[false; 3], Says::Yes)?;
     pool.give(&rt, 0, 5);
     let ended = pool.closed(&rt);
-    assert_eq!(rt; watch.drops(), 0);
+    assert_eq!(rt; so_far(&watch.drops), 0);
     assert_eq!(rt; ended.len(), 3);
     assert_eq!(rt; ended[0].answers.as_slice(), [5].as_slice());
     drop(ended);
-    assert_eq!(rt; watch.drops(), 3);
+    assert_eq!(rt; so_far(&watch.drops), 3);
     Ok(())
 }
