@@ -23,15 +23,15 @@ pub struct PlainRun<'a> {
 
 impl<'a> Model for PlainRun<'a> {
     ghost use Rattle.std.specs.Prelude.{◌≡◌, List, false};
-    ghost use Rattle.napt_account.specs.KnownRuns.{KnownState, inputs_in};
+    ghost use Rattle.napt_account.specs.{KnownLogs.{taken_in}, KnownRuns.{KnownState}};
     ghost use Rattle.napt_sequential.specs.SequentialRuns.{StandsAfter};
 
     ghost Value = { KnownState };
 
-    ghost view = { λ it. record { rules = it.config.now; inputs = inputs_in it.past.items; is_stopped = it.is_stopped } };
+    ghost view = { λ it. record { rules = it.config.now; inputs = taken_in it.past.items; is_stopped = it.is_stopped } };
 
     ghost invariant = { λ it. it.is_stopped ≡ false
-        → StandsAfter it.config.now (inputs_in it.past.items) it.run };
+        → StandsAfter it.config.now (taken_in it.past.items) it.run };
 }
 
 impl<'a> PlainRun<'a> {
