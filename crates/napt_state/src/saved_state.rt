@@ -1,5 +1,5 @@
 //! The text of a state, read line by line.
-ghost use Rattle.std.specs.{Prelude.{◌≡◌, ◌≢◌, ◌++◌, ◌<◌, ℕ, List, [], Ok, Err, Some, None, length}, List.All};
+ghost use Rattle.std.specs.{Prelude.{◌≡◌, ◌≢◌, ◌+◌, ◌-◌, ◌^◌, ◌++◌, ◌<◌, min, ℕ, List, [], Ok, Err, Some, None, length}, List.All};
 ghost use Rattle.napt_state.specs.StateText as texts;
 ghost use Rattle.napt_state.specs.Saved as saved;
 ghost use Rattle.napt_state.specs.declared.line.StateLine.{StateLine as Told};
@@ -36,7 +36,8 @@ pub struct SavedState<R> {
 impl<R: BufRead + Drop> SavedState<R> {
     /// A text of which nothing is read yet.
     pub fn new(alloc: Global, reader: R) -> SavedState<R>
-        ensures { R.remaining result.reader ≡ R.remaining reader }
+        ensures reader { R.remaining result.reader ≡ R.remaining reader }
+        ensures lines { result.lines ≡ 0 }
     {
         SavedState {
             reader,
@@ -47,12 +48,15 @@ impl<R: BufRead + Drop> SavedState<R> {
     }
 
     /// The number of the line that was read last, from 1.
-    pub fn line(&self) -> u64 {
+    pub fn line(&self) -> u64
+        ensures { result ≡ self.now.lines }
+    {
         self.lines
     }
 
     /// Reads the entry of the next line; `None` at the end.
     pub fn next(&mut self) -> Result<Option<StateLine>, StateFault>
+        ensures lines { self.new.lines ≡ min (self.old.lines + 1) (2 ^ 64 - 1) }
         ensures entry { (entry : Told) (rest : List ℕ) → texts.IsStateLine entry →
             R.remaining self.old.reader ≡ Some (texts.line_text entry ++ rest) →
             saved.UnlessUnread result ((result ≡ Ok (Some entry))
