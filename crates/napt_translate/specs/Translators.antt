@@ -1,10 +1,10 @@
 -- What contracts see of a translator: its place in the pool, its configuration, and the table of its external address.
 use Rattle.std.specs.Prelude.{◌≡◌, ℕ, ◌<◌, List, length, slice_index, Result}
 use Rattle.napt_wire.specs.declared.{Protocol.Protocol, Flags.Flags, Cause.Cause}
-use Rattle.napt_rules.specs.{Prelude.{granting_of, inbound_of, Out, step_out, In, step_in, sent_of, received_of, Kept, kept_after}, declared.Leg.Leg}
+use Rattle.napt_rules.specs.{Prelude.{granting_of, inbound_of, Out, step_out, In, step_in, sent_of, received_of, Kept, kept_after, State}, declared.Leg.Leg}
 use Rattle.napt_rules.specs.declared.Sent.{Sent}
 use Rattle.napt_config.specs.Rules.{Rules, KeepsRules, block_of}
-use Rattle.napt_table.specs.Tables.{TableState, opened}
+use Rattle.napt_table.specs.Tables.{TableState, opened, resumed}
 
 pub record TranslatorState : Type 0 where
   -- the place of its external address in the pool, from 0
@@ -15,6 +15,14 @@ pub record TranslatorState : Type 0 where
 -- at a place of a configuration's pool, before any leg
 abbrev pub begun : ℕ → Rules → TranslatorState
 begun index rules = record { index = index; rules = rules; table = opened rules (slice_index rules.pool index) }
+
+-- where a run goes on from a state
+abbrev pub begun_from : ℕ → Rules → State → TranslatorState
+begun_from index rules state = record {
+  index = index;
+  rules = rules;
+  table = resumed rules (slice_index rules.pool index) state;
+}
 
 -- the table is that of the configuration, at the address of its place
 pub record IsTranslator (state : TranslatorState) : Type 0 where
