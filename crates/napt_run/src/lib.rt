@@ -20,15 +20,16 @@ mod passing;
 mod reporting;
 mod running_log;
 mod sources;
+mod start;
 mod streaming;
 mod streams;
 mod whole;
 
-pub use captures::run_captures;
+pub use captures::{resume_captures, run_captures};
 pub use laws::streams_write_the_same;
 pub use logged_fault::LoggedFault;
 pub use logged_streams::run_streams_with_log;
-pub use napt_dispatch::{Worker, dispatch, run_workers};
+pub use napt_dispatch::{Passed, Worker, dispatch, run_workers};
 pub use napt_records::{
     EndpointText, Fault, Which, cause_name, merge, merge_is_in_order, protocol_name, report_text,
 };
@@ -36,4 +37,5 @@ pub use napt_sequential::{
     Input, Outcome, Run, RunFault, Untold, legs_are_local, places_stand_for_legs, right_answers,
     run_plain, runs_are_sound, runs_keep_the_quota, translators_are_local,
 };
-pub use streams::run_streams;
+pub use start::Start;
+pub use streams::{resume_streams, run_streams};

@@ -1,67 +1,68 @@
 use Rattle.std.proofs.{Common.{◌≡◌, ℕ, List, Option, Err, refl}, lemmas.Result.err_from_is_err_and}
 use Rattle.napt_records.specs.declared.{Fault.Fault, Which.{Which, TheVariants.{Outside, Inside, Report}}}
-use Rattle.napt_run.{specs.Captures.{Gets, IsWriteFaultOf, Receives, Share, whole}, proofs.captures.run_captures.{Given.Over, Goals.In_ok-outputs}}
-use Rattle.napt_run.proofs.Received.{Answered, AreMade, answered_inside, answered_outside, answered_run, answered_write, answers_ok, before_inside, before_report, received, text_of, texts_known}
-use Rattle.napt_run.proofs.captures.run_captures.Goals as goal
+use Rattle.napt_run.{specs.Captures.{GetsFrom, IsWriteFaultOf, Receives, Share, whole}, proofs.captures.resume_captures.{Given.Over, Goals.In_ok-outputs}}
+use Rattle.napt_run.proofs.Received.{Answered, AreMade, answered_inside, answered_outside, answered_run, answered_write, answers_ok, before_inside, before_report, leaves, received, text_of, texts_known}
+use Rattle.napt_run.specs.Origins.{origin_of}
+use Rattle.napt_run.proofs.captures.resume_captures.Goals as goal
 
 -- WHAT THE RETURNS SHARE
 
 -- once outputs are made
 known : (g : Over) (c : In_ok-outputs g) →
-    AreMade c.args.config.now (g.R.Source.remaining c.args.inside.now) (g.Q.Source.remaining c.args.outside.now)
+    AreMade (origin_of c.args.start) (g.R.Source.remaining c.args.inside.now) (g.Q.Source.remaining c.args.outside.now)
     (record { inside = c.in_ok-inside.inside; outside = c.in_ok-outside.outside })
 known g c =
-    texts_known c.in_ok-outputs.outputs c.args.config.now _ _
+    texts_known c.in_ok-outputs.outputs (origin_of c.args.start) _ _
     (record { inside = c.in_ok-inside.inside; outside = c.in_ok-outside.outside }) c.in_ok-inside.ensures.ok
     c.in_ok-outside.ensures.ok c.in_ok-outputs.ensures.too_many.1
 
 -- what an output gets that received a share of its text
 got : (g : Over) (c : In_ok-outputs g) (which : Which) (share : Share) {told : List ℕ} (old new : Option (List ℕ)) →
     told ≡ text_of which c.in_ok-outputs.outputs → Receives share told old new →
-    Gets c.args.config.now which share (g.R.Source.remaining c.args.inside.now)
+    GetsFrom (origin_of c.args.start) which share (g.R.Source.remaining c.args.inside.now)
     (g.Q.Source.remaining c.args.outside.now) old new
 got g c which share old new is kept =
     received which share _ _ _ _ _ _ _ _ (known g c) c.in_ok-outputs.ensures.ok is kept
 
 -- what it answers where writing an output failed
 unwritten : (g : Over) (c : In_ok-outputs g) (which : Which) (fault : Fault) → IsWriteFaultOf which fault →
-    Answered c.args.config.now (g.R.Source.remaining c.args.inside.now) (g.Q.Source.remaining c.args.outside.now)
+    Answered (origin_of c.args.start) (g.R.Source.remaining c.args.inside.now) (g.Q.Source.remaining c.args.outside.now)
     (Err fault)
 unwritten g c which fault is =
-    answered_write which c.args.config.now _ _
+    answered_write which (origin_of c.args.start) _ _
     (record { inside = c.in_ok-inside.inside; outside = c.in_ok-outside.outside }) fault c.in_ok-inside.ensures.ok
     c.in_ok-outside.ensures.ok is (known g c)
 
 pub returns-in_err-inside-clause-answer : goal.returns-in_err-inside-clause-answer
 returns-in_err-inside-clause-answer g c =
     let p = err_from_is_err_and c.from_residual.result c.from_residual.ensures.1 in
-    rw (p.1, p.2) (answered_inside c.args.config.now (g.R.Source.remaining c.args.inside.now)
+    rw (p.1, p.2) (answered_inside (origin_of c.args.start) (g.R.Source.remaining c.args.inside.now)
     (g.Q.Source.remaining c.args.outside.now) c.in_err-inside.field-0.0 c.in_err-inside.ensures.err).answer
 
 pub returns-in_err-inside-clause-fault : goal.returns-in_err-inside-clause-fault
 returns-in_err-inside-clause-fault g c =
     let p = err_from_is_err_and c.from_residual.result c.from_residual.ensures.1 in
-    rw (p.1, p.2) (answered_inside c.args.config.now (g.R.Source.remaining c.args.inside.now)
+    rw (p.1, p.2) (answered_inside (origin_of c.args.start) (g.R.Source.remaining c.args.inside.now)
     (g.Q.Source.remaining c.args.outside.now) c.in_err-inside.field-0.0 c.in_err-inside.ensures.err).fault
 
 pub returns-in_err-outside-clause-answer : goal.returns-in_err-outside-clause-answer
 returns-in_err-outside-clause-answer g c =
     let p = err_from_is_err_and c.from_residual-in_err-outside.result c.from_residual-in_err-outside.ensures.1 in
-    rw (p.1, p.2) (answered_outside c.args.config.now (g.R.Source.remaining c.args.inside.now)
+    rw (p.1, p.2) (answered_outside (origin_of c.args.start) (g.R.Source.remaining c.args.inside.now)
     (g.Q.Source.remaining c.args.outside.now) c.in_ok-inside.inside
     c.in_err-outside.field-0.0 c.in_ok-inside.ensures.ok c.in_err-outside.ensures.err).answer
 
 pub returns-in_err-outside-clause-fault : goal.returns-in_err-outside-clause-fault
 returns-in_err-outside-clause-fault g c =
     let p = err_from_is_err_and c.from_residual-in_err-outside.result c.from_residual-in_err-outside.ensures.1 in
-    rw (p.1, p.2) (answered_outside c.args.config.now (g.R.Source.remaining c.args.inside.now)
+    rw (p.1, p.2) (answered_outside (origin_of c.args.start) (g.R.Source.remaining c.args.inside.now)
     (g.Q.Source.remaining c.args.outside.now) c.in_ok-inside.inside
     c.in_err-outside.field-0.0 c.in_ok-inside.ensures.ok c.in_err-outside.ensures.err).fault
 
 pub returns-in_err-outputs-clause-answer : goal.returns-in_err-outputs-clause-answer
 returns-in_err-outputs-clause-answer g c =
     let p = err_from_is_err_and c.from_residual-in_err-outputs.result c.from_residual-in_err-outputs.ensures.1 in
-    rw (p.1, p.2) (answered_run c.args.config.now (g.R.Source.remaining c.args.inside.now)
+    rw (p.1, p.2) (answered_run (origin_of c.args.start) (g.R.Source.remaining c.args.inside.now)
     (g.Q.Source.remaining c.args.outside.now)
     (record { inside = c.in_ok-inside.inside; outside = c.in_ok-outside.outside }) c.in_err-outputs.field-0.0
     c.in_ok-inside.ensures.ok c.in_ok-outside.ensures.ok c.in_err-outputs.ensures.too_many.0
@@ -70,7 +71,7 @@ returns-in_err-outputs-clause-answer g c =
 pub returns-in_err-outputs-clause-fault : goal.returns-in_err-outputs-clause-fault
 returns-in_err-outputs-clause-fault g c =
     let p = err_from_is_err_and c.from_residual-in_err-outputs.result c.from_residual-in_err-outputs.ensures.1 in
-    rw (p.1, p.2) (answered_run c.args.config.now (g.R.Source.remaining c.args.inside.now)
+    rw (p.1, p.2) (answered_run (origin_of c.args.start) (g.R.Source.remaining c.args.inside.now)
     (g.Q.Source.remaining c.args.outside.now)
     (record { inside = c.in_ok-inside.inside; outside = c.in_ok-outside.outside }) c.in_err-outputs.field-0.0
     c.in_ok-inside.ensures.ok c.in_ok-outside.ensures.ok c.in_err-outputs.ensures.too_many.0
@@ -166,5 +167,10 @@ returns-clause-report g c =
 
 pub returns-clause-answer : goal.returns-clause-answer
 returns-clause-answer g c =
-    answers_ok c.args.config.now _ _ (record { inside = c.in_ok-inside.inside; outside = c.in_ok-outside.outside })
+    answers_ok (origin_of c.args.start) _ _ (record { inside = c.in_ok-inside.inside; outside = c.in_ok-outside.outside })
     (known g (goal.at.returns-clause-answer g c).In_ok-outputs)
+
+pub returns-clause-left : goal.returns-clause-left
+returns-clause-left g c =
+    leaves (origin_of c.args.start) _ _ (record { inside = c.in_ok-inside.inside; outside = c.in_ok-outside.outside })
+    c.in_ok-outputs.outputs.passed c.in_ok-inside.ensures.ok c.in_ok-outside.ensures.ok c.in_ok-outputs.ensures.ok.left
