@@ -355,10 +355,10 @@ same_outcomes : {P : Type 0} (tells : Passage → P) (all : List Stepped) →
 same_outcomes tells [] = refl
 same_outcomes tells (s ∷ all) = ap (λ l. s.outcome ∷ l) (same_outcomes tells all)
 
-pub departed_outcomes : {P : Type 0} (tells : Passage → P) (rules : Rules) (inputs : List Arrival) →
-    map (λ d. d.outcome) (departed tells rules inputs) ≡ (run rules inputs (opening rules)).outcomes
-departed_outcomes tells rules inputs = same_outcomes tells (steps rules inputs) ∙ steps_outcomes rules inputs
+pub departed_outcomes : {P : Type 0} (tells : Passage → P) (rules : Rules) (start : State) (inputs : List Arrival) →
+    map (λ d. d.outcome) (departed tells rules start inputs) ≡ (course_from rules start inputs).outcomes
+departed_outcomes tells rules start inputs = same_outcomes tells (steps_of rules start inputs) ∙ steps_outcomes rules inputs
 
-pub departed_long : {P : Type 0} (tells : Passage → P) (rules : Rules) (inputs : List Arrival) →
-    length (departed tells rules inputs) ≡ length inputs
-departed_long tells rules inputs = length-map (steps rules inputs) (departed_of tells) ∙ steps_long rules inputs
+pub departed_long : {P : Type 0} (tells : Passage → P) (rules : Rules) (start : State) (inputs : List Arrival) →
+    length (departed tells rules start inputs) ≡ length inputs
+departed_long tells rules start inputs = length-map (steps_of rules start inputs) (departed_of tells) ∙ steps_long rules inputs

@@ -10,7 +10,7 @@ loop-index-preserved g c = record {
     c.loop-index.invariant.made,
     c.in_ok-translator.ensures.shown,
     c.in_ok-copy.ensures,
-    started_more c.args.config.now c.loop-index.index,
+    started_more c.args.config.now start c.loop-index.index,
   ) refl;
 }
 
@@ -26,6 +26,6 @@ returns-clause-many g c =
       arith,
       ap length c.pool.ensures.addresses,
       ap length c.loop-index.invariant.made,
-      length_started c.args.config.now c.loop-index.index,
+      length_started c.args.config.now start c.loop-index.index,
       c.loop-index.made.ok.0,
     )
