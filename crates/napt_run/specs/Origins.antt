@@ -1,8 +1,8 @@
 -- What a run goes on from: a configuration, and a state.
 use Rattle.std.specs.Prelude.{List}
 use Rattle.napt_config.specs.Rules.{Rules}
-use Rattle.napt_rules.specs.Prelude.{Arrival, Ran, State, anew, ran_from, under}
-use Rattle.napt_dispatch.specs.{Passing.LeavesTranslators, declared.workers.Passed.Passed}
+use Rattle.napt_rules.specs.Prelude.{Arrival, Ran, State, anew, left_by, ran_from, under}
+use Rattle.napt_dispatch.specs.{Passing.LeavesState, declared.workers.Passed.Passed}
 use Rattle.napt_run.specs.declared.start.Start.{Start}
 
 pub record Origin : Type 0 where
@@ -26,4 +26,4 @@ ran_by origin inputs = ran_from origin.rules origin.state inputs
 
 -- what is returned gives the state that the run leaves
 abbrev pub GivesState : Origin → List Arrival → Passed → Type 0
-GivesState origin inputs passed = LeavesTranslators origin.rules origin.state inputs passed
+GivesState origin inputs passed = LeavesState origin.rules (left_by origin.rules origin.state inputs) passed
