@@ -1,15 +1,15 @@
 -- What the workers are left with shows what a run gives, and from what a run goes on.
 use Rattle.std.proofs.lemmas.{Grind.common_steps, Bool.Decides.nat_tests, Option.get_or_from_slice_get}
-use Rattle.std.proofs.Common.{◌≡◌, ℕ, zero, suc, ◌+◌, ◌<◌, ◌≤◌, max, List, [], ◌∷◌, ◌++◌, length, map, Result, Ok, refl, sym, ◌∙◌, ap, subst, arith}
+use Rattle.std.proofs.Common.{◌≡◌, ℕ, zero, suc, ◌+◌, ◌<◌, ◌≤◌, max, List, [], ◌∷◌, ◌++◌, length, map, Result, Ok, refl, sym, ◌∙◌, ap, subst, arith, append-nil}
 use Rattle.std.{proofs.lemmas.List.{length-map, Folds.flat_map-map}, specs.Prelude.{slice_index, slice_index_or, flat_map, OnOk}}
 use Rattle.napt_config.specs.Rules.{Rules}
-use Rattle.napt_rules.specs.{declared.Row.Row, Prelude.{left_by as run_left_by, of, hold_ago, Arrival, rows_of, rows, Course, State, course_from, last_clock, legs_at, Ran, ran_from, Kept, kept_after_all}}
+use Rattle.napt_rules.specs.{declared.Row.Row, Prelude.{left_by as run_left_by, Binding, of, hold_ago, opening, anew, under, Arrival, rows_of, rows, Course, State, course_from, last_clock, legs_at, Ran, ran_from, Kept, kept_after_all}}
 use Rattle.napt_rules.specs.declared.{Leg.Leg, Outcome.Outcome}
 use Rattle.napt_translate.specs.Translators.{TranslatorState, begun, kept_of, with_kept, left_by}
 use Rattle.napt_pool.specs.{declared.closing.Ended.Ended, Pools.zip_with}
 use Rattle.napt_laws.{specs.Agreeing.IsAtOnce, proofs.{Purges.of_purge, RunsLocal.seen_from}}
 use Rattle.napt_dispatch.specs.{declared.workers.Passed.Passed, Passing.LeavesState}
-use Rattle.napt_dispatch.{specs.Dispatch.{started_from, of_worker, fresh, rows_after, IsDispatchedFrom}, proofs.{Lanes.place_within, Ended.{zip_index, zip_long, length_started, started_at}}}
+use Rattle.napt_dispatch.{specs.Dispatch.{started_from, started, of_worker, fresh, rows_after, IsDispatchedFrom}, proofs.{Lanes.place_within, Ended.{zip_index, zip_long, length_started, started_at}}}
 
 -- LISTS
 
@@ -124,6 +124,16 @@ module _ (f : TranslatorState → List Leg → TranslatorState) where
 pub started_more : (rules : Rules) (start : State) (n : ℕ) → started_from rules start (n + 1)
     ≡ started_from rules start n ++ with_kept (begun n rules) (fresh start (slice_index rules.pool n)) ∷ []
 started_more rules start n = let e : n + 1 ≡ suc n = omega arith in ap (started_from rules start) e
+
+-- from a state without bindings they begin as the configuration opens
+pub under_nothing : (rules : Rules) → under rules (record { clock = 0; list = [] }) ≡ anew rules
+under_nothing rules = ap (λ (list : List Binding). record { clock = 0; list = list }) (append-nil (opening rules))
+
+pub started_anew : (rules : Rules) (starts : List TranslatorState) →
+    starts ≡ started_from rules (under rules (record { clock = 0; list = [] })) (length rules.pool) →
+    starts ≡ started rules (length rules.pool)
+started_anew rules starts is =
+    is ∙ ap (λ (start : State). started_from rules start (length rules.pool)) (under_nothing rules)
 
 -- the rows of the workers as they ended, by their translators
 pub rows_shown : {A : Type 0} (last : ℕ) (bindings : List Row) (ended lent : List (Ended TranslatorState Leg A)) →

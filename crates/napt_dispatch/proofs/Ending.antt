@@ -2,7 +2,7 @@
 use Rattle.std.proofs.lemmas.{Grind.common_steps, Bool.Decides.nat_tests, List.length-map}
 use Rattle.std.proofs.Common.{◌≡◌, ℕ, Bool, false, inr, List, [], ◌++◌, length, replicate, Option, MatchOption, refl, sym, ◌∙◌, ap, subst, arith, append-nil}
 use Rattle.napt_config.specs.Rules.{Rules}
-use Rattle.napt_rules.specs.{Prelude.Arrival, declared.Leg.Leg}
+use Rattle.napt_rules.specs.{Prelude.{Arrival, State}, declared.Leg.Leg}
 use Rattle.napt_laws.specs.Dispatching.{IsFront}
 use Rattle.napt_sequential.specs.declared.{fault.RunFault.{RunFault, TheVariants.Memory}, telling.Told.Told, passage.Passage.Passage}
 use Rattle.napt_pool.specs.{declared.pool.Pool.Pool, Pools.{accepts, takes as taken}, Workers.{machine_of, accepted_of, taken_of}}

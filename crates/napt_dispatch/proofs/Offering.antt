@@ -1,7 +1,7 @@
 -- What is true of a worker after legs were offered and answers taken.
 use Rattle.std.{proofs.lemmas.{Grind.common_steps, Bool.{Decides.nat_tests, cases_lt}, List.length-map}, specs.Prelude.slice_set}
 use Rattle.std.proofs.Common.{◌≡◌, ◌≢◌, ◌⊎◌, ◌||◌, ℕ, zero, suc, ◌+◌, ◌<◌, ◌≤◌, min, Bool, true, false, List, [], ◌∷◌, ◌++◌, length, map, take, drop, length-append, length-drop, take-append-drop, Option, refl, sym, ◌∙◌, ap, subst, arith}
-use Rattle.napt_rules.specs.{Prelude.{opening, run}, declared.Leg.Leg}
+use Rattle.napt_rules.specs.{Prelude.course_from, declared.Leg.Leg}
 use Rattle.napt_pool.specs.{declared.pool.Pool.Pool, Pools.{starts, accepts, takes, capacity_of}}
 use Rattle.napt_dispatch.specs.declared.dispatcher.{Dispatcher.Dispatcher, holding.{Front.Front, Held.TheVariants.Ready}, progress.Progress.Progress}
 use Rattle.napt_dispatch.specs.{declared.{dispatcher.progress.Progress.TheVariants.{Returning, Answered}, departures.Departed.Departed}, Dispatch.of_worker}

@@ -3,7 +3,7 @@ use Rattle.std.{proofs.lemmas.{Grind.common_steps, Bool.Decides.nat_tests, List.
 use Rattle.std.proofs.Common.{◌≡◌, ℕ, max, Bool, List, [], ◌∷◌, ◌++◌, length, map, Option, Some, Result, Ok, Err, refl, sym, ◌∙◌, ap, subst, arith, append-nil, append_assoc}
 use Rattle.napt_wire.specs.declared.{Way.Way, Side.Side}
 use Rattle.napt_config.specs.Rules.{Rules}
-use Rattle.napt_rules.specs.{declared.Leg.Leg, Prelude.{opening, way_from, Arrival, run, last_clock}}
+use Rattle.napt_rules.specs.{declared.Leg.Leg, Prelude.{way_from, Arrival, State, course_from, last_clock}}
 use Rattle.napt_pool.specs.{declared.pool.Pool.Pool, Pools.{accepts, takes as taken}}
 use Rattle.napt_sequential.{specs.{Inputs.Came, declared.{fault.RunFault.RunFault, passage.Passage.Passage}}, proofs.{Joined.input_there, Traced.outside_alone}}
 use Rattle.napt_sequential.specs.declared.telling.Told.{Told}

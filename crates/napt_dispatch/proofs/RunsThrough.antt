@@ -37,11 +37,11 @@ module _ {P : Type 0} {tells : Passage → P} {A F S B M G : Type 0} {rules : Ru
       } in r ≡ ran_from rules start e.inputs) → LeavesState rules (left_by rules start e.inputs) passed →
       PassesWell tells rules start hands ends takes fails is_settled from before left after passed
   unfolding passes_to
-  passes_well done passed e is left = record {
+  passes_well done passed e is leaves = record {
     whole = passes_to None done e;
     bindings = ap (λ (r : Ran). r.bindings) is;
     legs = ap (λ (r : Ran). r.legs) is;
-    left = left;
+    leaves = leaves;
   }
 
   pub passes_early : (fault : B) →

@@ -5,7 +5,7 @@ use Rattle.std.{specs.Prelude.{IfSome, drop, flat_map, slice_index, slice_get, s
 use Rattle.std.proofs.lemmas.{List.{length_push, map-append, length-replicate, length-map, get_or-map}, Grind.flat_map-append, Option.same_Some}
 use Rattle.napt_wire.specs.{declared.{Way.{Way, TheVariants.Outgoing}, Cause.Cause, Side.{Side, TheVariants.Inside}}, Fields.destination, Packet.IsPacket}
 use Rattle.napt_config.specs.{Rules.{Rules, place_of}, declared.settings.Timers.Timers}
-use Rattle.napt_rules.specs.Prelude.{Each, opening, way_from, served_at, Acted, act, follow_by, Arrival, admission, Act, Course, run, last_clock, acts_at, legs_at, Kept, kept_after}
+use Rattle.napt_rules.specs.Prelude.{Each, way_from, served_at, Acted, act, follow_by, Arrival, admission, Act, Course, State, course_from, last_clock, acts_at, legs_at, Kept, kept_after}
 use Rattle.napt_rules.specs.declared.{Leg.Leg, End.End, Outcome.Outcome}
 use Rattle.napt_rules.specs.declared.End.TheVariants as ends
 use Rattle.napt_rules.specs.declared.Outcome.TheVariants as outcomes
@@ -24,7 +24,7 @@ use Rattle.napt_laws.proofs.{Dispatched.answers_tell, Grown.outcomes_long, OneIn
 use Rattle.napt_laws.proofs.{Places.{legs_append, answers_fill, cond_map, place_stands, acts_grow}, Pools.stands_at}
 use Rattle.napt_pool.specs.{declared.pool.Pool.Pool, Pools.{accepts, takes}}
 use Rattle.napt_sequential.specs.{declared.{telling.Told.Told, passage.{Passage.TheVariants.Nothing, Trace.Trace}}, CountedTranslators.{told_of, told_by}}
-use Rattle.napt_sequential.{specs.{Steps.{steps, told_replies}, Traces.{passage_of, traces}}, proofs.{Joined.{steps_get, refused_trace}, ToldAlone.right_told}}
+use Rattle.napt_sequential.{specs.{Steps.{steps_of, told_replies}, Traces.{passage_of, traces_of}}, proofs.{Joined.{steps_get, refused_trace}, ToldAlone.right_told}}
 use Rattle.napt_sequential.{proofs.Traced.{IsTraced, IsPlaced, legs_traced}, specs.declared.passage.Passage.Passage}
 
 -- FRONTS
@@ -415,10 +415,10 @@ module _ {P : Type 0} (tells : Passage → P) (rules : Rules) (start : State) (a
       IsKnown (whole_of tells rules start all) told.answer.number (now_told owed)
   answer_known was is o right front known =
       let first = head o in
-      let told_front = right_told tells rules address all (opening rules) offered (taken ++ told ∷ []) front right in
+      let told_front = right_told tells rules address start all offered (taken ++ told ∷ []) front right in
       let each : Each (Tells rules start all) (acts_at address course.acts) =
       each_at (Tells rules start all) address course.acts (each_tells rules start all course.acts
-      (answers_tell rules all (opening rules)) (answers_fill rules all (opening rules)) (legs_traced rules all)) in
+      (answers_tell rules start all) (answers_fill rules start all) (legs_traced rules start all)) in
       let legs : o.before ++ first.0 ∷ (first.1 ++ front.0) ≡ map (λ (a : Act). a.leg) (acts_at address course.acts) =
       rw (o.parts, first.2, append_assoc) at front.1 in
       subst (λ (o : Owed). IsKnown (whole_of tells rules start all) told.answer.number (now_told o)) (sym first.3)
@@ -535,10 +535,10 @@ module _ {P : Type 0} (tells : Passage → P) (rules : Rules) (start : State) (d
   refused_stands cause is queues written =
       let before : Course = course_from rules start done in
       let acts : (course_from rules start now_done).acts ≡ before.acts =
-      ap (λ (r : Course). r.acts) (grown rules done rest input number now long clock (Err cause) is)
+      ap (λ (r : Course). r.acts) (grown rules start done rest input number now long clock (Err cause) is)
       ∙ append-nil before.acts in
       let outs : (course_from rules start now_done).outcomes ≡ before.outcomes ++ outcomes.Dropped cause ∷ [] =
-      ap (λ (r : Course). r.outcomes) (grown rules done rest input number now long clock (Err cause) is) in
+      ap (λ (r : Course). r.outcomes) (grown rules start done rest input number now long clock (Err cause) is) in
       let front : IsFront (course_from rules start now_done).outcomes (course_from rules start all_of).outcomes =
       outcomes_begin rules 0 start.clock now_done rest start.list in
       let e : (course_from rules start all_of).outcomes ≡ (before.outcomes ++ outcomes.Dropped cause ∷ [])
@@ -553,7 +553,7 @@ module _ {P : Type 0} (tells : Passage → P) (rules : Rules) (start : State) (d
       (refused (tells Nothing) now cause) (ended_known (whole_of tells rules start all_of) number
       (refused_at (tells Nothing) now cause) (get_map (departed_of tells) (steps_of rules start all_of) number
       (record { outcome = outcomes.Dropped cause; trace = record { now = now; first = Nothing; second = Nothing } })
-      (steps_get rules all_of number (outcomes.Dropped cause) _ there (refused_trace rules done rest input number now
+      (steps_get rules start all_of number (outcomes.Dropped cause) _ there (refused_trace rules start done rest input number now
       long clock cause is)))) known))
 
   module _ (packet : List ℕ) (admitted : admission rules input ≡ Ok packet) (foretold : OnwardIsForetold)
@@ -586,7 +586,7 @@ module _ {P : Type 0} (tells : Passage → P) (rules : Rules) (start : State) (d
         cc in
         let acts : (course_from rules start now_done).acts ≡ before.acts ++ first_act rules at_w leg_of before.list
         ∷ [] =
-        acts_grow rules done rest input number now long clock packet admitted ∙ ap (λ (xs : List Act). before.acts
+        acts_grow rules start done rest input number now long clock packet admitted ∙ ap (λ (xs : List Act). before.acts
         ++ xs) (single_by rules at_w leg_of first first.end never) in
         rw (
           acts,
@@ -607,7 +607,7 @@ module _ {P : Type 0} (tells : Passage → P) (rules : Rules) (start : State) (d
     placed_stands to to_within goes side many holds s =
         grown_stands (λ v. only_at w (Ready leg_of ∷ []) v ++ only_at to (Place number ∷ []) v) many holds
         (λ v lt. rw (
-          place_stands rules done rest input number now long clock packet admitted foretold is (ap way_from side)
+          place_stands rules start done rest input number now long clock packet admitted foretold is (ap way_from side)
               (at_place v),
           same_first v lt,
           ← goes,

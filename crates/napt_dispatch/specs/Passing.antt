@@ -256,7 +256,7 @@ module _ {P A F S B : Type 0} (tells : Passage → P) (rules : Rules) (start : S
       pub whole : PassesTo None
       pub bindings : passed.bindings.items ≡ (ran_from rules start whole.inputs).bindings
       pub legs : passed.legs.items ≡ (ran_from rules start whole.inputs).legs
-      pub left : LeavesState rules (left_by rules start whole.inputs) passed
+      pub leaves : LeavesState rules (left_by rules start whole.inputs) passed
 
     -- the departures failed, and what left before are the first outcomes of the sequential run
     pub record PassesEarly (fault : B) : Type 0 where

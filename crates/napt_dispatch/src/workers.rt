@@ -212,7 +212,7 @@ fn translators<P: Telling>(
 }
 
 /// The result of a run whose workers ended so.
-fn passed<P: Telling>(
+fn result_of<P: Telling>(
     alloc: Global,
     ended: Vec<Ended<Worker<P>>>,
     legs: Vec<u64>,
@@ -278,7 +278,7 @@ pub fn run_through<
         ending,
     } = dispatched;
     match ending {
-        Ending::Whole => match passed(alloc, ended, legs, clock) {
+        Ending::Whole => match result_of(alloc, ended, legs, clock) {
             Ok(passed) => Ok(passed),
             Err(_) => Err(Stopped::Run(RunFault::Memory)),
         },

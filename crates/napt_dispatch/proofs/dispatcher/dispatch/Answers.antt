@@ -1,7 +1,8 @@
 use Rattle.std.{proofs.Common.{◌≡◌, ◌∙◌, length, refl, subst}, specs.Prelude.⊤}
 use Rattle.napt_config.specs.Rules.{Rules}
+use Rattle.napt_rules.specs.Prelude.{State, anew}
 use Rattle.napt_pool.specs.Pools.{starts, accepts, takes}
-use Rattle.napt_dispatch.{specs.Dispatch.{started, IsDispatchedFrom}, proofs.{Ended.right_since, RunsThrough.dispatched_whole}}
+use Rattle.napt_dispatch.{specs.Dispatch.{started_from, IsDispatchedFrom}, proofs.{Ended.right_since, RunsThrough.dispatched_whole}}
 use Rattle.napt_sequential.specs.CountedTranslators.{nothing_told}
 use Rattle.napt_dispatch.proofs.dispatcher.dispatch.Goals as goal
 
