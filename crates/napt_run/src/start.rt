@@ -1,8 +1,8 @@
 //! What a run goes on from, and what it needs besides its devices.
 ghost use Rattle.std.specs.Prelude.{◌≡◌};
 ghost use Rattle.napt_config.specs.Rules.{Rules};
-ghost use Rattle.napt_rules.specs.Prelude.{Takes, anew, under};
-ghost use Rattle.napt_run.specs.Streams.{ended};
+ghost use Rattle.napt_rules.specs.Prelude.{Takes};
+ghost use Rattle.napt_run.specs.{Origins.{opened, resumed}, Streams.ended};
 
 use napt_config::Config;
 use napt_dispatch::Passed;
@@ -42,7 +42,7 @@ pub(crate) fn without_state(run: Result<Passed, Fault>) -> Result<(), Fault>
 /// The state before any input, without bindings.
 pub(crate) fn unbegun(alloc: Global) -> State
     ensures taken { (rules : Rules) → Takes rules result }
-    ensures anew { (rules : Rules) → under rules result ≡ anew rules }
+    ensures opens { (rules : Rules) → resumed rules result ≡ opened rules }
 {
     State {
         clock: 0,
