@@ -101,4 +101,4 @@ joined_traces (o ∷ os) (t ∷ ts) e = ap (λ (l : List Trace). t ∷ l) (joine
 -- and its traces
 pub steps_traces : (rules : Rules) (state : State) (inputs : List Arrival) →
     map (λ s. s.trace) (steps_of rules state inputs) ≡ traces_of rules state inputs
-steps_traces_of rules state inputs = grind (arith, common_steps, nat_tests, joined_traces, outcomes_long, traces_long)
+steps_traces rules state inputs = grind (arith, common_steps, nat_tests, joined_traces, outcomes_long, traces_long)
