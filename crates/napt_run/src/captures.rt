@@ -70,7 +70,7 @@ impl Captures {
 
 /// Runs over the captures, and makes everything to be written.
 fn make_outputs<T: Threads + Wait + Copy + Send + 'static, G: Gate + Send + Sync + Drop + 'static>(
-    setting: Setting<'_, T, G>,
+    setting: Setting<'_, '_, T, G>,
     captures: Captures,
 ) -> Result<Outputs, RunFault>
     requires inside { All IsWritable captures.inside.records }

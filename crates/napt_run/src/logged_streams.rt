@@ -42,6 +42,7 @@ fn log_laws(config: &Config)
 
 impl<T: Threads + Wait + Copy + Send + 'static, G: Gate + Send + Sync + Drop + 'static> Setting<
     '_,
+    '_,
     T,
     G,
 > {

@@ -21,10 +21,10 @@ pub struct Start<'a> {
 
 /// What a run needs besides its devices.
 #[derive(Drop)]
-pub(crate) struct Setting<'a, T, G> {
+pub(crate) struct Setting<'a, 'b, T, G> {
     pub(crate) rt: &'a T,
     pub(crate) alloc: Global,
-    pub(crate) start: Start<'a>,
+    pub(crate) start: Start<'b>,
     pub(crate) gate: Arc<G>,
     ghost is_taken: { Takes start.config.now start.state.now },
 }

@@ -19,6 +19,7 @@ use std::thread::Threads;
 
 impl<T: Threads + Wait + Copy + Send + 'static, G: Gate + Send + Sync + Drop + 'static> Setting<
     '_,
+    '_,
     T,
     G,
 > {
