@@ -5,7 +5,7 @@ use Rattle.napt_wire.specs.declared.Side.{Side}
 use Rattle.napt_capture.specs.declared.device.Sink as sink
 use Rattle.napt_capture.specs.declared.device.Source as source
 use Rattle.napt_capture.specs.declared.fault.CaptureFault.{CaptureFault}
-use Rattle.napt_run.specs.Origins.{Origin}
+use Rattle.napt_run.specs.Origins.{Origin, ran_by}
 use Rattle.napt_dispatch.specs.{Dispatch.{departed, departed_of}, Passing.{HasCome, timed}, declared.{departures.Departed.Departed, stopped.Stopped.Stopped}}
 use Rattle.napt_dispatch.specs.declared.workers.Passed.{Passed}
 use Rattle.napt_dispatch.specs.Passing as passing
@@ -151,7 +151,7 @@ module _ {P A F W V K E : Type 0} {S : sink.Ghosts W} {T : sink.Ghosts V} (tells
 
   pub passes_by : (result : Result Passed (Stopped F (LeavingFault E))) → RunPasses result →
       PassesBy origin hands ends from before.leaving left after.leaving result
-  unfolding passes_to
+  unfolding passes_to ran_by
   passes_by (Ok passed) p = record { whole = passes_to None p.whole; bindings = p.bindings; leaves = p.leaves }
   passes_by (Err (stops.Arrival fault)) p = passes_to (Some fault) p
   passes_by (Err (stops.Departure (Output fault))) p = record {

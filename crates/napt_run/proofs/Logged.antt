@@ -17,9 +17,9 @@ use Rattle.napt_sequential.{specs.{Traces.traces, declared.{fault.RunFault.RunFa
 use Rattle.napt_sequential.specs.declared.fault.RunFault.TheVariants as reasons
 use Rattle.napt_run.specs.LeavingLaws.{breaks_more, grows_more}
 use Rattle.napt_run.specs.LoggedStreams.{FailsAtMostOnce, HasBytes, HasLog, HasPart, HasRows, HasWritten, LogIsLeft, LoggedSays, besides_log, fault_of}
-use Rattle.napt_run.specs.{Logging.{EntersAll, EntersFront, FailsOver, Legs, LogsTo, as_run, legs_told}, Outputs.{Breaks, Grows}, Origins.opened, Runs.{IfHeld, ResultSays}}
+use Rattle.napt_run.specs.{Logging.{EntersAll, EntersFront, FailsOver, Legs, LogsTo, as_run, legs_told}, Outputs.{Breaks, Grows}, Origins.{Origin, opened}, Runs.{IfHeld, ResultSays}}
 use Rattle.napt_run.specs.RunningLogs.{Adds, AreLaws, Enters, Fails, FailsBy, FailsMore, Flushes, GoesOn, Halts, IsAt, IsFlushedAt, traces_of}
-use Rattle.napt_run.specs.{Streams.{AreTaken, DeviceGets, HasRead, IsOfRun}, declared.logged_fault.LoggedFault.{LoggedFault, TheVariants.{Run, Log}}}
+use Rattle.napt_run.specs.{Streams.{AreTaken, DeviceGets, DeviceGetsFrom, HasRead, IsOfRun}, declared.logged_fault.LoggedFault.{LoggedFault, TheVariants.{Run, Log}}}
 use Rattle.napt_run.specs.declared.{logging.Halt.Halt, output.Output.Output, passing.Totals.Totals, running_log.RunningLog.RunningLog}
 use Rattle.napt_run.proofs.{Endings.{IsBeforeReport, all_left}, Streamed.{IfHeld-all, IfHeld-map}, TraceFronts.{NextInput, next_input}}
 use Rattle.napt_run.specs.declared.logging.Halt.TheVariants as halts
@@ -183,6 +183,12 @@ module _ {L : Type 0} {S : Ghosts L} (rules : Rules) (laws : AreLaws rules) (ins
 
   abbrev pub Watched : Result Totals (Halt LoggedFault) → Type 0
   Watched result = LogsTo (λ (p : Passage). p) (opened rules) EntersLegs FailsLegs Settled inside outside mid after result
+
+  -- of a run that begins so
+  pub by_origin : (origin : Origin) → origin ≡ opened rules → (result : Result Totals (Halt LoggedFault)) →
+      LogsTo (λ (p : Passage). p) origin EntersLegs FailsLegs Settled inside outside mid after result → Watched result
+  by_origin origin is result p =
+      subst (λ o. LogsTo (λ (p : Passage). p) o EntersLegs FailsLegs Settled inside outside mid after result) is p
 
   abbrev Front : Type 0
   Front = EntersFront (λ (p : Passage). p) (opened rules) EntersLegs FailsLegs Settled inside outside mid after
@@ -461,6 +467,11 @@ text_says open_gate rules inside outside fault p = grind (arith, common_steps, n
 module _ {D : Type 0} (S : Ghosts D) (rules : Rules) (inside outside : Option (List ℕ)) (old new : D) where
   abbrev Device : Which → Result Totals Fault → Type 0
   Device which result = DeviceGets S rules which inside outside result old new
+
+  -- of a run that begins so
+  pub device_by_origin : (origin : Origin) → origin ≡ opened rules → (which : Which) (result : Result Totals Fault) →
+      DeviceGetsFrom S origin which inside outside result old new → Device which result
+  device_by_origin origin is which result p = subst (λ o. DeviceGetsFrom S o which inside outside result old new) is p
 
   -- where the run failed, whatever its fault
   of_run : (which : Which) (result : Result Totals Fault) → IsOfRun result →

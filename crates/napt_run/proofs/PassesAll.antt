@@ -1,7 +1,7 @@
 -- From what passed between inputs that are all at hand and outputs to what these have.
 use native.Mathlib.Omega.{arith}
 use Rattle.std.proofs.lemmas.{Grind.common_steps, Bool.Decides.nat_tests}
-use Rattle.std.{proofs.Common.{◌≡◌, ℕ, Bool, List, [], ◌++◌, All, Result, Ok, Err, IfOk, OnOk}, specs.Io.KnownBytes.Appends}
+use Rattle.std.{proofs.Common.{◌≡◌, ℕ, Bool, List, [], ◌++◌, All, None, Result, Ok, Err, IfOk, OnOk, subst, sym}, specs.Io.KnownBytes.Appends}
 use Rattle.napt_wire.specs.declared.Side.{Side}
 use Rattle.napt_wire.specs.declared.Side.TheVariants as sides
 use Rattle.napt_capture.specs.{Text.file_header, declared.device.Sink.Ghosts}
@@ -20,7 +20,20 @@ pub passes_all : {F W V : Type 0} {S : Ghosts W} {T : Ghosts V} (origin : Origin
     PassesWell {F = F} origin (λ x xs y. x ≡ xs ++ y) (λ x end y. x ≡ []) from old left new passed →
     WritesAll [] origin from old new (record { counts = new.counts; passed = passed })
 passes_all origin from left old new passed none timely p =
-    grind (arith, common_steps, nat_tests, came_whole, times_of, all_counted)
+    let inputs : List Arrival = p.whole.inputs in
+    let whole : from ≡ inputs = came_whole (λ x. x) from left inputs None p.whole.came in
+    let times = times_of inputs (ran_by origin inputs).outcomes (subst (λ (l : List Arrival). All IsTimely l) whole
+    timely) in
+    let tally : Tally = record { counts = new.counts; passed = passed } in
+    subst (λ (l : List Arrival). WritesAll [] origin l old new tally) (sym whole) (record {
+      to_outside = p.whole.took.to_outside times;
+      to_inside = p.whole.took.to_inside times;
+      is_tally = record {
+        counts = all_counted origin inputs old new none p.whole.few p.whole.took;
+        bindings = p.bindings;
+        leaves = p.leaves;
+      };
+    })
 
 -- behind the headers
 pub headed_all : {W V : Type 0} {S : Ghosts W} {T : Ghosts V} (origin : Origin) (inputs : List Arrival)

@@ -193,4 +193,6 @@ before_report fault is = grind (arith, common_steps, nat_tests)
 pub leaves : (origin : Origin) (inside outside : Option (List ℕ)) (captures : Captures) (passed : Passed) →
     IsReadFrom inside captures.inside → IsReadFrom outside captures.outside →
     GivesState origin (arrivals_of captures) passed → Leaves origin inside outside passed
-leaves origin inside outside captures passed first second left = grind (arith, common_steps, nat_tests)
+leaves origin None outside captures passed first second left = tt
+leaves origin (Some bytes) None captures passed first second left = tt
+leaves origin (Some bytes) (Some others) captures passed first second left = rw (first, second) left

@@ -1,10 +1,10 @@
 use Rattle.std.proofs.{Common.{◌∙◌, ap, inr, refl, sym}, lemmas.Result.err_from_is_err_and}
-use Rattle.napt_run.{specs.LoggedStreams.besides_log, proofs.Endings.{Ends, ends_and, reads_by, report_by}}
+use Rattle.napt_run.{specs.{LoggedStreams.besides_log, Origins.opened}, proofs.Endings.{Ends, ends_and, reads_by, report_by}}
 use Rattle.napt_run.proofs.LoggedEndings.{before, besides_and, err_besides, explains, gate, inside_gets, log_gets, ok_besides, on_besides, outside_gets, unbegun_log, unbegun_report}
-use Rattle.napt_run.proofs.logged_streams.run_streams_with_log.{Given.Over, Goals.After-with_report}
+use Rattle.napt_run.proofs.logged_streams.run_streams_with_log.{Given.Over, Goals.After-drop-state-inside}
 use Rattle.napt_run.proofs.logged_streams.run_streams_with_log.Goals as goal
 
-ends : (g : Over) (c : After-with_report g) → Ends (besides_log c.stream_logged-told.result) (besides_log
+ends : (g : Over) (c : After-drop-state-inside g) → Ends (besides_log c.stream_logged-told.result) (besides_log
     c.with_report.result)
 ends g c = ends_and (besides_log c.stream_logged-told.result) c.reported-written.result (besides_log
     c.with_report.result)
@@ -27,7 +27,7 @@ returns-clause-to_inside g c =
 
 pub returns-clause-report : goal.returns-clause-report
 returns-clause-report g c =
-    report_by g.U.Sink c.args.config.now (g.R.Source.remaining c.args.inside.now)
+    report_by g.U.Sink (opened c.args.config.now) (g.R.Source.remaining c.args.inside.now)
     (g.Q.Source.remaining c.args.outside.now) c.args.report.now c.reported-written.new.output
     (besides_log c.stream_logged-told.result) c.reported-written.result (besides_log c.with_report.result)
     (besides_and c.stream_logged-told.result c.reported-written.result c.with_report.result c.with_report.ensures)

@@ -5,4 +5,4 @@ use Rattle.napt_run.proofs.start.Setting.pass_all.Goals as goal
 pub returns-in-Ok-clause-ok : goal.returns-in-Ok-clause-ok
 returns-in-Ok-clause-ok g c =
     passes_all (origin_of c.args.self.start) c.args.inputs c.run_all.new.inputs c.args.both.now.leaving
-    c.run_all.new.both.leaving c.in-Ok.field-0 c.requires.counts c.requires.timely c.in-Ok.ensures.outputs
+    c.run_all.new.both.leaving c.in-Ok.passed c.requires.counts c.requires.timely c.in-Ok.ensures.outputs

@@ -1,9 +1,10 @@
-use Rattle.std.proofs.{Common.{[], List, ℕ, Option, rules, inl, inr, refl}, lemmas.Result.err_from_is_err_and}
+use Rattle.std.proofs.{Common.{[], List, ℕ, Option, Ok, Err, rules, inl, inr, refl, subst}, lemmas.Result.err_from_is_err_and}
 use Rattle.napt_config.specs.Rules.{Rules}
 use Rattle.napt_records.specs.declared.Which.TheVariants as outputs
 use Rattle.napt_sequential.specs.Traces.{traces}
+use Rattle.napt_run.specs.{Logging.as_run, Runs.{IsToldOf, ResultSays}, declared.passing.Totals.Totals}
 use Rattle.napt_run.proofs.Endings.{closed}
-use Rattle.napt_run.proofs.Logged.{adds_fault, at_end, device_after, device_halted, ended_badly, ended_well, halt_is, halt_reads, halt_says, halted, opening, text_says, text_stops, unopened}
+use Rattle.napt_run.proofs.Logged.{adds_fault, at_end, by_origin, device_after, device_by_origin, device_halted, ended_badly, ended_well, halt_is, halt_reads, halt_says, halted, opening, text_says, text_stops, unopened}
 use Rattle.napt_run.proofs.start.Setting.stream_logged.Goals as goal
 
 -- the log could not be opened
@@ -34,17 +35,20 @@ returns-in_err-close-in-Ok g c =
     let inside : Option (List ℕ) = g.R.Source.remaining c.args.inside.now in
     let outside : Option (List ℕ) = g.Q.Source.remaining c.args.outside.now in
     let fault = c.in_err-close-in-Ok.field-0.0 in
-    let logs = rw c.requires.anew at c.in-Ok.ensures.logs in
     let begun = (c.in_ok-open.ensures rules c.log_laws.ensures.keeps c.requires.at).on in
+    let logs = by_origin rules c.log_laws.ensures inside outside c.args.log.now c.open.new.self c.stream.new.log
+    c.requires.written begun _ c.requires.anew (Ok c.in-Ok.totals) c.in-Ok.ensures.logs in
     let there = at_end rules c.log_laws.ensures inside outside c.args.log.now c.open.new.self c.stream.new.log
     c.requires.written begun c.close.new.self c.in-Ok.totals logs in
     let added = c.in_err-close-in-Ok.ensures rules logs.inputs c.log_laws.ensures.keeps there in
     let text = adds_fault rules (traces rules logs.inputs) _ c.stream.new.log c.close.new.self fault added in
     rw (p.1, p.2) (record {
       to_outside = inl (device_after g.W.Sink rules inside outside c.args.to_outside.now c.stream.new.to_outside
-          outputs.Outside c.in-Ok.totals fault text (rw c.requires.anew at c.in-Ok.ensures.to_outside));
+          outputs.Outside c.in-Ok.totals fault text (device_by_origin g.W.Sink rules inside outside c.args.to_outside.now c.stream.new.to_outside
+          _ c.requires.anew outputs.Outside (Ok c.in-Ok.totals) c.in-Ok.ensures.to_outside));
       to_inside = inl (device_after g.V.Sink rules inside outside c.args.to_inside.now c.stream.new.to_inside
-          outputs.Inside c.in-Ok.totals fault text (rw c.requires.anew at c.in-Ok.ensures.to_inside));
+          outputs.Inside c.in-Ok.totals fault text (device_by_origin g.V.Sink rules inside outside c.args.to_inside.now c.stream.new.to_inside
+          _ c.requires.anew outputs.Inside (Ok c.in-Ok.totals) c.in-Ok.ensures.to_inside));
       log = ended_badly rules c.log_laws.ensures inside outside c.args.log.now c.open.new.self c.stream.new.log
           c.requires.written begun c.close.new.self c.in-Ok.totals logs fault added;
       says = text_says g.G.Gate.is_open rules inside outside fault text;
@@ -57,17 +61,20 @@ returns-in_ok-close-in-Ok g c =
     let rules : Rules = c.args.self.start.config.now in
     let inside : Option (List ℕ) = g.R.Source.remaining c.args.inside.now in
     let outside : Option (List ℕ) = g.Q.Source.remaining c.args.outside.now in
-    let logs = rw c.requires.anew at c.in-Ok.ensures.logs in
     let begun = (c.in_ok-open.ensures rules c.log_laws.ensures.keeps c.requires.at).on in
+    let logs = by_origin rules c.log_laws.ensures inside outside c.args.log.now c.open.new.self c.stream.new.log
+    c.requires.written begun _ c.requires.anew (Ok c.in-Ok.totals) c.in-Ok.ensures.logs in
     let there = at_end rules c.log_laws.ensures inside outside c.args.log.now c.open.new.self c.stream.new.log
     c.requires.written begun c.close.new.self c.in-Ok.totals logs in
     record {
-      to_outside = inl (rw c.requires.anew at c.in-Ok.ensures.to_outside);
-      to_inside = inl (rw c.requires.anew at c.in-Ok.ensures.to_inside);
+      to_outside = inl (device_by_origin g.W.Sink rules inside outside c.args.to_outside.now c.stream.new.to_outside
+          _ c.requires.anew outputs.Outside (Ok c.in-Ok.totals) c.in-Ok.ensures.to_outside);
+      to_inside = inl (device_by_origin g.V.Sink rules inside outside c.args.to_inside.now c.stream.new.to_inside
+          _ c.requires.anew outputs.Inside (Ok c.in-Ok.totals) c.in-Ok.ensures.to_inside);
       log = ended_well rules c.log_laws.ensures inside outside c.args.log.now c.open.new.self c.stream.new.log
           c.requires.written begun c.close.new.self c.in-Ok.totals logs
           (c.in_ok-close-in-Ok.ensures rules logs.inputs c.log_laws.ensures.keeps there);
-      says = record { told = rw c.requires.anew at c.in-Ok.ensures.says.told; fault = tt; stop = tt };
+      says = record { told = subst (λ o. IsToldOf o inside outside c.in-Ok.totals) c.requires.anew c.in-Ok.ensures.says.told; fault = tt; stop = tt };
       readings = c.in-Ok.ensures.readings;
     }
 
@@ -79,16 +86,20 @@ returns-in-Err g c =
     let outside : Option (List ℕ) = g.Q.Source.remaining c.args.outside.now in
     let halt = c.in-Err.halt in
     let stopped = c.in-Err.ensures in
-    let logs = rw c.requires.anew at stopped.logs in
-    let says = rw c.requires.anew at stopped.says in
     let begun = (c.in_ok-open.ensures rules c.log_laws.ensures.keeps c.requires.at).on in
+    let logs = by_origin rules c.log_laws.ensures inside outside c.args.log.now c.open.new.self c.stream.new.log
+    c.requires.written begun _ c.requires.anew (Err halt) stopped.logs in
+    let says = subst (λ o. ResultSays g.G.Gate.is_open o inside outside (as_run {T = Totals} (Err halt))) c.requires.anew
+    stopped.says in
     let is = halt_is g.G.Gate.is_open rules c.log_laws.ensures inside outside c.args.log.now c.open.new.self
     c.stream.new.log c.requires.written begun halt logs in
     record {
       to_outside = rw c.fault_of.ensures (inl (device_halted g.W.Sink rules inside outside c.args.to_outside.now
-          c.stream.new.to_outside outputs.Outside halt is (rw c.requires.anew at stopped.to_outside)));
+          c.stream.new.to_outside outputs.Outside halt is (device_by_origin g.W.Sink rules inside outside c.args.to_outside.now c.stream.new.to_outside
+          _ c.requires.anew outputs.Outside (as_run (Err halt)) stopped.to_outside)));
       to_inside = rw c.fault_of.ensures (inl (device_halted g.V.Sink rules inside outside c.args.to_inside.now
-          c.stream.new.to_inside outputs.Inside halt is (rw c.requires.anew at stopped.to_inside)));
+          c.stream.new.to_inside outputs.Inside halt is (device_by_origin g.V.Sink rules inside outside c.args.to_inside.now c.stream.new.to_inside
+          _ c.requires.anew outputs.Inside (as_run (Err halt)) stopped.to_inside)));
       log = rw c.fault_of.ensures (halted rules c.log_laws.ensures inside outside c.args.log.now c.open.new.self
           c.stream.new.log c.requires.written begun c.flush_after.new.self.output c.flush_after.ensures.same
           c.flush_after.ensures.kept c.flush_after.ensures.counts halt logs
