@@ -5,6 +5,6 @@ use Rattle.napt_run.proofs.start.unbegun.Goals as goal
 
 pub returns-clause-opens : goal.returns-clause-opens
 returns-clause-opens c rules =
-    ap (λ (l : List Binding). resumed rules (record { clock = 0; list = l })) c.new.ensures
+    ap (λ (l : List Binding). resumed rules (record { clock = 0; list = l })) c.new.ensures.items
     ∙ ap (λ (l : List Binding). let o : Origin = record { rules = rules; state = record { clock = 0; list = l } } in o)
     (append-nil (opening rules))

@@ -44,11 +44,11 @@ returns-in_err-close-in-Ok g c =
     let text = adds_fault rules (traces rules logs.inputs) _ c.stream.new.log c.close.new.self fault added in
     rw (p.1, p.2) (record {
       to_outside = inl (device_after g.W.Sink rules inside outside c.args.to_outside.now c.stream.new.to_outside
-          outputs.Outside c.in-Ok.totals fault text (device_by_origin g.W.Sink rules inside outside c.args.to_outside.now c.stream.new.to_outside
-          _ c.requires.anew outputs.Outside (Ok c.in-Ok.totals) c.in-Ok.ensures.to_outside));
+          outputs.Outside c.in-Ok.totals fault text (device_by_origin g.W.Sink rules inside outside
+          c.args.to_outside.now c.stream.new.to_outside _ c.requires.anew outputs.Outside (Ok c.in-Ok.totals) c.in-Ok.ensures.to_outside));
       to_inside = inl (device_after g.V.Sink rules inside outside c.args.to_inside.now c.stream.new.to_inside
-          outputs.Inside c.in-Ok.totals fault text (device_by_origin g.V.Sink rules inside outside c.args.to_inside.now c.stream.new.to_inside
-          _ c.requires.anew outputs.Inside (Ok c.in-Ok.totals) c.in-Ok.ensures.to_inside));
+          outputs.Inside c.in-Ok.totals fault text (device_by_origin g.V.Sink rules inside outside
+          c.args.to_inside.now c.stream.new.to_inside _ c.requires.anew outputs.Inside (Ok c.in-Ok.totals) c.in-Ok.ensures.to_inside));
       log = ended_badly rules c.log_laws.ensures inside outside c.args.log.now c.open.new.self c.stream.new.log
           c.requires.written begun c.close.new.self c.in-Ok.totals logs fault added;
       says = text_says g.G.Gate.is_open rules inside outside fault text;
@@ -95,11 +95,11 @@ returns-in-Err g c =
     c.stream.new.log c.requires.written begun halt logs in
     record {
       to_outside = rw c.fault_of.ensures (inl (device_halted g.W.Sink rules inside outside c.args.to_outside.now
-          c.stream.new.to_outside outputs.Outside halt is (device_by_origin g.W.Sink rules inside outside c.args.to_outside.now c.stream.new.to_outside
-          _ c.requires.anew outputs.Outside (as_run (Err halt)) stopped.to_outside)));
+          c.stream.new.to_outside outputs.Outside halt is (device_by_origin g.W.Sink rules inside
+          outside c.args.to_outside.now c.stream.new.to_outside _ c.requires.anew outputs.Outside (as_run (Err halt)) stopped.to_outside)));
       to_inside = rw c.fault_of.ensures (inl (device_halted g.V.Sink rules inside outside c.args.to_inside.now
-          c.stream.new.to_inside outputs.Inside halt is (device_by_origin g.V.Sink rules inside outside c.args.to_inside.now c.stream.new.to_inside
-          _ c.requires.anew outputs.Inside (as_run (Err halt)) stopped.to_inside)));
+          c.stream.new.to_inside outputs.Inside halt is (device_by_origin g.V.Sink rules inside
+          outside c.args.to_inside.now c.stream.new.to_inside _ c.requires.anew outputs.Inside (as_run (Err halt)) stopped.to_inside)));
       log = rw c.fault_of.ensures (halted rules c.log_laws.ensures inside outside c.args.log.now c.open.new.self
           c.stream.new.log c.requires.written begun c.flush_after.new.self.output c.flush_after.ensures.same
           c.flush_after.ensures.kept c.flush_after.ensures.counts halt logs
