@@ -75,7 +75,7 @@ fn make_outputs<T: Threads + Wait + Copy + Send + 'static, G: Gate + Send + Sync
 ) -> Result<Outputs, RunFault>
     requires inside { All IsWritable captures.inside.records }
     requires outside { All IsWritable captures.outside.records }
-    ensures ok { IfOk result (λ outputs. AreOutputs (origin_of setting.entry.start) captures outputs) }
+    ensures ok { IfOk result (AreOutputs (origin_of setting.entry.start) captures) }
     ensures too_many { (result ≡ Err RunFault.TooMany) ↔ AreTooMany captures }
     ensures gate { G.is_open ≡ true → IfErr result (λ fault. is_gate_fault fault ≡ false) }
 {

@@ -35,10 +35,10 @@ impl<T: Threads + Wait + Copy + Send + 'static, G: Gate + Send + Sync + Drop + '
         inputs: &mut A,
         both: &mut LeavingWithLog<'_, '_, '_, W, V, K>,
     ) -> Result<Passed, Stopped<A::Fault, LeavingFault<K::Fault>>>
-        ensures outputs { PassesBy (origin_of self.entry.start) A.hands A.ends inputs.old both.old.leaving
-            inputs.new both.new.leaving result }
-        ensures log { EntersBy K.Told.tells (origin_of self.entry.start) A.hands A.ends K.enters K.fails
-            K.is_settled inputs.old both.old.log.now inputs.new both.new.log.now result }
+        ensures outputs { PassesBy (origin_of self.entry.start) A.hands A.ends inputs.old
+            both.old.leaving inputs.new both.new.leaving result }
+        ensures log { EntersBy K.Told.tells (origin_of self.entry.start) A.hands A.ends K.enters
+            K.fails K.is_settled inputs.old both.old.log.now inputs.new both.new.log.now result }
         ensures same { IsSamePlace both.old both.new }
         ensures stop { IfErr result (IsStoppedUnder G.is_open) }
     {
@@ -58,10 +58,11 @@ impl<T: Threads + Wait + Copy + Send + 'static, G: Gate + Send + Sync + Drop + '
         inputs: &mut MergedStreams<'_, '_, R, Q>,
         both: &mut LeavingWithLog<'_, '_, '_, W, V, K>,
     ) -> Result<Totals, Halt<K::Fault>>
-        ensures outputs { PassesOr G.is_open (origin_of self.entry.start) inputs.old both.old.leaving
-            inputs.new both.new.leaving (as_run result) }
-        ensures log { EntersBy K.Told.tells (origin_of self.entry.start) HandsOut EndsWith K.enters K.fails
-            K.is_settled inputs.old both.old.log.now inputs.new both.new.log.now (passed_as result) }
+        ensures outputs { PassesOr G.is_open (origin_of self.entry.start) inputs.old
+            both.old.leaving inputs.new both.new.leaving (as_run result) }
+        ensures log { EntersBy K.Told.tells (origin_of self.entry.start) HandsOut EndsWith K.enters
+            K.fails K.is_settled inputs.old both.old.log.now inputs.new both.new.log.now
+            (passed_as result) }
         ensures same { IsSamePlace both.old both.new }
     {
         match self.run_all(inputs, both) {

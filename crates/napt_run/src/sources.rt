@@ -46,9 +46,9 @@ impl<T: Threads + Wait + Copy + Send + 'static, G: Gate + Send + Sync + Drop + '
             (Q.remaining outside.old) [] both.old.leaving both.new.leaving (as_run result) }
         ensures readings { (¬ IsOfRun (as_run result)) → HasRead R.failed Q.failed
             inside.old inside.new outside.old outside.new (as_run result) }
-        ensures logs { LogsTo K.Told.tells (origin_of self.entry.start) K.enters K.fails K.is_settled
-            (R.remaining inside.old) (Q.remaining outside.old) both.old.log.now both.new.log.now
-            result }
+        ensures logs { LogsTo K.Told.tells (origin_of self.entry.start) K.enters K.fails
+            K.is_settled (R.remaining inside.old) (Q.remaining outside.old) both.old.log.now
+            both.new.log.now result }
         ensures same { IsSamePlace both.old both.new }
     {
         let ours = read_header(self.alloc, Side::Inside, inside)?;
@@ -75,15 +75,15 @@ impl<T: Threads + Wait + Copy + Send + 'static, G: Gate + Send + Sync + Drop + '
         ensures runs { (bytes others : Option (List ℕ)) →
             IsBehindHeader R.Source records.inside bytes inside.old →
             IsBehindHeader Q.Source records.outside others outside.old →
-            RunsTo G.is_open (origin_of self.entry.start) bytes others [] both.old.leaving both.new.leaving
-            (as_run result) }
+            RunsTo G.is_open (origin_of self.entry.start) bytes others [] both.old.leaving
+            both.new.leaving (as_run result) }
         ensures readings { (¬ IsOfRun (as_run result)) → HasRead R.failed Q.failed
             inside.old inside.new outside.old outside.new (as_run result) }
         ensures logs { (bytes others : Option (List ℕ)) →
             IsBehindHeader R.Source records.inside bytes inside.old →
             IsBehindHeader Q.Source records.outside others outside.old →
-            LogsTo K.Told.tells (origin_of self.entry.start) K.enters K.fails K.is_settled bytes others
-            both.old.log.now both.new.log.now result }
+            LogsTo K.Told.tells (origin_of self.entry.start) K.enters K.fails K.is_settled bytes
+            others both.old.log.now both.new.log.now result }
         ensures same { IsSamePlace both.old both.new }
     {
         let ours = Stream::new(inside, records.inside);

@@ -47,8 +47,8 @@ impl<T: Threads + Wait + Copy + Send + 'static, G: Gate + Send + Sync + Drop + '
             (Q.remaining outside.old) (as_run result) }
         ensures readings { (¬ IsOfRun (as_run result)) → HasRead R.failed Q.failed
             inside.old inside.new outside.old outside.new (as_run result) }
-        ensures logs { LogsTo K.Told.tells (origin_of self.entry.start) K.enters K.fails K.is_settled
-            (R.remaining inside.old) (Q.remaining outside.old) log.old log.new result }
+        ensures logs { LogsTo K.Told.tells (origin_of self.entry.start) K.enters K.fails
+            K.is_settled (R.remaining inside.old) (Q.remaining outside.old) log.old log.new result }
     {
         let ours = Output::over(to_outside);
         let theirs = Output::over(to_inside);
@@ -84,9 +84,9 @@ impl<T: Threads + Wait + Copy + Send + 'static, G: Gate + Send + Sync + Drop + '
             (Q.remaining outside.old) file_header both.old.leaving both.new.leaving (as_run result) }
         ensures readings { (¬ IsOfRun (as_run result)) → HasRead R.failed Q.failed
             inside.old inside.new outside.old outside.new (as_run result) }
-        ensures logs { LogsTo K.Told.tells (origin_of self.entry.start) K.enters K.fails K.is_settled
-            (R.remaining inside.old) (Q.remaining outside.old) both.old.log.now both.new.log.now
-            result }
+        ensures logs { LogsTo K.Told.tells (origin_of self.entry.start) K.enters K.fails
+            K.is_settled (R.remaining inside.old) (Q.remaining outside.old) both.old.log.now
+            both.new.log.now result }
         ensures same { IsSamePlace both.old both.new }
     {
         both.leaving.begin()?;
