@@ -89,7 +89,8 @@ module _ {P A F W V K E : Type 0} {S : sink.Ghosts W} {T : sink.Ghosts V} (tells
       (AreSettled is_settled) from before left after
 
   abbrev pub RunPasses : Result Passed (Stopped F (LeavingFault E)) → Type 0
-  RunPasses result = passing.Passes tells origin.rules origin.state hands ends (TakesBoth enters) (FailsEither enters fails)
+  RunPasses result = passing.Passes tells origin.rules origin.state hands ends (TakesBoth enters)
+      (FailsEither enters fails)
       (AreSettled is_settled) from before left after result
 
   -- THE OUTPUTS

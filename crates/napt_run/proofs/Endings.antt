@@ -146,7 +146,8 @@ module _ (told : Result Totals Fault) (result : Result (Unit {0}) Fault) (ends :
     device_by : (which : Which) → (Streams origin which (ended told) inside outside (S.contents old) (S.contents new) →
         Streams origin which (ended result) inside outside (S.contents old) (S.contents new)) →
         ((¬ IsOfRun result) → failed_writings which (ended told) ≡ failed_writings which (ended result)) →
-        DeviceGetsFrom S origin which inside outside told old new → DeviceGetsFrom S origin which inside outside result old new
+        DeviceGetsFrom S origin which inside outside told old new →
+        DeviceGetsFrom S origin which inside outside result old new
     device_by which gets writings p = grind (arith, common_steps, nat_tests, not_run, settled_by)
 
     pub outside_by : DeviceGetsFrom S origin Outside inside outside told old new →

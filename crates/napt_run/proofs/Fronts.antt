@@ -88,7 +88,8 @@ left_front origin xs ys =
     (course_from origin.rules origin.state xs).list).outcomes in
     let whole : (ran_by origin (xs ++ ys)).outcomes ≡ (ran_by origin xs).outcomes ++ later =
     outcomes_of origin (xs ++ ys)
-    ∙ ap (λ c. c.outcomes) (run_append origin.rules 0 origin.state.clock xs ys origin.state.list (length xs) (omega arith))
+    ∙ ap (λ c. c.outcomes) (run_append origin.rules 0 origin.state.clock xs ys origin.state.list (length xs)
+    (omega arith))
     ∙ ap (λ (l : List Outcome). l ++ later) (sym (outcomes_of origin xs)) in (
       timed ys later,
       ap (timed (xs ++ ys)) whole ∙ timed_append xs ys (ran_by origin xs).outcomes later (as_many origin xs),

@@ -182,7 +182,8 @@ module _ {L : Type 0} {S : Ghosts L} (rules : Rules) (laws : AreLaws rules) (ins
   Settled log = S.is_flushed log.output.device.now
 
   abbrev pub Watched : Result Totals (Halt LoggedFault) → Type 0
-  Watched result = LogsTo (λ (p : Passage). p) (opened rules) EntersLegs FailsLegs Settled inside outside mid after result
+  Watched result = LogsTo (λ (p : Passage). p) (opened rules) EntersLegs FailsLegs Settled inside outside mid after
+      result
 
   -- of a run that begins so
   pub by_origin : (origin : Origin) → origin ≡ opened rules → (result : Result Totals (Halt LoggedFault)) →
@@ -194,7 +195,8 @@ module _ {L : Type 0} {S : Ghosts L} (rules : Rules) (laws : AreLaws rules) (ins
   Front = EntersFront (λ (p : Passage). p) (opened rules) EntersLegs FailsLegs Settled inside outside mid after
 
   abbrev Failed : LoggedFault → Type 0
-  Failed fault = FailsOver (λ (p : Passage). p) (opened rules) EntersLegs FailsLegs Settled inside outside mid after fault
+  Failed fault = FailsOver (λ (p : Passage). p) (opened rules) EntersLegs FailsLegs Settled inside outside mid after
+      fault
 
   grew : (inputs : List Arrival) → Grows mid.output (rows_after rules [] inputs) after.output →
       Grows old.output (log_so_far rules inputs) after.output
@@ -349,7 +351,8 @@ module _ {L : Type 0} {S : Ghosts L} (rules : Rules) (laws : AreLaws rules) (ins
 
   -- or it did not fail, and what lives was written
   module _ (last : RunningLog L S) (totals : Totals)
-      (s : EntersAll (λ (p : Passage). p) (opened rules) EntersLegs FailsLegs Settled inside outside mid after totals.cuts) where
+      (s : EntersAll (λ (p : Passage). p) (opened rules) EntersLegs FailsLegs Settled inside outside mid after
+      totals.cuts) where
     front_all : IfHeld inside outside (λ all. IsFront s.inputs all.arrivals)
     front_all = grind (arith, common_steps, nat_tests, IfHeld-map, append-nil)
 
@@ -530,7 +533,8 @@ module _ {L : Type 0} {S : Ghosts L} (open_gate : Bool) (rules : Rules) (laws : 
   too_many_at inputs p = grind (arith, common_steps, nat_tests, traces_long, length-append)
 
   -- a trace of a run always comes next
-  never_refused : (inputs : List Arrival) (first : List Trace) (next : Trace) → NextInput (opened rules) inputs first next →
+  never_refused : (inputs : List Arrival) (first : List Trace) (next : Trace) →
+      NextInput (opened rules) inputs first next →
       (¬ IsNext first next) → ⊥
   never_refused inputs first next n never = grind (arith, common_steps, nat_tests)
 

@@ -78,11 +78,13 @@ module _ {W V : Type 0} {S : Ghosts W} {T : Ghosts V} (origin : Origin) (inputs 
 pub kept_text : (origin : Origin) (side : Side) (inputs arrivals : List Arrival) (none last kept : List ℕ) → none ≡ [] →
     inputs ≡ arrivals → kept ≡ last → last ≡ none ++ capture_text origin side inputs →
     kept ≡ capture_text origin side arrivals
-kept_text origin side inputs arrivals none last kept empty are taken appended = grind (arith, common_steps, nat_tests, ℕ)
+kept_text origin side inputs arrivals none last kept empty are taken appended =
+    grind (arith, common_steps, nat_tests, ℕ)
 
 pub told_report : (origin : Origin) (inputs arrivals : List Arrival) (tally : Tally) (counts : Counts) (rows : List Row)
     (cut_inside cut_outside : Bool) (told : List ℕ) → inputs ≡ arrivals → IsTallyOf origin inputs tally →
-    counts ≡ tally.counts → rows ≡ tally.passed.bindings.items → ((outcomes : List Outcome) → AreCountsOf outcomes counts →
+    counts ≡ tally.counts → rows ≡ tally.passed.bindings.items → ((outcomes : List Outcome) →
+    AreCountsOf outcomes counts →
     told ≡ report_of cut_inside cut_outside outcomes rows) →
     told ≡ report_text cut_inside cut_outside (ran_by origin arrivals)
 unfolding report_text

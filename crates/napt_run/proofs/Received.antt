@@ -78,7 +78,8 @@ pub record Answered (origin : Origin) (inside outside : Option (List ℕ))
 readable : (known : Option (List ℕ)) (contents : Contents) → IsReadFrom known contents → IsReadable known
 readable known contents is = grind (arith, common_steps, nat_tests)
 
-answers_inside : (origin : Origin) (inside outside : Option (List ℕ)) (fault : Fault) → IsUnread sides.Inside inside fault
+answers_inside : (origin : Origin) (inside outside : Option (List ℕ)) (fault : Fault) →
+    IsUnread sides.Inside inside fault
     → IfKnown inside outside (λ bytes others. Answers (texts_from origin bytes others) (Err fault))
 answers_inside origin inside outside fault p = grind (arith, common_steps, nat_tests, StopsBy-then)
 

@@ -132,7 +132,8 @@ module _ {D : Type 0} {S : Ghosts D} (origin : Origin) (which : Which) (inside o
   Halted all = HasText origin which all (S.contents old.device.now) (S.contents new.device.now)
       ⊎ HasPart origin which all (S.contents old.device.now) (S.contents new.device.now)
 
-  at_halt : (fault : RunFault) → IsLeft origin inside outside file_header (side_of which) old new → Was (Err (Run fault))
+  at_halt : (fault : RunFault) → IsLeft origin inside outside file_header (side_of which) old new →
+      Was (Err (Run fault))
   at_halt fault p = elim p.left [
     | inl grown ↦ record {
       gets = IfHeld-map (λ all. HasText origin which all (S.contents old.device.now) (S.contents new.device.now))
@@ -204,7 +205,8 @@ module _ {W V : Type 0} {S : Ghosts W} {T : Ghosts V} (open_gate : Bool) (origin
   at_inside none (Err (Capture side fault)) p = grind (arith, common_steps, nat_tests, at_fault)
   at_inside none (Err (Write Outside fault)) p = kept fault p p.kept
   at_inside none (Err (Write Inside fault)) p = record {
-    gets = has_front origin Inside inside outside old.to_inside new.to_inside p.inputs fault none p.front_of_all p.broke;
+    gets = has_front origin Inside inside outside old.to_inside new.to_inside p.inputs fault none p.front_of_all
+        p.broke;
     same = p.broke.same;
     counted = λ not_run. one_counted _ _ _ fault p.broke;
     settled = λ settled. absurd settled;

@@ -8,7 +8,8 @@ use Rattle.napt_run.{specs.Logging.traces_by, proofs.Fronts.same_front}
 
 module _ {X : Type 0} (of : Trace → X) (origin : Origin) where
   pub long : (inputs : List Arrival) → length (map of (traces_by origin inputs)) ≡ length inputs
-  long inputs = length-map (traces_by origin inputs) of ∙ traces_long origin.rules 0 origin.state.clock inputs origin.state.list
+  long inputs = length-map (traces_by origin inputs) of ∙ traces_long origin.rules 0 origin.state.clock inputs
+      origin.state.list
 
   -- the inputs whose legs did this
   pub record TraceFront (inputs : List Arrival) (went : List X) : Type 0 where
@@ -74,7 +75,8 @@ next_input origin inputs first next others is =
     trace_front (λ t. t) origin inputs (first ++ next ∷ []) others came in
     let there : first ++ next ∷ [] ≡ traces_by origin f.first = f.went_is ∙ map_same (traces_by origin f.first) in
     let many : length f.first ≡ length first + 1 =
-    sym (traces_long origin.rules 0 origin.state.clock f.first origin.state.list) ∙ (ap (λ (l : List Trace). length l) (sym there)
+    sym (traces_long origin.rules 0 origin.state.clock f.first origin.state.list)
+    ∙ (ap (λ (l : List Trace). length l) (sym there)
     ∙ length-append first (next ∷ [])) in
     let (before, input, split) = last_of f.first (length first) many in
     let now : ℕ = max (last_clock origin.state.clock before) input.clock in

@@ -167,10 +167,12 @@ returns-clause-report g c =
 
 pub returns-clause-answer : goal.returns-clause-answer
 returns-clause-answer g c =
-    answers_ok (origin_of c.args.start) _ _ (record { inside = c.in_ok-inside.inside; outside = c.in_ok-outside.outside })
+    answers_ok (origin_of c.args.start) _ _
+    (record { inside = c.in_ok-inside.inside; outside = c.in_ok-outside.outside })
     (known g (goal.at.returns-clause-answer g c).In_ok-outputs)
 
 pub returns-clause-left : goal.returns-clause-left
 returns-clause-left g c =
     leaves (origin_of c.args.start) _ _ (record { inside = c.in_ok-inside.inside; outside = c.in_ok-outside.outside })
-    c.in_ok-outputs.outputs.passed c.in_ok-inside.ensures.ok c.in_ok-outside.ensures.ok c.in_ok-outputs.ensures.ok.leaves
+    c.in_ok-outputs.outputs.passed c.in_ok-inside.ensures.ok c.in_ok-outside.ensures.ok
+    c.in_ok-outputs.ensures.ok.leaves

@@ -45,10 +45,12 @@ returns-in_err-close-in-Ok g c =
     rw (p.1, p.2) (record {
       to_outside = inl (device_after g.W.Sink rules inside outside c.args.to_outside.now c.stream.new.to_outside
           outputs.Outside c.in-Ok.totals fault text (device_by_origin g.W.Sink rules inside outside
-          c.args.to_outside.now c.stream.new.to_outside _ c.requires.anew outputs.Outside (Ok c.in-Ok.totals) c.in-Ok.ensures.to_outside));
+          c.args.to_outside.now c.stream.new.to_outside _ c.requires.anew outputs.Outside
+          (Ok c.in-Ok.totals) c.in-Ok.ensures.to_outside));
       to_inside = inl (device_after g.V.Sink rules inside outside c.args.to_inside.now c.stream.new.to_inside
           outputs.Inside c.in-Ok.totals fault text (device_by_origin g.V.Sink rules inside outside
-          c.args.to_inside.now c.stream.new.to_inside _ c.requires.anew outputs.Inside (Ok c.in-Ok.totals) c.in-Ok.ensures.to_inside));
+          c.args.to_inside.now c.stream.new.to_inside _ c.requires.anew outputs.Inside
+          (Ok c.in-Ok.totals) c.in-Ok.ensures.to_inside));
       log = ended_badly rules c.log_laws.ensures inside outside c.args.log.now c.open.new.self c.stream.new.log
           c.requires.written begun c.close.new.self c.in-Ok.totals logs fault added;
       says = text_says g.G.Gate.is_open rules inside outside fault text;
@@ -74,7 +76,12 @@ returns-in_ok-close-in-Ok g c =
       log = ended_well rules c.log_laws.ensures inside outside c.args.log.now c.open.new.self c.stream.new.log
           c.requires.written begun c.close.new.self c.in-Ok.totals logs
           (c.in_ok-close-in-Ok.ensures rules logs.inputs c.log_laws.ensures.keeps there);
-      says = record { told = subst (λ o. IsToldOf o inside outside c.in-Ok.totals) c.requires.anew c.in-Ok.ensures.says.told; fault = tt; stop = tt };
+      says = record {
+        told = subst (λ o. IsToldOf o inside outside c.in-Ok.totals) c.requires.anew
+            c.in-Ok.ensures.says.told;
+        fault = tt;
+        stop = tt;
+      };
       readings = c.in-Ok.ensures.readings;
     }
 
@@ -89,17 +96,19 @@ returns-in-Err g c =
     let begun = (c.in_ok-open.ensures rules c.log_laws.ensures.keeps c.requires.at).on in
     let logs = by_origin rules c.log_laws.ensures inside outside c.args.log.now c.open.new.self c.stream.new.log
     c.requires.written begun _ c.requires.anew (Err halt) stopped.logs in
-    let says = subst (λ o. ResultSays g.G.Gate.is_open o inside outside (as_run {T = Totals} (Err halt))) c.requires.anew
-    stopped.says in
+    let says = subst (λ o. ResultSays g.G.Gate.is_open o inside outside (as_run {T = Totals} (Err halt)))
+    c.requires.anew stopped.says in
     let is = halt_is g.G.Gate.is_open rules c.log_laws.ensures inside outside c.args.log.now c.open.new.self
     c.stream.new.log c.requires.written begun halt logs in
     record {
       to_outside = rw c.fault_of.ensures (inl (device_halted g.W.Sink rules inside outside c.args.to_outside.now
           c.stream.new.to_outside outputs.Outside halt is (device_by_origin g.W.Sink rules inside
-          outside c.args.to_outside.now c.stream.new.to_outside _ c.requires.anew outputs.Outside (as_run (Err halt)) stopped.to_outside)));
+          outside c.args.to_outside.now c.stream.new.to_outside _ c.requires.anew outputs.Outside
+          (as_run (Err halt)) stopped.to_outside)));
       to_inside = rw c.fault_of.ensures (inl (device_halted g.V.Sink rules inside outside c.args.to_inside.now
           c.stream.new.to_inside outputs.Inside halt is (device_by_origin g.V.Sink rules inside
-          outside c.args.to_inside.now c.stream.new.to_inside _ c.requires.anew outputs.Inside (as_run (Err halt)) stopped.to_inside)));
+          outside c.args.to_inside.now c.stream.new.to_inside _ c.requires.anew outputs.Inside
+          (as_run (Err halt)) stopped.to_inside)));
       log = rw c.fault_of.ensures (halted rules c.log_laws.ensures inside outside c.args.log.now c.open.new.self
           c.stream.new.log c.requires.written begun c.flush_after.new.self.output c.flush_after.ensures.same
           c.flush_after.ensures.kept c.flush_after.ensures.counts halt logs
