@@ -151,6 +151,21 @@ fn use_kept(
     }
 }
 
+/// A copy of the flows of a protocol that live at a time, in ns.
+pub(crate) fn live_flows(
+    alloc: Global,
+    flows: &[Flow],
+    timers: IdleTimers,
+    now: u64,
+    protocol: Protocol,
+) -> Result<Vec<Flow>, AllocError>
+    ensures { IfOk result (λ made. made.items ≡ life.live_flows timers now protocol flows.now) }
+{
+    let mut flows = flows.to_vec(alloc)?;
+    few::keep_standing(&mut flows, timers, now, protocol);
+    Ok(flows)
+}
+
 impl Flows {
     /// No flows. It takes no memory.
     pub fn new(_alloc: Global) -> Flows
