@@ -1,7 +1,8 @@
 -- LAWS: a run over inputs and then others is a run over the first, handed on, and a run over the others.
-use Rattle.std.specs.{Prelude.{◌≡◌, ℕ, ◌+◌, max, List, ◌++◌, length, map, zip, flat_map, Some, slice_get}, List.Sorted.{IsNonDecreasingBy, IsPermutation}}
+use Rattle.std.specs.{Prelude.{◌≡◌, ℕ, ◌+◌, ◌≤◌, max, List, ◌++◌, length, map, zip, flat_map, Some, slice_get}, List.Sorted.{IsNonDecreasingBy, IsPermutation}}
 use Rattle.napt_config.specs.Rules.{Rules, KeepsRules, pair_of}
-use Rattle.napt_rules.specs.{Bindings.{Binding, of}, Rows.rank, Endpoints.IsSound, Inputs.Arrival}
+use Rattle.napt_rules.specs.{Bindings.{Binding, of}, Life.{purge, hold_ago, taken}, Rows.{row, rank}, Endpoints.IsSound, Lists.Each, Inputs.Arrival, RunLaws.AreOwn}
+use Rattle.napt_config.specs.declared.settings.Timers.{Timers}
 use Rattle.napt_rules.specs.Sequential.{Act, Ran, last_clock, State, taken_at_clock, course_from, left_by, ran_from}
 
 -- an act of inputs that come behind so many others
@@ -56,29 +57,40 @@ pub record IsByItsClock (rules : Rules) (state : State) (inputs : List Arrival) 
 abbrev pub EarlierClocksAreTheStates : Type 0
 EarlierClocksAreTheStates = (rules : Rules) (state : State) (inputs : List Arrival) → IsByItsClock rules state inputs
 
--- THE ORDER OF A STATE'S BINDINGS, which counts for nothing that follows
+-- THE SAME AS PACKETS SEE IT
 
--- the bindings of a list by protocol, then by external number
-pub record AreOrdered (list ordered : List Binding) : Type 0 where
-  pub same : IsPermutation list ordered
-  pub order : IsNonDecreasingBy (λ b. rank b.row) ordered
+-- two lists of which packets from a time on see the same: what lives at it, and whose numbers are held, for as long
+pub record AreAlike (timers : Timers) (now : ℕ) (list other : List Binding) : Type 0 where
+  pub live : IsPermutation (purge timers now list) (purge timers now other)
+  pub held : (t : ℕ) → hold_ago timers now ≤ t → IsPermutation (map row (purge timers t list))
+      (map row (purge timers t other))
 
--- a state with its bindings in order at each address, one address after another as in the pool
+-- bindings that are left at a time: each lives or is held, none was used later, by protocol and then by number
+pub record AreLeft (timers : Timers) (now : ℕ) (list made : List Binding) : Type 0 where
+  pub alike : AreAlike timers now list made
+  pub taken : taken timers now made ≡ made
+  pub last : Each (λ b. b.last ≤ now) made
+  pub flows : Each (λ b. AreOwn now b.flows) made
+  pub order : IsNonDecreasingBy (λ b. rank b.row) made
+
+-- a state as it is left, one address after another as in the pool
 pub record IsInOrder (rules : Rules) (state ordered : State) : Type 0 where
   pub clock : ordered.clock ≡ state.clock
   pub parts : List (List Binding)
   pub list : ordered.list ≡ flat_map (λ part. part) parts
   pub many : length parts ≡ length rules.pool
   pub each : (place address : ℕ) (part : List Binding) → slice_get rules.pool place ≡ Some address →
-      slice_get parts place ≡ Some part → AreOrdered (of address state.list) part
+      slice_get parts place ≡ Some part → AreLeft rules.timers state.clock (of address state.list) part
 
--- a state of the same clock with the same bindings in another order gives the same
-pub record IsByAnyOrder (rules : Rules) (state other : State) (inputs : List Arrival) : Type 0 where
+-- a state of the same clock that is alike gives the same, and leaves what is alike
+pub record GoesOnAlike (rules : Rules) (state other : State) (inputs : List Arrival) : Type 0 where
   pub ran : ran_from rules other inputs ≡ ran_from rules state inputs
   pub acts : (course_from rules other inputs).acts ≡ (course_from rules state inputs).acts
-  pub left : IsPermutation (left_by rules state inputs).list (left_by rules other inputs).list
+  pub left : AreAlike rules.timers (last_clock state.clock inputs) (left_by rules state inputs).list
+      (left_by rules other inputs).list
 
-abbrev pub OrdersChangeNothing : Type 0
-OrdersChangeNothing = (rules : Rules) → KeepsRules rules → (state other : State) →
-    IsSound (pair_of rules) state.list → other.clock ≡ state.clock → IsPermutation state.list other.list →
-    (inputs : List Arrival) → IsByAnyOrder rules state other inputs
+abbrev pub AlikeStatesGoOn : Type 0
+AlikeStatesGoOn = (rules : Rules) → KeepsRules rules → (state other : State) →
+    IsSound (pair_of rules) state.list → IsSound (pair_of rules) other.list → other.clock ≡ state.clock →
+    AreAlike rules.timers state.clock state.list other.list → (inputs : List Arrival) →
+    GoesOnAlike rules state other inputs
