@@ -19,5 +19,6 @@ pub mod LiveNumbers
 pub mod TableSteps
 pub mod Listed
 pub mod Opening
+pub mod Resuming
 pub mod Keeps
 pub mod Granted

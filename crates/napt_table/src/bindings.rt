@@ -30,7 +30,7 @@ mod sending;
 #[derive(Drop)]
 pub(crate) struct Bindings {
     timers: IdleTimers,
-    /// The time of the last packet, in ns; 0 before the first.
+    /// The time of the last packet, in ns; before the first that at which it begins.
     at: u64,
     held: Held,
     /// One entry for each binding that is not fixed, with a time until which it is sure to live.
@@ -94,22 +94,23 @@ impl Bindings {
     ghost use Rattle.napt_table.specs.Holdings.{held, held_at, IsSamePlace, IsNamed};
     ghost use Rattle.napt_table.specs.Bindings.{HasRoom, IsPurged, IsLiveNumberOf, Receives};
 
-    /// Nothing is held. It takes memory for the numbers in use.
+    /// Nothing is held at a time, in ns. It takes memory for the numbers in use.
     pub(crate) fn new(
         alloc: Global,
         address: u32,
         timers: IdleTimers,
         granting: Granting,
+        at: u64,
     ) -> Result<Bindings, AllocError>
         ensures timers { IfOk result (λ bindings. bindings.timers ≡ timers) }
-        ensures at { IfOk result (λ bindings. bindings.at ≡ 0) }
+        ensures at { IfOk result (λ bindings. bindings.at ≡ at) }
         ensures address { IfOk result (λ bindings. bindings.held.address ≡ address) }
         ensures granting { IfOk result (λ bindings. bindings.held.granting ≡ granting) }
         ensures none { IfOk result (λ bindings. (key : Key) → held bindings.held key ≡ None) }
     {
         Ok(Bindings {
             timers,
-            at: 0,
+            at,
             held: Held::new(alloc, address, granting)?,
             due: Due::new(alloc),
         })
@@ -122,11 +123,24 @@ impl Bindings {
         self.held.keep_names();
     }
 
-    /// The time of the last packet, in ns; 0 before the first.
+    /// The time of the last packet, in ns.
     pub(crate) fn at(&self) -> u64
         ensures { result ≡ self.now.at }
     {
         self.at
+    }
+
+    pub(crate) fn timers(&self) -> IdleTimers
+        ensures { result ≡ self.now.timers }
+    {
+        self.timers
+    }
+
+    /// The external address.
+    pub(crate) fn address(&self) -> u32
+        ensures { result ≡ self.now.held.address }
+    {
+        self.held.address()
     }
 
     /// How many bindings it holds.

@@ -6,6 +6,7 @@
 ghost use Rattle.std.specs.Prelude.{◌≡◌, ℕ, List};
 ghost use Rattle.napt_table.specs.{QuotaKept.PlayedKeepsQuota, Tables.{TablesShareNothing, TablesAreNumbered}};
 
+mod beginning;
 mod bindings;
 mod class;
 mod event;
