@@ -70,9 +70,9 @@ all_left rules state inputs translators are now e made left = record {
       let within = slice_get_within left.parts place part is_there in
       let many = left.many in
       elim (slice_get_cases translators place).1 [
-        | inl (counted , lt , here , same) ↦
+        | inl (counted, lt, here, same) ↦
             left_there rules state inputs place address counted (are.each place address counted at here) part
             (subst (λ (n : ℕ). IsLeftOf n counted part) e (left.each place counted part here is_there))
-        | inr (le , none) ↦ absurd (omega arith)
+        | inr (le, none) ↦ absurd (omega arith)
       ];
 }
