@@ -15,12 +15,14 @@ pub mod Endpoints
 pub mod Held
 pub mod Passes
 pub mod Shuffles
+pub mod Alike
 pub mod StepRows
 pub mod Quotas
 pub mod StepsLocal
 pub mod StepsLive
 pub mod StepsSound
 pub mod StepsQuota
+pub mod StepsAlike
 pub mod Accounts
 pub mod Named
 pub mod Opened
