@@ -40,6 +40,7 @@ pub mod Through
 
 pub mod AnyStep
 pub mod Turns
+pub mod Beside
 pub mod Routes
 pub mod RunsLocal
 pub mod Alone
