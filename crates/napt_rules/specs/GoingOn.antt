@@ -1,7 +1,7 @@
 -- LAWS: a run over inputs and then others is a run over the first, handed on, and a run over the others.
-use Rattle.std.specs.{Prelude.{◌≡◌, ℕ, ◌+◌, ◌≤◌, max, List, ◌++◌, length, map, zip, flat_map, Some, slice_get}, List.Sorted.{IsNonDecreasingBy, IsPermutation}}
+use Rattle.std.specs.{Prelude.{◌≡◌, ℕ, ◌+◌, ◌^◌, ◌<◌, ◌≤◌, max, List, ◌++◌, length, map, zip, flat_map, Some, slice_get}, List.Sorted.{IsNonDecreasingBy, IsPermutation}}
 use Rattle.napt_config.specs.Rules.{Rules, KeepsRules, pair_of}
-use Rattle.napt_rules.specs.{Bindings.{Binding, of}, Life.{purge, hold_ago, taken}, Rows.{row, rank}, Endpoints.IsSound, Lists.Each, Inputs.Arrival, RunLaws.AreOwn}
+use Rattle.napt_rules.specs.{Bindings.{Binding, of}, Life.{purge, hold_ago, taken}, Rows.{row, rank}, Endpoints.IsSound, Lists.Each, Inputs.Arrival, Taking.under, RunLaws.{AreOwn, Takes}}
 use Rattle.napt_config.specs.declared.settings.Timers.{Timers}
 use Rattle.napt_rules.specs.Sequential.{Act, Ran, last_clock, State, taken_at_clock, course_from, left_by, ran_from}
 
@@ -82,10 +82,12 @@ pub record IsInOrder (rules : Rules) (state ordered : State) : Type 0 where
   pub each : (place address : ℕ) (part : List Binding) → slice_get rules.pool place ≡ Some address →
       slice_get parts place ≡ Some part → AreLeft rules.timers state.clock (of address state.list) part
 
--- a state of the same clock that is alike gives the same, and leaves what is alike
+-- a state of the same clock that is alike gives the same, and leaves what is alike; numbers are below 2 ^ 16
 pub record GoesOnAlike (rules : Rules) (state other : State) (inputs : List Arrival) : Type 0 where
-  pub ran : ran_from rules other inputs ≡ ran_from rules state inputs
+  pub outcomes : (course_from rules other inputs).outcomes ≡ (course_from rules state inputs).outcomes
   pub acts : (course_from rules other inputs).acts ≡ (course_from rules state inputs).acts
+  pub ran : Each (λ r. r.external.number < 2 ^ 16) (ran_from rules state inputs).bindings →
+      ran_from rules other inputs ≡ ran_from rules state inputs
   pub left : AreAlike rules.timers (last_clock state.clock inputs) (left_by rules state inputs).list
       (left_by rules other inputs).list
 
@@ -94,3 +96,33 @@ AlikeStatesGoOn = (rules : Rules) → KeepsRules rules → (state other : State)
     IsSound (pair_of rules) state.list → IsSound (pair_of rules) other.list → other.clock ≡ state.clock →
     AreAlike rules.timers state.clock state.list other.list → (inputs : List Arrival) →
     GoesOnAlike rules state other inputs
+
+-- SAVED, as it is left, and taken up
+
+-- a sound state is alike then
+abbrev pub OrderedAreAlike : Type 0
+OrderedAreAlike = (rules : Rules) → KeepsRules rules → (state ordered : State) → IsSound (pair_of rules) state.list →
+    IsInOrder rules state ordered → AreAlike rules.timers state.clock state.list ordered.list
+
+-- and taken if it was
+abbrev pub OrderedAreTaken : Type 0
+OrderedAreTaken = (rules : Rules) → KeepsRules rules → (state ordered : State) → Takes rules state →
+    IsInOrder rules state ordered → Takes rules ordered
+
+-- a configuration takes what a run leaves, and the run from there on is the rest of the run over all inputs
+pub record GoesOnSaved (rules : Rules) (state saved : State) (first rest : List Arrival) : Type 0 where
+  pub taken : Takes rules saved
+  pub outcomes : (course_from rules state (first ++ rest)).outcomes
+      ≡ (course_from rules state first).outcomes ++ (course_from rules (under rules saved) rest).outcomes
+  pub acts : (course_from rules state (first ++ rest)).acts ≡ (course_from rules state first).acts
+      ++ map (behind (length first)) (course_from rules (under rules saved) rest).acts
+  pub ran : Each (λ r. r.external.number < 2 ^ 16) (ran_from rules state (first ++ rest)).bindings →
+      ran_from rules state (first ++ rest)
+      ≡ and_then (ran_from rules state first) (ran_from rules (under rules saved) rest)
+  pub left : AreAlike rules.timers (last_clock state.clock (first ++ rest)) (left_by rules state (first ++ rest)).list
+      (left_by rules (under rules saved) rest).list
+
+abbrev pub SavedRunsGoOn : Type 0
+SavedRunsGoOn = (rules : Rules) → KeepsRules rules → (state saved : State) → Takes rules state →
+    (first rest : List Arrival) → IsInOrder rules (left_by rules (under rules state) first) saved →
+    GoesOnSaved rules (under rules state) saved first rest
