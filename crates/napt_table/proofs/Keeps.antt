@@ -145,7 +145,7 @@ module _ {X : Type 0} (s p : X → Bool) (f : X → X) (same : (x : X) → s (f 
       ] refl
 
 module _ {X : Type 0} (s t : X → Bool) where
-  find_without : (xs : List X) → Each (λ x. t x ≡ true → s x ≡ false) xs → find s (filter (λ x. not (t x)) xs)
+  pub find_without : (xs : List X) → Each (λ x. t x ≡ true → s x ≡ false) xs → find s (filter (λ x. not (t x)) xs)
       ≡ find s xs
   find_without [] h = refl
   find_without (x ∷ xs) h = elim (t x) as (λ v. t x ≡ v →

@@ -20,5 +20,7 @@ pub mod TableSteps
 pub mod Listed
 pub mod Opening
 pub mod Resuming
+pub mod Alike
+pub mod Left
 pub mod Keeps
 pub mod Granted

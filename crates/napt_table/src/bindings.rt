@@ -14,7 +14,7 @@ use crate::bindings::held::Held;
 use crate::bindings::keys::ExternalKey;
 use napt_binding::{IdleTimers, end_of, is_live, until};
 use napt_collections::Due;
-use napt_rules::{Granting, Inbound, Received, Row};
+use napt_rules::{Granting, Inbound, Received, Row, StateBinding};
 use napt_wire::{Cause, Endpoint, Protocol};
 use std::alloc::{AllocError, Global};
 use std::marker::Model;
@@ -269,7 +269,10 @@ impl Bindings {
 }
 
 impl Bindings {
-    ghost use Rattle.napt_table.specs.Listing.{held_rows, AreRead};
+    ghost use Rattle.std.specs.{List.IsDistinct, Map.{keys_of, values_of}};
+    ghost use Rattle.napt_rules.specs.Prelude.{taken};
+    ghost use Rattle.napt_binding.specs.Slots.{AreDistinct};
+    ghost use Rattle.napt_table.specs.{Holdings.AreUsedUpTo, Keys.key_eq, Listing.{held_rows, AreRead}};
 
     /// The rows of the bindings that are live at `now` (ns), in no order.
     pub(crate) fn rows(&self, alloc: Global, now: u64) -> Result<Vec<Row>, AllocError>
@@ -278,6 +281,18 @@ impl Bindings {
         ensures read { OnOk result (AreRead self.now.timers now self.now.held) }
     {
         self.held.rows(alloc, self.timers, now)
+    }
+
+    /// The bindings that are live or held at `now` (ns), as a state has them, in no order.
+    pub(crate) fn left(&self, alloc: Global, now: u64) -> Result<Vec<StateBinding>, AllocError>
+        ensures bindings { IfOk result (λ made. made.items
+            ≡ taken self.now.timers now (values_of self.now.held.entries)) }
+        ensures distinct { IfOk result (λ made. All (λ b. AreDistinct b.flows) made.items) }
+        ensures unique { OnOk result (IsDistinct key_eq (keys_of self.now.held.entries)) }
+        ensures used { AreUsedUpTo self.now.at self.now.held }
+    {
+        let ago = self.timers.hold_ago(now);
+        self.held.left(alloc, self.timers, ago)
     }
 }
 
