@@ -1,11 +1,11 @@
 -- Two lists in which the same is found at each number are permutations of one another.
-use Rattle.std.proofs.Common.{◌≡◌, ℕ, Bool, true, false, not, ◌&&◌, ◌||◌, cond, List, [], ◌∷◌, map, filter, find, Option, Some, None, refl, sym, ◌∙◌, ap, subst, eqb, true≢false}
+use Rattle.std.proofs.Common.{◌≡◌, ℕ, Bool, true, false, not, ◌&&◌, ◌||◌, cond, List, [], ◌∷◌, map, filter, find, Some, None, refl, sym, ◌∙◌, ap, subst, eqb}
 use Rattle.std.{specs.{List.list_any, List.Sorted.IsPermutation, Option.option_map}, proofs.lemmas.{Bool.or_parts, Option.same_Some}}
 use Rattle.std.proofs.lemmas.List.Sorted.{IsPermutation-refl, IsPermutation-sym, IsPermutation-cons, IsPermutation-trans, IsPermutation-append_left, IsPermutation-append_comm}
 use Rattle.napt_wire.specs.declared.Protocol.{Protocol}
 use Rattle.napt_rules.specs.{declared.Row.Row, Prelude.{Each, same_protocol, has_number}}
 use Rattle.napt_table.proofs.Keeps.{find_without}
-use Rattle.napt_laws.proofs.{Finds.{Once, none_passes}, Lists.{each_less, each_weaker, find_nowhere}, Endpoints.{has_it, has_protocol, number_of_it}}
+use Rattle.napt_laws.proofs.{Finds.{Once}, Lists.{each_less, each_weaker, find_nowhere}, Endpoints.{has_it, has_protocol, number_of_it}}
 
 any_less : {X : Type 0} (t p : X → Bool) (xs : List X) → list_any t xs ≡ false → list_any t (filter p xs) ≡ false
 any_less t p [] h = refl

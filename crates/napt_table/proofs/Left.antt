@@ -1,16 +1,16 @@
 -- What a table leaves is alike to its list.
-use Rattle.std.proofs.Common.{◌≡◌, ℕ, ◌≤◌, Bool, true, false, ◌||◌, cond, All, List, [], ◌∷◌, map, filter, find, Option, Some, None, refl, sym, ◌∙◌, ap, subst, arith}
-use Rattle.std.{specs.{List.IsDistinct, List.Sorted.{IsPermutation, IsNonDecreasingBy}, Map.{lookup, keys_of, values_of}, Option.option_map}, proofs.lemmas.Bool.true≢false}
-use Rattle.std.proofs.lemmas.{Map.{lookup-none, Entries.{lookup_head, lookup_tail, none_past_head}, Keys.IsDistinct-tail}, List.Elements.{All-head, All-tail, All-filter}}
+use Rattle.std.proofs.Common.{◌≡◌, ℕ, ◌≤◌, Bool, true, false, ◌||◌, cond, All, List, [], ◌∷◌, map, filter, find, Option, Some, refl, sym, ◌∙◌, ap, subst, arith}
+use Rattle.std.{specs.{List.IsDistinct, List.Sorted.{IsPermutation, IsNonDecreasingBy}, Map.{lookup, keys_of, values_of}, Option.option_map}}
+use Rattle.std.proofs.lemmas.{Map.{lookup-none, Entries.{none_past_head}, Keys.IsDistinct-tail}, List.Elements.{All-head, All-tail, All-filter}}
 use Rattle.napt_wire.specs.declared.{Endpoint.Endpoint, Protocol.Protocol}
 use Rattle.napt_config.specs.declared.settings.Timers.{Timers}
 use Rattle.napt_rules.specs.declared.{Flow.Flow, Row.Row}
 use Rattle.napt_rules.specs.Prelude.{Binding, Each, has_number, is_tcp, is_live_flow, live_flows, is_live, with_live_flows, purge, hold_ago, taken, row, rank, IsPaired, flows_share, AreOwn, AreAlike, AreLeft}
 use Rattle.napt_binding.specs.Slots.{AreDistinct, NoneUsedAfter}
 use Rattle.napt_table.specs.{declared.bindings.keys.ExternalKey.ExternalKey, Held.seen, Keys.{key_eq, external_key}}
-use Rattle.napt_table.specs.{Holdings.{held, held_at, IsNamed, IsUsedBy, AreUsedUpTo}, Shown.{list_of, KeepsItsList}, declared.table.Table.TheInside.Inside}
-use Rattle.napt_table.proofs.{Alike.{AllOnce, At, once_less, once_mapped, find_mapped, same_found}, Listed.each_entry, Seen.{find_seen, find_purged}}
-use Rattle.napt_table.proofs.{TableSteps.{live, live_sound, show_now}, Keys.{key_is, key_itself, key_differs, key_equiv}}
+use Rattle.napt_table.specs.{Holdings.{held_at, IsNamed, IsUsedBy, AreUsedUpTo}, Shown.{list_of, KeepsItsList}, declared.table.Table.TheInside.Inside}
+use Rattle.napt_table.proofs.{Alike.{AllOnce, At, once_less, once_mapped, find_mapped, same_found}, Listed.each_entry, Seen.{find_seen}}
+use Rattle.napt_table.proofs.{TableSteps.{show_now}, Keys.{key_is, key_differs, key_equiv}}
 use Rattle.napt_laws.proofs.{Endpoints.{once_number, has_it, has_protocol, number_of_it}, Finds.{Once, none_passes}, Lists.each_weaker, Living.ago_later}
 use Rattle.napt_laws.proofs.{Alike.{alike_moved, alike_then, alike_taken}, Shuffles.each_moved, Fresh.{IsFresh, fresh_purged, purge_fresh}, Purges.each_purged}
 

@@ -1,14 +1,14 @@
 -- What a table takes up of a state, binding by binding.
-use Rattle.std.proofs.Common.{◌≡◌, ℕ, ◌+◌, ◌<◌, ◌≤◌, Bool, true, false, not, cond, All, List, [], ◌∷◌, ◌++◌, length, get_or, take, drop, map, filter, Option, Some, None, refl, sym, ◌∙◌, ap, subst, arith}
+use Rattle.std.proofs.Common.{◌≡◌, ℕ, ◌+◌, ◌<◌, ◌≤◌, Bool, true, false, not, cond, List, [], ◌∷◌, ◌++◌, length, get_or, take, drop, map, filter, Some, refl, sym, ◌∙◌, ap, subst, arith}
 use Rattle.std.proofs.lemmas.{Bool.{or_parts, eq-eqb}, Option.same_Some, List.{take_more, take_all, take-append-drop, append_assoc, map-append, Elements.{filter-append, All-nil, All-cons}}}
 use Rattle.napt_config.specs.{Rules.{Rules, KeepsRules, pair_of}, declared.settings.Timers.Timers}
 use Rattle.napt_rules.specs.declared.{Flow.Flow, Row.Row}
-use Rattle.napt_rules.specs.Prelude.{Each, Binding, of, is_at, is_live, with_live_flows, purge, hold_ago, taken, row, Apart, AreRowsApart, AreOwn, IsOwn, IsSound, opening, State, loose, under, Takes, flows_share}
+use Rattle.napt_rules.specs.Prelude.{Each, Binding, of, is_at, is_live, with_live_flows, purge, hold_ago, taken, row, Apart, AreRowsApart, AreOwn, IsOwn, opening, State, loose, under, Takes, flows_share}
 use Rattle.napt_rules.proofs.Life.{live_same}
 use Rattle.napt_binding.specs.Slots.{AreDistinct, NoneUsedAfter}
 use Rattle.napt_table.specs.{Beginnings.taken_up, Held.seen, Holdings.IsUsedBy, Tables.{IsTable, resumed}}
 use Rattle.napt_table.proofs.Seen.{seen_is}
-use Rattle.napt_laws.proofs.{Lists.{filter_swap, filter_map, each_append, each_less, each_weaker}, Purges.of_purge, Living.taken_twice}
+use Rattle.napt_laws.proofs.{Lists.{filter_swap, filter_map, each_less, each_weaker}, Purges.of_purge, Living.taken_twice}
 use Rattle.napt_laws.proofs.{Opened.{sound_at, redirects_stay}, Taken.{all, state_sound}}
 
 -- ONE BINDING

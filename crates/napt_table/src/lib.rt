@@ -35,7 +35,7 @@ pub struct TimedRow {
     pub end: Option<u128>,
 }
 
-/// Whatever happened to a table, no inside host has more bindings than its quota (RFC 6888, REQ-4).
+/// Whatever happened to a table, no inside host has more bindings than its quota, or than it began with (RFC 6888, REQ-4).
 pub fn tables_keep_the_quota()
     ensures { PlayedKeepsQuota }
 {}

@@ -339,23 +339,23 @@ impl Held {
         Ok(made)
     }
 
-    /// The bindings that are live at `now` (ns), as a state has them, in no order.
+    /// The bindings that are live at `ago` (ns), as a state has them, in no order.
     pub(crate) fn left(
         &self,
         alloc: Global,
         timers: IdleTimers,
-        now: u64,
+        ago: u64,
     ) -> Result<Vec<StateBinding>, AllocError>
         ensures bindings { IfOk result (λ made. made.items
-            ≡ purge timers now (values_of self.now.entries)) }
+            ≡ purge timers ago (values_of self.now.entries)) }
         ensures distinct { IfOk result (λ made. All (λ b. AreDistinct b.flows) made.items) }
         ensures unique { OnOk result (IsDistinct key_eq (keys_of self.now.entries)) }
     {
         let mut made = Vec::new(alloc);
         let held = self.by_number.as_slice();
         for binding in held.values() {
-            if is_live(binding, timers, now) {
-                made.push(to_state(alloc, binding, timers, now)?)?;
+            if is_live(binding, timers, ago) {
+                made.push(to_state(alloc, binding, timers, ago)?)?;
             }
         }
         Ok(made)

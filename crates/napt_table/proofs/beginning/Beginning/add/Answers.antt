@@ -1,5 +1,5 @@
-use Rattle.std.{proofs.Common.{◌≡◌, ℕ, [], ◌∷◌, ◌++◌, map, find, refl, sym, ◌∙◌, ap, subst}, proofs.lemmas.List.map-append}
-use Rattle.napt_rules.specs.Prelude.{Binding, has_number, row, Apart}
+use Rattle.std.{proofs.Common.{◌≡◌, [], ◌∷◌, ◌++◌, map, find, refl, sym, ◌∙◌, ap, subst}, proofs.lemmas.List.map-append}
+use Rattle.napt_rules.specs.Prelude.{has_number, row, Apart}
 use Rattle.napt_table.specs.{Beginnings.list_of, Tables.TableState}
 use Rattle.napt_table.proofs.Opening.{free, absent, held_more}
 use Rattle.napt_table.proofs.beginning.Beginning.add.Goals as goal

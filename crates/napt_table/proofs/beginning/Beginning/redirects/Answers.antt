@@ -1,5 +1,5 @@
-use Rattle.std.proofs.Common.{◌≡◌, ℕ, ◌+◌, ◌<◌, List, [], ◌∷◌, ◌++◌, map, length, get_or, false, sym, ◌∙◌, ap, subst}
-use Rattle.napt_config.specs.{Rules.{Rules, pair_of}, declared.settings.Redirect.Redirect}
+use Rattle.std.proofs.Common.{◌≡◌, ◌+◌, ◌<◌, List, [], ◌∷◌, ◌++◌, map, length, get_or, false, sym, ◌∙◌, ap, subst}
+use Rattle.napt_config.specs.{Rules.{Rules}, declared.settings.Redirect.Redirect}
 use Rattle.napt_rules.specs.Prelude.{Binding, row, Apart}
 use Rattle.napt_table.{specs.Tables.{TableState, opened}, proofs.Opening.{begun, begun_apart, begun_same, begun_pushed}}
 use Rattle.napt_table.proofs.beginning.Beginning.redirects.Goals.{then-pair-address+in_ok-add, else-pair-address}

@@ -1,5 +1,4 @@
 use Rattle.std.proofs.Common.{◌≡◌}
-use Rattle.napt_config.specs.Rules.{KeepsRules}
 use Rattle.napt_table.{specs.Tables.opened, proofs.Opening.begun}
 use Rattle.napt_table.proofs.beginning.Beginning.redirects.Given as goal
 

@@ -1,7 +1,7 @@
 use Rattle.std.proofs.Common.{◌≡◌, ◌≤◌, ◌<◌, List, [], ◌∷◌, ◌++◌, map, length, get_or, sym, ◌∙◌, ap, subst}
 use Rattle.napt_config.specs.Rules.{Rules}
 use Rattle.napt_rules.specs.Prelude.{Binding, Each, AreOwn, State, row, Apart}
-use Rattle.napt_table.{specs.{Beginnings.taken_up, Tables.{TableState, resumed}}, proofs.Resuming.{begun_to, begun_next, all_begun_to, next_apart, next_last, next_flows}}
+use Rattle.napt_table.{specs.{Beginnings.taken_up, Tables.{TableState}}, proofs.Resuming.{begun_to, next_apart, next_last, next_flows}}
 use Rattle.napt_table.proofs.beginning.Beginning.resumed.Goals as goal
 
 pub take_up-requires-clause-apart : goal.take_up-requires-clause-apart

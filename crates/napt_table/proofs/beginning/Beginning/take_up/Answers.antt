@@ -1,6 +1,6 @@
-use Rattle.std.proofs.{Common.{◌≡◌, Some, true, false, sym, ◌∙◌, subst, arith}, lemmas.{Grind.common_steps, Bool.Decides.nat_tests}}
-use Rattle.napt_rules.specs.Prelude.{is_live, hold_ago}
-use Rattle.napt_table.{specs.Held.seen, proofs.Resuming.{one_distinct, seen_lives, seen_used}}
+use Rattle.std.proofs.{Common.{◌≡◌, false, sym, ◌∙◌, arith}, lemmas.{Grind.common_steps, Bool.Decides.nat_tests}}
+use Rattle.napt_rules.specs.Prelude.{hold_ago}
+use Rattle.napt_table.{proofs.Resuming.{one_distinct, seen_lives, seen_used}}
 use Rattle.napt_table.proofs.beginning.Beginning.take_up.Goals as goal
 
 pub from_state-requires : goal.from_state-requires

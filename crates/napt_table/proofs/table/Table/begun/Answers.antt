@@ -1,5 +1,5 @@
 use Rattle.std.proofs.Common.{map, ap, sym, subst}
-use Rattle.napt_table.specs.{Events.played_all, Tables.{TableState, IsTable}}
+use Rattle.napt_table.specs.{Events.played_all, Tables.{IsTable}}
 use Rattle.napt_table.proofs.Opening.{begun_keeps_its_list}
 use Rattle.napt_table.proofs.table.Table.begun.Goals as goal
 

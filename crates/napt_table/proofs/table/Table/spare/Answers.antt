@@ -1,6 +1,6 @@
-use Rattle.std.{proofs.Common.{◌≤◌, ◌∙◌, ap, refl, sym, subst}, specs.Option.is_some}
+use Rattle.std.{proofs.Common.{◌≤◌, refl, sym, subst}, specs.Option.is_some}
 use Rattle.napt_rules.specs.Prelude.{by_number, hold_ago}
-use Rattle.napt_table.specs.{declared.event.Event.TheVariants.Purged, Held.seen, Holdings.held_at, Keys.external_key, Shown.{shown, list_of}, Tables.TableState}
+use Rattle.napt_table.specs.{declared.event.Event.TheVariants.Purged, Held.seen, Holdings.held_at, Shown.{shown, list_of}, Tables.TableState}
 use Rattle.napt_table.proofs.{LeastFree.first_agrees, TableSteps.{all, keep_now, shown_after, keeps_after}, Tables.table_purged}
 use Rattle.napt_table.proofs.Keeps.{purged_keeps, some_agree}
 use Rattle.napt_laws.proofs.Living.{ago_later}

@@ -8,10 +8,10 @@ pub loop-binding-preserved-in_ok-push : goal.loop-binding-preserved-in_ok-push
 loop-binding-preserved-in_ok-push c =
     let before = c.loop-binding.invariant in
     let items : List Binding = c.loop-binding.made.items in
-    let live : Binding → Bool = is_live c.args.timers c.args.now in
+    let live : Binding → Bool = is_live c.args.timers c.args.ago in
     let binding : Binding = c.in-Some.binding.now in
     let next : List Binding = c.next.new.self in
-    let told : List Binding → List Binding = map (with_live_flows c.args.timers c.args.now) in
+    let told : List Binding → List Binding = map (with_live_flows c.args.timers c.args.ago) in
     let made : Binding = c.in_ok-to_state.field-0 in
     let step : c.loop-binding.binding-iterator ≡ binding ∷ next =
     rest_more deref _ _ c.next.result c.in-Some.binding c.in-Some.is c.next.ensures.steps in

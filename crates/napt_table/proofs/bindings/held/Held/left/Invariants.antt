@@ -7,7 +7,7 @@ use Rattle.napt_table.proofs.bindings.held.Held.left.Given as goal
 -- the bindings that were made and those that are left are those of what is held
 abbrev pub invariant-loop-binding : goal.invariant-loop-binding
 invariant-loop-binding l = record {
-  rest : l.made.items ++ map (with_live_flows l.timers l.now) (filter (is_live l.timers l.now) l.binding-iterator)
-      ≡ purge l.timers l.now (values_of l.self.entries);
+  rest : l.made.items ++ map (with_live_flows l.timers l.ago) (filter (is_live l.timers l.ago) l.binding-iterator)
+      ≡ purge l.timers l.ago (values_of l.self.entries);
   distinct : All (λ b. AreDistinct b.flows) l.made.items;
 }
