@@ -123,6 +123,10 @@ pub each_append : {X : Type 0} (P : X → Type 0) (xs ys : List X) → Each P xs
 each_append P [] ys h g = g
 each_append P (x ∷ xs) ys h g = (h.0, each_append P xs ys h.1 g)
 
+pub each_parts : {X : Type 0} (P : X → Type 0) (xs ys : List X) → Each P (xs ++ ys) → Each P xs × Each P ys
+each_parts P [] ys h = (tt, h)
+each_parts P (x ∷ xs) ys h = let rest = each_parts P xs ys h.1 in ((h.0, rest.0), rest.1)
+
 -- a test that would have an answer, and has none
 pub passed : {X : Type 0} (t : Bool) (x : X) (others : Option X) → cond t (Some x) others ≡ None → (t ≡ false)
     × (others ≡ None)

@@ -1,17 +1,21 @@
 //! Laws of runs.
 
-ghost use Rattle.napt_rules.specs.Prelude.{RunsGoOn, GoneChangeNothing, EarlierClocksAreTheStates, RunsAreSound, RunsStayApart, RunsKeepQuota, RunsKeepToBlocks};
+ghost use Rattle.napt_rules.specs.Prelude.{RunsGoOn, GoneChangeNothing, EarlierClocksAreTheStates, AlikeStatesGoOn, RunsAreSound, RunsStayApart, RunsKeepQuota, RunsKeepToBlocks};
 ghost use Rattle.napt_rules.specs.Prelude.{TakenAreSound, TakenKeepToBlocks, TakenKeepQuota, TakenAreOwn, OwnStatesStay, OwnStatesAreTaken, TranslatorsAnswerFrom, TranslatorsKeepFrom, TranslatorsHoldFrom};
 
 use crate::steps::{no_host_exceeds_its_quota, opening_is_sound, steps_stay_sound};
 use napt_wire::packets_carry_numbers;
 
-/// A run over inputs and then others is a run over the first, and then one over the others from the state that it leaves.
+/// A run over inputs and then others is a run over the first, and then one over the others from the state that it leaves, or
+/// from one of which packets see the same.
 pub fn runs_go_on()
     ensures go_on { RunsGoOn }
     ensures gone { GoneChangeNothing }
     ensures clocks { EarlierClocksAreTheStates }
-{}
+    ensures alike { AlikeStatesGoOn }
+{
+    packets_carry_numbers();
+}
 
 /// After any inputs no two bindings share an endpoint (RFC 4787, REQ-1 and REQ-3).
 pub fn runs_are_sound()
