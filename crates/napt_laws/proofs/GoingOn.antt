@@ -1,9 +1,9 @@
 -- A run that goes on, from what another left: what has gone never counts, and the numbers go on.
-use Rattle.std.proofs.Common.{◌≡◌, ℕ, ◌+◌, ◌≤◌, max, List, [], ◌∷◌, ◌++◌, map, length, flat_map, Bool, Option, None, Result, Ok, Err, refl, sym, ◌∙◌, ap, subst, arith, find}
+use Rattle.std.proofs.Common.{◌≡◌, ℕ, ◌+◌, ◌≤◌, max, List, [], ◌∷◌, ◌++◌, map, length, flat_map, Bool, Option, None, Result, Ok, Err, refl, sym, ◌∙◌, ap, arith, find}
 use Rattle.std.proofs.lemmas.List.{map-append}
 use Rattle.napt_wire.specs.declared.Protocol.TheVariants as protocols
 use Rattle.napt_wire.specs.declared.Kind.TheVariants.{Udp, Tcp, Echo, ErrorOf}
-use Rattle.napt_rules.specs.Prelude.{Binding, of, purge, hold_ago, taken, rows_of, rows, is_of_inside, has_number, granting_of, out_taken, in_taken, inbound_of, Out, In, end_out, end_in, error_out, error_in, no_flags, sent_of, received_of, act_out, act_in, act_by, served_at, Acted, act, Arrival, admission, Act, Course, ahead, once, follow_by, refused, first_leg, step_as, step, run_from, last_clock, legs_at, ran_of, State, course_from, left_by, ran_from, behind, added, and_then, GoesOn, RunsGoOn, GoneChangeNothing, from_clock, EarlierClocksAreTheStates, Protocol, Way, Outgoing, Incoming, Flags, Cause, Kind, kind, destination, Rules}
+use Rattle.napt_rules.specs.Prelude.{Binding, of, purge, hold_ago, taken, rows_of, rows, is_of_inside, has_number, granting_of, out_taken, in_taken, inbound_of, Out, In, end_out, end_in, error_out, error_in, no_flags, sent_of, received_of, act_out, act_in, act_by, served_at, Acted, act, Arrival, admission, Act, Course, ahead, follow_by, first_leg, step_as, step, run_from, last_clock, legs_at, ran_of, State, course_from, left_by, ran_from, behind, added, and_then, GoesOn, RunsGoOn, GoneChangeNothing, from_clock, EarlierClocksAreTheStates, Protocol, Way, Outgoing, Incoming, Flags, Cause, Kind, kind, Rules}
 use Rattle.napt_rules.specs.declared.{Row.Row, Leg.Leg, Outcome.Outcome, End.{End, TheVariants.{ToOutside, ToInside, Onward, Dropped}}}
 use Rattle.napt_laws.proofs.{Beside.{AreBeside, run_both}, Grown.{run_append, clock_on}, Purges.of_purge, Living.{taken_later, taken_twice, purge_taken}}
 

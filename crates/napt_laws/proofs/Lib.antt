@@ -54,6 +54,7 @@ pub mod Rows
 pub mod Grown
 pub mod GoingOn
 pub mod RunsAlike
+pub mod Saved
 pub mod EachLeg
 pub mod Dispatched
 pub mod OneInput

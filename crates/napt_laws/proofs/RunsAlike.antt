@@ -1,7 +1,7 @@
 -- Runs from states that are alike are one.
-use Rattle.std.proofs.Common.{◌≡◌, ℕ, ◌+◌, ◌*◌, ◌^◌, ◌<◌, ◌≤◌, max, Bool, true, false, ◌||◌, List, [], ◌∷◌, ◌++◌, map, filter, flat_map, length, refl, sym, ◌∙◌, ap, subst, arith, eqb-true}
+use Rattle.std.proofs.Common.{◌≡◌, ℕ, ◌+◌, ◌*◌, ◌^◌, ◌<◌, ◌≤◌, true, false, ◌||◌, List, [], ◌∷◌, ◌++◌, map, flat_map, length, refl, sym, ◌∙◌, ap, subst, arith, eqb-true}
 use Rattle.std.{specs.List.{list_any, Sorted.IsPermutation}, proofs.lemmas.List.Sorted.{IsPermutation-sym, IsPermutation-map}}
-use Rattle.napt_rules.specs.Prelude.{Binding, Each, of, is_at, purge, row, protocol_rank, rank, rows, in_order, taken, act, Arrival, Act, Course, run_from, last_clock, legs_at, Ran, ran_of, State, course_from, AreRowsApart, Apart, IsSound, AreAlike, GoesOnAlike, AlikeStatesGoOn, Protocol, Icmp, Tcp, Udp, kind, PacketsCarryNumbers, Rules, KeepsRules, pair_of}
+use Rattle.napt_rules.specs.Prelude.{Binding, Each, of, is_at, purge, row, protocol_rank, rows, in_order, act, Arrival, Act, Course, run_from, last_clock, legs_at, ran_of, AreRowsApart, Apart, IsSound, AreAlike, GoesOnAlike, AlikeStatesGoOn, Protocol, Icmp, Tcp, Udp, PacketsCarryNumbers, Rules, KeepsRules, pair_of}
 use Rattle.napt_rules.{specs.declared.{Row.Row, Leg.Leg, Outcome.Outcome}, proofs.Lists.each_filter}
 use Rattle.napt_laws.proofs.{Lists.{each_weaker, each_parts}, Finds.Once, Orders.{same_rank, same_rank-true, in_order_alike, in_order-moves}, Opened.sound_at, StepsSound.{purge_stays_sound, out_stays_sound, in_stays_sound}}
 use Rattle.napt_laws.proofs.{Shuffles.{filter_once, each_moved}, Alike.{filter_of, purge_some, alike_some, alike_later, alike_taken}, StepsAlike.acts_alike, Turns.IsServed, Beside.{AreActsBeside, AreBeside, run_both}, RunsSound.sound_by}
