@@ -64,7 +64,8 @@ module _ (timers : Timers) where
   purge_moved now a b s = IsPermutation-map (with_live_flows timers now) _ _
       (filter_moved (is_live timers now) a b s)
 
-  pub purge_joined : (now : ℕ) (a b : List Binding) → purge timers now (a ++ b) ≡ purge timers now a ++ purge timers now b
+  pub purge_joined : (now : ℕ) (a b : List Binding) →
+      purge timers now (a ++ b) ≡ purge timers now a ++ purge timers now b
   purge_joined now a b = ap (map (with_live_flows timers now)) (filter-append (is_live timers now) a b)
       ∙ map-append (with_live_flows timers now) (filter (is_live timers now) a) (filter (is_live timers now) b)
 

@@ -59,7 +59,8 @@ module _ (rules : Rules) (now : ℕ) (pair : ℕ → ℕ) (a b : List Binding) (
     at_address : Each (λ r. r.external.address ≡ address) (here a)
     at_address = subst (Each (λ r. r.external.address ≡ address))
         (ap (map row) (sym (purge_some rules.timers (is_at address) now a)))
-        (subst (Each (λ r. r.external.address ≡ address)) (sym (filter_of row (is_at address) (purge rules.timers now a)))
+        (subst (Each (λ r. r.external.address ≡ address))
+        (sym (filter_of row (is_at address) (purge rules.timers now a)))
         (each_weaker (λ r. is_at address r ≡ true) (λ r. r.external.address ≡ address) (λ r e. eqb-true _ _ e) _
         (each_filter (is_at address) (map row (purge rules.timers now a)))))
 

@@ -154,7 +154,8 @@ part_of p [] i part is = cc
 part_of p (first ∷ parts) zero part is = (first, refl, same_Some (filter p first) part is)
 part_of p (first ∷ parts) (suc i) part is = part_of p parts i part is
 
-module _ (rules : Rules) (keeps : KeepsRules rules) (state ordered : State) (order : IsInOrder rules state ordered) where
+module _ (rules : Rules) (keeps : KeepsRules rules) (state ordered : State)
+    (order : IsInOrder rules state ordered) where
   abbrev now : ℕ
   now = state.clock
 
@@ -175,7 +176,8 @@ module _ (rules : Rules) (keeps : KeepsRules rules) (state ordered : State) (ord
 
   ordered_own : Each (λ b. (b.last ≤ now) × AreOwn now b.flows) ordered.list
   ordered_own = rw order.list (each_joined (λ b. (b.last ≤ now) × AreOwn now b.flows) order.parts (λ i part is.
-      let left = (here i part is).1 in each_both (λ b. b.last ≤ now) (λ b. AreOwn now b.flows) part left.last left.flows))
+      let left = (here i part is).1 in each_both (λ b. b.last ≤ now)
+      (λ b. AreOwn now b.flows) part left.last left.flows))
 
   loose_is : loose rules ordered ≡ filter is_loose ordered.list
   loose_is = ap (filter is_loose)
@@ -283,7 +285,8 @@ module _ (carry : PacketsCarryNumbers) (rules : Rules) (keeps : KeepsRules rules
     acts = whole.acts ∙ ap (λ (acts : List Act). (course_from rules (under rules state) first).acts
         ++ map (behind (length first)) acts) (sym same.acts);
     ran = λ small. whole.ran ∙ ap (and_then (ran_from rules (under rules state) first))
-        (sym (same.ran (subst (Each (λ r. r.external.number < 2 ^ 16)) (ap (λ (r : Ran). r.bindings) whole.ran) small)));
+        (sym (same.ran (subst (Each (λ r. r.external.number < 2 ^ 16))
+        (ap (λ (r : Ran). r.bindings) whole.ran) small)));
     left = subst (λ (t : ℕ). AreAlike rules.timers t (left_by rules (under rules state) (first ++ rest)).list
         (left_by rules (under rules saved) rest).list) (sym (clock_on state.clock first rest))
         (subst (λ (s : State). AreAlike rules.timers (last_clock left.clock rest) s.list

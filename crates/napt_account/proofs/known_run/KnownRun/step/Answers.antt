@@ -37,7 +37,8 @@ returns-in_err-told c =
     c.config-config.ensures (c.in_ok-stepped.ensures.tells (anew c.config-config.result.now) before stands) in
     let few : length before + 1 < 2 ^ 32 = elim (cases_lt (length before + 1) (2 ^ 32)) [
       | inl lt ↦ lt
-      | inr ge ↦ let never = (c.in_ok-stepped.ensures.too_many (anew c.config-config.result.now) before stands).1 ge in cc
+      | inr ge ↦ let never = (c.in_ok-stepped.ensures.too_many
+          (anew c.config-config.result.now) before stands).1 ge in cc
     ] in
     let p = err_from_is_err_and c.from_residual-in_err-told.result c.from_residual-in_err-told.ensures.1 in
     let memory = log_fault rules before it.log is.taken trace
