@@ -1,11 +1,11 @@
 -- Lists of bindings that are alike, and what keeps them so.
-use Rattle.std.proofs.Common.{◌≡◌, ℕ, ◌≤◌, Bool, true, false, not, ◌||◌, cond, List, [], ◌∷◌, ◌++◌, map, filter, find, Option, Some, None, refl, sym, ◌∙◌, ap, subst, arith}
+use Rattle.std.proofs.Common.{◌≡◌, ℕ, ◌≤◌, Bool, true, false, not, cond, List, [], ◌∷◌, ◌++◌, map, filter, find, Some, refl, sym, ◌∙◌, ap, subst, arith}
 use Rattle.std.{specs.{List.{list_any, Sorted.IsPermutation}, Option.option_map}, proofs.lemmas.{List.{map-append, Elements.filter-append}, Bool.true≢false, Option.same_Some}}
 use Rattle.std.proofs.lemmas.List.Sorted.{IsPermutation-refl, IsPermutation-sym, IsPermutation-trans, IsPermutation-map, IsPermutation-append, IsPermutation-append_comm, IsPermutation-cons}
 use Rattle.napt_config.specs.declared.settings.Timers.{Timers}
 use Rattle.napt_rules.specs.Prelude.{Binding, change_first, is_live, with_live_flows, purge, hold_ago, taken, row, AreAlike}
 use Rattle.napt_rules.specs.declared.Row.{Row}
-use Rattle.napt_laws.proofs.{Lists.{filter_swap, filter_map}, Finds.{Once, any_found, none_passes}, Living.{ago_before, ago_later, purge_taken}, Purges.purge_purge, Shuffles.filter_moved}
+use Rattle.napt_laws.proofs.{Lists.{filter_swap, filter_map}, Finds.{Once, any_found}, Living.{ago_later, purge_taken}, Purges.purge_purge, Shuffles.filter_moved}
 
 -- TESTS OF ROWS
 
@@ -64,7 +64,8 @@ module _ (timers : Timers) where
   purge_moved now a b s = IsPermutation-map (with_live_flows timers now) _ _
       (filter_moved (is_live timers now) a b s)
 
-  purge_joined : (now : ℕ) (a b : List Binding) → purge timers now (a ++ b) ≡ purge timers now a ++ purge timers now b
+  pub purge_joined : (now : ℕ) (a b : List Binding) →
+      purge timers now (a ++ b) ≡ purge timers now a ++ purge timers now b
   purge_joined now a b = ap (map (with_live_flows timers now)) (filter-append (is_live timers now) a b)
       ∙ map-append (with_live_flows timers now) (filter (is_live timers now) a) (filter (is_live timers now) b)
 
@@ -98,16 +99,24 @@ module _ (timers : Timers) where
         AreAlike timers now (filter (λ x. q x.row) a) (filter (λ x. q x.row) b)
     alike_some q a b alike = record {
       live = rw (purge_some q now a, purge_some q now b) (filter_moved (λ x. q x.row) _ _ alike.live);
-      held = λ t le. rw (purge_some q t a, purge_some q t b, filter_of row q (purge timers t a),
-          filter_of row q (purge timers t b)) (filter_moved q _ _ (alike.held t le));
+      held = λ t le. rw (
+        purge_some q t a,
+        purge_some q t b,
+        filter_of row q (purge timers t a),
+        filter_of row q (purge timers t b),
+      ) (filter_moved q _ _ (alike.held t le));
     }
 
     pub alike_both : (a b c d : List Binding) → AreAlike timers now a b → AreAlike timers now c d →
         AreAlike timers now (a ++ c) (b ++ d)
     alike_both a b c d first rest = record {
       live = rw (purge_joined now a c, purge_joined now b d) (IsPermutation-append _ _ _ _ first.live rest.live);
-      held = λ t le. rw (purge_joined t a c, purge_joined t b d, map-append row (purge timers t a) (purge timers t c),
-          map-append row (purge timers t b) (purge timers t d))
+      held = λ t le. rw (
+        purge_joined t a c,
+        purge_joined t b d,
+        map-append row (purge timers t a) (purge timers t c),
+        map-append row (purge timers t b) (purge timers t d),
+      )
           (IsPermutation-append _ _ _ _ (first.held t le) (rest.held t le));
     }
 
@@ -115,8 +124,10 @@ module _ (timers : Timers) where
         AreAlike timers now (taken timers now a) (taken timers now b)
     alike_taken a b alike = record {
       live = rw (purge_taken timers now a, purge_taken timers now b) alike.live;
-      held = λ t le. rw (purge_purge timers (hold_ago timers now) t le a,
-          purge_purge timers (hold_ago timers now) t le b) (alike.held t le);
+      held = λ t le. rw (
+        purge_purge timers (hold_ago timers now) t le a,
+        purge_purge timers (hold_ago timers now) t le b,
+      ) (alike.held t le);
     }
 
     -- one that both have goes, and one comes

@@ -53,6 +53,8 @@ pub mod OwnStates
 pub mod Rows
 pub mod Grown
 pub mod GoingOn
+pub mod RunsAlike
+pub mod Saved
 pub mod EachLeg
 pub mod Dispatched
 pub mod OneInput

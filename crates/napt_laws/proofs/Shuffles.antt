@@ -1,5 +1,5 @@
 -- Lists with the same elements in another order, by exchanges of neighbours.
-use Rattle.std.proofs.Common.{◌≡◌, ℕ, zero, suc, ◌<◌, Bool, true, false, cond, ◌||◌, List, [], ◌∷◌, Option, Some, None, length, get_or, set, filter, find, refl, sym, ◌∙◌, ap, subst, arith}
+use Rattle.std.proofs.Common.{◌≡◌, ℕ, zero, suc, ◌<◌, Bool, true, false, cond, ◌||◌, List, [], ◌∷◌, Option, Some, None, length, get_or, set, filter, find, refl, sym, ◌∙◌, ap, arith}
 use Rattle.std.specs.{List.list_any, List.Sorted.IsPermutation}
 use Rattle.std.proofs.lemmas.List.Sorted.{IsPermutation-keeps, IsPermutation-refl, IsPermutation-cons, IsPermutation-trans, IsPermutation-append_comm, IsPermutation-append_left, list_any-IsPermutation}
 use Rattle.std.proofs.lemmas.Bool.{true≢false, or_parts}
@@ -83,8 +83,16 @@ module _ {X : Type 0} where
                     ∙ sym (ap (λ w. cond w (y ∷ x ∷ filter p us) (x ∷ filter p us)) others.0),
                 (λ k. absurd (true≢false (sym k ∙ others.0)), (λ k. others.1, o.1.1)),
               )
-          | false ↦ λ h. (refl, (λ k. ap (λ w. w || list_any p us) h ∙ o.1.0 k, (λ k. absurd (true≢false (sym k ∙ h)),
-              o.1.1)))
+          | false ↦ λ h. (
+            refl,
+            (
+              λ k. ap (λ w. w || list_any p us) h ∙ o.1.0 k,
+              (
+                λ k. absurd (true≢false (sym k ∙ h)),
+                o.1.1,
+              ),
+            ),
+          )
         ] refl
     once_same xs ys (then {xs = us} {ys = vs} {zs = ws} s t) o =
         let first = once_same us vs s o in

@@ -1,11 +1,11 @@
 -- A packet sees the same of lists that are alike, and leaves what is alike.
-use Rattle.std.proofs.Common.{◌≡◌, ℕ, ◌≤◌, Bool, true, false, not, ◌&&◌, cond, List, [], ◌∷◌, ◌++◌, map, length, filter, find, Option, Some, None, Result, Ok, Err, refl, sym, ◌∙◌, ap, subst, arith, ok_or}
-use Rattle.std.{specs.{List.{list_any, Sorted.IsPermutation}, Option.option_map}, proofs.lemmas.{List.{length-map, Sorted.{IsPermutation-refl, length_permutation, list_any-IsPermutation}}, Option.same_Some, Bool.and_parts}}
+use Rattle.std.proofs.Common.{◌≡◌, ℕ, Bool, true, false, not, ◌&&◌, cond, List, [], ◌∷◌, ◌++◌, map, length, filter, find, Option, Some, None, Result, Ok, Err, refl, sym, ◌∙◌, ap, subst, arith, ok_or}
+use Rattle.std.{specs.{List.{Sorted.IsPermutation}, Option.option_map}, proofs.lemmas.{List.{length-map, Sorted.{IsPermutation-refl, length_permutation, list_any-IsPermutation}}, Option.same_Some, Bool.and_parts}}
 use Rattle.napt_wire.specs.declared.Protocol.TheVariants as protocols
 use Rattle.napt_wire.specs.declared.Kind.TheVariants.{Udp, Tcp, Echo, ErrorOf}
-use Rattle.napt_rules.specs.Prelude.{Binding, change_first, has_number, is_of_inside, is_live, with_live_flows, purge, hold_ago, taken, permits, row, counts_for, count_for, reaches, choice, is_free, candidates, granting_of, inbound_of, Through, of_source, sent_by, of_live_source, sent_live, of_others, Out, out_made, granted_again, out_found, out_taken, step_out, of_destination, received_by, of_live_destination, received_live, In, in_found, in_taken, step_in, no_flags, Acted, end_out, end_in, error_out, error_in, sent_of, received_of, act_out, act_in, act_by, act, Apart, IsSound, AreAlike, Protocol, Way, Outgoing, Incoming, Flags, Kind, kind, Rules, Block, Choosing, Endpoint, Cause, OverQuota, NoPort, Filtered}
+use Rattle.napt_rules.specs.Prelude.{Binding, change_first, has_number, is_of_inside, is_live, with_live_flows, purge, hold_ago, taken, permits, row, counts_for, count_for, reaches, choice, is_free, candidates, granting_of, inbound_of, of_source, sent_by, Out, out_made, granted_again, out_found, step_out, of_destination, received_by, of_live_destination, received_live, In, in_found, step_in, no_flags, Acted, end_out, end_in, error_out, error_in, sent_of, received_of, act_out, act_in, act_by, act, Apart, IsSound, AreAlike, Protocol, Way, Outgoing, Incoming, Flags, Kind, kind, Rules, Cause, OverQuota, NoPort, Filtered}
 use Rattle.napt_rules.specs.Quota.{granted}
-use Rattle.napt_rules.specs.declared.{Granting.Granting, Inbound.Inbound, Sent.Sent, Received.Received, Leg.Leg, Row.Row, End.End}
+use Rattle.napt_rules.specs.declared.{Granting.Granting, Inbound.Inbound, Sent.Sent, Received.Received, Leg.Leg, Row.Row}
 use Rattle.napt_config.specs.declared.settings.Timers.{Timers}
 use Rattle.napt_laws.proofs.{Lists.find_agree, Finds.{Once, passes}, Living.{find_seen, purge_taken}, Endpoints.{once_inside, once_number}, StepsSound.purge_stays_sound}
 use Rattle.napt_laws.proofs.{Shuffles.{filter_moved, find_once}, Alike.{filter_of, any_of_all, find_of, once_of, changed_last, alike_taken, alike_put}}
