@@ -14,6 +14,7 @@ pub mod Endpoints
 
 pub mod Held
 pub mod Passes
+pub mod Shuffles
 pub mod StepRows
 pub mod Quotas
 pub mod StepsLocal
