@@ -206,7 +206,7 @@ fn translators<P: Telling>(
 {
     let mut made = Vec::with_capacity(alloc, ended.len())?;
     for worker in ended {
-        made.push(worker.machine.translator)?;
+        made.push(worker.machine.into_translator())?;
     }
     Ok(made)
 }
