@@ -1,6 +1,6 @@
 -- What a run from arrivals to departures comes to.
 use Rattle.std.proofs.lemmas.{Grind.common_steps, Bool.Decides.nat_tests, List.length-map}
-use Rattle.std.proofs.Common.{◌≡◌, ℕ, Bool, false, inr, List, [], ◌++◌, length, map, replicate, Option, MatchOption, refl, sym, ◌∙◌, ap, subst, arith, append-nil}
+use Rattle.std.proofs.Common.{◌≡◌, ℕ, Bool, false, inr, List, [], ◌++◌, length, replicate, Option, MatchOption, refl, sym, ◌∙◌, ap, subst, arith, append-nil}
 use Rattle.napt_config.specs.Rules.{Rules}
 use Rattle.napt_rules.specs.{Prelude.{Arrival, State}, declared.Leg.Leg}
 use Rattle.napt_laws.specs.Dispatching.{IsFront}
@@ -47,11 +47,6 @@ module _ {P : Type 0} {tells : Passage → P} {A F S B M G : Type 0} {rules : Ru
       EndsWith tells rules start hands ends takes fails is_settled from before later_pool left after fault done →
       EndsBy tells rules start hands ends takes fails is_settled from before later_pool left after done ending
   ends_by done fault ending is e = grind (arith, common_steps, nat_tests)
-
-  pub whole_answered : (done : Dispatched F B) (ending : Ending F B) → ending ≡ endings.Whole →
-      EndsBy tells rules start hands ends takes fails is_settled from before later_pool left after done ending →
-      map length (taken later_pool) ≡ map length (accepts later_pool)
-  whole_answered done ending is e = grind (arith, common_steps, nat_tests)
 
   module _ (pool : Pool M G Leg (Told P)) (d : Dispatcher P) {later : Dispatcher P}
       (at : start.clock ≡ d.clock) (begun : (inputs : List Arrival) → Stands tells rules start [] inputs (state_of pool d)) where

@@ -2,7 +2,7 @@ use Rattle.std.{proofs.Common.{◌≡◌, ◌∙◌, length, refl, subst}, specs
 use Rattle.napt_config.specs.Rules.{Rules}
 use Rattle.napt_rules.specs.Prelude.{State, anew}
 use Rattle.napt_pool.specs.Pools.{starts, accepts, takes}
-use Rattle.napt_dispatch.{specs.Dispatch.{started_from, IsDispatchedFrom}, proofs.{Ended.right_since, Ending.whole_answered, RunsThrough.dispatched_whole}}
+use Rattle.napt_dispatch.{specs.Dispatch.{started_from, IsDispatchedFrom}, proofs.{Ended.right_since, RunsThrough.{answered_whole, dispatched_whole}}}
 use Rattle.napt_sequential.specs.CountedTranslators.{nothing_told}
 use Rattle.napt_dispatch.proofs.dispatcher.dispatch.Goals as goal
 
@@ -22,4 +22,7 @@ returns-in-Whole-clause-run g c = λ replied.
 
 pub returns-in-Whole-clause-settled : goal.returns-in-Whole-clause-settled
 returns-in-Whole-clause-settled g c =
-    whole_answered _ _ c.in-Whole.is (c.in_ok-done.ensures.ends (anew c.args.config.now) refl)
+    answered_whole c.args.config.now (anew c.args.config.now) (λ queue. queue.items) (λ before pairs fault after. ⊤)
+    (λ collected. ⊤) c.in_ok-inputs.inputs c.in_ok-collected.collected c.dispatch_to.new.pool
+    c.dispatch_to.new.arrivals c.dispatch_to.new.departures _
+    (rw c.in-Whole.is at (c.in_ok-done.ensures.ends (anew c.args.config.now) refl))

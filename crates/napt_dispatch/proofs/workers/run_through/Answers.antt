@@ -2,7 +2,7 @@ use Rattle.std.proofs.{Common.{◌≡◌, ◌∙◌, [], inl, length, map, None,
 use Rattle.napt_config.specs.Rules.{Rules}
 use Rattle.napt_pool.specs.Pools.{starts, accepts, takes}
 use Rattle.napt_rules.specs.Prelude.{State, under}
-use Rattle.napt_dispatch.{specs.{Collecting.outcome_of, Dispatch.started_from, Passing.{EndsWith, EndsBy}}, proofs.Closed.{workers_shown, workers_left}}
+use Rattle.napt_dispatch.{specs.{Collecting.outcome_of, Dispatch.started_from, Passing.{EndsWith, EndsBy}}, proofs.Closed.{rows_shown, workers_shown, workers_left}}
 use Rattle.napt_dispatch.proofs.{Ended.right_begin, Lanes.front_empty, RunsThrough.{passes_to, passes_well, passes_early, passes_ended, passes_closed}}
 use Rattle.napt_dispatch.proofs.workers.run_through.Goals as goal
 
@@ -65,7 +65,7 @@ returns-in-Ok-clause-passes g c =
     (workers_shown _ rules start e.inputs (starts pool) (accepts pool) machines (map outcome_of e.went)
     c.in_ok-dispatched.dispatched.legs.items began closed.machines done
     c.in_ok-dispatched.dispatched.clock e.clock (λ s. refl) (λ s leg legs. refl) c.in-Ok.passed.bindings.items
-    c.in-Ok.ensures.bindings)
+    (rows_shown _ _ _ _ c.in-Ok.ensures.bindings refl))
     (workers_left _ rules start e.inputs (starts pool) (accepts pool) machines (map outcome_of e.went)
     c.in_ok-dispatched.dispatched.legs.items began closed.machines done
     c.in_ok-dispatched.dispatched.clock e.clock (λ s. refl) (λ s leg legs. refl) c.in-Ok.passed

@@ -3,11 +3,8 @@ use Rattle.napt_config.specs.Rules.{Rules}
 use Rattle.napt_rules.specs.Prelude.{Ran, ran, anew, AreRowsApart}
 use Rattle.napt_pool.specs.Pools.{starts, accepts}
 use Rattle.napt_laws.proofs.{Rows.rows_apart, Grown.ran_long}
-use Rattle.napt_dispatch.{specs.Dispatch.started, proofs.Closed.{on_ok_at, rows_shown, takes_nothing, started_anew, workers_shown}}
+use Rattle.napt_dispatch.{specs.Dispatch.started, proofs.Closed.{on_ok_at, rows_shown, started_anew, workers_shown}}
 use Rattle.napt_dispatch.proofs.workers.run_workers.Goals as goal
-
-pub start-requires : goal.start-requires
-start-requires g c = takes_nothing c.args.config.now _ refl c.new.ensures.items
 
 pub dispatch-dispatched-requires-clause-started : goal.dispatch-dispatched-requires-clause-started
 dispatch-dispatched-requires-clause-started g c =
