@@ -30,17 +30,18 @@ module _ {P : Type 0} {tells : Passage → P} {A F S B M G : Type 0} {rules : Ru
 
   pub passes_well : (done : Dispatched F B) (passed : Passed)
       (e : EndsWith tells rules start hands ends takes fails is_settled from before pool left after None done) →
+      passed.legs.items ≡ done.legs.items →
       (let r : Ran = record {
         outcomes = map outcome_of e.went;
         bindings = passed.bindings.items;
-        legs = passed.legs.items;
+        legs = done.legs.items;
       } in r ≡ ran_from rules start e.inputs) → LeavesState rules (left_by rules start e.inputs) passed →
       PassesWell tells rules start hands ends takes fails is_settled from before left after passed
   unfolding passes_to
-  passes_well done passed e is leaves = record {
+  passes_well done passed e legs is leaves = record {
     whole = passes_to None done e;
     bindings = ap (λ (r : Ran). r.bindings) is;
-    legs = ap (λ (r : Ran). r.legs) is;
+    legs = legs ∙ ap (λ (r : Ran). r.legs) is;
     leaves = leaves;
   }
 

@@ -222,7 +222,7 @@ fn result_of<P: Telling>(
         ≡ flat_map (λ e. rows_after clock e.machine) ended.items) }
     ensures translators { IfOk result (λ passed. passed.translators.items
         ≡ map (λ e. e.machine) ended.items) }
-    ensures legs { IfOk result (λ passed. passed.legs ≡ legs) }
+    ensures legs { IfOk result (λ passed. passed.legs.items ≡ legs.items) }
     ensures clock { IfOk result (λ passed. passed.clock ≡ clock) }
 {
     let bindings = bindings(alloc, &ended, clock)?;

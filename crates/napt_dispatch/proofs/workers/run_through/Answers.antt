@@ -61,11 +61,12 @@ returns-in-Ok-clause-passes g c =
     (λ s leg. refl) (λ s leg. refl) in
     let done = (e.right (right e.offered_many)).1 in
     let machines = map (λ e. e.machine) c.in_ok-dispatched.ended.items in
-    passes_well pool right c.in_ok-dispatched.dispatched _ e
+    passes_well pool right c.in_ok-dispatched.dispatched c.in-Ok.passed e c.in-Ok.ensures.legs
     (workers_shown _ rules start e.inputs (starts pool) (accepts pool) machines (map outcome_of e.went)
     c.in_ok-dispatched.dispatched.legs.items began closed.machines done
     c.in_ok-dispatched.dispatched.clock e.clock (λ s. refl) (λ s leg legs. refl) c.in-Ok.passed.bindings.items
-    (rows_shown _ _ _ _ c.in-Ok.ensures.bindings refl))
+    (rows_shown c.in_ok-dispatched.dispatched.clock c.in-Ok.passed.bindings.items c.in_ok-dispatched.ended.items
+    c.in_ok-dispatched.ended.items c.in-Ok.ensures.bindings refl))
     (workers_left _ rules start e.inputs (starts pool) (accepts pool) machines (map outcome_of e.went)
     c.in_ok-dispatched.dispatched.legs.items began closed.machines done
     c.in_ok-dispatched.dispatched.clock e.clock (λ s. refl) (λ s leg legs. refl) c.in-Ok.passed
