@@ -1,6 +1,6 @@
 -- What the translators are left with, one after another.
-use Rattle.std.proofs.lemmas.{Grind.{common_steps, flat_map-append}, Bool.{Decides.nat_tests, cases_lt}, List.length_push, Option.{slice_get_within, slice_get_cases, same_Some}}
-use Rattle.std.{proofs.Common.{◌≡◌, ℕ, ◌<◌, max, List, [], ◌∷◌, ◌++◌, length, Some, refl, sym, ◌∙◌, ap, subst, arith, inl, inr, append-nil}, specs.{List.slice_get, Prelude.flat_map}}
+use Rattle.std.proofs.lemmas.{Grind.{flat_map-append}, Bool.{cases_lt}, List.length_push, Option.{slice_get_within, slice_get_cases, same_Some}}
+use Rattle.std.{proofs.Common.{◌≡◌, ℕ, max, List, [], ◌∷◌, ◌++◌, length, refl, sym, ◌∙◌, ap, subst, arith, inl, inr, append-nil}, specs.{Prelude.flat_map}}
 use Rattle.napt_config.specs.Rules.{Rules}
 use Rattle.napt_rules.specs.Prelude.{Binding, of, hold_ago, taken, last_clock, State, Arrival, course_from, left_by, AreLeft, IsInOrder}
 use Rattle.napt_translate.specs.Translators.{TranslatorState, begun, with_kept}
@@ -15,7 +15,8 @@ IsLeftOf now counted part =
 pub none_left : (now : ℕ) → AreAllLeft now [] []
 none_left now = record { parts = []; list = refl; many = refl; each = λ place counted part at is_there. cc }
 
-pub one_left : (now : ℕ) (translators : List CountedTranslator) (counted : CountedTranslator) (made part : List Binding) →
+pub one_left : (now : ℕ) (translators : List CountedTranslator) (counted : CountedTranslator)
+    (made part : List Binding) →
     AreAllLeft now translators made → IsLeftOf now counted part →
     AreAllLeft now (translators ++ counted ∷ []) (made ++ part)
 one_left now translators counted made part left ordered = record {
@@ -51,7 +52,8 @@ left_there rules state inputs place address counted is part left =
     let held : taken rules.timers now is.own.list ≡ of address (taken rules.timers now list) =
     is.at_once.agrees.taken ∙ sym (of_purge rules.timers (hold_ago rules.timers now) address list) in
     let here : IsLeftOf now (record { translator = with_kept (begun place rules) is.own; legs = counted.legs }) part =
-    subst (λ (t : TranslatorState). IsLeftOf now (record { translator = t; legs = counted.legs }) part) is.translator left
+    subst (λ (t : TranslatorState). IsLeftOf now (record { translator = t; legs = counted.legs }) part) is.translator
+    left
     in
     subst (λ (l : List Binding). AreLeft rules.timers now l part) held
     (subst (λ (n : ℕ). AreLeft rules.timers n (taken rules.timers n is.own.list) part)

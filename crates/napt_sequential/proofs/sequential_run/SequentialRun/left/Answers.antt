@@ -1,4 +1,4 @@
-use Rattle.std.proofs.Common.{List, sym, subst}
+use Rattle.std.proofs.Common.{List, subst}
 use Rattle.napt_sequential.specs.{declared.counted_translator.CountedTranslator.CountedTranslator, CountedTranslators.AreAllLeft}
 use Rattle.napt_sequential.proofs.Left.{all_left}
 use Rattle.napt_sequential.proofs.sequential_run.SequentialRun.left.Goals as goal
