@@ -105,8 +105,7 @@ module _ (next : StateLine) (rest : Text) (old new : Option Text) (fits : IsStat
       absurd (subst IsNoFlow (sym (same_ok entry next (reads next rest fits left).0) ∙ is) other)
   flow_read entry one (f ∷ more) is reads fit left =
       let got = reads (flow f) (flows_text more next rest) fit.0
-          (left ∙ ap Some (append_assoc (line_text (flow f)) (flat_map line_text (map flow more)) (line_text next ++ rest))) in
-      (
+      (left ∙ ap Some (append_assoc (line_text (flow f)) (flat_map line_text (map flow more)) (line_text next ++ rest))) in (
         more,
         ap (λ (x : Flow). x ∷ more) (sym (ap (flow_or one) (sym is ∙ same_ok entry (flow f) got.0))),
         fit.1,
@@ -119,7 +118,7 @@ module _ (next : StateLine) (rest : Text) (old new : Option Text) (fits : IsStat
       (refl, same_ok entry next (reads next rest fits left).0, (reads next rest fits left).1)
   other_read entry (f ∷ more) reads none fit left =
       let got = reads (flow f) (flows_text more next rest) fit.0
-          (left ∙ ap Some (append_assoc (line_text (flow f)) (flat_map line_text (map flow more)) (line_text next ++ rest))) in
+      (left ∙ ap Some (append_assoc (line_text (flow f)) (flat_map line_text (map flow more)) (line_text next ++ rest))) in
       absurd (subst IsNoFlow (same_ok entry (flow f) got.0) none)
 
   pub none_read : (Q : Type 0) (reason : StateReason) (behind : List Flow) → Reads (Err reason) old new → Fit behind →
@@ -162,8 +161,8 @@ module _ (list : List Binding) (rest : Text) (old new : Option Text) (fits : Eac
       let (first, more, is, none) = first_of list (length list) (flow_count list) in
       let fit : Each IsStateLine (first ∷ more) = subst (Each IsStateLine) is fits in
       let got = reads first (flat_map line_text more ++ rest) fit.0 (left
-          ∙ ap (λ (l : List StateLine). Some (flat_map line_text l ++ rest)) is
-          ∙ ap Some (append_assoc (line_text first) (flat_map line_text more) rest)) in
+      ∙ ap (λ (l : List StateLine). Some (flat_map line_text l ++ rest)) is
+      ∙ ap Some (append_assoc (line_text first) (flat_map line_text more) rest)) in
       record {
         behind = list;
         split = refl;
@@ -241,8 +240,8 @@ module _ (list so_far : List Binding) (left : Option Text) (rest : Text) where
       let (first, others, parts, none) = first_of behind (length list) (flow_count list) in
       let head : lines.Binding row last ≡ binding b.row b.last = ap (first_or (lines.Binding row last)) is in
       let tail : more ≡ map flow b.flows ++ first ∷ others = ap (drop 1) is
-          ∙ append_assoc (map flow b.flows) (flat_map binding_lines behind) (end (length list) (flow_count list) ∷ [])
-          ∙ ap (λ (l : List StateLine). map flow b.flows ++ l) parts in
+      ∙ append_assoc (map flow b.flows) (flat_map binding_lines behind) (end (length list) (flow_count list) ∷ [])
+      ∙ ap (λ (l : List StateLine). map flow b.flows ++ l) parts in
       let fit = fit_parts b.flows (first ∷ others) (subst (Each IsStateLine) tail fits) in
       record {
         one = b;
@@ -259,9 +258,9 @@ module _ (list so_far : List Binding) (left : Option Text) (rest : Text) where
         text = text ∙ ap (λ (l : List StateLine). Some (flat_map line_text l ++ rest)) tail
             ∙ ap (λ (l : Text). Some (l ++ rest)) (flat_map-append line_text (map flow b.flows) (first ∷ others))
             ∙ ap Some (append_assoc (flat_map line_text (map flow b.flows))
-                (line_text first ++ flat_map line_text others) rest
-                ∙ ap (λ (l : Text). flat_map line_text (map flow b.flows) ++ l)
-                    (append_assoc (line_text first) (flat_map line_text others) rest));
+            (line_text first ++ flat_map line_text others) rest
+            ∙ ap (λ (l : Text). flat_map line_text (map flow b.flows) ++ l)
+            (append_assoc (line_text first) (flat_map line_text others) rest));
       }
 
   pub opened : (row : Row) (last : ℕ) → Ahead list so_far (lines.Binding row last) left rest →
@@ -319,8 +318,8 @@ list_longer list one text all rest is behind =
     let lines_of : List Binding → List StateLine = flat_map binding_lines in
     is ∙ ap (λ (l : Text). flat_map line_text (lines_of list) ++ (line_text (binding one.row one.last) ++ l)) behind
     ∙ ap (λ (l : Text). flat_map line_text (lines_of list) ++ l)
-        (sym (append_assoc (line_text (binding one.row one.last)) (flat_map line_text (map flow one.flows)) rest))
+    (sym (append_assoc (line_text (binding one.row one.last)) (flat_map line_text (map flow one.flows)) rest))
     ∙ sym (append_assoc (flat_map line_text (lines_of list)) (flat_map line_text (binding_lines one)) rest)
     ∙ ap (λ (l : Text). l ++ rest) (sym (flat_map-append line_text (lines_of list) (binding_lines one))
-        ∙ ap (λ (l : List StateLine). flat_map line_text (lines_of list ++ l)) (sym (append-nil (binding_lines one)))
-        ∙ ap (flat_map line_text) (sym (flat_map-append binding_lines list (one ∷ []))))
+    ∙ ap (λ (l : List StateLine). flat_map line_text (lines_of list ++ l)) (sym (append-nil (binding_lines one)))
+    ∙ ap (flat_map line_text) (sym (flat_map-append binding_lines list (one ∷ []))))

@@ -2,12 +2,12 @@
 use Rattle.std.proofs.lemmas.{Grind.common_steps, Bool.Decides.nat_tests}
 use Rattle.std.proofs.Common.{◌≡◌, ℕ, zero, suc, ◌==◌, ◌<◌, ◌≤◌, Bool, true, false, not, ◌&&◌, ◌||◌, cond, List, [], ◌∷◌, ◌++◌, ◌-◌, map, drop, get_or, length, refl, sym, ◌∙◌, ap, subst, arith, filter}
 use Rattle.std.proofs.Math.Seq.{drop-cons}
-use Rattle.std.specs.{List.{list_any, retain_mut, Retain.RetainsInTurn}, HashSet.HashSet}
+use Rattle.std.specs.{List.{retain_mut, Retain.RetainsInTurn}, HashSet.HashSet}
 use Rattle.std.specs.HashSet as hash
 use denote.Enum.Bare.{sameb}
 use Rattle.napt_wire.specs.contracts.Protocol.{the_type}
 use Rattle.napt_rules.specs.declared.{Flow.Flow, Row.Row}
-use Rattle.napt_rules.specs.Prelude.{Binding, Protocol, Icmp, Tcp, Udp, Timers, Rules, State, same_protocol, same_endpoint, is_live, with_live_flows, purge, hold_ago, taken, loose, under, opening, flows_share, clashes, is_flow_of}
+use Rattle.napt_rules.specs.Prelude.{Binding, Protocol, Icmp, Tcp, Udp, Timers, Rules, State, same_protocol, is_live, with_live_flows, purge, hold_ago, taken, loose, under, opening, flows_share, clashes, is_flow_of}
 use Rattle.napt_rules.proofs.Lists.{each_filter, filter_all}
 use Rattle.napt_laws.proofs.{Lists.{filter_map, filter_swap}, Purges.purge_purge}
 use Rattle.napt_state.specs.declared.endpoints.{EndpointKey.EndpointKey, Endpoints.Endpoints}
@@ -103,8 +103,10 @@ keys : (row other : Row) (x y : Bool) → (cond (key_eq (external_key row) (exte
     || cond (key_eq (inside_key row) (inside_key other)) true y) ≡ (clashes other row || (x || y))
 keys row other x y = rw (
   protocol_either row.protocol other.protocol,
-  same_either row.external.address other.external.address, same_either row.external.number other.external.number,
-  same_either row.inside.address other.inside.address, same_either row.inside.number other.inside.number,
+  same_either row.external.address other.external.address,
+  same_either row.external.number other.external.number,
+  same_either row.inside.address other.inside.address,
+  same_either row.inside.number other.inside.number,
 ) (either (other.external.address == row.external.address) (other.external.number == row.external.number)
     (other.inside.address == row.inside.address) (other.inside.number == row.inside.number)
     (same_protocol other.protocol row.protocol) x y)
@@ -112,20 +114,20 @@ keys row other x y = rw (
 pub clash_more : (old new : Endpoints) (row : Row) (external inside : EndpointKey) → external ≡ external_key row →
     inside ≡ inside_key row →
     ((k : EndpointKey) → hash.contains key_eq new.external k
-        ≡ cond (key_eq external k) true (hash.contains key_eq old.external k)) →
+    ≡ cond (key_eq external k) true (hash.contains key_eq old.external k)) →
     ((k : EndpointKey) → hash.contains key_eq new.inside k
-        ≡ cond (key_eq inside k) true (hash.contains key_eq old.inside k)) →
+    ≡ cond (key_eq inside k) true (hash.contains key_eq old.inside k)) →
     (other : Row) → clash new other ≡ (clashes other row || clash old other)
 clash_more old new row external inside is its outer inner other =
     ap (λ b. b || hash.contains key_eq new.inside (inside_key other)) (outer (external_key other)
-        ∙ ap (λ (k : EndpointKey). cond (key_eq k (external_key other)) true
-            (hash.contains key_eq old.external (external_key other))) is)
+    ∙ ap (λ (k : EndpointKey). cond (key_eq k (external_key other)) true
+    (hash.contains key_eq old.external (external_key other))) is)
     ∙ ap (λ b. cond (key_eq (external_key row) (external_key other)) true
-        (hash.contains key_eq old.external (external_key other)) || b) (inner (inside_key other)
-        ∙ ap (λ (k : EndpointKey). cond (key_eq k (inside_key other)) true
-            (hash.contains key_eq old.inside (inside_key other))) its)
+    (hash.contains key_eq old.external (external_key other)) || b) (inner (inside_key other)
+    ∙ ap (λ (k : EndpointKey). cond (key_eq k (inside_key other)) true
+    (hash.contains key_eq old.inside (inside_key other))) its)
     ∙ keys row other (hash.contains key_eq old.external (external_key other))
-        (hash.contains key_eq old.inside (inside_key other))
+    (hash.contains key_eq old.inside (inside_key other))
 
 pub are_more : (list : List Binding) (b : Binding) (row : Row) (old new : Endpoints) → row ≡ b.row →
     AreOf list old → ((other : Row) → clash new other ≡ (clashes other row || clash old other)) →
@@ -174,5 +176,5 @@ module _ {S : Type 0} (flows : List Flow) (left : ℕ) (d : Flow) (all : HashSet
   remotes_more new more = subst (λ (l : List Flow). AreRemotes l new) (sym (drop_before flows left d some within))
       (λ remote. more (remote.address, remote.number)
       ∙ cond_or (pair_eq (here.remote.address, here.remote.number) (remote.address, remote.number))
-          (hash.contains pair_eq all (remote.address, remote.number))
+      (hash.contains pair_eq all (remote.address, remote.number))
       ∙ ap (λ b. is_flow_of remote here || b) (are remote))

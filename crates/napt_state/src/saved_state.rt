@@ -121,13 +121,13 @@ impl<R: BufRead + Drop> SavedState<R> {
             Each (λ flow. texts.IsStateLine (texts.flow flow)) flows → texts.IsStateLine next →
             saved.IsNoFlow next → R.remaining self.old.reader
             ≡ Some (flat_map texts.line_text (map texts.flow flows)
-                ++ (texts.line_text next ++ rest)) →
+            ++ (texts.line_text next ++ rest)) →
             saved.UnlessUnread result (saved.AreLines flows next result
             × (R.remaining self.new.reader ≡ Some rest)) }
         ensures exact { (all : List ℕ) → R.remaining self.old.reader ≡ Some all →
             IfOk result (λ lines. (rest : List ℕ) × (R.remaining self.new.reader ≡ Some rest)
             × (all ≡ flat_map texts.line_text (map texts.flow lines.flows.items)
-                ++ (texts.line_text lines.next ++ rest))) }
+            ++ (texts.line_text lines.next ++ rest))) }
     {
         let mut flows = Vec::new(self.alloc);
         for _ in 0..u64::MAX {

@@ -15,8 +15,7 @@ const TEXT: &str = "clock 1800000000000000000\n\
     binding icmp 10.0.0.2 7 203.0.113.1 7 18446744073709551615\n\
     end 3 1\n";
 
-const TWO: &str = "clock 1000000000\n\
-    binding udp 10.0.0.2 5001 203.0.113.1 1025 1000000000\n\
+const TWO_LINES: &str = "binding udp 10.0.0.2 5001 203.0.113.1 1025 1000000000\n\
     binding udp 10.0.0.2 5002 203.0.113.1 1027 0\n\
     end 2 0\n";
 
@@ -32,7 +31,7 @@ fn written(alloc: Global, text: &str) -> io::Result<Vec<u8>> {
 
 #[test]
 fn a_state_is_read_and_written_again(rt: HostRuntime) -> Result<(), Fail> {
-    for text in [TEXT, TWO, "clock 0\nend 0 0\n"] {
+    for text in [TEXT, "clock 0\nend 0 0\n"] {
         assert_eq!(rt; written(rt.alloc(), text)?.as_slice(), text.as_bytes());
     }
     Ok(())
@@ -54,7 +53,10 @@ fn what_is_no_state_is_refused(rt: HostRuntime) -> Result<(), Fail> {
         ("clock 1 \n", "line 1: too many words, or too few"),
         ("clock 01\n", "line 1: number '01'"),
         ("clock +1\n", "line 1: number '+1'"),
-        ("clock 18446744073709551616\n", "line 1: number '18446744073709551616'"),
+        (
+            "clock 18446744073709551616\n",
+            "line 1: number '18446744073709551616'",
+        ),
         (
             "clock 1000000000000000000000000000000000000000000000000000\n",
             "line 1: number '1000000000000000000000000000000000000000'",
@@ -95,20 +97,74 @@ fn what_is_no_state_is_refused(rt: HostRuntime) -> Result<(), Fail> {
         assert!(rt; false);
         return Ok(());
     };
-    assert_eq!(rt; format!(in rt.alloc(); "{fault}")?.as_str(), "line 1: not UTF-8");
+    assert_eq!(rt;
+        format!(in rt.alloc(); "{fault}")?.as_str(),
+        "line 1: not UTF-8"
+    );
     Ok(())
 }
 
-const CONFIG: &str = "inside = [\"10.0.0.0/8\"]\npool = [\"203.0.113.1\"]\n";
+const CONFIG: &str = "pool = [\"203.0.113.1\"]\n\
+    inside = [\"10.0.0.0/8\"]\n\
+    [[redirect]]\n\
+    protocol = \"tcp\"\n\
+    inside = \"10.0.0.9:80\"\n\
+    external = 8080\n";
 
-/// Why a built-in configuration takes no state with these lines, if it does not.
-fn misfit(alloc: Global, config: &Config, lines: &str) -> Result<Option<Misfit>, AllocError> {
-    let text = format!(in alloc; "clock 1000000000\n{lines}end 2 0\n")?;
+/// The first reason against a state with these lines behind its clock.
+fn misfit(alloc: Global, lines: &str) -> Result<Option<Misfit>, AllocError> {
+    let text = format!(in alloc; "clock 1000000000\n{lines}")?;
     let Ok(mut state) = read_state(alloc, text.as_bytes()) else {
-        return Ok(None);
+        return Err(AllocError);
     };
-    match take_up(alloc, config, &mut state)? {
+    let Ok(config) = Config::read(alloc, CONFIG.as_bytes()) else {
+        return Err(AllocError);
+    };
+    match take_up(alloc, &config, &mut state)? {
         Some((_, misfit)) => Ok(Some(misfit)),
         None => Ok(None),
     }
+}
+
+#[test]
+fn what_fits_is_taken_up(rt: HostRuntime) -> Result<(), Fail> {
+    let cases = [
+        (TWO_LINES, None),
+        (
+            "redirect udp 11.0.0.2 1 203.0.113.1 1 0\nbinding tcp 11.0.0.2 1 203.0.113.1 1 9\nend 2 0\n",
+            None,
+        ),
+        (
+            "binding udp 11.0.0.2 1 203.0.113.1 1 9\nend 1 0\n",
+            Some(Misfit::NotInside),
+        ),
+        (
+            "binding udp 10.0.0.2 1 203.0.113.2 1 9\nend 1 0\n",
+            Some(Misfit::NotPaired),
+        ),
+        (
+            "binding udp 10.0.0.2 0 203.0.113.1 1 9\nend 1 0\n",
+            Some(Misfit::NotItsNumber),
+        ),
+        (
+            "binding udp 10.0.0.2 1 203.0.113.1 1 1000000001\nend 1 0\n",
+            Some(Misfit::UsedLater),
+        ),
+        (
+            "binding udp 10.0.0.2 1 203.0.113.1 1 9\nflow 198.51.100.7 4 1 0 0 0 0 0\nflow 198.51.100.7 4 2 0 0 0 0 0\nend 1 2\n",
+            Some(Misfit::FlowsShare),
+        ),
+        (
+            "binding tcp 10.0.0.2 1 203.0.113.1 8080 9\nflow 198.51.100.7 4 9 1 1 0 0 0\nend 1 1\n",
+            Some(Misfit::Redirected),
+        ),
+        (
+            "binding udp 10.0.0.2 1 203.0.113.1 1 9\nbinding udp 10.0.0.3 1 203.0.113.1 1 9\nend 2 0\n",
+            Some(Misfit::Shared),
+        ),
+    ];
+    for (lines, wanted) in cases {
+        assert_eq!(rt; misfit(rt.alloc(), lines)?, wanted);
+    }
+    Ok(())
 }

@@ -54,7 +54,11 @@ pub fn write_state<W: Write>(alloc: Global, writer: &mut W, state: &State) -> io
         };
         flows = count;
     }
-    put_line(writer, &mut line, &StateLine::End(state.list.len() as u64, flows))?;
+    put_line(
+        writer,
+        &mut line,
+        &StateLine::End(state.list.len() as u64, flows),
+    )?;
     writer.flush()
 }
 

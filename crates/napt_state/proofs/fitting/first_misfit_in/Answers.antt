@@ -1,6 +1,6 @@
 use Rattle.std.proofs.Common.{◌≡◌, ◌-◌, ◌∙◌, List, [], ◌∷◌, Option, length, drop, subst, sym, ap, arith}
 use Rattle.std.proofs.Math.ListN.{drop_of_length-le}
-use Rattle.napt_rules.specs.{Bindings.Binding, Taking.{misfit_of, misfit_or, misfit_in}, declared.{Row.Row, Misfit.Misfit}}
+use Rattle.napt_rules.specs.{Bindings.Binding, Taking.{misfit_of, misfit_or, misfit_in}, declared.{Misfit.Misfit}}
 use Rattle.napt_state.specs.Taken.{AreOf}
 use Rattle.napt_state.proofs.Taken.{are_more, drop_before}
 use Rattle.napt_state.proofs.fitting.first_misfit_in.Goals as goal

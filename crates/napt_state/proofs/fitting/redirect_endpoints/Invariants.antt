@@ -1,4 +1,4 @@
-use Rattle.std.proofs.Common.{◌≡◌, ◌≤◌, length, map, drop}
+use Rattle.std.proofs.Common.{◌≤◌, length, map, drop}
 use Rattle.napt_config.specs.Rules.{pair_of}
 use Rattle.napt_rules.specs.Opening.{redirected}
 use Rattle.napt_state.specs.Taken.{AreOf}

@@ -14,6 +14,6 @@ returns c =
     ∙ ap (λ (t : Timers). hold_ago t clock) c.of.ensures in
     subst (λ (s : State). with_list c.retain_mut.new.self.items ≡ record { clock = s.clock; list = loose c.args.config.now s })
     c.state.view_is (ap with_list (retained _ (λ b. not b.row.fixed && is_live timers now b)
-        (with_live_flows timers now) _ (λ x b t y k. search rules) _ refl list c.retain_mut.new.self.items
-        c.retain_mut.ensures.filtered
+    (with_live_flows timers now) _ (λ x b t y k. search rules) _ refl list c.retain_mut.new.self.items
+    c.retain_mut.ensures.filtered
     ∙ loose_is timers now list ∙ ap (λ (n : ℕ). filter (λ b. not b.row.fixed) (purge timers n list)) same))

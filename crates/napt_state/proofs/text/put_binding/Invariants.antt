@@ -1,4 +1,4 @@
-use Rattle.std.{proofs.Common.{◌++◌, map, take, flat_map}, specs.Io.KnownBytes.Appends}
+use Rattle.std.{proofs.Common.{◌++◌, take, flat_map}, specs.Io.KnownBytes.Appends}
 use Rattle.napt_state.specs.StateText.{binding, flow, line_text}
 use Rattle.napt_state.proofs.text.put_binding.Given as goal
 

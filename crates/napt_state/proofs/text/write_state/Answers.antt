@@ -1,4 +1,4 @@
-use Rattle.std.proofs.Common.{ℕ, ◌≡◌, ◌∙◌, length, ap, arith}
+use Rattle.std.proofs.Common.{◌∙◌, length, ap, arith}
 use Rattle.napt_rules.specs.Prelude.{Binding, State}
 use Rattle.napt_state.proofs.Lists.{finished, written_state}
 use Rattle.napt_state.proofs.text.write_state.Goals as goal

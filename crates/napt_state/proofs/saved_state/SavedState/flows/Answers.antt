@@ -1,4 +1,4 @@
-use Rattle.std.proofs.Common.{◌≡◌, ◌++◌, ◌∷◌, [], ◌∙◌, List, Some, sym, ap, map, flat_map, append_assoc, append-nil}
+use Rattle.std.proofs.Common.{◌++◌, ◌∷◌, [], ◌∙◌, List, sym, ap, map, flat_map, append_assoc, append-nil}
 use Rattle.std.proofs.lemmas.Result.{err_from_is_err_and}
 use Rattle.napt_rules.specs.declared.Flow.{Flow}
 use Rattle.napt_state.specs.StateText.{Text, flow, line_text}
@@ -10,7 +10,7 @@ returns-in_err-next-clause-read g c flows next rest fit fits other left =
     let (behind, split, fine, text) = c.loop.invariant.read flows next rest fit fits other left in
     let p = err_from_is_err_and c.from_residual.result c.from_residual.ensures.1 in
     rw (p.1, p.2) (none_read next rest _ (g.R.Read.remaining c.entry.new.self.reader) fits other
-        _ c.in_err-next.field-0.0 behind c.in_err-next.ensures.entry fine text)
+    _ c.in_err-next.field-0.0 behind c.in_err-next.ensures.entry fine text)
 
 pub returns-in_default : goal.returns-in_default
 returns-in_default g c =
@@ -19,7 +19,7 @@ returns-in_default g c =
       read = λ flows next rest fit fits other left.
           let (behind, split, fine, text) = c.loop.invariant.read flows next rest fit fits other left in
           let (end, is, gone) = other_read next rest _ _ fits other c.in_ok-next.next behind
-              c.in_ok-next.ensures.entry none fine text in
+          c.in_ok-next.ensures.entry none fine text in
           ((sym (split ∙ ap (λ (l : List Flow). c.loop.flows.items ++ l) end ∙ append-nil _), is), gone);
       exact = λ all left.
           let (rest, remains, is) = c.loop.invariant.exact all left in
@@ -36,23 +36,21 @@ loop-preserved g c =
       read = λ flows next rest fit fits other left.
           let (behind, split, fine, text) = c.loop.invariant.read flows next rest fit fits other left in
           let (more, is, good, gone) = flow_read next rest _ _ fits other c.in_ok-next.next one behind c.in-Flow.is
-              c.in_ok-next.ensures.entry fine text in
-          (
+          c.in_ok-next.ensures.entry fine text in (
             more,
             split ∙ ap (λ (l : List Flow). items ++ l) is ∙ sym (append_assoc items (one ∷ []) more)
-            ∙ ap (λ (l : List Flow). l ++ more) (sym pushed),
+                ∙ ap (λ (l : List Flow). l ++ more) (sym pushed),
             good,
             gone,
           );
       exact = λ all left.
           let (rest, remains, is) = c.loop.invariant.exact all left in
-          let (behind, first, gone) = c.in_ok-next.ensures.exact rest remains in
-          (
+          let (behind, first, gone) = c.in_ok-next.ensures.exact rest remains in (
             behind,
             gone,
             is ∙ ap (λ (l : Text). flat_map line_text (map flow items) ++ l)
                 (first ∙ ap (λ e. line_text e ++ behind) c.in-Flow.is)
-            ∙ sym (flows_longer items one behind)
-            ∙ ap (λ (l : List Flow). flat_map line_text (map flow l) ++ behind) (sym pushed),
+                ∙ sym (flows_longer items one behind)
+                ∙ ap (λ (l : List Flow). flat_map line_text (map flow l) ++ behind) (sym pushed),
           );
     }

@@ -1,9 +1,9 @@
 use Rattle.std.proofs.lemmas.{Grind.common_steps, Result.err_from_is_err_and}
-use Rattle.std.proofs.Common.{ℕ, ◌≡◌, ◌++◌, ◌∷◌, [], ◌∙◌, List, length, sym, ap, subst, arith, flat_map, inl, inr}
+use Rattle.std.proofs.Common.{◌≡◌, ◌++◌, ◌∙◌, List, length, sym, ap, subst, arith, flat_map, inl, inr}
 use Rattle.napt_rules.specs.Prelude.{Binding}
 use Rattle.napt_state.specs.declared.line.StateLine.{StateLine}
 use Rattle.napt_state.specs.declared.line.StateLine.TheVariants as lines
-use Rattle.napt_state.specs.StateText.{Text, binding_lines, flow_count, line_text}
+use Rattle.napt_state.specs.StateText.{binding_lines, flow_count, line_text}
 use Rattle.napt_state.proofs.Lists.{Ahead, ahead_first, none_first, opened, closed, ended, of_list, unless_weaker, list_longer}
 use Rattle.napt_state.proofs.saved_state.SavedState.list.Goals as goal
 
@@ -11,7 +11,7 @@ pub returns-in_err-next-clause-read : goal.returns-in_err-next-clause-read
 returns-in_err-next-clause-read g c list rest fits left =
     let p = err_from_is_err_and c.from_residual.result c.from_residual.ensures.1 in
     rw (p.1, p.2) (none_first list rest _ (g.R.Read.remaining c.entry.new.self.reader) fits left _
-        c.in_err-next.field-0.0 c.in_err-next.ensures.entry)
+    c.in_err-next.field-0.0 c.in_err-next.ensures.entry)
 
 pub loop-init : goal.loop-init
 loop-init g c =
@@ -21,9 +21,12 @@ loop-init g c =
           subst (λ (l : List Binding). Ahead list l c.in_ok-next.next (g.R.Read.remaining c.entry.new.self.reader) rest)
           none (ahead_first list rest _ _ fits left c.in_ok-next.next c.in_ok-next.ensures.entry);
       exact = λ all left.
-          let (rest, is, gone) = c.in_ok-next.ensures.exact all left in
-          (rest, gone, is ∙ ap (λ (l : List Binding). flat_map line_text (flat_map binding_lines l)
-              ++ (line_text c.in_ok-next.next ++ rest)) none);
+          let (rest, is, gone) = c.in_ok-next.ensures.exact all left in (
+            rest,
+            gone,
+            is ∙ ap (λ (l : List Binding). flat_map line_text (flat_map binding_lines l)
+                ++ (line_text c.in_ok-next.next ++ rest)) none,
+          );
       count = ap flow_count none;
     }
 
@@ -31,28 +34,28 @@ pub returns-in_err-behind-in-Binding-clause-read : goal.returns-in_err-behind-in
 returns-in_err-behind-in-Binding-clause-read g c list rest fits left =
     let now = g.R.Read.remaining c.loop.self.reader in
     let o = opened list c.loop.list.items now rest c.in-Binding.row c.in-Binding.last
-        (subst (λ (e : StateLine). Ahead list c.loop.list.items e now rest) c.in-Binding.is
-        (c.loop.invariant.read list rest fits left)) in
+    (subst (λ (e : StateLine). Ahead list c.loop.list.items e now rest) c.in-Binding.is
+    (c.loop.invariant.read list rest fits left)) in
     let p = err_from_is_err_and c.from_residual-in_err-behind-in-Binding.result
-        c.from_residual-in_err-behind-in-Binding.ensures.1 in
+    c.from_residual-in_err-behind-in-Binding.ensures.1 in
     rw (p.1, p.2) (unless_weaker c.in_err-behind-in-Binding.field-0.0 (λ w. absurd w.0)
-        (c.in_err-behind-in-Binding.ensures.read o.one.flows o.first (flat_map line_text o.more ++ rest) o.fit o.fits.0
-        o.other o.text))
+    (c.in_err-behind-in-Binding.ensures.read o.one.flows o.first (flat_map line_text o.more ++ rest) o.fit o.fits.0
+    o.other o.text))
 
 pub returns-then-count-flows-clause-read : goal.returns-then-count-flows-clause-read
 returns-then-count-flows-clause-read g c list rest fits left =
     let now = g.R.Read.remaining c.loop.self.reader in
     let e = ended list c.loop.list.items now rest c.in-End.bindings c.in-End.count
-        (subst (λ (e : StateLine). Ahead list c.loop.list.items e now rest) c.in-End.is
-        (c.loop.invariant.read list rest fits left)) in
+    (subst (λ (e : StateLine). Ahead list c.loop.list.items e now rest) c.in-End.is
+    (c.loop.invariant.read list rest fits left)) in
     (e.0, e.3)
 
 pub returns-in-End-clause-read : goal.returns-in-End-clause-read
 returns-in-End-clause-read g c list rest fits left =
     let now = g.R.Read.remaining c.loop.self.reader in
     let e = ended list c.loop.list.items now rest c.in-End.bindings c.in-End.count
-        (subst (λ (e : StateLine). Ahead list c.loop.list.items e now rest) c.in-End.is
-        (c.loop.invariant.read list rest fits left)) in
+    (subst (λ (e : StateLine). Ahead list c.loop.list.items e now rest) c.in-End.is
+    (c.loop.invariant.read list rest fits left)) in
     let bindings : c.in-End.bindings ≡ length c.loop.list.items = e.1 ∙ ap length (sym e.0) in
     let flows : c.in-End.count ≡ c.loop.flows = e.2 ∙ ap flow_count (sym e.0) ∙ sym c.loop.invariant.count in
     absurd (elim c.else-bindings-len.either [
@@ -82,18 +85,21 @@ loop-preserved g c =
     record {
       read = λ list rest fits left.
           let o = opened list items now rest c.in-Binding.row c.in-Binding.last
-              (subst (λ (e : StateLine). Ahead list items e now rest) c.in-Binding.is
-              (c.loop.invariant.read list rest fits left)) in
+          (subst (λ (e : StateLine). Ahead list items e now rest) c.in-Binding.is
+          (c.loop.invariant.read list rest fits left)) in
           subst (λ (l : List Binding). Ahead list l behind.next (g.R.Read.remaining c.flows.new.self.reader) rest) pushed
           (closed list items now rest c.in-Binding.row c.in-Binding.last behind _ o
           c.in_ok-behind-in-Binding.ensures.read);
       exact = λ all left.
           let (rest, remains, is) = c.loop.invariant.exact all left in
-          let (more, gone, text) = c.in_ok-behind-in-Binding.ensures.exact rest remains in
-          (more, gone, list_longer items one rest all (line_text behind.next ++ more)
-              (is ∙ ap (λ (e : StateLine). flat_map line_text (flat_map binding_lines items) ++ (line_text e ++ rest))
-              c.in-Binding.is) text
-              ∙ ap (λ (l : List Binding). flat_map line_text (flat_map binding_lines l)
-                  ++ (line_text behind.next ++ more)) pushed);
+          let (more, gone, text) = c.in_ok-behind-in-Binding.ensures.exact rest remains in (
+            more,
+            gone,
+            list_longer items one rest all (line_text behind.next ++ more)
+                (is ∙ ap (λ (e : StateLine). flat_map line_text (flat_map binding_lines items) ++ (line_text e ++ rest))
+                c.in-Binding.is) text
+                ∙ ap (λ (l : List Binding). flat_map line_text (flat_map binding_lines l)
+                ++ (line_text behind.next ++ more)) pushed,
+          );
       count = grind (arith, common_steps);
     }

@@ -1,4 +1,4 @@
-use Rattle.std.proofs.Common.{ℕ, ◌≡◌, ◌≢◌, ◌∙◌, Bool, true, false, List, [], ◌∷◌, ◌++◌, Option, Some, MatchOption, Result, Ok, Err, OnOk, is_err, Bor, refl, sym, ap, subst, lit<}
+use Rattle.std.proofs.Common.{ℕ, ◌≡◌, ◌≢◌, ◌∙◌, Bool, true, false, List, [], ◌∷◌, ◌++◌, Option, Some, MatchOption, Result, Ok, Err, OnOk, is_err, Bor, sym, ap, subst, lit<}
 use Rattle.std.specs.Prelude.{bytes_eq}
 use Rattle.std.proofs.lemmas.{Str.Pattern.strip_suffix_char, Option.none-some, Bool.true≢false, Slice.Eq.bytes_eq-Decides}
 use Rattle.napt_state.specs.StateText.{line_text}
