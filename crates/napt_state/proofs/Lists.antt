@@ -97,7 +97,13 @@ no_flow (lines.Binding row last) h = tt
 no_flow (lines.Flow one) h = h one refl
 no_flow (lines.End bindings flows) h = tt
 
-module _ (next : StateLine) (rest : Text) (old new : Option Text) (fits : IsStateLine next) (other : IsNoFlow next) where
+flows_ahead : (one : Flow) (more : List Flow) (next : StateLine) (rest : Text) → flows_text (one ∷ more) next rest
+    ≡ line_text (flow one) ++ flows_text more next rest
+flows_ahead one more next rest =
+    append_assoc (line_text (flow one)) (flat_map line_text (map flow more)) (line_text next ++ rest)
+
+module _ (next : StateLine) (rest : Text) (old new : Option Text) (fits : IsStateLine next)
+    (other : IsNoFlow next) where
   pub flow_read : (entry : StateLine) (one : Flow) (behind : List Flow) → entry ≡ flow one → Reads (Ok entry) old new →
       Fit behind → old ≡ Some (flows_text behind next rest) →
       (more : List Flow) × (behind ≡ one ∷ more) × Fit more × (new ≡ Some (flows_text more next rest))
@@ -105,7 +111,7 @@ module _ (next : StateLine) (rest : Text) (old new : Option Text) (fits : IsStat
       absurd (subst IsNoFlow (sym (same_ok entry next (reads next rest fits left).0) ∙ is) other)
   flow_read entry one (f ∷ more) is reads fit left =
       let got = reads (flow f) (flows_text more next rest) fit.0
-      (left ∙ ap Some (append_assoc (line_text (flow f)) (flat_map line_text (map flow more)) (line_text next ++ rest))) in (
+      (left ∙ ap Some (flows_ahead f more next rest)) in (
         more,
         ap (λ (x : Flow). x ∷ more) (sym (ap (flow_or one) (sym is ∙ same_ok entry (flow f) got.0))),
         fit.1,
@@ -118,7 +124,7 @@ module _ (next : StateLine) (rest : Text) (old new : Option Text) (fits : IsStat
       (refl, same_ok entry next (reads next rest fits left).0, (reads next rest fits left).1)
   other_read entry (f ∷ more) reads none fit left =
       let got = reads (flow f) (flows_text more next rest) fit.0
-      (left ∙ ap Some (append_assoc (line_text (flow f)) (flat_map line_text (map flow more)) (line_text next ++ rest))) in
+      (left ∙ ap Some (flows_ahead f more next rest)) in
       absurd (subst IsNoFlow (same_ok entry (flow f) got.0) none)
 
   pub none_read : (Q : Type 0) (reason : StateReason) (behind : List Flow) → Reads (Err reason) old new → Fit behind →
@@ -127,7 +133,7 @@ module _ (next : StateLine) (rest : Text) (old new : Option Text) (fits : IsStat
       unless_weaker reason (λ w. absurd (no_ok reason next w.0)) (reads next rest fits left)
   none_read Q reason (f ∷ more) reads fit left = unless_weaker reason (λ w. absurd (no_ok reason (flow f) w.0))
       (reads (flow f) (flows_text more next rest) fit.0
-      (left ∙ ap Some (append_assoc (line_text (flow f)) (flat_map line_text (map flow more)) (line_text next ++ rest))))
+      (left ∙ ap Some (flows_ahead f more next rest)))
 
 pub flows_longer : (flows : List Flow) (one : Flow) (rest : Text) →
     flat_map line_text (map flow (flows ++ one ∷ [])) ++ rest

@@ -9,7 +9,8 @@ use Rattle.napt_state.proofs.saved_state.SavedState.flows.Given as goal
 abbrev pub invariant-loop : goal.invariant-loop
 invariant-loop g l = record {
   read : (flows : List Flow) (next : StateLine) (rest : List ℕ) → Each (λ f. IsStateLine (flow f)) flows →
-      IsStateLine next → IsNoFlow next → g.R.Read.remaining l.fn.self.reader ≡ Some (flat_map line_text (map flow flows) ++ (line_text next ++ rest)) →
+      IsStateLine next → IsNoFlow next → g.R.Read.remaining l.fn.self.reader
+      ≡ Some (flat_map line_text (map flow flows) ++ (line_text next ++ rest)) →
       (behind : List Flow) × (flows ≡ l.flows.items ++ behind) × Each (λ f. IsStateLine (flow f)) behind
       × (g.R.Read.remaining l.self.reader
       ≡ Some (flat_map line_text (map flow behind) ++ (line_text next ++ rest)));

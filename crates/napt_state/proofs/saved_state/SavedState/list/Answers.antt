@@ -87,7 +87,8 @@ loop-preserved g c =
           let o = opened list items now rest c.in-Binding.row c.in-Binding.last
           (subst (λ (e : StateLine). Ahead list items e now rest) c.in-Binding.is
           (c.loop.invariant.read list rest fits left)) in
-          subst (λ (l : List Binding). Ahead list l behind.next (g.R.Read.remaining c.flows.new.self.reader) rest) pushed
+          let new = g.R.Read.remaining c.flows.new.self.reader in
+          subst (λ (l : List Binding). Ahead list l behind.next new rest) pushed
           (closed list items now rest c.in-Binding.row c.in-Binding.last behind _ o
           c.in_ok-behind-in-Binding.ensures.read);
       exact = λ all left.

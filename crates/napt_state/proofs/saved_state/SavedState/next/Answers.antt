@@ -18,7 +18,8 @@ pub returns-in_default-strip_suffix-clause-entry : goal.returns-in_default-strip
 returns-in_default-strip_suffix-clause-entry g c entry rest fits left =
     let row = line_text-ended entry in
     let read = line_read _ _ _ _ _ _ c.clear.ensures.bytes c.in-Ok.ensures.bytes left c.in-Ok.ensures.rest row in
-    let none = subst (IsCut _) c.in_default-strip_suffix.is (strip_suffix_char 10 _ _ c.strip_suffix.ensures.cases (lit< tt)) in
+    let none = subst (IsCut _) c.in_default-strip_suffix.is
+    (strip_suffix_char 10 _ _ c.strip_suffix.ensures.cases (lit< tt)) in
     absurd (none row.0 (c.as_str.ensures.value ∙ read.0 ∙ row.1))
 
 pub returns-in_default-read-clause-entry : goal.returns-in_default-read-clause-entry
