@@ -13,6 +13,7 @@ mod outputs;
 mod place;
 mod places;
 mod role;
+mod saving;
 mod stop;
 mod streams;
 mod tally;
