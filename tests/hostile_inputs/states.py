@@ -93,16 +93,17 @@ def read(data):
     is_last = False
     try:
         while not is_last:
-            line, number = lines[number].decode("ascii"), number + 1
+            number += 1
             # what stands behind the last end of a line is no line
             if number == len(lines):
                 raise ValueError
+            line = lines[number - 1].decode("ascii")
             if number == 1:
                 state.clock = number_in(CLOCK.fullmatch(line)[1])
             else:
                 is_last = take_line(state, line)
     except (ValueError, TypeError):
-        raise Refused(f"bad-line {max(number, 1)}") from None
+        raise Refused(f"bad-line {number}") from None
     if lines[number:] != [b""]:
         raise Refused(f"bad-line {number + 1}")
     return state
