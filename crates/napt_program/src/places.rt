@@ -50,11 +50,20 @@ pub fn lost_file<R: Files>(
         is_named (files_of options.now) role ≡ true)) }
     ensures memory { IfErr result (λ _. is_named (files_of options.now) Role.Save ≡ true) }
 {
-    let Some(save) = &options.save else {
-        return Ok(output_named_again(&places_of(rt, options, None)));
-    };
-    let new = new_path(alloc, save)?;
-    Ok(output_named_again(&places_of(rt, options, Some(&new))))
+    match &options.save {
+        None => Ok(lost_beside(rt, options, None)),
+        Some(save) => {
+            let new = new_path(alloc, save)?;
+            Ok(lost_beside(rt, options, Some(&new)))
+        }
+    }
+}
+
+/// The same, given the path of the new file if a state is saved.
+fn lost_beside<R: Files>(rt: &R, options: &Options, new: Option<&String>) -> Option<Role>
+    ensures { IfSome result (λ role. is_named (files_of options.now) role ≡ true) }
+{
+    output_named_again(&places_of(rt, options, new))
 }
 
 /// Whether the log is a file that another option also names, or a standard stream.
