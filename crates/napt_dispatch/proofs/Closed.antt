@@ -1,14 +1,15 @@
--- What the workers are left with shows what a run gives.
-use Rattle.std.proofs.lemmas.{Grind.common_steps, Bool.Decides.nat_tests}
-use Rattle.std.proofs.Common.{◌≡◌, ℕ, zero, suc, ◌+◌, ◌<◌, ◌≤◌, max, List, [], ◌∷◌, ◌++◌, length, map, Result, Ok, refl, sym, ◌∙◌, ap, subst, arith}
+-- What the workers are left with shows what a run gives, and from what a run goes on.
+use Rattle.std.proofs.lemmas.{Grind.common_steps, Bool.Decides.nat_tests, Option.get_or_from_slice_get}
+use Rattle.std.proofs.Common.{◌≡◌, ℕ, zero, suc, ◌+◌, ◌<◌, ◌≤◌, max, List, [], ◌∷◌, ◌++◌, length, map, Result, Ok, refl, sym, ◌∙◌, ap, subst, arith, append-nil}
 use Rattle.std.{proofs.lemmas.List.{length-map, Folds.flat_map-map}, specs.Prelude.{slice_index, slice_index_or, flat_map, OnOk}}
 use Rattle.napt_config.specs.Rules.{Rules}
-use Rattle.napt_rules.specs.{declared.Row.Row, Prelude.{of, opening, Arrival, rows_of, rows, Course, run, last_clock, legs_at, Ran, ran, Kept, kept_after_all}}
+use Rattle.napt_rules.specs.{declared.Row.Row, Prelude.{left_by as run_left_by, Binding, of, hold_ago, opening, anew, under, Arrival, rows_of, rows, Course, State, course_from, last_clock, legs_at, Ran, ran_from, Kept, kept_after_all}}
 use Rattle.napt_rules.specs.declared.{Leg.Leg, Outcome.Outcome}
 use Rattle.napt_translate.specs.Translators.{TranslatorState, begun, kept_of, with_kept, left_by}
 use Rattle.napt_pool.specs.{declared.closing.Ended.Ended, Pools.zip_with}
-use Rattle.napt_laws.{specs.Agreeing.IsAtOnce, proofs.RunsLocal.seen}
-use Rattle.napt_dispatch.{specs.Dispatch.{started, of_worker, fresh, rows_after, IsDispatched}, proofs.Ended.{zip_index, zip_long, length_started, started_at}}
+use Rattle.napt_laws.{specs.Agreeing.IsAtOnce, proofs.{Purges.of_purge, RunsLocal.seen_from}}
+use Rattle.napt_dispatch.specs.{declared.workers.Passed.Passed, Passing.LeavesState}
+use Rattle.napt_dispatch.{specs.Dispatch.{started_from, started, of_worker, fresh, rows_after, IsDispatchedFrom}, proofs.{Lanes.place_within, Ended.{zip_index, zip_long, length_started, started_at}}}
 
 -- LISTS
 
@@ -40,50 +41,99 @@ module _ (f : TranslatorState → List Leg → TranslatorState) where
   after_kept none more s [] = none s
   after_kept none more s (leg ∷ legs) = more s leg legs ∙ after_kept none more (left_by leg s) legs
 
-  pub workers_shown : (rules : Rules) (inputs : List Arrival) (starts : List TranslatorState)
+  module _ (rules : Rules) (start : State) (inputs : List Arrival) (starts : List TranslatorState)
       (accepts : List (List Leg)) (machines : List TranslatorState) (outcomes : List Outcome) (numbers : List ℕ)
-      (last : ℕ) (bindings : List Row) →
-      starts ≡ started rules (length rules.pool) → machines ≡ zip_with f starts accepts →
-      IsDispatched rules inputs accepts outcomes numbers → last ≡ last_clock 0 inputs →
-      bindings ≡ flat_map (rows_after last) machines → ((s : TranslatorState) → f s [] ≡ s) →
-      ((s : TranslatorState) (leg : Leg) (legs : List Leg) → f s (leg ∷ legs) ≡ f (left_by leg s) legs) →
-      (let r : Ran = record { outcomes = outcomes; bindings = bindings; legs = numbers } in r ≡ ran rules inputs)
-  unfolding ran
-  workers_shown rules inputs starts accepts machines outcomes numbers last bindings began left done clock shown none
-      more =
-      let n : ℕ = length rules.pool in
-      let course : Course = run rules inputs (opening rules) in
-      let give : List (List Leg) = map (λ (address : ℕ). legs_at address course.acts) rules.pool in
-      let states : List TranslatorState = zip_with f (started rules n) give in
-      let states_are : machines ≡ states = rw (left, began, done.legs) refl in
-      let long : length (started rules n) ≡ n = length_started rules n in
-      let long_give : length give ≡ n = length-map rules.pool (λ (address : ℕ). legs_at address course.acts) in
-      let at_last : List Row =
-      flat_map (λ (address : ℕ). rows rules.timers (last_clock 0 inputs) (of address course.list)) rules.pool in
-      let all : flat_map (rows_after last) machines ≡ at_last =
-      ap (flat_map (rows_after last)) states_are
-      ∙ flat_each (rows_after last) (λ (address : ℕ). rows rules.timers (last_clock 0 inputs) (of address course.list))
-      states rules.pool (begun 0 rules) (zip_long f (started rules n) give (long ∙ sym long_give) ∙ long_give)
-      (λ w lt.
-      let address : ℕ = slice_index rules.pool w in
-      let legs : List Leg = legs_at address course.acts in
-      let kept : Kept = kept_after_all rules address legs (fresh rules address) in
-      let once : IsAtOnce rules address (last_clock 0 inputs) kept course.list =
-      (seen rules inputs (opening rules) address).leaves in
-      let state_is : slice_index_or states w (begun 0 rules) ≡ with_kept (begun w rules) kept =
-      rw (
-        zip_index f (started rules n) give w (begun 0 rules) (begun 0 rules) (omega arith) (omega arith),
-        started_at rules n w (begun 0 rules) lt,
-        map_index (λ (a : ℕ). legs_at a course.acts) rules.pool w lt,
-      )
-      (after_kept none more (begun w rules) legs) in
-      ap (rows_after last) state_is
-      ∙ (ap (λ (t : ℕ). rows rules.timers t kept.list) (latest last (last_clock 0 inputs) kept.at clock once.past)
-      ∙ ap rows_of once.agrees.same)) in
-      rw (done.outcomes_are, shown, done.numbers_are, all) refl
+      (began : starts ≡ started_from rules start (length rules.pool)) (left : machines ≡ zip_with f starts accepts)
+      (done : IsDispatchedFrom rules start inputs accepts outcomes numbers) (last : ℕ)
+      (clock : last ≡ last_clock start.clock inputs) (none : (s : TranslatorState) → f s [] ≡ s)
+      (more : (s : TranslatorState) (leg : Leg) (legs : List Leg) → f s (leg ∷ legs) ≡ f (left_by leg s) legs) where
+    abbrev course : Course
+    course = course_from rules start inputs
 
-pub started_more : (rules : Rules) (n : ℕ) → started rules (n + 1) ≡ started rules n ++ begun n rules ∷ []
-started_more rules n = let e : n + 1 ≡ suc n = omega arith in ap (started rules) e
+    abbrev legs_of : ℕ → List Leg
+    legs_of address = legs_at address course.acts
+
+    abbrev kept_at : ℕ → Kept
+    kept_at address = kept_after_all rules address (legs_of address) (fresh start address)
+
+    states_are : machines ≡ zip_with f (started_from rules start (length rules.pool)) (map legs_of rules.pool)
+    states_are = rw (left, began, done.legs) refl
+
+    many_ended : length machines ≡ length rules.pool
+    many_ended = let long = length-map rules.pool legs_of in
+        ap length states_are
+        ∙ (zip_long f (started_from rules start (length rules.pool)) (map legs_of rules.pool)
+        (length_started rules start (length rules.pool) ∙ sym long) ∙ long)
+
+    ended_at : (w : ℕ) → w < length rules.pool → slice_index_or machines w (begun 0 rules)
+        ≡ with_kept (begun w rules) (kept_at (slice_index rules.pool w))
+    ended_at w lt =
+        let n : ℕ = length rules.pool in
+        let long : length (started_from rules start n) ≡ n = length_started rules start n in
+        let long_legs : length (map legs_of rules.pool) ≡ n = length-map rules.pool legs_of in
+        let begins : TranslatorState = with_kept (begun w rules) (fresh start (slice_index rules.pool w)) in
+        rw (
+          states_are,
+          zip_index f (started_from rules start n) (map legs_of rules.pool) w (begun 0 rules) (begun 0 rules)
+              (omega arith) (omega arith),
+          started_at rules start n w (begun 0 rules) lt,
+          map_index legs_of rules.pool w lt,
+        )
+        (after_kept none more begins (legs_of (slice_index rules.pool w)))
+
+    at_once : (address : ℕ) → IsAtOnce rules address (last_clock start.clock inputs) (kept_at address) course.list
+    at_once address = (seen_from rules start inputs address).leaves
+
+    latest_at : (address : ℕ) → max last (kept_at address).at ≡ last_clock start.clock inputs
+    latest_at address = latest last (last_clock start.clock inputs) (kept_at address).at clock (at_once address).past
+
+    pub workers_shown : (bindings : List Row) → bindings ≡ flat_map (rows_after last) machines →
+        (let r : Ran = record { outcomes = outcomes; bindings = bindings; legs = numbers } in
+        r ≡ ran_from rules start inputs)
+    workers_shown bindings shown =
+        let rows_at : ℕ → List Row =
+        λ address. rows rules.timers (last_clock start.clock inputs) (of address course.list) in
+        let all : flat_map (rows_after last) machines ≡ flat_map rows_at rules.pool =
+        flat_each (rows_after last) rows_at machines rules.pool (begun 0 rules) many_ended (λ w lt.
+        let address : ℕ = slice_index rules.pool w in
+        ap (rows_after last) (ended_at w lt)
+        ∙ (ap (λ (t : ℕ). rows rules.timers t (kept_at address).list) (latest_at address)
+        ∙ ap rows_of (at_once address).agrees.same)) in
+        rw (done.outcomes_are, shown, done.numbers_are, all) refl
+
+    -- and what they hand on
+    pub workers_left : (passed : Passed) → passed.translators.items ≡ machines → passed.clock ≡ last →
+        LeavesState rules (run_left_by rules start inputs) passed
+    workers_left passed are at_last = record {
+      clock = at_last ∙ clock;
+      many = ap length are ∙ many_ended;
+      each = λ place address translator at there.
+          let p = place_within rules.pool place address at in
+          let is : translator ≡ with_kept (begun place rules) (kept_at address) =
+          sym (get_or_from_slice_get machines place translator (begun 0 rules) (rw are at there))
+          ∙ (ended_at place p.0 ∙ ap (λ (a : ℕ). with_kept (begun place rules) (kept_at a)) p.1) in
+          rw is
+          (record {
+            timers = refl;
+            past = (at_once address).past;
+            taken_are = (at_once address).agrees.taken
+                ∙ sym (of_purge rules.timers (hold_ago rules.timers (last_clock start.clock inputs)) address course.list);
+          });
+    }
+
+pub started_more : (rules : Rules) (start : State) (n : ℕ) → started_from rules start (n + 1)
+    ≡ started_from rules start n ++ with_kept (begun n rules) (fresh start (slice_index rules.pool n)) ∷ []
+started_more rules start n = let e : n + 1 ≡ suc n = omega arith in ap (started_from rules start) e
+
+-- from a state without bindings they begin as the configuration opens
+pub under_nothing : (rules : Rules) → under rules (record { clock = 0; list = [] }) ≡ anew rules
+under_nothing rules = ap (λ (list : List Binding). record { clock = 0; list = list }) (append-nil (opening rules))
+
+pub started_anew : (rules : Rules) (starts : List TranslatorState) →
+    starts ≡ started_from rules (under rules (record { clock = 0; list = [] })) (length rules.pool) →
+    starts ≡ started rules (length rules.pool)
+started_anew rules starts is =
+    is ∙ ap (λ (start : State). started_from rules start (length rules.pool)) (under_nothing rules)
 
 -- the rows of the workers as they ended, by their translators
 pub rows_shown : {A : Type 0} (last : ℕ) (bindings : List Row) (ended lent : List (Ended TranslatorState Leg A)) →

@@ -4,10 +4,11 @@ use Rattle.std.proofs.Common.{◌≡◌, ℕ, zero, suc, ◌<◌, List, [], ◌�
 use Rattle.std.{specs.Prelude.{slice_index, slice_index_or}, proofs.{lemmas.Bool.cases_eq, Math.{ListN.get_or-append, Seq.get_or-append_seam}}}
 use Rattle.napt_config.specs.Rules.{Rules}
 use Rattle.napt_rules.specs.declared.Leg.{Leg}
-use Rattle.napt_translate.specs.Translators.{TranslatorState, begun, kept_of, left_by}
+use Rattle.napt_rules.specs.Prelude.{State}
+use Rattle.napt_translate.specs.Translators.{TranslatorState, begun, kept_of, with_kept, left_by}
 use Rattle.napt_pool.specs.{declared.machine.Machine.Ghosts, Histories.{replies, AllBegin}, Pools.zip_with}
 use Rattle.napt_laws.specs.Dispatching.{IsFront}
-use Rattle.napt_dispatch.{specs.Dispatch.{started, of_worker, fresh, Right}, proofs.Lanes.fronts_both}
+use Rattle.napt_dispatch.{specs.Dispatch.{started_from, of_worker, fresh, Right}, proofs.Lanes.fronts_both}
 use Rattle.napt_sequential.specs.{declared.{passage.Passage.Passage, telling.Told.Told}, CountedTranslators.told_at, Steps.told_replies}
 
 -- LISTS
@@ -51,19 +52,21 @@ begin_at (x ∷ xs) (y ∷ ys) (suc w) lt all = begin_at xs ys w (omega arith) a
 
 -- WORKERS
 
-pub length_started : (rules : Rules) (n : ℕ) → length (started rules n) ≡ n
-length_started rules zero = refl
-length_started rules (suc n) = grind (arith, common_steps, nat_tests, length-append, length_started rules n)
+pub length_started : (rules : Rules) (start : State) (n : ℕ) → length (started_from rules start n) ≡ n
+length_started rules start zero = refl
+length_started rules start (suc n) = grind (arith, common_steps, nat_tests, length-append, length_started rules start n)
 
-pub started_at : (rules : Rules) (n w : ℕ) (d : TranslatorState) → w < n → slice_index_or (started rules n) w d
-    ≡ begun w rules
-started_at rules zero w d lt = absurd (omega arith)
-started_at rules (suc n) w d lt =
-    let long : length (started rules n) ≡ n = length_started rules n in
+pub started_at : (rules : Rules) (start : State) (n w : ℕ) (d : TranslatorState) → w < n →
+    slice_index_or (started_from rules start n) w d
+    ≡ with_kept (begun w rules) (fresh start (slice_index rules.pool w))
+started_at rules start zero w d lt = absurd (omega arith)
+started_at rules start (suc n) w d lt =
+    let long : length (started_from rules start n) ≡ n = length_started rules start n in
+    let next : TranslatorState = with_kept (begun n rules) (fresh start (slice_index rules.pool n)) in
     elim (cases_eq w n) [
-      | inl same ↦ rw same (rw long at (get_or-append_seam (started rules n) (begun n rules) [] d))
-      | inr other ↦ get_or-append (started rules n) (begun n rules ∷ []) d w (omega arith)
-          ∙ started_at rules n w d (omega arith)
+      | inl same ↦ rw same (rw long at (get_or-append_seam (started_from rules start n) next [] d))
+      | inr other ↦ get_or-append (started_from rules start n) (next ∷ []) d w (omega arith)
+          ∙ started_at rules start n w d (omega arith)
     ]
 
 module _ {P : Type 0} (tells : Passage → P) {g : Ghosts TranslatorState Leg (Told P)} where
@@ -75,37 +78,38 @@ module _ {P : Type 0} (tells : Passage → P) {g : Ghosts TranslatorState Leg (T
       rw (reply_is s leg, stepped_is s leg, replies_kept stepped_is reply_is (left_by leg s) legs) refl
 
   -- what the workers answered is right
-  pub right_since : (rules : Rules) (starts : List TranslatorState) (offered : List (List Leg))
-      (taken : List (List (Told P))) → starts ≡ started rules (length rules.pool) →
+  pub right_since : (rules : Rules) (start : State) (starts : List TranslatorState) (offered : List (List Leg))
+      (taken : List (List (Told P))) → starts ≡ started_from rules start (length rules.pool) →
       taken ≡ zip_with (replies g) starts offered →
       ((s : TranslatorState) (leg : Leg) → g.stepped s leg ≡ left_by leg s) →
       ((s : TranslatorState) (leg : Leg) → g.reply s leg ≡ told_at tells leg s) →
-      length offered ≡ length rules.pool → Right tells rules offered taken
-  right_since rules starts offered taken began is_taken stepped_is reply_is many = λ w lt.
-      let long = length_started rules (length rules.pool) in
+      length offered ≡ length rules.pool → Right tells rules start offered taken
+  right_since rules start starts offered taken began is_taken stepped_is reply_is many = λ w lt.
+      let long = length_started rules start (length rules.pool) in
       let is : of_worker taken w ≡ told_replies tells rules (slice_index rules.pool w) (of_worker offered w)
-      (fresh rules (slice_index rules.pool w)) =
+      (fresh start (slice_index rules.pool w)) =
       rw (
         is_taken,
         began,
-        zip_index (replies g) (started rules (length rules.pool)) offered w (begun w rules) []
+        zip_index (replies g) (started_from rules start (length rules.pool)) offered w (begun w rules) []
             (omega arith) (omega arith),
-        started_at rules (length rules.pool) w (begun w rules) lt,
+        started_at rules start (length rules.pool) w (begun w rules) lt,
       )
-      (replies_kept stepped_is reply_is (begun w rules) (of_worker offered w)) in
+      (replies_kept stepped_is reply_is (with_kept (begun w rules) (fresh start (slice_index rules.pool w)))
+      (of_worker offered w)) in
       ([], append-nil (of_worker taken w) ∙ is)
 
   -- so is what begins it
-  pub right_begin : (rules : Rules) (starts : List TranslatorState) (offered : List (List Leg))
-      (taken : List (List (Told P))) → starts ≡ started rules (length rules.pool) →
+  pub right_begin : (rules : Rules) (start : State) (starts : List TranslatorState) (offered : List (List Leg))
+      (taken : List (List (Told P))) → starts ≡ started_from rules start (length rules.pool) →
       AllBegin taken (zip_with (replies g) starts offered) →
       ((s : TranslatorState) (leg : Leg) → g.stepped s leg ≡ left_by leg s) →
       ((s : TranslatorState) (leg : Leg) → g.reply s leg ≡ told_at tells leg s) →
-      length offered ≡ length rules.pool → Right tells rules offered taken
-  right_begin rules starts offered taken began begin stepped_is reply_is many = λ w lt.
-      let long : length starts ≡ length offered = ap length began ∙ (length_started rules (length rules.pool)
+      length offered ≡ length rules.pool → Right tells rules start offered taken
+  right_begin rules start starts offered taken began begin stepped_is reply_is many = λ w lt.
+      let long : length starts ≡ length offered = ap length began ∙ (length_started rules start (length rules.pool)
       ∙ sym many) in
       let all : length (zip_with (replies g) starts offered) ≡ length offered = zip_long
       (replies g) starts offered long in
       fronts_both _ _ _ (begin_at taken (zip_with (replies g) starts offered) w (omega (arith, lt, many, all)) begin)
-      (right_since rules starts offered (zip_with (replies g) starts offered) began refl stepped_is reply_is many w lt)
+      (right_since rules start starts offered (zip_with (replies g) starts offered) began refl stepped_is reply_is many w lt)

@@ -1,7 +1,7 @@
 -- What is true of a worker after legs were offered and answers taken.
 use Rattle.std.{proofs.lemmas.{Grind.common_steps, Bool.{Decides.nat_tests, cases_lt}, List.length-map}, specs.Prelude.slice_set}
 use Rattle.std.proofs.Common.{◌≡◌, ◌≢◌, ◌⊎◌, ◌||◌, ℕ, zero, suc, ◌+◌, ◌<◌, ◌≤◌, min, Bool, true, false, List, [], ◌∷◌, ◌++◌, length, map, take, drop, length-append, length-drop, take-append-drop, Option, refl, sym, ◌∙◌, ap, subst, arith}
-use Rattle.napt_rules.specs.{Prelude.{opening, run}, declared.Leg.Leg}
+use Rattle.napt_rules.specs.{Prelude.course_from, declared.Leg.Leg}
 use Rattle.napt_pool.specs.{declared.pool.Pool.Pool, Pools.{starts, accepts, takes, capacity_of}}
 use Rattle.napt_dispatch.specs.declared.dispatcher.{Dispatcher.Dispatcher, holding.{Front.Front, Held.TheVariants.Ready}, progress.Progress.Progress}
 use Rattle.napt_dispatch.specs.{declared.{dispatcher.progress.Progress.TheVariants.{Returning, Answered}, departures.Departed.Departed}, Dispatch.of_worker}
@@ -56,7 +56,7 @@ readies_first w d later second within goes is queues =
     record {
       journal_stays = on.0;
       keeps = λ offered taken. queues_keep w d later (readied second) offered offered taken taken within queues
-          (λ v n. (refl, refl)) (λ rules all. readied_keeps rules all w (offered w) (taken w) (queue_of d.queues w)
+          (λ v n. (refl, refl)) (λ rules start all. readied_keeps rules start all w (offered w) (taken w) (queue_of d.queues w)
           d.progress later.progress second goes is);
       others = λ v n. ap (λ qs. queue_of qs v) queues ∙ queue_other d.queues w (readied second) v n;
       forgets = on.1;
@@ -67,10 +67,10 @@ pub readies_moved : {P : Type 0} {tells : Passage → P} (w : ℕ) (d later : Di
 readies_moved w d later within same m = record {
   journal_stays = ap journal_of same;
   keeps = λ offered taken. queues_keep w d later (λ q. m.queue) offered offered taken taken within m.later_is
-      (λ v n. (refl, refl)) (λ rules all. rw same (record {
+      (λ v n. (refl, refl)) (λ rules start all. rw same (record {
         stands = λ o. rw m.moves.same o;
         right = λ o right. right;
-        legs = λ known. ap (λ ls. offered w ++ ls) (m.moves.legs_stay (run rules all (opening rules)).acts);
+        legs = λ known. ap (λ ls. offered w ++ ls) (m.moves.legs_stay (course_from rules start all).acts);
         known = λ o right front known. known;
       }));
   others = λ v n. ap (λ qs. queue_of qs v) m.later_is ∙ queue_other d.queues w (λ q. m.queue) v n;
@@ -90,7 +90,7 @@ offers_all progress q most count is full = grind (arith, common_steps, nat_tests
 module _ {P M G : Type 0} where
   pub over_pool : {tells : Passage → P} {pool later_pool : Pool M G Leg (Told P)} {d later : Dispatcher P} →
       Keeps tells (state_of pool d) (state_of later_pool later) → KeepsAt tells pool d later_pool later
-  over_pool keeps = λ rules done all s. record { stands = keeps rules done all s.stands }
+  over_pool keeps = λ rules start done all s. record { stands = keeps rules start done all s.stands }
 
   module _ {tells : Passage → P} (w most : ℕ) (pool : Pool M G Leg (Told P)) (d mid : Dispatcher P)
       (r : Readies tells w d mid)
@@ -132,16 +132,16 @@ module _ {P M G : Type 0} where
 
       pub sent_keeps : (count : ℕ) → legs ≡ take count (queue_of mid.queues w).ready → length legs ≡ count →
           Keeps tells (state_of pool d) (state_of later_pool later)
-      sent_keeps count first long = λ rules done all s.
+      sent_keeps count first long = λ rules start done all s.
           let ready = (queue_of mid.queues w).ready in
           let parts : ready ≡ legs ++ drop (length legs) ready =
           rw (long, first) (sym (take-append-drop count ready)) in
           queues_keep w mid later (with_offers legs) (of_worker (accepts pool)) (of_worker (accepts later_pool))
           (of_worker (takes pool)) (of_worker (takes later_pool)) inside queues
           (λ v n. (offered_other v n, ap (λ lists. of_worker lists v) took))
-          (λ rules all. rw (offered_own, took, same) (offers_keep rules all w legs (of_worker (accepts pool) w)
+          (λ rules start all. rw (offered_own, took, same) (offers_keep rules start all w legs (of_worker (accepts pool) w)
           (of_worker (takes pool) w) (queue_of mid.queues w) (progress_in mid.progress) parts))
-          rules done all (r.keeps (of_worker (accepts pool)) (of_worker (takes pool)) rules done all s)
+          rules start done all (r.keeps (of_worker (accepts pool)) (of_worker (takes pool)) rules start done all s)
 
       pub sent_all : length legs ≡ min (length (queue_of mid.queues w).ready) most →
           capacity_of later_pool ≡ capacity_of pool → HasOffered later_pool later w
@@ -168,15 +168,15 @@ module _ {P : Type 0} {tells : Passage → P} (w : ℕ) (told : Told P) (mid lat
     journal_stays = written_same told.answer.number (Answered n.owed told.answer.end n.passages.0 n.passages.1)
         mid.progress later.progress n.written ∙ a.journal_stays;
     keeps = λ offered taken. subst (λ (f : ℕ → List (Told P)). Keeps tells (state_with offered taken d)
-        (state_with offered f later)) (sym (added_more w answers taken (told ∷ []))) (λ rules done all s.
+        (state_with offered f later)) (sym (added_more w answers taken (told ∷ []))) (λ rules start done all s.
         queues_keep w mid later answered offered offered (added w answers taken)
         (added w (told ∷ []) (added w answers taken)) within n.answers.later_is
         (λ v m. (refl, added_other w (told ∷ []) (added w answers taken) v m))
-        (λ rules all. rw (added_own w (told ∷ []) (added w answers taken), n.written.progress_is)
-        (answer_keeps tells rules all w told n.owed n.passages (offered w) (added w answers taken w)
+        (λ rules start all. rw (added_own w (told ∷ []) (added w answers taken), n.written.progress_is)
+        (answer_keeps tells rules start all w told n.owed n.passages (offered w) (added w answers taken w)
         (queue_of mid.queues w) n.answers.first
         (progress_in mid.progress) n.awaited.was n.awaited.there n.awaited.told))
-        rules done all (a.keeps offered taken rules done all s));
+        rules start done all (a.keeps offered taken rules start done all s));
   }
 
   -- fewer are owed

@@ -3,7 +3,7 @@ use Rattle.std.{proofs.lemmas.{Grind.common_steps, Bool.Decides.nat_tests, List.
 use Rattle.std.proofs.Common.{◌≡◌, ℕ, max, Bool, List, [], ◌∷◌, ◌++◌, length, map, Option, Some, Result, Ok, Err, refl, sym, ◌∙◌, ap, subst, arith, append-nil, append_assoc}
 use Rattle.napt_wire.specs.declared.{Way.Way, Side.Side}
 use Rattle.napt_config.specs.Rules.{Rules}
-use Rattle.napt_rules.specs.{declared.Leg.Leg, Prelude.{opening, way_from, Arrival, run, last_clock}}
+use Rattle.napt_rules.specs.{declared.Leg.Leg, Prelude.{way_from, Arrival, State, course_from, last_clock}}
 use Rattle.napt_pool.specs.{declared.pool.Pool.Pool, Pools.{accepts, takes as taken}}
 use Rattle.napt_sequential.{specs.{Inputs.Came, declared.{fault.RunFault.RunFault, passage.Passage.Passage}}, proofs.{Joined.input_there, Traced.outside_alone}}
 use Rattle.napt_sequential.specs.declared.telling.Told.{Told}
@@ -21,17 +21,17 @@ pub many_read : {P : Type 0} (d : Dispatcher P) (inputs : List Arrival) →
     times_in d.progress ≡ map (λ i. i.time) inputs → length inputs ≡ length (progress_in d.progress)
 many_read d inputs times = grind (arith, common_steps, nat_tests, length-map, times_long)
 
-pub clock_on : (inputs : List Arrival) (input : Arrival) (clock own now : ℕ) → clock ≡ last_clock 0 inputs →
-    own ≡ input.clock → now ≡ max clock own → now ≡ last_clock 0 (inputs ++ input ∷ [])
-clock_on inputs input clock own now was same is = grind (arith, common_steps, nat_tests, clock_more)
+pub clock_on : (from : ℕ) (inputs : List Arrival) (input : Arrival) (clock own now : ℕ) →
+    clock ≡ last_clock from inputs → own ≡ input.clock → now ≡ max clock own → now ≡ last_clock from (inputs ++ input ∷ [])
+clock_on from inputs input clock own now was same is = grind (arith, common_steps, nat_tests, clock_more)
 
 -- OVER A POOL
 
 -- an input from outside has no second leg
-none_behind : (rules : Rules) (all : List Arrival) (number : ℕ) (input : Arrival) →
+none_behind : (rules : Rules) (start : State) (all : List Arrival) (number : ℕ) (input : Arrival) →
     slice_get all number ≡ Some input → (side : Side) → input.side ≡ side →
-    NoneBehind (way_from input.side) (second_legs number (run rules all (opening rules)).acts)
-none_behind rules all number input there side is = grind (arith, common_steps, nat_tests, outside_alone)
+    NoneBehind (way_from input.side) (second_legs number (course_from rules start all).acts)
+none_behind rules start all number input there side is = grind (arith, common_steps, nat_tests, outside_alone)
 
 module _ {P M G : Type 0} {tells : Passage → P} where
   -- nothing was done
@@ -48,10 +48,10 @@ module _ {P M G : Type 0} {tells : Passage → P} where
     sized = rw queues sized;
     times_stay = over.times_stay;
     left_is = over.left_is;
-    keeps = λ rules done all s.
+    keeps = λ rules start done all s.
         record {
-          stands = rw queues (known_stands rules done all (length d.queues) (state_of pool d).lane
-              (progress_in d.progress) (progress_in later.progress) (over.known (whole_of tells rules all)) s.stands);
+          stands = rw queues (known_stands rules start done all (length d.queues) (state_of pool d).lane
+              (progress_in d.progress) (progress_in later.progress) (over.known (whole_of tells rules start all)) s.stands);
         };
   }
 
@@ -63,7 +63,7 @@ module _ {P M G : Type 0} {tells : Passage → P} where
       grows = grows_both a.grows b.grows;
       sized = b.sized;
       journal_stays = b.journal_stays ∙ a.journal_stays;
-      keeps = λ rules done all s. b.keeps rules done all (a.keeps rules done all s);
+      keeps = λ rules start done all s. b.keeps rules start done all (a.keeps rules start done all s);
     }
 
     pub goes_more : {xs ys : List (ℕ × Departed P)} → GoesOn tells pool d xs mid_pool mid →
@@ -74,7 +74,7 @@ module _ {P M G : Type 0} {tells : Passage → P} where
       sized = b.sized;
       times_stay = b.times_stay ∙ a.times_stay;
       left_is = b.left_is ∙ (ap (λ l. l ++ ys) a.left_is ∙ append_assoc d.progress.left xs ys);
-      keeps = λ rules done all s. b.keeps rules done all (a.keeps rules done all s);
+      keeps = λ rules start done all s. b.keeps rules start done all (a.keeps rules start done all s);
     }
 
     -- answers were taken and legs offered, and nothing left
@@ -86,7 +86,7 @@ module _ {P M G : Type 0} {tells : Passage → P} where
       sized = b.sized;
       times_stay = ap (λ j. j.times) b.journal_stays ∙ a.times_stay;
       left_is = ap (λ j. j.left) b.journal_stays ∙ a.left_is;
-      keeps = λ rules done all s. b.keeps rules done all (a.keeps rules done all s);
+      keeps = λ rules start done all s. b.keeps rules start done all (a.keeps rules start done all s);
     }
 
   pub continues_then : {X : Type 0} {pool mid_pool : Pool M G Leg (Told P)} {d mid : Dispatcher P} →
@@ -113,19 +113,19 @@ module _ {P M G : Type 0} {tells : Passage → P} where
     times_are = ap (λ j. j.times) (goes.journal_stays ∙ journal)
         ∙ (ap times_in is ∙ expecting_times input.time (way_from input.side) d.progress);
     left_stays = ap (λ j. j.left) (goes.journal_stays ∙ journal) ∙ ap (λ (w : Window P). w.left) is;
-    served = λ done rest long clock s.
+    served = λ start done rest long clock s.
         let all : List Arrival = (done ++ input ∷ []) ++ rest in
         let way : Way = way_from input.side in
-        let none : NoneBehind way (second_legs (length (progress_in d.progress)) (run rules all (opening rules)).acts) =
-        none_behind rules all (length (progress_in d.progress)) input
+        let none : NoneBehind way (second_legs (length (progress_in d.progress)) (course_from rules start all).acts) =
+        none_behind rules start all (length (progress_in d.progress)) input
         (input_there done rest input (length (progress_in d.progress)) long) input.side refl in
-        let expected : Stands tells rules done all (state_of pool (record d { progress = window })) =
+        let expected : Stands tells rules start done all (state_of pool (record d { progress = window })) =
         rw (ap progress_in is ∙ expecting_progress input.time way d.progress)
-        (known_stands rules done all (length d.queues) (state_of pool d).lane (progress_in d.progress)
+        (known_stands rules start done all (length d.queues) (state_of pool d).lane (progress_in d.progress)
         (progress_in d.progress ++ Awaited way ∷ [])
-        (known_push (whole_of tells rules all) (progress_in d.progress) way none) s) in
-        (goes.keeps rules (done ++ input ∷ []) all (record {
-          stands = admits (of_worker (accepts pool)) (of_worker (taken pool)) done rest (long ∙ sym at) clock expected;
+        (known_push (whole_of tells rules start all) (progress_in d.progress) way none) s) in
+        (goes.keeps rules start (done ++ input ∷ []) all (record {
+          stands = admits start (of_worker (accepts pool)) (of_worker (taken pool)) done rest (long ∙ sym at) clock expected;
         })).stands;
   }
 
@@ -145,12 +145,13 @@ module _ {P M G : Type 0} {tells : Passage → P} where
       sized = b.sized;
       times_are = b.times_stay ∙ a.times_are;
       left_is = b.left_is ∙ ap (λ l. l ++ ys) a.left_is;
-      served = λ rest s. (b.keeps rules inputs (inputs ++ rest) (record { stands = a.served rest s })).stands;
+      served = λ start at rest s.
+          (b.keeps rules start inputs (inputs ++ rest) (record { stands = a.served start at rest s })).stands;
     }
 
     -- one input more
     pub reads_more : {went : List (ℕ × Departed P)} {now : ℕ} {input : Arrival} →
-        Reads tells rules pool d inputs went mid_pool mid → now ≡ last_clock 0 (inputs ++ input ∷ []) →
+        Reads tells rules pool d inputs went mid_pool mid → now ≡ last_clock d.clock (inputs ++ input ∷ []) →
         Serves tells rules now input mid_pool mid later_pool later →
         Reads tells rules pool d (inputs ++ input ∷ []) went later_pool later
     reads_more a clock b =
@@ -267,7 +268,7 @@ module _ {P S F : Type 0} {takes : S → List (ℕ × Departed P) → S → Type
     -- the end was told, or a fault
     pub reads_over : (end : EndOfInputs B) → Reads tells rules pool d inputs went mid_pool mid →
         takes before went between → LetsGo tells takes mid_pool mid between later_pool later after →
-        Came hands ends from inputs end.fault left → end.clock ≡ last_clock 0 inputs →
+        Came hands ends from inputs end.fault left → end.clock ≡ last_clock d.clock inputs →
         ReadsToEnd tells rules hands ends takes fails is_settled pool d from before later_pool later left after end
     reads_over end reads took b came clock = record {
       inputs = inputs;

@@ -3,22 +3,22 @@ use native.Mathlib.Omega.{arith}
 use Rattle.std.{proofs.lemmas.{Grind.common_steps, Bool.Decides.nat_tests}, specs.Prelude.{IfOk, OnErr}}
 use Rattle.std.proofs.Common.{◌≡◌, ℕ, List, [], ◌++◌, length, map, Option, None, Some, Result, Ok, Err, ◌∙◌, ap, subst, append-nil, inl, inr}
 use Rattle.napt_config.specs.Rules.{Rules}
-use Rattle.napt_rules.specs.{declared.Leg.Leg, Prelude.{Arrival, Ran, ran}}
+use Rattle.napt_rules.specs.{declared.Leg.Leg, Prelude.{Arrival, Ran, State, left_by, ran_from}}
 use Rattle.napt_pool.specs.{declared.pool.Pool.Pool, Pools.{accepts, takes as taken}}
 use Rattle.napt_sequential.{proofs.Inputs.came_whole, specs.declared.{fault.RunFault.RunFault, telling.{Told.Told, Untold.Untold}, passage.Passage.Passage}}
 use Rattle.napt_dispatch.specs.declared.{collected.Collected.Collected, dispatcher.{Dispatched.Dispatched, Ending.Ending}, workers.Passed.Passed}
-use Rattle.napt_dispatch.specs.{Collecting.{outcome_of, Collects}, Dispatch.{IsDispatched, Right}, declared.departures.Departed.Departed}
-use Rattle.napt_dispatch.specs.Passing.{EndsWith, EndsEarly, EndsHalted, EndsBy, PassesTo, PassesWell, PassesEarly, PassesHalted}
+use Rattle.napt_dispatch.specs.{Collecting.{outcome_of, Collects}, Dispatch.{IsDispatchedFrom, Right}, declared.departures.Departed.Departed}
+use Rattle.napt_dispatch.specs.Passing.{LeavesState, EndsWith, EndsEarly, EndsHalted, EndsBy, PassesTo, PassesWell, PassesEarly, PassesHalted}
 use Rattle.napt_dispatch.specs.declared.dispatcher.Ending.TheVariants as endings
 
-module _ {P : Type 0} {tells : Passage → P} {A F S B M G : Type 0} {rules : Rules}
+module _ {P : Type 0} {tells : Passage → P} {A F S B M G : Type 0} {rules : Rules} {start : State}
     {hands : A → List Arrival → A → Type 0} {ends : A → Option F → A → Type 0}
     {takes : S → List (ℕ × Departed P) → S → Type 0} {fails : S → List (ℕ × Departed P) → B → S → Type 0}
     {is_settled : S → Type 0} {from : A} {before : S} (pool : Pool M G Leg (Told P)) {left : A} {after : S}
-    (right : length (accepts pool) ≡ length rules.pool → Right tells rules (accepts pool) (taken pool)) where
+    (right : length (accepts pool) ≡ length rules.pool → Right tells rules start (accepts pool) (taken pool)) where
   pub passes_to : (end : Option F) (done : Dispatched F B) →
-      EndsWith tells rules hands ends takes fails is_settled from before pool left after end done →
-      PassesTo tells rules hands ends takes fails is_settled from before left after end
+      EndsWith tells rules start hands ends takes fails is_settled from before pool left after end done →
+      PassesTo tells rules start hands ends takes fails is_settled from before left after end
   passes_to end done e = record {
     inputs = e.inputs;
     came = e.came;
@@ -29,23 +29,24 @@ module _ {P : Type 0} {tells : Passage → P} {A F S B M G : Type 0} {rules : Ru
   }
 
   pub passes_well : (done : Dispatched F B) (passed : Passed)
-      (e : EndsWith tells rules hands ends takes fails is_settled from before pool left after None done) →
+      (e : EndsWith tells rules start hands ends takes fails is_settled from before pool left after None done) →
       (let r : Ran = record {
         outcomes = map outcome_of e.went;
         bindings = passed.bindings.items;
         legs = passed.legs.items;
-      } in r ≡ ran rules e.inputs) →
-      PassesWell tells rules hands ends takes fails is_settled from before left after passed
+      } in r ≡ ran_from rules start e.inputs) → LeavesState rules (left_by rules start e.inputs) passed →
+      PassesWell tells rules start hands ends takes fails is_settled from before left after passed
   unfolding passes_to
-  passes_well done passed e is = record {
+  passes_well done passed e is leaves = record {
     whole = passes_to None done e;
     bindings = ap (λ (r : Ran). r.bindings) is;
     legs = ap (λ (r : Ran). r.legs) is;
+    leaves = leaves;
   }
 
   pub passes_early : (fault : B) →
-      EndsEarly tells rules hands ends takes fails is_settled from before pool left after fault →
-      PassesEarly tells rules hands ends takes fails is_settled from before left after fault
+      EndsEarly tells rules start hands ends takes fails is_settled from before pool left after fault →
+      PassesEarly tells rules start hands ends takes fails is_settled from before left after fault
   passes_early fault e = record {
     inputs = e.inputs;
     went = e.went;
@@ -56,8 +57,8 @@ module _ {P : Type 0} {tells : Passage → P} {A F S B M G : Type 0} {rules : Ru
 
   -- where the run itself failed, however dispatching ended
   passes_late : (end : Option F) (done : Dispatched F B) →
-      EndsWith tells rules hands ends takes fails is_settled from before pool left after end done →
-      PassesHalted tells rules hands ends takes fails is_settled from before left after
+      EndsWith tells rules start hands ends takes fails is_settled from before pool left after end done →
+      PassesHalted tells rules start hands ends takes fails is_settled from before left after
   passes_late end done e = record {
     inputs = e.inputs;
     went = e.went;
@@ -67,8 +68,8 @@ module _ {P : Type 0} {tells : Passage → P} {A F S B M G : Type 0} {rules : Ru
   }
 
   pub passes_ended : (done : Dispatched F B) (ending : Ending F B) →
-      EndsBy tells rules hands ends takes fails is_settled from before pool left after done ending →
-      PassesHalted tells rules hands ends takes fails is_settled from before left after
+      EndsBy tells rules start hands ends takes fails is_settled from before pool left after done ending →
+      PassesHalted tells rules start hands ends takes fails is_settled from before left after
   passes_ended done endings.Whole e = passes_late None done e
   passes_ended done (endings.Arrival fault) e = passes_late (Some fault) done e
   passes_ended done (endings.Departure fault) e =
@@ -81,27 +82,29 @@ module _ {P : Type 0} {tells : Passage → P} {A F S B M G : Type 0} {rules : Ru
         took = inr (fault, early.failed);
       }
 
-  pub passes_closed : (result : Result (Dispatched F B) RunFault) → IfOk result
-      (λ done. EndsBy tells rules hands ends takes fails is_settled from before pool left after done done.ending) →
-      OnErr result (EndsHalted tells rules hands ends takes fails is_settled from before pool left after) →
-      PassesHalted tells rules hands ends takes fails is_settled from before left after
-  passes_closed (Ok done) ended halted = passes_ended done done.ending ended
-  passes_closed (Err fault) ended halted = record {
-    inputs = halted.inputs;
-    went = halted.went;
-    come = halted.come;
-    front = halted.right (right halted.offered_many);
-    took = inl halted.took;
+  pub passes_closed : (clock : ℕ) → start.clock ≡ clock → (result : Result (Dispatched F B) RunFault) → IfOk result
+      (λ done. (own : State) → own.clock ≡ clock →
+      EndsBy tells rules own hands ends takes fails is_settled from before pool left after done done.ending) →
+      OnErr result ((own : State) → own.clock ≡ clock →
+      EndsHalted tells rules own hands ends takes fails is_settled from before pool left after) →
+      PassesHalted tells rules start hands ends takes fails is_settled from before left after
+  passes_closed clock at (Ok done) ended halted = passes_ended done done.ending (ended start at)
+  passes_closed clock at (Err fault) ended halted = let early = halted start at in record {
+    inputs = early.inputs;
+    went = early.went;
+    come = early.come;
+    front = early.right (right early.offered_many);
+    took = inl early.took;
   }
 
 -- WHERE THE INPUTS COME OFF A LIST
 
-pub dispatched_whole : {tells : Passage → Untold} {A F B M G : Type 0} (rules : Rules) (list : A → List Arrival)
+pub dispatched_whole : {tells : Passage → Untold} {A F B M G : Type 0} (rules : Rules) (start : State) (list : A → List Arrival)
     (fails : Collected → List (ℕ × Departed Untold) → B → Collected → Type 0) (is_settled : Collected → Type 0)
     (from : A) (none : Collected) (pool : Pool M G Leg (Told Untold)) (left : A) (some : Collected)
-    (done : Dispatched F B) → EndsWith tells rules (λ x xs y. list x ≡ xs ++ list y)
+    (done : Dispatched F B) → EndsWith tells rules start (λ x xs y. list x ≡ xs ++ list y)
     (λ x end y. list x ≡ []) Collects fails is_settled from none pool left some None done → none.outcomes.items ≡ [] →
-    (length (accepts pool) ≡ length rules.pool → Right tells rules (accepts pool) (taken pool)) →
-    IsDispatched rules (list from) (accepts pool) some.outcomes.items done.legs.items
-dispatched_whole rules list fails is_settled from none pool left some done e empty right =
+    (length (accepts pool) ≡ length rules.pool → Right tells rules start (accepts pool) (taken pool)) →
+    IsDispatchedFrom rules start (list from) (accepts pool) some.outcomes.items done.legs.items
+dispatched_whole rules start list fails is_settled from none pool left some done e empty right =
     grind (arith, common_steps, nat_tests, came_whole)

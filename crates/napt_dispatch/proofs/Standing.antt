@@ -5,13 +5,13 @@ use Rattle.std.{specs.Prelude.{IfSome, drop, flat_map, slice_index, slice_get, s
 use Rattle.std.proofs.lemmas.{List.{length_push, map-append, length-replicate, length-map, get_or-map}, Grind.flat_map-append, Option.same_Some}
 use Rattle.napt_wire.specs.{declared.{Way.{Way, TheVariants.Outgoing}, Cause.Cause, Side.{Side, TheVariants.Inside}}, Fields.destination, Packet.IsPacket}
 use Rattle.napt_config.specs.{Rules.{Rules, place_of}, declared.settings.Timers.Timers}
-use Rattle.napt_rules.specs.Prelude.{Each, opening, way_from, served_at, Acted, act, follow_by, Arrival, admission, Act, Course, run, last_clock, acts_at, legs_at, Kept, kept_after}
+use Rattle.napt_rules.specs.Prelude.{Each, way_from, served_at, Acted, act, follow_by, Arrival, admission, Act, Course, State, course_from, last_clock, acts_at, legs_at, Kept, kept_after}
 use Rattle.napt_rules.specs.declared.{Leg.Leg, End.End, Outcome.Outcome}
 use Rattle.napt_rules.specs.declared.End.TheVariants as ends
 use Rattle.napt_rules.specs.declared.Outcome.TheVariants as outcomes
 use Rattle.napt_dispatch.specs.declared.dispatcher.{holding.{Front.Front, Held.{Held, TheVariants.{Ready, Place}}, Owed.Owed}, progress.Progress.Progress}
 use Rattle.napt_dispatch.specs.declared.{dispatcher.progress.Progress.TheVariants.{Returning, Answered}}
-use Rattle.napt_dispatch.specs.{declared.dispatcher.Dispatcher.Dispatcher, Dispatch.{of_worker, fresh, IsDispatched, Right, departed, departed_of}}
+use Rattle.napt_dispatch.specs.{declared.dispatcher.Dispatcher.Dispatcher, Dispatch.{of_worker, fresh, IsDispatchedFrom, Right, departed, departed_of}}
 use Rattle.napt_dispatch.specs.{Collecting.outcome_of, Passing.timed}
 use Rattle.napt_dispatch.specs.QueueStates.{QueueState, unused, queue_of, counts_in, all_held, count_held, front_of, owed_of, first_leg, readied, answered, with_offers, with_queue, Holds, AllHold, only_at, place_at}
 use Rattle.napt_dispatch.specs.Windows.{Window, Whole, whole_of, progress_in, times_in, is_incoming, departed_with, passages_after, refused, refused_at, asked_by, first_by, NoneBehind, IsKnown, AllKnown}
@@ -24,7 +24,7 @@ use Rattle.napt_laws.proofs.{Dispatched.answers_tell, Grown.outcomes_long, OneIn
 use Rattle.napt_laws.proofs.{Places.{legs_append, answers_fill, cond_map, place_stands, acts_grow}, Pools.stands_at}
 use Rattle.napt_pool.specs.{declared.pool.Pool.Pool, Pools.{accepts, takes}}
 use Rattle.napt_sequential.specs.{declared.{telling.Told.Told, passage.{Passage.TheVariants.Nothing, Trace.Trace}}, CountedTranslators.{told_of, told_by}}
-use Rattle.napt_sequential.{specs.{Steps.{steps, told_replies}, Traces.{passage_of, traces}}, proofs.{Joined.{steps_get, refused_trace}, ToldAlone.right_told}}
+use Rattle.napt_sequential.{specs.{Steps.{steps_of, told_replies}, Traces.{passage_of, traces_of}}, proofs.{Joined.{steps_get, refused_trace}, ToldAlone.right_told}}
 use Rattle.napt_sequential.{proofs.Traced.{IsTraced, IsPlaced, legs_traced}, specs.declared.passage.Passage.Passage}
 
 -- FRONTS
@@ -54,25 +54,25 @@ replies_more {P} tells rules address (l ∷ legs) more kept =
     (rest.0, ap (λ (xs : List (Told P)). told_by tells rules address l kept ∷ xs) rest.1)
 
 -- answers that are right at last were right before
-pub right_before : {P : Type 0} {tells : Passage → P} {M G : Type 0} (rules : Rules) (done all : List Arrival)
+pub right_before : {P : Type 0} {tells : Passage → P} {M G : Type 0} (rules : Rules) (start : State) (done all : List Arrival)
     (pool last_pool : Pool M G Leg (Told P))
-    (d : Dispatcher P) → Stands tells rules done all (state_of pool d) → Grows pool last_pool →
-    Right tells rules (accepts last_pool) (takes last_pool) → AreRight tells rules (state_of pool d)
-right_before {P} {tells} rules done all pool last_pool d s grows right = λ w lt.
+    (d : Dispatcher P) → Stands tells rules start done all (state_of pool d) → Grows pool last_pool →
+    Right tells rules start (accepts last_pool) (takes last_pool) → AreRight tells rules start (state_of pool d)
+right_before {P} {tells} rules start done all pool last_pool d s grows right = λ w lt.
     let address : ℕ = slice_index rules.pool w in
     let lane : Lane P = (state_of pool d).lane w in
     let o = s.lanes w lt in
     let more = grows.offered w in
-    let others = replies_more tells rules address lane.offered more.0 (fresh rules address) in
-    let whole : IsFront lane.taken (told_replies tells rules address lane.offered (fresh rules address) ++ others.0) =
+    let others = replies_more tells rules address lane.offered more.0 (fresh start address) in
+    let whole : IsFront lane.taken (told_replies tells rules address lane.offered (fresh start address) ++ others.0) =
     subst (λ l. IsFront lane.taken l)
-    (ap (λ legs. told_replies tells rules address legs (fresh rules address)) (sym more.1)
+    (ap (λ legs. told_replies tells rules address legs (fresh start address)) (sym more.1)
     ∙ others.1) (fronts_both _ _ _ (grows.taken w) (right w lt)) in
-    let long : length (told_replies tells rules address lane.offered (fresh rules address)) ≡ length lane.offered =
-    length_replies tells rules address lane.offered (fresh rules address) in
+    let long : length (told_replies tells rules address lane.offered (fresh start address)) ≡ length lane.offered =
+    length_replies tells rules address lane.offered (fresh start address) in
     let parts : length lane.offered ≡ length o.before + length o.rest =
     ap length o.parts ∙ length-append o.before o.rest in
-    short_front lane.taken (told_replies tells rules address lane.offered (fresh rules address)) others.0
+    short_front lane.taken (told_replies tells rules address lane.offered (fresh start address)) others.0
     (omega (arith, long, parts, o.long)) whole
 
 -- a front of a front
@@ -82,42 +82,42 @@ front_less xs ys zs h = (ys ++ h.0, sym (append_assoc xs ys h.0) ∙ h.1)
 -- ONE LANE
 
 -- what was offered to a worker begins its legs of the whole run
-offered_front : {P : Type 0} {tells : Passage → P} (rules : Rules) (done all : List Arrival) (state : DispatchState P) →
-    Stands tells rules done all state → Reaches tells rules done all state → (w : ℕ) → w < length rules.pool →
-    IsFront (state.lane w).offered (legs_at (slice_index rules.pool w) (run rules all (opening rules)).acts)
-offered_front rules done all state s r w lt =
+offered_front : {P : Type 0} {tells : Passage → P} (rules : Rules) (start : State) (done all : List Arrival) (state : DispatchState P) →
+    Stands tells rules start done all state → Reaches tells rules start done all state → (w : ℕ) → w < length rules.pool →
+    IsFront (state.lane w).offered (legs_at (slice_index rules.pool w) (course_from rules start all).acts)
+offered_front rules start done all state s r w lt =
     let address : ℕ = slice_index rules.pool w in
-    let more : IsFront (run rules done (opening rules)).acts (run rules all (opening rules)).acts =
-    rw s.whole at (acts_begin rules 0 0 done s.rest (opening rules)) in
+    let more : IsFront (course_from rules start done).acts (course_from rules start all).acts =
+    rw s.whole at (acts_begin rules 0 start.clock done s.rest start.list) in
     let q : QueueState = (state.lane w).queue in
-    let held : List Leg = q.ready ++ flat_map (resolved (run rules all (opening rules)).acts) q.held in (
+    let held : List Leg = q.ready ++ flat_map (resolved (course_from rules start all).acts) q.held in (
       held ++ legs_at address more.0,
       rw (
         ← append_assoc (state.lane w).offered held (legs_at address more.0),
         r.reached w lt,
-        ← legs_append address (run rules done (opening rules)).acts more.0,
+        ← legs_append address (course_from rules start done).acts more.0,
         more.1,
       ) refl,
     )
 
 -- a lane and the progress of the inputs change, so that what stands goes on standing
-pub record LaneKeeps {P : Type 0} (tells : Passage → P) (rules : Rules) (all : List Arrival) (w : ℕ) (one two : Lane P)
+pub record LaneKeeps {P : Type 0} (tells : Passage → P) (rules : Rules) (start : State) (all : List Arrival) (w : ℕ) (one two : Lane P)
     (progress later : List (Progress P)) : Type 0 where
   pub stands : LaneStands one → LaneStands two
-  pub right : LaneStands one → IsRight tells rules w two → IsRight tells rules w one
-  pub legs : AllKnown (whole_of tells rules all) progress →
-      lane_legs (run rules all (opening rules)).acts two ≡ lane_legs (run rules all (opening rules)).acts one
-  pub known : LaneStands one → IsRight tells rules w two →
-      IsFront one.offered (legs_at (slice_index rules.pool w) (run rules all (opening rules)).acts) →
-      AllKnown (whole_of tells rules all) progress → AllKnown (whole_of tells rules all) later
+  pub right : LaneStands one → IsRight tells rules start w two → IsRight tells rules start w one
+  pub legs : AllKnown (whole_of tells rules start all) progress →
+      lane_legs (course_from rules start all).acts two ≡ lane_legs (course_from rules start all).acts one
+  pub known : LaneStands one → IsRight tells rules start w two →
+      IsFront one.offered (legs_at (slice_index rules.pool w) (course_from rules start all).acts) →
+      AllKnown (whole_of tells rules start all) progress → AllKnown (whole_of tells rules start all) later
 
 lane_keeps : {P : Type 0} {tells : Passage → P} (w : ℕ) (state later : DispatchState P) (one two : Lane P) →
     w < state.many → later.many ≡ state.many →
     state.lane w ≡ one → later.lane w ≡ two → ((v : ℕ) → v ≢ w → later.lane v ≡ state.lane v) →
-    ((rules : Rules) (all : List Arrival) → LaneKeeps tells rules all w one two state.progress later.progress) →
+    ((rules : Rules) (start : State) (all : List Arrival) → LaneKeeps tells rules start all w one two state.progress later.progress) →
     Keeps tells state later
-lane_keeps {tells = tells} w state later one two lt many was is others step = λ rules done all s.
-    let k : LaneKeeps tells rules all w one two state.progress later.progress = step rules all in
+lane_keeps {tells = tells} w state later one two lt many was is others step = λ rules start done all s.
+    let k : LaneKeeps tells rules start all w one two state.progress later.progress = step rules start all in
     let within : w < length rules.pool = rw s.many at lt in
     let own : LaneStands one = rw was at (s.lanes w within) in
     record {
@@ -129,8 +129,8 @@ lane_keeps {tells = tells} w state later one two lt many was is others step = λ
         | inr n ↦ rw (others v n) (s.lanes v lt)
       ];
       reaches = λ right.
-          let here : IsRight tells rules w two = rw is at (right w within) in
-          let r : Reaches tells rules done all state = s.reaches (λ v lt. elim (cases_eq v w) [
+          let here : IsRight tells rules start w two = rw is at (right w within) in
+          let r : Reaches tells rules start done all state = s.reaches (λ v lt. elim (cases_eq v w) [
             | inl e ↦ rw (e, was) (k.right own here)
             | inr n ↦ rw (others v n) at (right v lt)
           ]) in
@@ -139,7 +139,7 @@ lane_keeps {tells = tells} w state later one two lt many was is others step = λ
               | inl e ↦ rw (e, is) (k.legs r.known ∙ rw was at (r.reached w within))
               | inr n ↦ rw (others v n) (r.reached v lt)
             ];
-            known = k.known own here (rw was at (offered_front rules done all state s r w within)) r.known;
+            known = k.known own here (rw was at (offered_front rules start done all state s r w within)) r.known;
           };
     }
 
@@ -148,7 +148,7 @@ pub queues_keep : {P : Type 0} {tells : Passage → P} (w : ℕ) (d later : Disp
     (change : QueueState → QueueState) (offered more : ℕ → List Leg)
     (taken answers : ℕ → List (Told P)) → w < length d.queues → later.queues ≡ with_queue w change d.queues →
     ((v : ℕ) → v ≢ w → (more v ≡ offered v) × (answers v ≡ taken v)) →
-    ((rules : Rules) (all : List Arrival) → LaneKeeps tells rules all w
+    ((rules : Rules) (start : State) (all : List Arrival) → LaneKeeps tells rules start all w
     (record { offered = offered w; taken = taken w; queue = queue_of d.queues w })
     (record { offered = more w; taken = answers w; queue = change (queue_of d.queues w) })
     (progress_in d.progress) (progress_in later.progress)) →
@@ -171,26 +171,26 @@ queues_keep w d later change offered more taken answers lt is others step =
     step
 
 -- only more is known, or as much, after some inputs
-pub known_stands : {P : Type 0} {tells : Passage → P} (rules : Rules) (done all : List Arrival) (many : ℕ)
+pub known_stands : {P : Type 0} {tells : Passage → P} (rules : Rules) (start : State) (done all : List Arrival) (many : ℕ)
     (lane : ℕ → Lane P) (progress later : List (Progress P)) →
-    (AllKnown (whole_of tells rules all) progress → AllKnown (whole_of tells rules all) later) →
-    Stands tells rules done all (record { many = many; lane = lane; progress = progress }) →
-    Stands tells rules done all (record { many = many; lane = lane; progress = later })
-known_stands rules done all many lane progress later known s = grind (arith, common_steps, nat_tests)
+    (AllKnown (whole_of tells rules start all) progress → AllKnown (whole_of tells rules start all) later) →
+    Stands tells rules start done all (record { many = many; lane = lane; progress = progress }) →
+    Stands tells rules start done all (record { many = many; lane = lane; progress = later })
+known_stands rules start done all many lane progress later known s = grind (arith, common_steps, nat_tests)
 
 -- AN OFFER
 
 -- the first legs of the next message are counted as offered
-pub offers_keep : {P : Type 0} {tells : Passage → P} (rules : Rules) (all : List Arrival) (w : ℕ) (legs : List Leg)
+pub offers_keep : {P : Type 0} {tells : Passage → P} (rules : Rules) (start : State) (all : List Arrival) (w : ℕ) (legs : List Leg)
     (offered : List Leg)
     (taken : List (Told P)) (q : QueueState) (progress : List (Progress P)) → q.ready ≡ legs ++ drop
     (length legs) q.ready →
-    LaneKeeps tells rules all w (record { offered = offered; taken = taken; queue = q })
+    LaneKeeps tells rules start all w (record { offered = offered; taken = taken; queue = q })
     (record { offered = offered ++ legs; taken = taken; queue = with_offers legs q }) progress progress
-offers_keep {tells = tells} rules all w legs offered taken q progress ready_is =
+offers_keep {tells = tells} rules start all w legs offered taken q progress ready_is =
     let address : ℕ = slice_index rules.pool w in
-    let more = replies_more tells rules address offered legs (fresh rules address) in
-    let replies = length_replies tells rules address offered (fresh rules address) in
+    let more = replies_more tells rules address offered legs (fresh start address) in
+    let replies = length_replies tells rules address offered (fresh start address) in
     record {
       stands = λ o. record {
         before = o.before;
@@ -202,11 +202,11 @@ offers_keep {tells = tells} rules all w legs offered taken q progress ready_is =
       };
       right = λ o right.
           let all = ap length o.parts ∙ length-append o.before o.rest in
-          short_front taken (told_replies tells rules address offered (fresh rules address)) more.0
+          short_front taken (told_replies tells rules address offered (fresh start address)) more.0
           (omega (arith, all, o.long, replies)) (rw more.1 at right);
       legs = λ known.
           let rest = drop (length legs) q.ready in
-          let held = flat_map (resolved (run rules all (opening rules)).acts) q.held in
+          let held = flat_map (resolved (course_from rules start all).acts) q.held in
           append_assoc offered legs (rest ++ held)
           ∙ ap (λ ls. offered ++ ls) (sym (append_assoc legs rest held) ∙ ap (λ ls. ls ++ held) (sym ready_is));
       known = λ o right front known. known;
@@ -239,13 +239,13 @@ first_stands whole (Place number ∷ rest) window later (Some leg) goes is known
     (second_known whole (progress_in window) number (Some leg) goes is.asks known)
 
 -- it becomes a leg of the next message, or was a placeholder that stands for none
-pub readied_keeps : {P : Type 0} {tells : Passage → P} (rules : Rules) (all : List Arrival) (w : ℕ)
+pub readied_keeps : {P : Type 0} {tells : Passage → P} (rules : Rules) (start : State) (all : List Arrival) (w : ℕ)
     (offered : List Leg) (taken : List (Told P)) (q : QueueState) (window later : Window P) (second : Option Leg) →
     waits (progress_in window) (front_of q.held) ≡ false → Resolves (front_of q.held) window second later →
-    LaneKeeps tells rules all w (record { offered = offered; taken = taken; queue = q })
+    LaneKeeps tells rules start all w (record { offered = offered; taken = taken; queue = q })
     (record { offered = offered; taken = taken; queue = readied second q }) (progress_in window) (progress_in later)
-readied_keeps {tells = tells} rules all w offered taken q window later second goes is =
-    let whole : Whole _ = whole_of tells rules all in
+readied_keeps {tells = tells} rules start all w offered taken q window later second goes is =
+    let whole : Whole _ = whole_of tells rules start all in
     record {
       stands = λ o. o;
       right = λ o right. right;
@@ -282,19 +282,19 @@ act_at tells timers Q (a ∷ acts) (l ∷ before) more leg [] rest told long eac
 act_at tells timers Q (a ∷ acts) (l ∷ before) more leg (t ∷ taken) rest told long each legs answers =
     act_at tells timers Q acts before more leg taken rest told (omega arith) each.1 (cc (legs)) (cc (answers))
 
-record Tells (rules : Rules) (all : List Arrival) (a : Act) : Type 0 where
-  pub told : IsTold (run rules all (opening rules)).outcomes a
-  pub seconded : IsSeconded (run rules all (opening rules)).acts a
-  pub traced : IsTraced rules.timers (traces rules all) (run rules all (opening rules)).acts a
+record Tells (rules : Rules) (start : State) (all : List Arrival) (a : Act) : Type 0 where
+  pub told : IsTold (course_from rules start all).outcomes a
+  pub seconded : IsSeconded (course_from rules start all).acts a
+  pub traced : IsTraced rules.timers (traces_of rules start all) (course_from rules start all).acts a
 
-each_tells : (rules : Rules) (all : List Arrival) (acts : List Act) →
-    Each (IsTold (run rules all (opening rules)).outcomes) acts →
-    Each (IsSeconded (run rules all (opening rules)).acts) acts →
-    Each (IsTraced rules.timers (traces rules all) (run rules all (opening rules)).acts) acts →
-    Each (Tells rules all) acts
-each_tells rules all [] h g k = tt
-each_tells rules all (a ∷ acts) h g k =
-    (record { told = h.0; seconded = g.0; traced = k.0 }, each_tells rules all acts h.1 g.1 k.1)
+each_tells : (rules : Rules) (start : State) (all : List Arrival) (acts : List Act) →
+    Each (IsTold (course_from rules start all).outcomes) acts →
+    Each (IsSeconded (course_from rules start all).acts) acts →
+    Each (IsTraced rules.timers (traces_of rules start all) (course_from rules start all).acts) acts →
+    Each (Tells rules start all) acts
+each_tells rules start all [] h g k = tt
+each_tells rules start all (a ∷ acts) h g k =
+    (record { told = h.0; seconded = g.0; traced = k.0 }, each_tells rules start all acts h.1 g.1 k.1)
 
 second_asked : (leg : Leg) (e : End) → second_of leg e ≡ option_to_list (asked_by leg.number leg.now e)
 second_asked leg e = grind (arith, common_steps, nat_tests)
@@ -309,13 +309,13 @@ get_map f (y ∷ xs) zero x h = let same : y ≡ x = cc (h) in ap (λ z. Some (f
 get_map f (y ∷ xs) (suc n) x h = get_map f xs n x h
 
 -- what is told of an act, and what is known of its input then
-module _ {P : Type 0} (tells : Passage → P) (rules : Rules) (all : List Arrival) (a : Act) (said : Tells rules all a)
+module _ {P : Type 0} (tells : Passage → P) (rules : Rules) (start : State) (all : List Arrival) (a : Act) (said : Tells rules start all a)
   where
     abbrev number : ℕ
     number = a.leg.number
 
     abbrev whole_here : Whole P
-    whole_here = whole_of tells rules all
+    whole_here = whole_of tells rules start all
 
     abbrev trace : Trace
     trace = said.traced.trace
@@ -324,7 +324,7 @@ module _ {P : Type 0} (tells : Passage → P) (rules : Rules) (all : List Arriva
     did = tells (passage_of rules.timers a)
 
     abbrev legs_here : List Leg
-    legs_here = second_legs number (run rules all (opening rules)).acts
+    legs_here = second_legs number (course_from rules start all).acts
 
     -- the input came to that, if the leg told its outcome
     abbrev Departs : P → P → Option Outcome → Type 0
@@ -333,7 +333,7 @@ module _ {P : Type 0} (tells : Passage → P) (rules : Rules) (all : List Arriva
 
     departs : (first second : P) → tells trace.first ≡ first → tells trace.second ≡ second →
         (outcome : Option Outcome) →
-        IfSome outcome (λ o. slice_get (run rules all (opening rules)).outcomes number ≡ Some o) →
+        IfSome outcome (λ o. slice_get (course_from rules start all).outcomes number ≡ Some o) →
         Departs first second outcome
     departs first second one two outcome h = grind (arith, common_steps, nat_tests, get_map, steps_get)
 
@@ -343,7 +343,7 @@ module _ {P : Type 0} (tells : Passage → P) (rules : Rules) (all : List Arriva
     onward first second place packet is = rw is tt
 
     first_there : slice_get whole_here.firsts number ≡ Some (tells trace.first)
-    first_there = get_map (λ (t : Trace). tells t.first) (traces rules all) number trace said.traced.there
+    first_there = get_map (λ (t : Trace). tells t.first) (traces_of rules start all) number trace said.traced.there
 
     first_known : (first : P) → slice_get whole_here.firsts number ≡ Some first → (e : End) →
         IfSome (first_by first e) (λ f. slice_get whole_here.firsts number ≡ Some f)
@@ -372,14 +372,14 @@ module _ {P : Type 0} (tells : Passage → P) (rules : Rules) (all : List Arriva
     told_known was way goes known passages is =
         grind (arith, common_steps, nat_tests, same_Some, first_told, second_told)
 
-act_tells : {P : Type 0} (tells : Passage → P) (rules : Rules) (all : List Arrival) (leg : Leg) (told : Told P)
-    (was : Progress P) (passages : P × P) → ActOf tells rules.timers (Tells rules all) leg told →
+act_tells : {P : Type 0} (tells : Passage → P) (rules : Rules) (start : State) (all : List Arrival) (leg : Leg) (told : Told P)
+    (was : Progress P) (passages : P × P) → ActOf tells rules.timers (Tells rules start all) leg told →
     passages_after (tells Nothing) was leg.way told.passage ≡ Some passages →
-    IsKnown (whole_of tells rules all) told.answer.number was →
-    IsKnown (whole_of tells rules all) told.answer.number (Answered (owed_of leg) told.answer.end passages.0 passages.1)
-act_tells tells rules all leg told was passages x is known =
+    IsKnown (whole_of tells rules start all) told.answer.number was →
+    IsKnown (whole_of tells rules start all) told.answer.number (Answered (owed_of leg) told.answer.end passages.0 passages.1)
+act_tells tells rules start all leg told was passages x is known =
     rw (← x.leg_is, ← x.told_is)
-    (told_known tells rules all x.a x.holds was x.a.leg.way refl (rw (← x.told_is) at known)
+    (told_known tells rules start all x.a x.holds was x.a.leg.way refl (rw (← x.told_is) at known)
     passages (rw (← x.leg_is, ← x.told_is) at is))
 
 first_owed : (legs : List Leg) (o : Owed) (os : List Owed) → o ∷ os ≡ map owed_of legs → (leg : Leg) × (rest : List Leg)
@@ -387,11 +387,11 @@ first_owed : (legs : List Leg) (o : Owed) (os : List Owed) → o ∷ os ≡ map 
 first_owed [] o os h = cc
 first_owed (leg ∷ legs) o os h = (leg, legs, refl, cc, cc)
 
-module _ {P : Type 0} (tells : Passage → P) (rules : Rules) (all : List Arrival) (w : ℕ) (told : Told P)
+module _ {P : Type 0} (tells : Passage → P) (rules : Rules) (start : State) (all : List Arrival) (w : ℕ) (told : Told P)
     (owed : Owed) (passages : P × P) (offered : List Leg) (taken : List (Told P)) (q : QueueState)
     (owes : q.owed ≡ owed ∷ drop 1 q.owed) where
   abbrev course : Course
-  course = run rules all (opening rules)
+  course = course_from rules start all
 
   abbrev address : ℕ
   address = slice_index rules.pool w
@@ -410,26 +410,26 @@ module _ {P : Type 0} (tells : Passage → P) (rules : Rules) (all : List Arriva
   head o = first_owed o.rest owed (drop 1 q.owed) (sym owes ∙ o.owed_is)
 
   answer_known : (was : Progress P) → passages_after (tells Nothing) was owed.way told.passage ≡ Some passages →
-      LaneStands one → IsRight tells rules w two → IsFront offered (legs_at address course.acts) →
-      IsKnown (whole_of tells rules all) told.answer.number was →
-      IsKnown (whole_of tells rules all) told.answer.number (now_told owed)
+      LaneStands one → IsRight tells rules start w two → IsFront offered (legs_at address course.acts) →
+      IsKnown (whole_of tells rules start all) told.answer.number was →
+      IsKnown (whole_of tells rules start all) told.answer.number (now_told owed)
   answer_known was is o right front known =
       let first = head o in
-      let told_front = right_told tells rules address all (opening rules) offered (taken ++ told ∷ []) front right in
-      let each : Each (Tells rules all) (acts_at address course.acts) =
-      each_at (Tells rules all) address course.acts (each_tells rules all course.acts
-      (answers_tell rules all (opening rules)) (answers_fill rules all (opening rules)) (legs_traced rules all)) in
+      let told_front = right_told tells rules address start all offered (taken ++ told ∷ []) front right in
+      let each : Each (Tells rules start all) (acts_at address course.acts) =
+      each_at (Tells rules start all) address course.acts (each_tells rules start all course.acts
+      (answers_tell rules start all) (answers_fill rules start all) (legs_traced rules start all)) in
       let legs : o.before ++ first.0 ∷ (first.1 ++ front.0) ≡ map (λ (a : Act). a.leg) (acts_at address course.acts) =
       rw (o.parts, first.2, append_assoc) at front.1 in
-      subst (λ (o : Owed). IsKnown (whole_of tells rules all) told.answer.number (now_told o)) (sym first.3)
-      (act_tells tells rules all first.0 told was passages (act_at tells rules.timers (Tells rules all)
+      subst (λ (o : Owed). IsKnown (whole_of tells rules start all) told.answer.number (now_told o)) (sym first.3)
+      (act_tells tells rules start all first.0 told was passages (act_at tells rules.timers (Tells rules start all)
       (acts_at address course.acts) o.before (first.1 ++ front.0) first.0 taken told_front.0 told o.long each legs
       told_front.1) (ap (λ (o : Owed). passages_after (tells Nothing) was o.way told.passage) (sym first.3) ∙ is) known)
 
   pub answer_keeps : (progress : List (Progress P)) (was : Progress P) →
       slice_get progress told.answer.number ≡ Some was →
       passages_after (tells Nothing) was owed.way told.passage ≡ Some passages →
-      LaneKeeps tells rules all w one two progress (slice_set progress told.answer.number (now_told owed))
+      LaneKeeps tells rules start all w one two progress (slice_set progress told.answer.number (now_told owed))
   answer_keeps progress was there is = record {
     stands = λ o.
         let first = head o in
@@ -442,9 +442,9 @@ module _ {P : Type 0} (tells : Passage → P) (rules : Rules) (all : List Arriva
           counted = o.counted;
         };
     right = λ o right.
-        front_less taken (told ∷ []) (told_replies tells rules address offered (fresh rules address)) right;
+        front_less taken (told ∷ []) (told_replies tells rules address offered (fresh start address)) right;
     legs = λ known. refl;
-    known = λ o right front known. known_set (whole_of tells rules all) progress told.answer.number (now_told owed)
+    known = λ o right front known. known_set (whole_of tells rules start all) progress told.answer.number (now_told owed)
         (answer_known was is o right front (known told.answer.number was there)) known;
   }
 
@@ -491,8 +491,8 @@ lane_more acts offered taken q later more h =
     ∙ ap (λ ls. ls ++ flat_map (resolved acts) more) (legs_held acts q))))
     ∙ sym (append_assoc offered (q.ready ++ flat_map (resolved acts) q.held) (flat_map (resolved acts) more))
 
-module _ {P : Type 0} (tells : Passage → P) (rules : Rules) (distinct : Distinct rules.pool) (done rest : List Arrival)
-    (input : Arrival) (number now : ℕ) (long : length done ≡ number) (clock : max (last_clock 0 done) input.clock ≡ now)
+module _ {P : Type 0} (tells : Passage → P) (rules : Rules) (start : State) (distinct : Distinct rules.pool) (done rest : List Arrival)
+    (input : Arrival) (number now : ℕ) (long : length done ≡ number) (clock : max (last_clock start.clock done) input.clock ≡ now)
     (offered : ℕ → List Leg) (taken : ℕ → List (Told P)) (d later : Dispatcher P) where
   abbrev all_of : List Arrival
   all_of = (done ++ input ∷ []) ++ rest
@@ -501,25 +501,25 @@ module _ {P : Type 0} (tells : Passage → P) (rules : Rules) (distinct : Distin
   now_done = done ++ input ∷ []
 
   abbrev acts_all : List Act
-  acts_all = (run rules all_of (opening rules)).acts
+  acts_all = (course_from rules start all_of).acts
 
   abbrev at_place : ℕ → ℕ
   at_place v = slice_index rules.pool v
 
   -- the same, but for more that is held and known, with the legs of one input more
   grown_stands : (extra : ℕ → List Held) → length later.queues ≡ length d.queues → AllHold extra d.queues later.queues →
-      ((v : ℕ) → v < length rules.pool → legs_at (at_place v) (run rules now_done (opening rules)).acts ≡ legs_at
-      (at_place v) (run rules done (opening rules)).acts ++ flat_map (resolved acts_all) (extra v)) →
-      (AllKnown (whole_of tells rules all_of) (progress_in d.progress) → AllKnown (whole_of tells rules all_of)
-      (progress_in later.progress)) → Stands tells rules done all_of (state_with offered taken d) →
-      Stands tells rules now_done all_of (state_with offered taken later)
+      ((v : ℕ) → v < length rules.pool → legs_at (at_place v) (course_from rules start now_done).acts ≡ legs_at
+      (at_place v) (course_from rules start done).acts ++ flat_map (resolved acts_all) (extra v)) →
+      (AllKnown (whole_of tells rules start all_of) (progress_in d.progress) → AllKnown (whole_of tells rules start all_of)
+      (progress_in later.progress)) → Stands tells rules start done all_of (state_with offered taken d) →
+      Stands tells rules start now_done all_of (state_with offered taken later)
   grown_stands extra many holds legs known s = record {
     rest = rest;
     whole = refl;
     many = many ∙ s.many;
     lanes = λ v lt. rw ((holds v).offered_stays, (holds v).owed_stays) (s.lanes v lt);
     reaches = λ right.
-        let r : Reaches tells rules done all_of (state_with offered taken d) = s.reaches right in
+        let r : Reaches tells rules start done all_of (state_with offered taken d) = s.reaches right in
         record {
           reached = λ v lt. lane_more acts_all (offered v) (taken v) (queue_of d.queues v) (queue_of later.queues v)
               (extra v) (holds v)
@@ -530,30 +530,30 @@ module _ {P : Type 0} (tells : Passage → P) (rules : Rules) (distinct : Distin
 
   pub refused_stands : (cause : Cause) → admission rules input ≡ Err cause → later.queues ≡ d.queues →
       progress_in later.progress ≡ slice_set (progress_in d.progress) number (refused (tells Nothing) now cause) →
-      Stands tells rules done all_of (state_with offered taken d) →
-      Stands tells rules now_done all_of (state_with offered taken later)
+      Stands tells rules start done all_of (state_with offered taken d) →
+      Stands tells rules start now_done all_of (state_with offered taken later)
   refused_stands cause is queues written =
-      let before : Course = run rules done (opening rules) in
-      let acts : (run rules now_done (opening rules)).acts ≡ before.acts =
-      ap (λ (r : Course). r.acts) (grown rules done rest input number now long clock (Err cause) is)
+      let before : Course = course_from rules start done in
+      let acts : (course_from rules start now_done).acts ≡ before.acts =
+      ap (λ (r : Course). r.acts) (grown rules start done rest input number now long clock (Err cause) is)
       ∙ append-nil before.acts in
-      let outs : (run rules now_done (opening rules)).outcomes ≡ before.outcomes ++ outcomes.Dropped cause ∷ [] =
-      ap (λ (r : Course). r.outcomes) (grown rules done rest input number now long clock (Err cause) is) in
-      let front : IsFront (run rules now_done (opening rules)).outcomes (run rules all_of (opening rules)).outcomes =
-      outcomes_begin rules 0 0 now_done rest (opening rules) in
-      let e : (run rules all_of (opening rules)).outcomes ≡ (before.outcomes ++ outcomes.Dropped cause ∷ [])
+      let outs : (course_from rules start now_done).outcomes ≡ before.outcomes ++ outcomes.Dropped cause ∷ [] =
+      ap (λ (r : Course). r.outcomes) (grown rules start done rest input number now long clock (Err cause) is) in
+      let front : IsFront (course_from rules start now_done).outcomes (course_from rules start all_of).outcomes =
+      outcomes_begin rules 0 start.clock now_done rest start.list in
+      let e : (course_from rules start all_of).outcomes ≡ (before.outcomes ++ outcomes.Dropped cause ∷ [])
       ++ front.0 = sym front.1 ∙ ap (λ (os : List Outcome). os ++ front.0) outs in
-      let there : slice_get (run rules all_of (opening rules)).outcomes number ≡ Some (outcomes.Dropped cause) =
+      let there : slice_get (course_from rules start all_of).outcomes number ≡ Some (outcomes.Dropped cause) =
       ap (λ (os : List Outcome). slice_get os number) e ∙ get_at before.outcomes (outcomes.Dropped cause) front.0
-      number (outcomes_long rules 0 0 done (opening rules) ∙ long) in
+      number (outcomes_long rules 0 start.clock done start.list ∙ long) in
       grown_stands (λ v. []) (ap length queues)
       (λ v. rw queues (record { offered_stays = refl; owed_stays = refl; held_is = sym (append-nil _) }))
       (λ v lt. rw (acts, append-nil) refl)
-      (λ known. rw written (known_set (whole_of tells rules all_of) (progress_in d.progress) number
-      (refused (tells Nothing) now cause) (ended_known (whole_of tells rules all_of) number
-      (refused_at (tells Nothing) now cause) (get_map (departed_of tells) (steps rules all_of) number
+      (λ known. rw written (known_set (whole_of tells rules start all_of) (progress_in d.progress) number
+      (refused (tells Nothing) now cause) (ended_known (whole_of tells rules start all_of) number
+      (refused_at (tells Nothing) now cause) (get_map (departed_of tells) (steps_of rules start all_of) number
       (record { outcome = outcomes.Dropped cause; trace = record { now = now; first = Nothing; second = Nothing } })
-      (steps_get rules all_of number (outcomes.Dropped cause) _ there (refused_trace rules done rest input number now
+      (steps_get rules start all_of number (outcomes.Dropped cause) _ there (refused_trace rules start done rest input number now
       long clock cause is)))) known))
 
   module _ (packet : List ℕ) (admitted : admission rules input ≡ Ok packet) (foretold : OnwardIsForetold)
@@ -571,12 +571,12 @@ module _ {P : Type 0} (tells : Passage → P) (rules : Rules) (distinct : Distin
     pub alone_stands : (input.side ≡ Inside → place_of rules (destination packet).address ≡ None) →
         length later.queues ≡ length d.queues →
         AllHold (λ v. only_at w (Ready leg_of ∷ []) v ++ []) d.queues later.queues →
-        Stands tells rules done all_of (state_with offered taken d) →
-        Stands tells rules now_done all_of (state_with offered taken later)
+        Stands tells rules start done all_of (state_with offered taken d) →
+        Stands tells rules start now_done all_of (state_with offered taken later)
     alone_stands none many holds s =
         grown_stands (λ v. only_at w (Ready leg_of ∷ []) v ++ []) many holds
         (λ v lt.
-        let before : Course = run rules done (opening rules) in
+        let before : Course = course_from rules start done in
         let at_w : ℕ = served_at rules (way_from input.side) packet in
         let first : Acted = act rules at_w leg_of before.list in
         let never : (place : ℕ) (q : List ℕ) → first.end ≢ ends.Onward place q = λ place q h.
@@ -584,9 +584,9 @@ module _ {P : Type 0} (tells : Passage → P) (rules : Rules) (distinct : Distin
         let n : place_of rules (destination packet).address ≡ None = none (from_inside input.side f.way) in
         let t : place_of rules (destination packet).address ≡ Some place = f.served in
         cc in
-        let acts : (run rules now_done (opening rules)).acts ≡ before.acts ++ first_act rules at_w leg_of before.list
+        let acts : (course_from rules start now_done).acts ≡ before.acts ++ first_act rules at_w leg_of before.list
         ∷ [] =
-        acts_grow rules done rest input number now long clock packet admitted ∙ ap (λ (xs : List Act). before.acts
+        acts_grow rules start done rest input number now long clock packet admitted ∙ ap (λ (xs : List Act). before.acts
         ++ xs) (single_by rules at_w leg_of first first.end never) in
         rw (
           acts,
@@ -602,12 +602,12 @@ module _ {P : Type 0} (tells : Passage → P) (rules : Rules) (distinct : Distin
     pub placed_stands : (to : ℕ) → to < length rules.pool → at_place to ≡ (destination packet).address →
         input.side ≡ Inside → length later.queues ≡ length d.queues →
         AllHold (λ v. only_at w (Ready leg_of ∷ []) v ++ only_at to (Place number ∷ []) v) d.queues later.queues →
-        Stands tells rules done all_of (state_with offered taken d) →
-        Stands tells rules now_done all_of (state_with offered taken later)
+        Stands tells rules start done all_of (state_with offered taken d) →
+        Stands tells rules start now_done all_of (state_with offered taken later)
     placed_stands to to_within goes side many holds s =
         grown_stands (λ v. only_at w (Ready leg_of ∷ []) v ++ only_at to (Place number ∷ []) v) many holds
         (λ v lt. rw (
-          place_stands rules done rest input number now long clock packet admitted foretold is (ap way_from side)
+          place_stands rules start done rest input number now long clock packet admitted foretold is (ap way_from side)
               (at_place v),
           same_first v lt,
           ← goes,
@@ -642,20 +642,20 @@ pub admitted_admits : {P : Type 0} {tells : Passage → P} (rules : Rules) (numb
 admitted_admits
     {tells = tells} rules number now input d later packet w distinct foretold is admitted place same None some none many
     e =
-    λ offered taken done rest long clock s.
+    λ start offered taken done rest long clock s.
     let p : (w < length rules.pool) × (slice_index rules.pool w ≡ served_at rules (way_from input.side) packet) =
     place_within rules.pool w (served_at rules (way_from input.side) packet) place in
-    alone_stands tells rules distinct done rest input number now long clock offered taken d later packet admitted
+    alone_stands tells rules start distinct done rest input number now long clock offered taken d later packet admitted
     foretold is w p.0 p.1 same (none refl) many e s
 admitted_admits {tells = tells} rules number now input d later packet w distinct foretold is admitted place same
     (Some v) some none many e =
-    λ offered taken done rest long clock s.
+    λ start offered taken done rest long clock s.
     let p : (w < length rules.pool) × (slice_index rules.pool w ≡ served_at rules (way_from input.side) packet) =
     place_within rules.pool w (served_at rules (way_from input.side) packet) place in
     let q : (v < length rules.pool) × (slice_index rules.pool v ≡ (destination packet).address) =
     place_within rules.pool v (destination packet).address
     (stands_at rules.pool (destination packet).address v some.1) in
-    placed_stands tells rules distinct done rest input number now long clock offered taken d later packet admitted
+    placed_stands tells rules start distinct done rest input number now long clock offered taken d later packet admitted
     foretold is w p.0 p.1 same v q.0 q.1 some.0 many e s
 
 -- THE START
@@ -664,12 +664,12 @@ none_known : {P : Type 0} (whole : Whole P) (i : ℕ) (p : Progress P) →
     slice_get (let ps : List (Progress P) = [] in ps) i ≡ Some p → IsKnown whole i p
 none_known whole i p h = cc
 
-pub begin_stands : {P : Type 0} {tells : Passage → P} (rules : Rules) (inputs : List Arrival)
+pub begin_stands : {P : Type 0} {tells : Passage → P} (rules : Rules) (start : State) (inputs : List Arrival)
     (offered : List (List Leg)) (taken : List (List (Told P)))
     (d : Dispatcher P) → d.queues ≡ replicate (length rules.pool) unused →
     offered ≡ replicate (length rules.pool) [] → taken ≡ replicate (length rules.pool) [] →
-    progress_in d.progress ≡ [] → Stands tells rules [] inputs (state_with (of_worker offered) (of_worker taken) d)
-begin_stands rules inputs offered taken d is no_legs no_answers progress =
+    progress_in d.progress ≡ [] → Stands tells rules start [] inputs (state_with (of_worker offered) (of_worker taken) d)
+begin_stands rules start inputs offered taken d is no_legs no_answers progress =
     grind (arith, common_steps, nat_tests, of_replicate, length-replicate, none_known)
 
 -- THE END
@@ -679,37 +679,37 @@ pub all_taken : {P : Type 0} (lane : Lane P) → LaneStands lane → lane.queue.
     ≡ length lane.offered
 all_taken lane o none = grind (arith, common_steps, nat_tests, length-map, length-append)
 
-module _ {P : Type 0} {tells : Passage → P} (rules : Rules) (inputs : List Arrival) (offered : List (List Leg))
+module _ {P : Type 0} {tells : Passage → P} (rules : Rules) (start : State) (inputs : List Arrival) (offered : List (List Leg))
     (taken : ℕ → List (Told P)) (d : Dispatcher P)
-    (s : Stands tells rules inputs inputs (state_with (of_worker offered) taken d))
+    (s : Stands tells rules start inputs inputs (state_with (of_worker offered) taken d))
     (times : times_in d.progress ≡ map (λ i. i.time) inputs)
-    (right : AreRight tells rules (state_with (of_worker offered) taken d)) where
+    (right : AreRight tells rules start (state_with (of_worker offered) taken d)) where
   abbrev whole : Whole P
-  whole = whole_of tells rules inputs
+  whole = whole_of tells rules start inputs
 
   -- what left is the front of what the run gives
-  pub left_right : IsFront d.progress.left (timed inputs (departed tells rules inputs))
-  left_right = left_front whole d.progress inputs times (s.reaches right).known (departed_long tells rules inputs)
+  pub left_right : IsFront d.progress.left (timed inputs (departed tells rules start inputs))
+  left_right = left_front whole d.progress inputs times (s.reaches right).known (departed_long tells rules start inputs)
 
   -- all of it, where no input is open
   pub dispatched : length offered ≡ length rules.pool → IsDone d → d.progress.under_way ≡ [] →
-      (d.progress.left ≡ timed inputs (departed tells rules inputs))
-      × IsDispatched rules inputs offered (map outcome_of d.progress.left) (counts_in d.queues)
+      (d.progress.left ≡ timed inputs (departed tells rules start inputs))
+      × IsDispatchedFrom rules start inputs offered (map outcome_of d.progress.left) (counts_in d.queues)
   dispatched many idle none =
-      let long = departed_long tells rules inputs in
+      let long = departed_long tells rules start inputs in
       let reached : (w : ℕ) → w < length rules.pool → of_worker offered w
       ≡ legs_at (slice_index rules.pool w) whole.acts = λ w lt.
       let q : QueueState = queue_of d.queues w in
       let none : count_held q ≡ 0 = idle.held w in
       rw (nothing q.ready (omega (arith, none)), nothing q.held (omega (arith, none)), append-nil)
       at ((s.reaches right).reached w lt) in
-      let left : d.progress.left ≡ timed inputs (departed tells rules inputs) =
+      let left : d.progress.left ≡ timed inputs (departed tells rules start inputs) =
       left_whole whole d.progress inputs times (s.reaches right).known long none in (
         left,
         record {
           legs = map_at (λ address. legs_at address whole.acts) offered [] rules.pool many reached;
-          outcomes_are = ap (map outcome_of) left ∙ (timed_outcomes inputs (departed tells rules inputs) long
-              ∙ departed_outcomes tells rules inputs);
+          outcomes_are = ap (map outcome_of) left ∙ (timed_outcomes inputs (departed tells rules start inputs) long
+              ∙ departed_outcomes tells rules start inputs);
           numbers_are = map_at (λ address. length (legs_at address whole.acts)) (counts_in d.queues) 0 rules.pool
               (length-map d.queues (λ q. q.offered) ∙ s.many)
               (λ w lt. get_or-map (λ q. q.offered) d.queues w unused 0 (rw s.many lt)

@@ -4,10 +4,10 @@ use Rattle.std.proofs.Common.{◌≡◌, ◌⊎◌, inl, inr, ℕ, zero, suc, �
 use Rattle.std.{specs.Prelude.{IfSome, slice_get, slice_set}, proofs.lemmas.List.{map-set, map-append, get_or-map, length-map}}
 use Rattle.napt_pool.proofs.Lists.{map-kept}
 use Rattle.napt_wire.specs.declared.Way.{Way}
-use Rattle.napt_rules.specs.{declared.{Leg.Leg, Outcome.Outcome}, Prelude.{opening, Arrival, run}}
+use Rattle.napt_rules.specs.{declared.{Leg.Leg, Outcome.Outcome}, Prelude.{Arrival, State, course_from}}
 use Rattle.napt_rules.specs.declared.Outcome.TheVariants as outcomes
 use Rattle.napt_config.specs.Rules.{Rules}
-use Rattle.napt_sequential.{specs.{declared.{outcome.Stepped.Stepped, passage.Passage.Passage}, Steps.steps}, proofs.Joined.{steps_long, steps_outcomes}}
+use Rattle.napt_sequential.{specs.{declared.{outcome.Stepped.Stepped, passage.Passage.Passage}, Steps.steps_of}, proofs.Joined.{steps_long, steps_outcomes}}
 use Rattle.napt_dispatch.specs.{Dispatch.{departed, departed_of}, declared.dispatcher.progress.Progress.{Progress, TheVariants.{Awaited, Returning}}}
 use Rattle.napt_dispatch.specs.{declared.dispatcher.progress.OpenInput.OpenInput, Collecting.outcome_of, Standing.{AnswersTo, IsSecond, IsSecondOf}}
 use Rattle.napt_dispatch.specs.{Passing.timed, declared.departures.Departed.Departed}
@@ -355,10 +355,10 @@ same_outcomes : {P : Type 0} (tells : Passage → P) (all : List Stepped) →
 same_outcomes tells [] = refl
 same_outcomes tells (s ∷ all) = ap (λ l. s.outcome ∷ l) (same_outcomes tells all)
 
-pub departed_outcomes : {P : Type 0} (tells : Passage → P) (rules : Rules) (inputs : List Arrival) →
-    map (λ d. d.outcome) (departed tells rules inputs) ≡ (run rules inputs (opening rules)).outcomes
-departed_outcomes tells rules inputs = same_outcomes tells (steps rules inputs) ∙ steps_outcomes rules inputs
+pub departed_outcomes : {P : Type 0} (tells : Passage → P) (rules : Rules) (start : State) (inputs : List Arrival) →
+    map (λ d. d.outcome) (departed tells rules start inputs) ≡ (course_from rules start inputs).outcomes
+departed_outcomes tells rules start inputs = same_outcomes tells (steps_of rules start inputs) ∙ steps_outcomes rules start inputs
 
-pub departed_long : {P : Type 0} (tells : Passage → P) (rules : Rules) (inputs : List Arrival) →
-    length (departed tells rules inputs) ≡ length inputs
-departed_long tells rules inputs = length-map (steps rules inputs) (departed_of tells) ∙ steps_long rules inputs
+pub departed_long : {P : Type 0} (tells : Passage → P) (rules : Rules) (start : State) (inputs : List Arrival) →
+    length (departed tells rules start inputs) ≡ length inputs
+departed_long tells rules start inputs = length-map (steps_of rules start inputs) (departed_of tells) ∙ steps_long rules start inputs

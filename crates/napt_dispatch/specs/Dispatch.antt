@@ -2,23 +2,32 @@
 --
 -- As long as the answers are right, they are the run's, so the next leg offered is the run's next leg. That they are
 -- right is a premise here: it is proved once the workers are joined.
-use Rattle.std.specs.Prelude.{◌≡◌, ⊤, ℕ, zero, suc, ◌<◌, max, Bool, true, false, List, [], ◌∷◌, ◌++◌, map, length, slice_index, slice_index_or, Result, Ok, Err}
+use Rattle.std.specs.Prelude.{◌≡◌, ⊤, ℕ, zero, suc, ◌<◌, ◌≤◌, max, Bool, true, false, List, [], ◌∷◌, ◌++◌, map, length, slice_index, slice_index_or, Result, Ok, Err}
 use Rattle.napt_config.specs.Rules.{Rules}
-use Rattle.napt_rules.specs.{Prelude.{of, opening, Arrival, rows, run, legs_at, Kept}, declared.{Row.Row, Leg.Leg, Outcome.Outcome}}
-use Rattle.napt_translate.specs.Translators.{TranslatorState, begun}
+use Rattle.napt_rules.specs.{Prelude.{of, taken, Arrival, rows, State, anew, course_from, legs_at, Kept}, declared.{Row.Row, Leg.Leg, Outcome.Outcome}}
+use Rattle.napt_translate.specs.Translators.{TranslatorState, begun, with_kept}
 use Rattle.napt_pool.specs.{Faults.{IsFaultOf, is_shut}, declared.fault.PoolFault.PoolFault}
 use Rattle.napt_sequential.specs.declared.{fault.RunFault.RunFault, passage.Passage.Passage, telling.Told.Told, outcome.Stepped.Stepped}
-use Rattle.napt_sequential.specs.Steps.{steps, told_replies}
+use Rattle.napt_sequential.specs.Steps.{steps_of, told_replies}
 use Rattle.napt_dispatch.specs.declared.departures.Departed.{Departed}
 use Rattle.napt_sequential.specs.declared.fault.RunFault.TheVariants as faults
 use Rattle.napt_laws.specs.Dispatching.{IsFront}
 
 -- WORKERS
 
--- the translators of the first n addresses of the pool, before any leg
+-- the bindings of an address in a state, at its clock
+abbrev pub fresh : State → ℕ → Kept
+fresh start address = record { list = of address start.list; at = start.clock }
+
+-- the translators of the first n addresses of the pool in a state
+abbrev pub started_from : Rules → State → ℕ → List TranslatorState
+started_from rules start zero = []
+started_from rules start (suc n) =
+    started_from rules start n ++ with_kept (begun n rules) (fresh start (slice_index rules.pool n)) ∷ []
+
+-- before any leg
 abbrev pub started : Rules → ℕ → List TranslatorState
-started rules zero = []
-started rules (suc n) = started rules n ++ begun n rules ∷ []
+started rules n = started_from rules (anew rules) n
 
 -- the list of one worker
 abbrev pub of_worker : {X : Type 0} → List (List X) → ℕ → List X
@@ -40,18 +49,20 @@ IsDispatchFault open_gate (faults.Pool fault) = IsFaultOf (λ w. ⊤) fault × (
 abbrev pub rows_after : ℕ → TranslatorState → List Row
 rows_after now state = rows state.rules.timers (max now state.table.at) state.table.list
 
+-- a worker's translator that is left with the bindings of its address in a state
+pub record IsLeftWith (rules : Rules) (state : State) (address : ℕ) (translator : TranslatorState) : Type 0 where
+  pub timers : translator.rules.timers ≡ rules.timers
+  pub past : translator.table.at ≤ state.clock
+  pub taken_are : taken rules.timers state.clock translator.table.list ≡ of address state.list
+
 -- WHAT IS OFFERED AND ANSWERED
 
--- the bindings of an address before any leg
-abbrev pub fresh : Rules → ℕ → Kept
-fresh rules address = record { list = of address (opening rules); at = 0 }
-
 -- the answers taken from each worker, and what is told with them, are its translator's, to the legs that it was offered
-abbrev pub Right : {P : Type 0} → (Passage → P) → Rules → List (List Leg) → List (List (Told P)) → Type 0
-Right tells rules offered taken =
+abbrev pub Right : {P : Type 0} → (Passage → P) → Rules → State → List (List Leg) → List (List (Told P)) → Type 0
+Right tells rules start offered taken =
     (w : ℕ) → w < length rules.pool →
     let address : ℕ = slice_index rules.pool w in
-    IsFront (of_worker taken w) (told_replies tells rules address (of_worker offered w) (fresh rules address))
+    IsFront (of_worker taken w) (told_replies tells rules address (of_worker offered w) (fresh start address))
 
 -- WHAT INPUTS COME TO
 
@@ -64,10 +75,8 @@ departed_of tells step = record {
   second = tells step.trace.second;
 }
 
-abbrev pub departed : {P : Type 0} → (Passage → P) → Rules → List Arrival → List (Departed P)
-departed tells rules inputs = map (departed_of tells) (steps rules inputs)
-
--- LEGS
+abbrev pub departed : {P : Type 0} → (Passage → P) → Rules → State → List Arrival → List (Departed P)
+departed tells rules start inputs = map (departed_of tells) (steps_of rules start inputs)
 
 -- THE END
 
@@ -77,10 +86,15 @@ first_fault (Err fault) closed = Err fault
 first_fault (Ok dispatched) (Err fault) = Err (faults.Pool fault)
 first_fault (Ok dispatched) (Ok ended) = Ok (dispatched, ended)
 
--- what a dispatcher returns for a run over the inputs
-pub record IsDispatched (rules : Rules) (inputs : List Arrival) (offered : List (List Leg)) (outcomes : List Outcome)
-    (numbers : List ℕ) : Type 0 where
-  pub legs : offered ≡ map (λ address. legs_at address (run rules inputs (opening rules)).acts) rules.pool
-  pub outcomes_are : outcomes ≡ (run rules inputs (opening rules)).outcomes
-  pub numbers_are : numbers ≡ map (λ address. length (legs_at address (run rules inputs (opening rules)).acts))
+-- what a dispatcher returns for a run over the inputs from a state
+pub record IsDispatchedFrom (rules : Rules) (start : State) (inputs : List Arrival) (offered : List (List Leg))
+    (outcomes : List Outcome) (numbers : List ℕ) : Type 0 where
+  pub legs : offered ≡ map (λ address. legs_at address (course_from rules start inputs).acts) rules.pool
+  pub outcomes_are : outcomes ≡ (course_from rules start inputs).outcomes
+  pub numbers_are : numbers ≡ map (λ address. length (legs_at address (course_from rules start inputs).acts))
       rules.pool
+
+-- from the bindings that the configuration opens with
+abbrev pub IsDispatched : Rules → List Arrival → List (List Leg) → List Outcome → List ℕ → Type 0
+IsDispatched rules inputs offered outcomes numbers =
+    IsDispatchedFrom rules (anew rules) inputs offered outcomes numbers

@@ -1,12 +1,13 @@
 -- A run from arrivals to departures.
-use Rattle.std.specs.Prelude.{◌≡◌, ◌⊎◌, ⊤, ℕ, ◌^◌, ◌<◌, max, Bool, List, [], ◌∷◌, ◌++◌, map, length, Option, Some, None, Result, Ok, Err, MatchResult}
+use Rattle.std.specs.Prelude.{◌≡◌, ◌⊎◌, ⊤, ℕ, ◌^◌, ◌<◌, max, Bool, List, [], ◌∷◌, ◌++◌, map, length, slice_get, Option, Some, None, Result, Ok, Err, MatchResult}
 use Rattle.napt_config.specs.Rules.{Rules, KeepsRules}
-use Rattle.napt_rules.specs.{Prelude.{Arrival, last_clock, ran}, declared.Leg.Leg}
+use Rattle.napt_rules.specs.{Prelude.{Arrival, State, last_clock, left_by, ran_from}, declared.Leg.Leg}
+use Rattle.napt_translate.specs.Translators.{TranslatorState}
 use Rattle.napt_pool.specs.{declared.pool.Pool.Pool, Pools.{starts, accepts, zip_with, takes as taken}}
 use Rattle.napt_sequential.specs.{declared.{passage.Passage.Passage, telling.Told.Told, fault.RunFault.RunFault}, Inputs.Came}
 use Rattle.napt_dispatch.specs.declared.{departures.Departed.Departed, dispatcher.{Dispatcher.Dispatcher, Dispatched.Dispatched}, stopped.Halted.Halted}
 use Rattle.napt_dispatch.specs.declared.{dispatcher.{Ending.Ending, reading.EndOfInputs.EndOfInputs}, stopped.Stopped.Stopped, workers.Passed.Passed}
-use Rattle.napt_dispatch.specs.{Collecting.outcome_of, Dispatch.{IsFaultUnder, IsDispatched, Right, departed}}
+use Rattle.napt_dispatch.specs.{Collecting.outcome_of, Dispatch.{IsFaultUnder, IsDispatchedFrom, Right, departed, IsLeftWith}}
 use Rattle.napt_dispatch.specs.{Windows.{Window, progress_in, times_in, IsHandedOver}, Standing.{state_of, IsSizedFor, Stands, KeepsAt, IsDone, Grows, HaltsBy}}
 use Rattle.napt_laws.specs.Dispatching.{IsFront}
 use Rattle.napt_dispatch.specs.declared.stopped.Halted.TheVariants as halts
@@ -116,10 +117,10 @@ pub record Serves {P M G : Type 0} (tells : Passage → P) (rules : Rules) (now 
   pub sized : IsSizedFor later_pool later
   pub times_are : times_in later.progress ≡ times_in d.progress ++ input.time ∷ []
   pub left_stays : later.progress.left ≡ d.progress.left
-  pub served : (done rest : List Arrival) → length done ≡ length (progress_in d.progress) →
-      max (last_clock 0 done) input.clock ≡ now →
-      Stands tells rules done ((done ++ input ∷ []) ++ rest) (state_of pool d) →
-      Stands tells rules (done ++ input ∷ []) ((done ++ input ∷ []) ++ rest) (state_of later_pool later)
+  pub served : (start : State) (done rest : List Arrival) → length done ≡ length (progress_in d.progress) →
+      max (last_clock start.clock done) input.clock ≡ now →
+      Stands tells rules start done ((done ++ input ∷ []) ++ rest) (state_of pool d) →
+      Stands tells rules start (done ++ input ∷ []) ((done ++ input ∷ []) ++ rest) (state_of later_pool later)
 
 -- these are all inputs read so far, and all outcomes that have left
 pub record Reads {P M G : Type 0} (tells : Passage → P) (rules : Rules) (pool : Pool M G Leg (Told P))
@@ -130,14 +131,22 @@ pub record Reads {P M G : Type 0} (tells : Passage → P) (rules : Rules) (pool 
   pub sized : IsSizedFor later_pool later
   pub times_are : times_in later.progress ≡ map (λ i. i.time) inputs
   pub left_is : later.progress.left ≡ went
-  pub served : (rest : List Arrival) → Stands tells rules [] (inputs ++ rest) (state_of pool d) →
-      Stands tells rules inputs (inputs ++ rest) (state_of later_pool later)
+  pub served : (start : State) → start.clock ≡ d.clock → (rest : List Arrival) →
+      Stands tells rules start [] (inputs ++ rest) (state_of pool d) →
+      Stands tells rules start inputs (inputs ++ rest) (state_of later_pool later)
 
 -- these inputs came, and then perhaps the end or a fault
 abbrev pub HasCome : {A F : Type 0} → (A → List Arrival → A → Type 0) → (A → Option F → A → Type 0) → A → List Arrival →
     A → Type 0
 HasCome {A} {F} hands ends before inputs after =
     hands before inputs after ⊎ ((end : Option F) × Came hands ends before inputs end after)
+
+-- the translators of a run are left with a state, each with the bindings of its address
+pub record LeavesState (rules : Rules) (state : State) (passed : Passed) : Type 0 where
+  pub clock : passed.clock ≡ state.clock
+  pub many : length passed.translators.items ≡ length rules.pool
+  pub each : (place address : ℕ) (translator : TranslatorState) → slice_get rules.pool place ≡ Some address →
+      slice_get passed.translators.items place ≡ Some translator → IsLeftWith rules state address translator
 
 module _ {P A F S B : Type 0} (tells : Passage → P) (rules : Rules) (hands : A → List Arrival → A → Type 0)
     (ends : A → Option F → A → Type 0) (takes : S → List (ℕ × Departed P) → S → Type 0)
@@ -149,7 +158,7 @@ module _ {P A F S B : Type 0} (tells : Passage → P) (rules : Rules) (hands : A
       pub inputs : List Arrival
       pub went : List (ℕ × Departed P)
       pub came : Came hands ends from inputs end.fault left
-      pub clock : end.clock ≡ last_clock 0 inputs
+      pub clock : end.clock ≡ last_clock d.clock inputs
       pub reads : Reads tells rules pool d inputs went later_pool later
       pub took : takes before went after
 
@@ -185,7 +194,11 @@ module _ {P A F S B : Type 0} (tells : Passage → P) (rules : Rules) (hands : A
     ReadsHalted open_gate (halts.Departure fault) = ReadsSome fault
     ReadsHalted open_gate (halts.Run fault) = ReadsToHalt open_gate fault
 
-  -- THE RESULT OF DISPATCHING
+module _ {P A F S B : Type 0} (tells : Passage → P) (rules : Rules) (start : State)
+    (hands : A → List Arrival → A → Type 0) (ends : A → Option F → A → Type 0)
+    (takes : S → List (ℕ × Departed P) → S → Type 0) (fails : S → List (ℕ × Departed P) → B → S → Type 0)
+    (is_settled : S → Type 0) where
+  -- THE RESULT OF DISPATCHING, from a state
 
   module _ {M G : Type 0} (from : A) (before : S) (pool : Pool M G Leg (Told P)) (left : A) (after : S) where
     -- the arrivals ended or failed, and the outcomes of all inputs before that left
@@ -193,14 +206,15 @@ module _ {P A F S B : Type 0} (tells : Passage → P) (rules : Rules) (hands : A
       pub inputs : List Arrival
       pub went : List (ℕ × Departed P)
       pub came : Came hands ends from inputs end left
-      pub clock : done.clock ≡ last_clock 0 inputs
+      pub clock : done.clock ≡ last_clock start.clock inputs
       pub took : takes before went after
       pub settled : is_settled after
       pub few : length inputs < 2 ^ 64
       pub offered_many : length (accepts pool) ≡ length rules.pool
       pub answered : map length (taken pool) ≡ map length (accepts pool)
-      pub right : Right tells rules (accepts pool) (taken pool) → (went ≡ timed inputs (departed tells rules inputs))
-          × IsDispatched rules inputs (accepts pool) (map outcome_of went) done.legs.items
+      pub right : Right tells rules start (accepts pool) (taken pool) →
+          (went ≡ timed inputs (departed tells rules start inputs))
+          × IsDispatchedFrom rules start inputs (accepts pool) (map outcome_of went) done.legs.items
 
     -- the departures failed
     pub record EndsEarly (fault : B) : Type 0 where
@@ -209,8 +223,8 @@ module _ {P A F S B : Type 0} (tells : Passage → P) (rules : Rules) (hands : A
       pub come : HasCome hands ends from inputs left
       pub failed : Fails takes fails before went fault after
       pub offered_many : length (accepts pool) ≡ length rules.pool
-      pub right : Right tells rules (accepts pool) (taken pool) →
-          IsFront went (timed inputs (departed tells rules inputs))
+      pub right : Right tells rules start (accepts pool) (taken pool) →
+          IsFront went (timed inputs (departed tells rules start inputs))
 
     -- there was a fault of dispatching
     pub record EndsHalted : Type 0 where
@@ -219,8 +233,8 @@ module _ {P A F S B : Type 0} (tells : Passage → P) (rules : Rules) (hands : A
       pub come : HasCome hands ends from inputs left
       pub took : takes before went after
       pub offered_many : length (accepts pool) ≡ length rules.pool
-      pub right : Right tells rules (accepts pool) (taken pool) →
-          IsFront went (timed inputs (departed tells rules inputs))
+      pub right : Right tells rules start (accepts pool) (taken pool) →
+          IsFront went (timed inputs (departed tells rules start inputs))
 
     abbrev pub EndsBy : Dispatched F B → Ending F B → Type 0
     EndsBy done endings.Whole = EndsWith None done
@@ -234,21 +248,22 @@ module _ {P A F S B : Type 0} (tells : Passage → P) (rules : Rules) (hands : A
     pub record PassesTo (end : Option F) : Type 0 where
       pub inputs : List Arrival
       pub came : Came hands ends from inputs end left
-      pub took : takes before (timed inputs (departed tells rules inputs)) after
+      pub took : takes before (timed inputs (departed tells rules start inputs)) after
       pub settled : is_settled after
       pub few : length inputs < 2 ^ 64
 
     pub record PassesWell (passed : Passed) : Type 0 where
       pub whole : PassesTo None
-      pub bindings : passed.bindings.items ≡ (ran rules whole.inputs).bindings
-      pub legs : passed.legs.items ≡ (ran rules whole.inputs).legs
+      pub bindings : passed.bindings.items ≡ (ran_from rules start whole.inputs).bindings
+      pub legs : passed.legs.items ≡ (ran_from rules start whole.inputs).legs
+      pub leaves : LeavesState rules (left_by rules start whole.inputs) passed
 
     -- the departures failed, and what left before are the first outcomes of the sequential run
     pub record PassesEarly (fault : B) : Type 0 where
       pub inputs : List Arrival
       pub went : List (ℕ × Departed P)
       pub come : HasCome hands ends from inputs left
-      pub front : IsFront went (timed inputs (departed tells rules inputs))
+      pub front : IsFront went (timed inputs (departed tells rules start inputs))
       pub failed : Fails takes fails before went fault after
 
     -- the run itself failed, and what left before are the first outcomes of the sequential run. Taking them may have
@@ -257,7 +272,7 @@ module _ {P A F S B : Type 0} (tells : Passage → P) (rules : Rules) (hands : A
       pub inputs : List Arrival
       pub went : List (ℕ × Departed P)
       pub come : HasCome hands ends from inputs left
-      pub front : IsFront went (timed inputs (departed tells rules inputs))
+      pub front : IsFront went (timed inputs (departed tells rules start inputs))
       pub took : takes before went after ⊎ ((fault : B) × Fails takes fails before went fault after)
 
     abbrev pub Passes : Result Passed (Stopped F B) → Type 0

@@ -5,7 +5,7 @@
 -- right is a premise here: it is proved once the workers are joined.
 use Rattle.std.specs.Prelude.{◌≡◌, ◌≢◌, ◌⊎◌, ℕ, ◌+◌, ◌<◌, ◌≤◌, ◌==◌, max, Bool, true, false, if◌then◌else◌, List, [], ◌∷◌, ◌++◌, map, flat_map, length, slice_index, slice_get, Option, Some, None, Result, MatchResult}
 use Rattle.napt_config.specs.Rules.{Rules}
-use Rattle.napt_rules.specs.{Prelude.{opening, Arrival, Act, run, last_clock, legs_at}, declared.Leg.Leg}
+use Rattle.napt_rules.specs.{Prelude.{Arrival, Act, State, last_clock, course_from, legs_at}, declared.Leg.Leg}
 use Rattle.napt_pool.specs.{declared.pool.Pool.Pool, Pools.{starts, accepts, takes, capacity_of}}
 use Rattle.napt_sequential.specs.{declared.{fault.RunFault.RunFault, passage.Passage.{Passage, TheVariants.Nothing}, telling.Told.Told}, Steps.told_replies}
 use Rattle.napt_wire.specs.declared.Way.{Way}
@@ -77,33 +77,33 @@ abbrev pub lane_legs : {P : Type 0} → List Act → Lane P → List Leg
 lane_legs acts lane = lane.offered ++ turned acts lane.queue.ready lane.queue.held
 
 -- the answers of worker w, and what is told with them, are its translator's
-abbrev pub IsRight : {P : Type 0} → (Passage → P) → Rules → ℕ → Lane P → Type 0
-IsRight tells rules w lane = let address : ℕ = slice_index rules.pool w in
-    IsFront lane.taken (told_replies tells rules address lane.offered (fresh rules address))
+abbrev pub IsRight : {P : Type 0} → (Passage → P) → Rules → State → ℕ → Lane P → Type 0
+IsRight tells rules start w lane = let address : ℕ = slice_index rules.pool w in
+    IsFront lane.taken (told_replies tells rules address lane.offered (fresh start address))
 
-abbrev pub AreRight : {P : Type 0} → (Passage → P) → Rules → DispatchState P → Type 0
-AreRight tells rules state = (w : ℕ) → w < length rules.pool → IsRight tells rules w (state.lane w)
+abbrev pub AreRight : {P : Type 0} → (Passage → P) → Rules → State → DispatchState P → Type 0
+AreRight tells rules start state = (w : ℕ) → w < length rules.pool → IsRight tells rules start w (state.lane w)
 
 -- if the answers are right
-pub record Reaches {P : Type 0} (tells : Passage → P) (rules : Rules) (done all : List Arrival)
+pub record Reaches {P : Type 0} (tells : Passage → P) (rules : Rules) (start : State) (done all : List Arrival)
     (state : DispatchState P) : Type 0 where
-  pub reached : (w : ℕ) → w < length rules.pool → lane_legs (run rules all (opening rules)).acts (state.lane w)
-      ≡ legs_at (slice_index rules.pool w) (run rules done (opening rules)).acts
-  pub known : AllKnown (whole_of tells rules all) state.progress
+  pub reached : (w : ℕ) → w < length rules.pool → lane_legs (course_from rules start all).acts (state.lane w)
+      ≡ legs_at (slice_index rules.pool w) (course_from rules start done).acts
+  pub known : AllKnown (whole_of tells rules start all) state.progress
 
 -- after the inputs `done`, the first of `all`
-pub record Stands {P : Type 0} (tells : Passage → P) (rules : Rules) (done all : List Arrival)
+pub record Stands {P : Type 0} (tells : Passage → P) (rules : Rules) (start : State) (done all : List Arrival)
     (state : DispatchState P) : Type 0 where
   pub rest : List Arrival
   pub whole : done ++ rest ≡ all
   pub many : state.many ≡ length rules.pool
   pub lanes : (w : ℕ) → w < length rules.pool → LaneStands (state.lane w)
-  pub reaches : AreRight tells rules state → Reaches tells rules done all state
+  pub reaches : AreRight tells rules start state → Reaches tells rules start done all state
 
 -- the invariant still holds, after the same inputs
 abbrev pub Keeps : {P : Type 0} → (Passage → P) → DispatchState P → DispatchState P → Type 0
-Keeps tells state later = (rules : Rules) (done all : List Arrival) → Stands tells rules done all state →
-    Stands tells rules done all later
+Keeps tells state later = (rules : Rules) (start : State) (done all : List Arrival) → Stands tells rules start done all state →
+    Stands tells rules start done all later
 
 -- OVER A POOL
 
@@ -120,14 +120,14 @@ abbrev pub IsSizedFor : {P M G : Type 0} → Pool M G Leg (Told P) → Dispatche
 IsSizedFor pool d = length d.queues ≡ length (starts pool)
 
 -- the invariant of a dispatcher, with what its pool accepted and gave
-pub record StandsAt {P M G : Type 0} (tells : Passage → P) (rules : Rules) (done all : List Arrival)
+pub record StandsAt {P M G : Type 0} (tells : Passage → P) (rules : Rules) (start : State) (done all : List Arrival)
     (pool : Pool M G Leg (Told P)) (d : Dispatcher P) : Type 0 where
-  pub stands : Stands tells rules done all (state_of pool d)
+  pub stands : Stands tells rules start done all (state_of pool d)
 
 abbrev pub KeepsAt : {P M G : Type 0} → (Passage → P) → Pool M G Leg (Told P) → Dispatcher P →
     Pool M G Leg (Told P) → Dispatcher P → Type 0
-KeepsAt tells pool d later_pool later = (rules : Rules) (done all : List Arrival) →
-    StandsAt tells rules done all pool d → StandsAt tells rules done all later_pool later
+KeepsAt tells pool d later_pool later = (rules : Rules) (start : State) (done all : List Arrival) →
+    StandsAt tells rules start done all pool d → StandsAt tells rules start done all later_pool later
 
 -- the pool has the same workers, and what they were offered and what was taken from them stays: there may be more
 pub record Grows {P M G : Type 0} (pool later_pool : Pool M G Leg (Told P)) : Type 0 where
@@ -226,10 +226,11 @@ Resolves (fronts.FirstPlace number) window second later = IsSecond number window
 -- one more input was read
 abbrev pub Admits : {P : Type 0} → (Passage → P) → Rules → ℕ → ℕ → Arrival → Dispatcher P → Dispatcher P → Type 0
 Admits {P} tells rules number now input d later =
-    (offered : ℕ → List Leg) (taken : ℕ → List (Told P)) (done rest : List Arrival) → length done ≡ number →
-    max (last_clock 0 done) input.clock ≡ now →
-    Stands tells rules done ((done ++ input ∷ []) ++ rest) (state_with offered taken d) →
-    Stands tells rules (done ++ input ∷ []) ((done ++ input ∷ []) ++ rest) (state_with offered taken later)
+    (start : State) (offered : ℕ → List Leg) (taken : ℕ → List (Told P)) (done rest : List Arrival) →
+    length done ≡ number →
+    max (last_clock start.clock done) input.clock ≡ now →
+    Stands tells rules start done ((done ++ input ∷ []) ++ rest) (state_with offered taken d) →
+    Stands tells rules start (done ++ input ∷ []) ((done ++ input ∷ []) ++ rest) (state_with offered taken later)
 
 -- true: answers were taken, so fewer are owed; false: nothing changed
 abbrev pub HasTaken : {P : Type 0} → Dispatcher P → Dispatcher P → Bool → Type 0

@@ -2,11 +2,11 @@
 use Rattle.std.specs.Prelude.{◌≡◌, ℕ, ◌≤◌, ◌++◌, List, [], ◌∷◌, length, Bool, true, false, Option, Some, None, IfSome, is_some, option_to_list, map, slice_get, slice_set}
 use Rattle.napt_wire.specs.declared.{Cause.Cause, Way.{Way, TheVariants.{Outgoing, Incoming}}}
 use Rattle.napt_config.specs.Rules.{Rules}
-use Rattle.napt_rules.specs.{declared.{End.End, Leg.Leg, Outcome.Outcome}, Prelude.{opening, Arrival, Act, run}}
+use Rattle.napt_rules.specs.{declared.{End.End, Leg.Leg, Outcome.Outcome}, Prelude.{Arrival, Act, State, course_from}}
 use Rattle.napt_rules.specs.declared.End.TheVariants as ends
 use Rattle.napt_laws.specs.{Places.second_legs, Dispatching.outcome_told}
 use Rattle.napt_rules.specs.declared.Outcome.TheVariants as outcomes
-use Rattle.napt_sequential.specs.{declared.passage.Passage.Passage, Traces.traces}
+use Rattle.napt_sequential.specs.{declared.passage.Passage.Passage, Traces.traces_of}
 use Rattle.napt_dispatch.specs.declared.{departures.Departed.Departed, dispatcher.progress.{OpenInput.OpenInput, Progress.Progress}}
 use Rattle.napt_dispatch.specs.{declared.dispatcher.progress.Progress.TheVariants.{Awaited, Returning, Answered}, Dispatch.departed}
 
@@ -151,11 +151,11 @@ pub record Whole (P : Type 0) : Type 0 where
   pub departed : List (Departed P)
   pub firsts : List P
 
-abbrev pub whole_of : {P : Type 0} → (Passage → P) → Rules → List Arrival → Whole P
-whole_of tells rules inputs = record {
-  acts = (run rules inputs (opening rules)).acts;
-  departed = departed tells rules inputs;
-  firsts = map (λ trace. tells trace.first) (traces rules inputs);
+abbrev pub whole_of : {P : Type 0} → (Passage → P) → Rules → State → List Arrival → Whole P
+whole_of tells rules start inputs = record {
+  acts = (course_from rules start inputs).acts;
+  departed = departed tells rules start inputs;
+  firsts = map (λ trace. tells trace.first) (traces_of rules start inputs);
 }
 
 abbrev pub next_leg : ℕ → ℕ → List ℕ → Leg

@@ -6,6 +6,7 @@
 //! else does.
 ghost use Rattle.std.specs.Prelude.{◌≡◌, ◌<◌, ◌^◌, [], length, map, replicate, IfOk, IfErr, OnOk, OnErr};
 ghost use Rattle.napt_pool.specs.{Pools.{starts, accepts, takes, zip_with}, Histories.replies};
+ghost use Rattle.napt_rules.specs.Prelude.{State};
 ghost use Rattle.napt_dispatch.specs.{Dispatch.{started, IsDispatchFault, IsDispatched}, Passing.{EndsBy, EndsHalted}, QueueStates.unused};
 
 mod holding;
@@ -42,6 +43,8 @@ const BATCH: usize = 32;
 #[derive(Drop)]
 pub(crate) struct Dispatcher<P> {
     alloc: Global,
+    /// The clock of the state that the run goes on from, in ns.
+    clock: u64,
     /// The number of legs in a message where none waits for another reason, less one. It has ones alone as bits.
     mask: usize,
     queues: WorkerQueues,
@@ -50,15 +53,22 @@ pub(crate) struct Dispatcher<P> {
 }
 
 impl<P: Telling> Dispatcher<P> {
-    /// The state before the first input, for a number of workers and the number of legs that fit in a ring.
-    fn new(alloc: Global, workers: u32, ring: usize) -> Result<Dispatcher<P>, AllocError>
+    /// The state before the first input, for a number of workers, the number of legs that fit in a ring, and a clock in ns.
+    fn new(
+        alloc: Global,
+        workers: u32,
+        ring: usize,
+        clock: u64,
+    ) -> Result<Dispatcher<P>, AllocError>
         requires { 0 < workers }
+        ensures clock { IfOk result (λ d. d.clock ≡ clock) }
         ensures queues { IfOk result (λ d. d.queues ≡ replicate workers unused) }
         ensures left { IfOk result (λ d. d.progress.left ≡ []) }
         ensures under_way { IfOk result (λ d. d.progress.under_way ≡ []) }
     {
         Ok(Dispatcher {
             alloc,
+            clock,
             mask: mask_of(ring),
             queues: WorkerQueues::new(alloc, workers)?,
             progress: RunProgress::new(alloc),
@@ -92,7 +102,7 @@ pub fn dispatch<R: Wait, G: Gate>(
 {
     let mut collected = Collected::with_capacity(alloc, inputs.len())?;
     let mut inputs = copies(alloc, inputs)?;
-    let done = dispatch_to(rt, alloc, pool, config, &mut inputs, &mut collected)?;
+    let done = dispatch_to(rt, alloc, pool, config, 0, &mut inputs, &mut collected)?;
     match done.ending {
         Ending::Whole => Ok((collected.outcomes, done.legs)),
         Ending::Arrival(none) => match none {},
@@ -116,34 +126,36 @@ pub(crate) enum Ending<A, D> {
 pub(crate) struct Dispatched<A, D> {
     /// The number of legs offered to each worker. Empty if the departures failed.
     pub(crate) legs: Vec<u64>,
-    /// The greatest clock of the inputs, in ns. 0 if there were none, or if the departures failed.
+    /// The greatest clock of the inputs and of the state before them, in ns. 0 if the departures failed.
     pub(crate) clock: u64,
     pub(crate) ending: Ending<A, D>,
 }
 
-/// Dispatches inputs until their end or a fault. Their outcomes leave in the order of the inputs. Before a device is asked
+/// Dispatches inputs until their end or a fault, from a state of this clock, in ns. Their outcomes leave in the order of the inputs. Before a device is asked
 /// for an input, and at the end, every outcome has left and is settled.
 pub(crate) fn dispatch_to<R: Wait, G: Gate, A: Arrivals, D: Departures>(
     rt: &R,
     alloc: Global,
     pool: &mut Pool<Worker<D::Told>, G>,
     config: &Config,
+    clock: u64,
     arrivals: &mut A,
     departures: &mut D,
 ) -> Result<Dispatched<A::Fault, D::Fault>, RunFault>
-    requires started { starts pool.old ≡ started config.now (length config.now.pool) }
+    requires workers { length (starts pool.old) ≡ length config.now.pool }
     requires unoffered { accepts pool.old ≡ replicate (length config.now.pool) [] }
     requires untaken { takes pool.old ≡ replicate (length config.now.pool) [] }
     ensures starts { starts pool.new ≡ starts pool.old }
-    ensures ends { IfOk result (λ done. EndsBy D.Told.tells config.now A.hands A.ends D.takes
-        D.fails D.is_settled arrivals.old departures.old pool.new arrivals.new departures.new done
-        done.ending) }
-    ensures halts { OnErr result (EndsHalted D.Told.tells config.now A.hands A.ends D.takes D.fails
-        D.is_settled arrivals.old departures.old pool.new arrivals.new departures.new) }
+    ensures ends { IfOk result (λ done. (start : State) → start.clock ≡ clock →
+        EndsBy D.Told.tells config.now start A.hands A.ends D.takes D.fails D.is_settled
+        arrivals.old departures.old pool.new arrivals.new departures.new done done.ending) }
+    ensures halts { OnErr result ((start : State) → start.clock ≡ clock →
+        EndsHalted D.Told.tells config.now start A.hands A.ends D.takes D.fails D.is_settled
+        arrivals.old departures.old pool.new arrivals.new departures.new) }
     ensures fault { IfErr result (IsDispatchFault G.is_open) }
 {
     let workers = config.pool().len() as u32;
-    let mut dispatcher = Dispatcher::<D::Told>::new(alloc, workers, config.ring())?;
+    let mut dispatcher = Dispatcher::<D::Told>::new(alloc, workers, config.ring(), clock)?;
     match dispatcher.pass_all(rt, pool, config, arrivals, departures) {
         Ok(EndOfInputs { clock, fault }) => Ok(Dispatched {
             legs: dispatcher.queues.counts(alloc)?,

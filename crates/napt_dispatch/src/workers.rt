@@ -4,9 +4,9 @@ ghost use Rattle.std.specs.Prelude.{◌≡◌, ◌↔◌, ◌^◌, ◌≤◌, []
 ghost use Rattle.napt_config.specs.Rules.{KeepsRules};
 ghost use Rattle.napt_pool.specs.{Histories.{after, replies, AllBegin}, Pools.{starts, accepts, takes, zip_with}};
 ghost use Rattle.napt_rules.specs.Sequential as model;
-ghost use Rattle.napt_dispatch.specs.{Dispatch.{first_fault, started, rows_after, IsDispatchFault, IsFaultUnder}, Passing.{Passes, IsStoppedUnder}};
+ghost use Rattle.napt_dispatch.specs.{Dispatch.{first_fault, started_from, rows_after, IsDispatchFault, IsFaultUnder}, Passing.{Passes, IsStoppedUnder}};
 ghost use Rattle.napt_sequential.specs.Faults.{is_gate_fault};
-ghost use Rattle.napt_rules.specs.Prelude.{AreRowsApart};
+ghost use Rattle.napt_rules.specs.Prelude.{AreRowsApart, Takes, under};
 
 use crate::Worker;
 use crate::departures::Departures;
@@ -15,6 +15,7 @@ use crate::inputs::last_clock;
 use crate::stopped::Stopped;
 use napt_config::Config;
 use napt_pool::{Ended, Gate, Machine, Pool, PoolFault};
+use napt_rules::State;
 use napt_sequential::{
     Arrivals, Input, MOST_INPUTS, Run, RunFault, Telling, Untold, runs_are_sound,
 };
@@ -25,16 +26,22 @@ use std::marker::PhantomData;
 use std::sync::{Arc, Wait};
 use std::thread::Threads;
 
-/// Makes the workers of all external addresses, in the order of the pool.
-fn workers<P: Telling>(alloc: Global, config: &Config) -> Result<Vec<Worker<P>>, AllocError>
+/// Makes the workers of all external addresses in a state, in the order of the pool.
+fn workers<P: Telling>(
+    alloc: Global,
+    config: &Config,
+    state: &State,
+) -> Result<Vec<Worker<P>>, AllocError>
+    requires { Takes config.now state.now }
     ensures kept { KeepsRules config.now }
-    ensures made { IfOk result (λ made. made.items ≡ started config.now (length config.now.pool)) }
+    ensures made { IfOk result (λ made. made.items ≡ started_from config.now
+        (under config.now state.now) (length config.now.pool)) }
     ensures many { IfOk result (λ made. vec_len made ≡ length config.now.pool) }
 {
     let many = config.pool().len() as u32;
     let mut made = Vec::new(alloc);
     for index in 0..many {
-        let translator = Translator::new(alloc, index, config.copy(alloc)?)?;
+        let translator = Translator::resumed(alloc, index, config.copy(alloc)?, state)?;
         made.push(Worker {
             translator,
             told: PhantomData,
@@ -60,19 +67,26 @@ fn bindings<P: Telling>(
     Ok(made)
 }
 
-/// Starts a worker on a thread of its own for each external address.
+/// Starts a worker in a state on a thread of its own for each external address.
 fn start<
     P: Telling,
     R: Threads + Wait + Copy + Send + 'static,
     G: Gate + Send + Sync + Drop + 'static,
->(rt: &R, alloc: Global, config: &Config, gate: Arc<G>) -> Result<Pool<Worker<P>, G>, RunFault>
-    ensures started { IfOk result (λ pool. starts pool ≡ started config.now
-        (length config.now.pool)) }
+>(
+    rt: &R,
+    alloc: Global,
+    config: &Config,
+    state: &State,
+    gate: Arc<G>,
+) -> Result<Pool<Worker<P>, G>, RunFault>
+    requires { Takes config.now state.now }
+    ensures started { IfOk result (λ pool. starts pool ≡ started_from config.now
+        (under config.now state.now) (length config.now.pool)) }
     ensures unoffered { IfOk result (λ pool. accepts pool ≡ replicate (length config.now.pool) []) }
     ensures untaken { IfOk result (λ pool. takes pool ≡ replicate (length config.now.pool) []) }
     ensures fault { IfErr result (IsFaultUnder G.is_open) }
 {
-    let machines = workers::<P>(alloc, config)?;
+    let machines = workers::<P>(alloc, config, state)?;
     Ok(Pool::start(rt, alloc, machines, config.ring(), gate)?)
 }
 
@@ -133,7 +147,11 @@ pub fn run_workers<
     if inputs.len() > MOST_INPUTS {
         return Err(RunFault::TooMany);
     }
-    let mut pool = start::<Untold, _, _>(rt, alloc, config, gate)?;
+    let nothing = State {
+        clock: 0,
+        list: Vec::new(alloc),
+    };
+    let mut pool = start::<Untold, _, _>(rt, alloc, config, &nothing, gate)?;
     let dispatched = dispatch(rt, alloc, &mut pool, config, inputs);
     let ((outcomes, legs), ended) = close(rt, alloc, pool, dispatched)?;
     let bindings = bindings(alloc, &ended, last_clock(inputs))?;
@@ -151,9 +169,73 @@ pub struct Passed {
     pub bindings: Vec<Row>,
     /// The number of legs that acted at each external address, in the order of the pool.
     pub legs: Vec<u64>,
+    /// The translators as the run left them, in the order of the pool.
+    pub translators: Vec<Translator>,
+    /// The last clock, in ns.
+    pub clock: u64,
 }
 
-/// The run of `run_workers` over inputs that come one at a time until their end or a fault. The outcomes leave in the order
+impl Passed {
+    ghost use Rattle.napt_config.specs.Rules.{Rules};
+    ghost use Rattle.napt_rules.specs.Prelude.{IsInOrder, State};
+    ghost use Rattle.napt_dispatch.specs.Passing.{LeavesState};
+
+    /// The state that the run leaves: its bindings that are live or held at the last clock, by external address in the order
+    /// of the pool, then by protocol (ICMP, TCP, UDP) and external number.
+    pub fn left(&self, alloc: Global) -> Result<State, AllocError>
+        ensures { (rules : Rules) (state : State) → LeavesState rules state self.now →
+            IfOk result (IsInOrder rules state) }
+    {
+        let mut list = Vec::new(alloc);
+        for translator in &self.translators {
+            list.append(&mut translator.left(alloc, self.clock)?)?;
+        }
+        Ok(State {
+            clock: self.clock,
+            list,
+        })
+    }
+}
+
+/// Takes the translators out of the workers.
+fn translators<P: Telling>(
+    alloc: Global,
+    ended: Vec<Ended<Worker<P>>>,
+) -> Result<Vec<Translator>, AllocError>
+    ensures { IfOk result (λ made. made.items ≡ map (λ e. e.machine) ended.items) }
+{
+    let mut made = Vec::with_capacity(alloc, ended.len())?;
+    for worker in ended {
+        made.push(worker.machine.translator)?;
+    }
+    Ok(made)
+}
+
+/// The result of a run whose workers ended so.
+fn result_of<P: Telling>(
+    alloc: Global,
+    ended: Vec<Ended<Worker<P>>>,
+    legs: Vec<u64>,
+    clock: u64,
+) -> Result<Passed, AllocError>
+    ensures bindings { IfOk result (λ passed. passed.bindings.items
+        ≡ flat_map (λ e. rows_after clock e.machine) ended.items) }
+    ensures translators { IfOk result (λ passed. passed.translators.items
+        ≡ map (λ e. e.machine) ended.items) }
+    ensures legs { IfOk result (λ passed. passed.legs ≡ legs) }
+    ensures clock { IfOk result (λ passed. passed.clock ≡ clock) }
+{
+    let bindings = bindings(alloc, &ended, clock)?;
+    Ok(Passed {
+        bindings,
+        legs,
+        translators: translators(alloc, ended)?,
+        clock,
+    })
+}
+
+/// The run of `run_workers`, from a state that the configuration takes, over inputs that come one at a time until their end or
+/// a fault. It begins with the configuration's redirects, and behind them the state's other bindings. The outcomes leave in the order
 /// of the inputs, each as soon as it is known. At most 131,072 inputs and 65,536 legs are kept.
 ///
 /// Before a device is asked for an input, the outcome of every input before it has left and is settled. The same holds at
@@ -169,16 +251,26 @@ pub fn run_through<
     rt: &R,
     alloc: Global,
     config: &Config,
+    state: &State,
     arrivals: &mut A,
     departures: &mut D,
     gate: Arc<G>,
 ) -> Result<Passed, Stopped<A::Fault, D::Fault>>
-    ensures passes { Passes D.Told.tells config.now A.hands A.ends D.takes D.fails D.is_settled
-        arrivals.old departures.old arrivals.new departures.new result }
+    requires { Takes config.now state.now }
+    ensures passes { Passes D.Told.tells config.now (under config.now state.now) A.hands A.ends
+        D.takes D.fails D.is_settled arrivals.old departures.old arrivals.new departures.new result }
     ensures fault { IfErr result (IsStoppedUnder G.is_open) }
 {
-    let mut pool = start::<D::Told, _, _>(rt, alloc, config, gate)?;
-    let dispatched = dispatch_to(rt, alloc, &mut pool, config, arrivals, departures);
+    let mut pool = start::<D::Told, _, _>(rt, alloc, config, state, gate)?;
+    let dispatched = dispatch_to(
+        rt,
+        alloc,
+        &mut pool,
+        config,
+        state.clock,
+        arrivals,
+        departures,
+    );
     let (dispatched, ended) = close(rt, alloc, pool, dispatched)?;
     let Dispatched {
         legs,
@@ -186,8 +278,8 @@ pub fn run_through<
         ending,
     } = dispatched;
     match ending {
-        Ending::Whole => match bindings(alloc, &ended, clock) {
-            Ok(bindings) => Ok(Passed { bindings, legs }),
+        Ending::Whole => match result_of(alloc, ended, legs, clock) {
+            Ok(passed) => Ok(passed),
             Err(_) => Err(Stopped::Run(RunFault::Memory)),
         },
         Ending::Arrival(fault) => Err(Stopped::Arrival(fault)),

@@ -1,7 +1,7 @@
 -- The laws for a dispatcher.
 use Rattle.std.proofs.Common.{◌≡◌, ℕ, suc, ◌+◌, ◌-◌, ◌≤◌, List, [], ◌∷◌, ◌++◌, length, Option, Some, None, IfSome, refl, sym, ◌∙◌, ap, subst, arith, append_assoc}
 use Rattle.std.specs.List.{slice_get}
-use Rattle.napt_rules.specs.Prelude.{Through, Binding, Each, of, Acted, act, Arrival, Act, Course, outcome_of, follow_by, run_from, run, Kept, kept_after, kept_answer, kept_replies, answers_at, Incoming, destination, kind, SourcesLeaveDestinations, ErrorsLeaveDestinations, Rules, place_of}
+use Rattle.napt_rules.specs.Prelude.{Through, Binding, Each, of, Acted, act, Arrival, Act, Course, outcome_of, follow_by, run_from, course_from, Kept, kept_after, kept_answer, kept_replies, answers_at, Incoming, destination, kind, SourcesLeaveDestinations, ErrorsLeaveDestinations, Rules, place_of}
 use Rattle.napt_rules.specs.declared.{Leg.Leg, Answer.Answer, End.{End, TheVariants.{ToOutside, ToInside, Onward, Dropped}}, Outcome.Outcome}
 use Rattle.napt_laws.proofs.Lists.{each_weaker, each_append}
 use Rattle.napt_laws.specs.Dispatching.{IsFront, RightAnswersAreTheRuns, RunsGrow, outcome_told, IsTold, AnswersTellOutcomes, OnwardIsForetold}
@@ -23,17 +23,17 @@ replies_front rules address (x ∷ xs) rest own =
     (more.0, ap (λ (l : List Answer). kept_answer rules address x own ∷ l) more.1)
 
 pub right_answers : RightAnswersAreTheRuns
-right_answers rules inputs list address given taken front right =
-    let course : Course = run rules inputs list in
-    let own : Kept = record { list = of address list; at = 0 } in
+right_answers rules state inputs address given taken front right =
+    let course : Course = course_from rules state inputs in
+    let own : Kept = record { list = of address state.list; at = state.clock } in
     front_front taken (kept_replies rules address given own) (answers_at address course.acts) right
     (subst (λ (l : List Answer). IsFront (kept_replies rules address given own) l)
     (ap (λ (ls : List Leg). kept_replies rules address ls own) front.1
-    ∙ translators_answer_from rules (record { clock = 0; list = list }) inputs address)
+    ∙ translators_answer_from rules state inputs address)
     (replies_front rules address given front.0 own))
 
 pub runs_grow : RunsGrow
-runs_grow rules inputs input list = grows rules 0 0 inputs input list (length inputs) (omega arith)
+runs_grow rules state inputs input = grows rules 0 state.clock inputs input state.list (length inputs) (omega arith)
 
 -- OUTCOMES
 
@@ -100,10 +100,10 @@ told_from all a None h = tt
 told_from all a (Some x) h = let same : a.leg.number ≡ a.leg.number - 0 = omega arith in ap (slice_get all) same ∙ h
 
 pub answers_tell : AnswersTellOutcomes
-answers_tell rules inputs list =
-    let course : Course = run rules inputs list in
+answers_tell rules state inputs =
+    let course : Course = course_from rules state inputs in
     each_weaker (TellsFrom 0 course.outcomes) (IsTold course.outcomes) (λ a h.
-    told_from course.outcomes a (outcome_told a.end) h.1) course.acts (tells_from rules 0 0 inputs list)
+    told_from course.outcomes a (outcome_told a.end) h.1) course.acts (tells_from rules 0 state.clock inputs state.list)
 
 -- ONWARD
 

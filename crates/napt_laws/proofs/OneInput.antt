@@ -1,7 +1,7 @@
 -- One input more.
 use Rattle.std.proofs.Common.{◌≡◌, ℕ, zero, suc, ◌+◌, ◌<◌, max, List, [], ◌∷◌, ◌++◌, length, Some, Result, refl, sym, ◌∙◌, ap, arith, get_or, take, drop, slice_get}
 use Rattle.std.proofs.lemmas.List.{take_more, take-append-drop}
-use Rattle.napt_rules.specs.Prelude.{Binding, opening, Arrival, admission, Course, ahead, first_leg, step_as, step, run_from, run, last_clock, Cause, Rules}
+use Rattle.napt_rules.specs.Prelude.{Binding, Arrival, admission, Course, ahead, first_leg, step_as, step, run_from, last_clock, State, course_from, Cause, Rules}
 use Rattle.napt_rules.specs.declared.Outcome.{Outcome}
 use Rattle.napt_laws.{specs.Dispatching.IsFront, proofs.{Grown.run_append, Dispatched.runs_grow}}
 
@@ -24,16 +24,16 @@ get_at [] o rest (suc n) e = absurd (omega arith)
 get_at (x ∷ xs) o rest zero e = absurd (omega arith)
 get_at (x ∷ xs) o rest (suc n) e = get_at xs o rest n (omega arith)
 
-module _ (rules : Rules) (done rest : List Arrival) (input : Arrival) (number now : ℕ) (long : length done ≡ number)
-    (clock : max (last_clock 0 done) input.clock ≡ now) where
+module _ (rules : Rules) (state : State) (done rest : List Arrival) (input : Arrival) (number now : ℕ) (long : length done ≡ number)
+    (clock : max (last_clock state.clock done) input.clock ≡ now) where
   -- the run of one input more
   pub grown : (admitted_as : Result (List ℕ) Cause) → admission rules input ≡ admitted_as →
-      run rules (done ++ input ∷ []) (opening rules) ≡ ahead (run rules done (opening rules))
-      (step_as rules (first_leg number now input.side) admitted_as (run rules done (opening rules)).list)
+      course_from rules state (done ++ input ∷ []) ≡ ahead (course_from rules state done)
+      (step_as rules (first_leg number now input.side) admitted_as (course_from rules state done).list)
   grown admitted_as is =
-      let r : Course = run rules done (opening rules) in
-      runs_grow rules done input (opening rules)
-      ∙ (ap (λ (n : ℕ). ahead r (step rules n (max (last_clock 0 done) input.clock) input r.list)) long
+      let r : Course = course_from rules state done in
+      runs_grow rules state done input
+      ∙ (ap (λ (n : ℕ). ahead r (step rules n (max (last_clock state.clock done) input.clock) input r.list)) long
       ∙ (ap (λ (t : ℕ). ahead r (step rules number t input r.list)) clock
       ∙ ap (λ (a : Result (List ℕ) Cause). ahead r (step_as rules (first_leg number now input.side) a r.list)) is))
 

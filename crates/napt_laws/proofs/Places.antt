@@ -1,7 +1,7 @@
 -- Second legs by the number of their input.
 use Rattle.std.proofs.Common.{◌≡◌, ◌≢◌, ℕ, ◌+◌, ◌≤◌, ◌==◌, max, Bool, true, false, cond, Option, List, [], ◌∷◌, ◌++◌, length, map, Ok, refl, sym, ◌∙◌, ap, subst, arith, append_assoc, append-nil, eq-eqb, ne_eqb}
 use Rattle.std.proofs.lemmas.List.{map-append, Elements.filter-append}
-use Rattle.napt_rules.specs.Prelude.{Through, Binding, Each, opening, way_from, served_at, Acted, act, Arrival, admission, Act, Course, follow_by, run, last_clock, acts_at, legs_at, Way, Outgoing, destination, IsPacket, Rules}
+use Rattle.napt_rules.specs.Prelude.{Through, Binding, Each, way_from, served_at, Acted, act, Arrival, admission, Act, Course, follow_by, last_clock, State, course_from, acts_at, legs_at, Way, Outgoing, destination, IsPacket, Rules}
 use Rattle.napt_rules.specs.declared.{Leg.Leg, End.{End, TheVariants.{ToOutside, ToInside, Onward, Dropped}}}
 use Rattle.napt_laws.{proofs.Lists.{each_weaker, each_append}, specs.Dispatching.{IsFront, OnwardIsForetold}}
 use Rattle.napt_laws.specs.Places.{first_act, acts_of, numbered, all_but_first, second_legs, second_of, IsSeconded, AnswersFillPlaces, PlacesStandForLegs}
@@ -87,11 +87,11 @@ module _ (number : ℕ) (firsts rests : List Act) (here : Each (SecondsHere numb
       (each_weaker (SecondsFrom (number + 1) rests) (SecondsFrom number (firsts ++ rests)) rest_seconded rests later)
 
 pub answers_fill : AnswersFillPlaces
-answers_fill rules inputs list =
-    let course : Course = run rules inputs list in
+answers_fill rules state inputs =
+    let course : Course = course_from rules state inputs in
     each_weaker (SecondsFrom 0 course.acts) (IsSeconded course.acts) (λ a h. h.1) course.acts
     (each_leg rules (λ number course. SecondsHere number course.acts) (λ number course. SecondsFrom number course.acts)
-    (follow_seconds rules) (λ number first rest one. seconds_more number first.acts rest.acts) 0 0 inputs list)
+    (follow_seconds rules) (λ number first rest one. seconds_more number first.acts rest.acts) 0 state.clock inputs state.list)
 
 -- ONE INPUT MORE
 
@@ -143,14 +143,14 @@ head_by rules address leg first (ToInside packet) = ([], refl)
 head_by rules address leg first (Dropped cause) = ([], refl)
 head_by rules address leg first (Onward place packet) = (_, refl)
 
-module _ (rules : Rules) (done rest : List Arrival) (input : Arrival) (number now : ℕ) (long : length done ≡ number)
-    (clock : max (last_clock 0 done) input.clock ≡ now)
+module _ (rules : Rules) (state : State) (done rest : List Arrival) (input : Arrival) (number now : ℕ) (long : length done ≡ number)
+    (clock : max (last_clock state.clock done) input.clock ≡ now)
     (packet : List ℕ) (admitted : admission rules input ≡ Ok packet) where
   abbrev whole : List Act
-  whole = (run rules ((done ++ input ∷ []) ++ rest) (opening rules)).acts
+  whole = (course_from rules state ((done ++ input ∷ []) ++ rest)).acts
 
   abbrev before : Course
-  before = run rules done (opening rules)
+  before = course_from rules state done
 
   abbrev leg_of : Leg
   leg_of = record { number = number; now = now; way = way_from input.side; packet = packet }
@@ -158,9 +158,9 @@ module _ (rules : Rules) (done rest : List Arrival) (input : Arrival) (number no
   abbrev at_first : ℕ
   at_first = served_at rules (way_from input.side) packet
 
-  pub acts_grow : (run rules (done ++ input ∷ []) (opening rules)).acts ≡ before.acts
+  pub acts_grow : (course_from rules state (done ++ input ∷ [])).acts ≡ before.acts
       ++ acts_of rules at_first leg_of before.list
-  acts_grow = ap (λ (r : Course). r.acts) (grown rules done rest input number now long clock (Ok packet) admitted)
+  acts_grow = ap (λ (r : Course). r.acts) (grown rules state done rest input number now long clock (Ok packet) admitted)
 
   -- the run over all inputs tells the second legs by the end of the first
   filled : way_from input.side ≡ Outgoing → second_legs number whole
@@ -169,17 +169,17 @@ module _ (rules : Rules) (done rest : List Arrival) (input : Arrival) (number no
       let first : Acted = act rules at_first leg_of before.list in
       let head : (tail : List Act) × (acts_of rules at_first leg_of before.list
       ≡ first_act rules at_first leg_of before.list ∷ tail) = head_by rules at_first leg_of first first.end in
-      let front : IsFront (run rules (done ++ input ∷ []) (opening rules)).acts whole =
-      acts_begin rules 0 0 (done ++ input ∷ []) rest (opening rules) in
+      let front : IsFront (course_from rules state (done ++ input ∷ [])).acts whole =
+      acts_begin rules 0 state.clock (done ++ input ∷ []) rest state.list in
       let is : whole ≡ before.acts ++ (first_act rules at_first leg_of before.list ∷ (head.0 ++ front.0)) =
       sym front.1 ∙ (ap (λ (xs : List Act). xs ++ front.0)
       (acts_grow ∙ ap (λ (xs : List Act). before.acts ++ xs) head.1) ∙ append_assoc before.acts
       (first_act rules at_first leg_of before.list ∷ head.0) front.0) in
       at_seam (IsSeconded whole) before.acts (first_act rules at_first leg_of before.list) (head.0 ++ front.0)
-      (subst (Each (IsSeconded whole)) is (answers_fill rules ((done ++ input ∷ []) ++ rest) (opening rules))) way
+      (subst (Each (IsSeconded whole)) is (answers_fill rules state ((done ++ input ∷ []) ++ rest))) way
 
   pub place_stands : OnwardIsForetold → IsPacket packet → way_from input.side ≡ Outgoing → (address : ℕ) →
-      legs_at address (run rules (done ++ input ∷ []) (opening rules)).acts
+      legs_at address (course_from rules state (done ++ input ∷ [])).acts
       ≡ legs_at address before.acts ++ (cond (at_first == address) (leg_of ∷ []) []
       ++ cond ((destination packet).address == address) (second_legs number whole) [])
   place_stands foretold is way address =
@@ -195,13 +195,13 @@ module _ (rules : Rules) (done rest : List Arrival) (input : Arrival) (number no
       ++ cond ((destination packet).address == address) ls []) (sym (filled way))))
 
 pub places_stand : OnwardIsForetold → PlacesStandForLegs
-places_stand foretold rules done rest input packet side admitted is address =
+places_stand foretold rules state done rest input packet side admitted is address =
     let number : ℕ = length done in
-    let now : ℕ = max (last_clock 0 done) input.clock in
-    let all : List Act = (run rules ((done ++ input ∷ []) ++ rest) (opening rules)).acts in
+    let now : ℕ = max (last_clock state.clock done) input.clock in
+    let all : List Act = (course_from rules state ((done ++ input ∷ []) ++ rest)).acts in
     let way : way_from input.side ≡ Outgoing = ap way_from side in
-    subst (λ (w : Way). legs_at address (run rules (done ++ input ∷ []) (opening rules)).acts
-    ≡ legs_at address (run rules done (opening rules)).acts
+    subst (λ (w : Way). legs_at address (course_from rules state (done ++ input ∷ [])).acts
+    ≡ legs_at address (course_from rules state done).acts
     ++ (cond (served_at rules w packet == address) (record { number = number; now = now; way = w; packet = packet }
     ∷ []) [] ++ cond ((destination packet).address == address) (second_legs number all) [])) way
-    (place_stands rules done rest input number now refl refl packet admitted foretold is way address)
+    (place_stands rules state done rest input number now refl refl packet admitted foretold is way address)

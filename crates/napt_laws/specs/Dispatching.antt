@@ -1,7 +1,7 @@
 -- Laws of runs for a dispatcher, which hands each leg to the translator of its address and takes the answers one by
 -- one.
 use Rattle.std.specs.{Prelude.{◌≡◌, ℕ, max, List, [], ◌∷◌, ◌++◌, length, Option, Some, None, IfSome, Ok}, List.slice_get}
-use Rattle.napt_rules.specs.Prelude.{Binding, Each, of, act, Arrival, Act, Course, ahead, step, run, last_clock, legs_at, kept_replies, answers_at, Side, Outgoing, destination, reading, Rules, place_of}
+use Rattle.napt_rules.specs.Prelude.{Binding, Each, of, act, Arrival, Act, Course, ahead, step, last_clock, State, course_from, legs_at, kept_replies, answers_at, Side, Outgoing, destination, reading, Rules, place_of}
 use Rattle.napt_rules.specs.declared.{Leg.Leg, Answer.Answer, End.{End, TheVariants.{ToOutside, ToInside, Onward, Dropped}}, Outcome.Outcome}
 use Rattle.napt_rules.specs.declared.Outcome.TheVariants as outcomes
 
@@ -12,19 +12,19 @@ IsFront {X} xs ys = (rest : List X) × (xs ++ rest ≡ ys)
 -- where a translator was given a front of its address's legs, and answered some of them as it does, these are the run's
 -- answers
 abbrev pub RightAnswersAreTheRuns : Type 0
-RightAnswersAreTheRuns = (rules : Rules) (inputs : List Arrival) (list : List Binding) (address : ℕ) (given : List Leg)
+RightAnswersAreTheRuns = (rules : Rules) (state : State) (inputs : List Arrival) (address : ℕ) (given : List Leg)
     (taken : List Answer) →
-    let course : Course = run rules inputs list in
+    let course : Course = course_from rules state inputs in
     IsFront given (legs_at address course.acts) →
-    IsFront taken (kept_replies rules address given (record { list = of address list; at = 0 })) →
+    IsFront taken (kept_replies rules address given (record { list = of address state.list; at = state.clock })) →
     IsFront taken (answers_at address course.acts)
 
 -- a run over one input more is the run, and the step of that input
 abbrev pub RunsGrow : Type 0
-RunsGrow = (rules : Rules) (inputs : List Arrival) (input : Arrival) (list : List Binding) →
-    let course : Course = run rules inputs list in
-    run rules (inputs ++ input ∷ []) list
-    ≡ ahead course (step rules (length inputs) (max (last_clock 0 inputs) input.clock) input course.list)
+RunsGrow = (rules : Rules) (state : State) (inputs : List Arrival) (input : Arrival) →
+    let course : Course = course_from rules state inputs in
+    course_from rules state (inputs ++ input ∷ [])
+    ≡ ahead course (step rules (length inputs) (max (last_clock state.clock inputs) input.clock) input course.list)
 
 -- the outcome that the end of a leg tells, where it is the last
 abbrev pub outcome_told : End → Option Outcome
@@ -38,8 +38,8 @@ abbrev pub IsTold : List Outcome → Act → Type 0
 IsTold all a = IfSome (outcome_told a.end) (λ outcome. slice_get all a.leg.number ≡ Some outcome)
 
 abbrev pub AnswersTellOutcomes : Type 0
-AnswersTellOutcomes = (rules : Rules) (inputs : List Arrival) (list : List Binding) →
-    let course : Course = run rules inputs list in
+AnswersTellOutcomes = (rules : Rules) (state : State) (inputs : List Arrival) →
+    let course : Course = course_from rules state inputs in
     Each (IsTold course.outcomes) course.acts
 
 -- a leg goes onward only on its way out, and to the place of its packet's destination (RFC 4787, REQ-9)

@@ -1,7 +1,7 @@
 //! Laws of runs.
 
 ghost use Rattle.napt_rules.specs.Prelude.{RunsGoOn, GoneChangeNothing, EarlierClocksAreTheStates, RunsAreSound, RunsStayApart, RunsKeepQuota, RunsKeepToBlocks};
-ghost use Rattle.napt_rules.specs.Prelude.{TakenAreSound, TakenKeepToBlocks, TakenKeepQuota, TakenAreOwn, OwnStatesStay, OwnStatesAreTaken, TranslatorsAnswerFrom, TranslatorsKeepFrom};
+ghost use Rattle.napt_rules.specs.Prelude.{TakenAreSound, TakenKeepToBlocks, TakenKeepQuota, TakenAreOwn, OwnStatesStay, OwnStatesAreTaken, TranslatorsAnswerFrom, TranslatorsKeepFrom, TranslatorsHoldFrom};
 
 use crate::steps::{no_host_exceeds_its_quota, opening_is_sound, steps_stay_sound};
 use napt_wire::packets_carry_numbers;
@@ -57,8 +57,9 @@ pub fn own_states_stay()
 }
 
 /// A translator of one external address answers as the sequential one does, from each state, and is left with its bindings
-/// there.
+/// there, the live ones and the held ones.
 pub fn translators_are_local()
     ensures answers { TranslatorsAnswerFrom }
     ensures keeps { TranslatorsKeepFrom }
+    ensures holds { TranslatorsHoldFrom }
 {}

@@ -2,6 +2,7 @@
 use Rattle.std.specs.{Prelude.{◌≡◌, ℕ, ◌+◌, max, List, ◌++◌, length, map, zip, flat_map, Some, slice_get}, List.Sorted.{IsNonDecreasingBy, IsPermutation}}
 use Rattle.napt_config.specs.Rules.{Rules, KeepsRules, pair_of}
 use Rattle.napt_rules.specs.{Bindings.{Binding, of}, Rows.rank, Endpoints.IsSound, Inputs.Arrival}
+use Rattle.napt_rules.specs.{Taking.under, RunLaws.Takes}
 use Rattle.napt_rules.specs.Sequential.{Act, Ran, last_clock, State, taken_at_clock, course_from, left_by, ran_from}
 
 -- an act of inputs that come behind so many others
@@ -82,3 +83,30 @@ abbrev pub OrdersChangeNothing : Type 0
 OrdersChangeNothing = (rules : Rules) → KeepsRules rules → (state other : State) →
     IsSound (pair_of rules) state.list → other.clock ≡ state.clock → IsPermutation state.list other.list →
     (inputs : List Arrival) → IsByAnyOrder rules state other inputs
+
+-- a configuration takes a state whatever the order of its bindings
+abbrev pub OrdersAreTaken : Type 0
+OrdersAreTaken = (rules : Rules) (state other : State) → other.clock ≡ state.clock →
+    IsPermutation state.list other.list → Takes rules state → Takes rules other
+
+-- in order a sound state has the same bindings
+abbrev pub OrdersKeepAll : Type 0
+OrdersKeepAll = (rules : Rules) → KeepsRules rules → (state ordered : State) → IsSound (pair_of rules) state.list →
+    IsInOrder rules state ordered → IsPermutation state.list ordered.list
+
+-- SAVED AND TAKEN UP: what a run leaves, in order, is taken, and with the run from there it is the run over all inputs
+
+pub record GoesOnSaved (rules : Rules) (state saved : State) (first rest : List Arrival) : Type 0 where
+  pub taken : Takes rules saved
+  pub ran : ran_from rules state (first ++ rest)
+      ≡ and_then (ran_from rules state first) (ran_from rules (under rules saved) rest)
+  pub acts : (course_from rules state (first ++ rest)).acts ≡ (course_from rules state first).acts
+      ++ map (behind (length first)) (course_from rules (under rules saved) rest).acts
+  -- in order they leave one state
+  pub left : (one other : State) → IsInOrder rules (left_by rules state (first ++ rest)) one →
+      IsInOrder rules (left_by rules (under rules saved) rest) other → one ≡ other
+
+abbrev pub SavedRunsGoOn : Type 0
+SavedRunsGoOn = (rules : Rules) → KeepsRules rules → (state saved : State) → Takes rules state →
+    (first rest : List Arrival) → IsInOrder rules (left_by rules (under rules state) first) saved →
+    GoesOnSaved rules (under rules state) saved first rest

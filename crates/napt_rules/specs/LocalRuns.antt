@@ -2,7 +2,7 @@
 -- what the run leaves there: so each address can have a translator of its own.
 use Rattle.std.specs.{Prelude.{◌≡◌, ℕ, ◌≤◌, List, map}, List.{fold, scan}}
 use Rattle.napt_config.specs.Rules.{Rules}
-use Rattle.napt_rules.specs.{Bindings.{Binding, of}, Life.purge, declared.{Answer.Answer, Leg.Leg}, Legs.act, OwnTime.{kept_replies, kept_after_all}}
+use Rattle.napt_rules.specs.{Bindings.{Binding, of}, Life.{purge, taken}, declared.{Answer.Answer, Leg.Leg}, Legs.act, OwnTime.{kept_replies, kept_after_all}}
 use Rattle.napt_rules.specs.{Inputs.Arrival, Sequential.{Act, Course, run, last_clock, acts_at, legs_at, State, course_from}}
 
 abbrev pub answer_of : Act → Answer
@@ -51,3 +51,12 @@ TranslatorsKeepFrom = (rules : Rules) (state : State) (inputs : List Arrival) (a
     purge rules.timers now (kept_after_all rules address (legs_at address course.acts)
     (record { list = of address state.list; at = state.clock })).list
     ≡ purge rules.timers now (of address course.list)
+
+-- alive or held
+abbrev pub TranslatorsHoldFrom : Type 0
+TranslatorsHoldFrom = (rules : Rules) (state : State) (inputs : List Arrival) (address now : ℕ) →
+    last_clock state.clock inputs ≤ now →
+    let course : Course = course_from rules state inputs in
+    taken rules.timers now (kept_after_all rules address (legs_at address course.acts)
+    (record { list = of address state.list; at = state.clock })).list
+    ≡ taken rules.timers now (of address course.list)

@@ -6,14 +6,14 @@ use Rattle.napt_wire.specs.declared.Side.TheVariants as sides
 use Rattle.napt_capture.specs.declared.device.Sink as sink
 use Rattle.napt_capture.specs.declared.device.Source as source
 use Rattle.napt_capture.specs.{declared.fault.{CaptureFault.{CaptureFault, TheVariants.TooLarge}, WriteFault.WriteFault}, Reading.StopsBy}
-use Rattle.napt_config.specs.Rules.{Rules}
+use Rattle.napt_run.specs.Origins.{Origin, ran_by}
 use Rattle.napt_dispatch.specs.Passing.{HasCome}
 use Rattle.napt_records.specs.{Begun.AreBegun, Counts.AreCountsOf, Merged.{AreLive, EndsWith, HandsOut, cut_of}, Taking.Inputs, declared.Fault.Fault}
 use Rattle.napt_records.specs.declared.{Fault.TheVariants.{Capture, Run, Write}, Which.{Which, TheVariants.{Outside, Inside, Report}}, merged_streams.Cuts.Cuts}
 use Rattle.napt_records.{specs.declared.merged_streams.MergedStreams.MergedStreams, proofs.Came.{came_fault, came_whole, handed_front, handed_timely}}
 use Rattle.napt_records.proofs.Left.{StopsBy-then}
 use Rattle.napt_laws.specs.Dispatching.{IsFront}
-use Rattle.napt_rules.specs.Prelude.{Arrival, ran}
+use Rattle.napt_rules.specs.Prelude.{Arrival}
 use Rattle.napt_sequential.specs.Inputs.{Came}
 use Rattle.napt_run.{specs.Leaving.{AreSound, AreTimes, FailsBy, IsSettled, Takes, Timed, records_text}, proofs.Fronts.{front_of, times_of}}
 use Rattle.napt_run.specs.{LeavingLaws.{breaks_more, grows_more, records_text-append, times_first, times_second}, Outputs.{Breaks, Grows}}
@@ -61,7 +61,7 @@ refuses side fault bytes others inputs front stops = record {
 -- WHAT THE RUN DID
 
 module _ {R Q W V : Type 0} {G : source.Ghosts R} {H : source.Ghosts Q} {S : sink.Ghosts W} {T : sink.Ghosts V}
-    (open_gate : Bool) (rules : Rules)
+    (open_gate : Bool) (origin : Origin)
     (begin : MergedStreams R Q G H) (old : Leaving W V S T) (end : MergedStreams R Q G H) (new : Leaving W V S T)
     (bytes others : Option (List ℕ))
     (live : AreLive begin)
@@ -69,7 +69,7 @@ module _ {R Q W V : Type 0} {G : source.Ghosts R} {H : source.Ghosts Q} {S : sin
     (sound : AreSound old)
     (counts : AreCountsOf [] old.counts) where
   times : (inputs : List Arrival) (mid : MergedStreams R Q G H) → HandsOut begin inputs mid → AreTimes
-      (left_of rules inputs)
+      (left_of origin inputs)
   times inputs mid handed = grind (arith, common_steps, nat_tests, times_of, handed_timely)
 
   front_at : (inputs first later : List Arrival) (mid : MergedStreams R Q G H) → inputs ≡ first ++ later →
@@ -88,13 +88,13 @@ module _ {R Q W V : Type 0} {G : source.Ghosts R} {H : source.Ghosts Q} {S : sin
   front inputs first later mid whole handed =
       IfHeld-by (λ all. IsFront first all.arrivals) bytes others (front_at inputs first later mid whole handed)
 
-  wrote : (inputs : List Arrival) → AreTimes (left_of rules inputs) → Takes old (left_of rules inputs) new →
-      IsSettled new → Writes open_gate rules bytes others [] old new inputs
+  wrote : (inputs : List Arrival) → AreTimes (left_of origin inputs) → Takes old (left_of origin inputs) new →
+      IsSettled new → Writes open_gate origin bytes others [] old new inputs
   wrote inputs all took settled = grind (arith, common_steps, nat_tests)
 
-  counted : (inputs : List Arrival) → length inputs < 2 ^ 64 → Takes old (left_of rules inputs) new →
-      AreCountsOf (ran rules inputs).outcomes new.counts
-  counted inputs few took = all_counted rules inputs old new counts few took
+  counted : (inputs : List Arrival) → length inputs < 2 ^ 64 → Takes old (left_of origin inputs) new →
+      AreCountsOf (ran_by origin inputs).outcomes new.counts
+  counted inputs few took = all_counted origin inputs old new counts few took
 
   -- they are all inputs
   pub whole_is : (inputs : List Arrival) (cuts : Cuts) → Came HandsOut EndsWith begin inputs None end →
@@ -106,8 +106,8 @@ module _ {R Q W V : Type 0} {G : source.Ghosts R} {H : source.Ghosts Q} {S : sin
       ∙ ap₂ (λ x y. record { arrivals = inputs; end = Ok (record { inside = x; outside = y }) })
       (sym cut_inside) (sym cut_outside))
 
-  well : (totals : Totals) → PassesAll open_gate rules begin old end new totals →
-      RunsWell open_gate rules bytes others [] old new totals
+  well : (totals : Totals) → PassesAll open_gate origin begin old end new totals →
+      RunsWell open_gate origin bytes others [] old new totals
   well totals p =
       let whole = p.well.whole in
       let all = times whole.inputs whole.came.last whole.came.handed in
@@ -115,9 +115,10 @@ module _ {R Q W V : Type 0} {G : source.Ghosts R} {H : source.Ghosts Q} {S : sin
         inputs = whole.inputs;
         wrote = wrote whole.inputs all whole.took whole.settled;
         all = whole_is whole.inputs totals.cuts whole.came p.cut_inside p.cut_outside;
-        counts = subst (λ c. AreCountsOf (ran rules whole.inputs).outcomes c) (sym p.counts)
+        counts = subst (λ c. AreCountsOf (ran_by origin whole.inputs).outcomes c) (sym p.counts)
             (counted whole.inputs whole.few whole.took);
         bindings = p.well.bindings;
+        left = p.well.left;
       }
 
   refused : (side : Side) (fault : CaptureFault) (inputs : List Arrival) →
@@ -138,8 +139,8 @@ module _ {R Q W V : Type 0} {G : source.Ghosts R} {H : source.Ghosts Q} {S : sin
       (λ b o is same. (refused side fault inputs came b o is same).taken)
 
   to_fault : (side : Side) (fault : CaptureFault) →
-      PassesTo rules HandsOut EndsWith begin old end new (Some (record { side = side; fault = fault })) →
-      RunsToFault open_gate rules bytes others [] old new side fault
+      PassesTo origin HandsOut EndsWith begin old end new (Some (record { side = side; fault = fault })) →
+      RunsToFault open_gate origin bytes others [] old new side fault
   to_fault side fault p =
       let all = times p.inputs p.came.last p.came.handed in
       record {
@@ -165,18 +166,18 @@ module _ {R Q W V : Type 0} {G : source.Ghosts R} {H : source.Ghosts Q} {S : sin
     middle : Leaving W V S T
     front_went : IfHeld bytes others (λ all. IsFront went_is all.arrivals)
     front_first : IfHeld bytes others (λ all. IsFront first_is all.arrivals)
-    both_are : first ++ later ≡ left_of rules went_is
-    first_are : first ≡ left_of rules first_is
+    both_are : first ++ later ≡ left_of origin went_is
+    first_are : first ≡ left_of origin first_is
     took_outside : Grows old.to_outside (records_text sides.Outside first) middle.to_outside
     took_inside : Grows old.to_inside (records_text sides.Inside first) middle.to_inside
     failed : FailsBy middle later which fault new
 
   -- the run itself failed, and no output did
   halted : (inputs : List Arrival) (went : List Timed) → HasCome HandsOut EndsWith begin inputs end →
-      IsFront went (left_of rules inputs) → Takes old went new → Halts open_gate rules bytes others [] old new
+      IsFront went (left_of origin inputs) → Takes old went new → Halts open_gate origin bytes others [] old new
   halted inputs went come front_is took =
       let (mid, handed) = came_somehow inputs come in
-      let first = front_of rules inputs went front_is in
+      let first = front_of origin inputs went front_is in
       let all = times_first went front_is.0 (subst AreTimes (sym front_is.1) (times inputs mid handed)) in
       let front_of_all = front inputs first.first first.later mid first.whole handed in
       record {
@@ -195,16 +196,16 @@ module _ {R Q W V : Type 0} {G : source.Ghosts R} {H : source.Ghosts Q} {S : sin
       }
 
   early : (which : Which) (fault : WriteFault) →
-      PassesEarly rules HandsOut EndsWith begin old end new (record { which = which; fault = fault }) →
+      PassesEarly origin HandsOut EndsWith begin old end new (record { which = which; fault = fault }) →
       Early which fault
   early which fault p =
       let (mid, handed) = came_somehow p.inputs p.come in
       let (rest, front_is) = p.front in
-      let went = front_of rules p.inputs p.went p.front in
-      let split : p.failed.first ++ (p.failed.others ++ rest) ≡ left_of rules p.inputs =
+      let went = front_of origin p.inputs p.went p.front in
+      let split : p.failed.first ++ (p.failed.others ++ rest) ≡ left_of origin p.inputs =
       sym (append_assoc p.failed.first p.failed.others rest)
       ∙ ap (λ (l : List Timed). l ++ rest) (sym p.failed.went_is) ∙ front_is in
-      let begun_of = front_of rules p.inputs p.failed.first (p.failed.others ++ rest, split) in
+      let begun_of = front_of origin p.inputs p.failed.first (p.failed.others ++ rest, split) in
       let all = subst AreTimes (sym split) (times p.inputs mid handed) in
       let first_times = times_first p.failed.first (p.failed.others ++ rest) all in
       let later_times = times_first p.failed.others rest (times_second p.failed.first (p.failed.others ++ rest) all) in
@@ -228,20 +229,20 @@ module _ {R Q W V : Type 0} {G : source.Ghosts R} {H : source.Ghosts Q} {S : sin
 
   -- the text of both parts
   text_of_both : (side : Side) (first later : List Timed) (inputs : List Arrival) →
-      first ++ later ≡ left_of rules inputs →
-      records_text side first ++ records_text side later ≡ records_text side (left_of rules inputs)
+      first ++ later ≡ left_of origin inputs →
+      records_text side first ++ records_text side later ≡ records_text side (left_of origin inputs)
   text_of_both side first later inputs is =
       sym (records_text-append side first later) ∙ ap (λ (l : List Timed). records_text side l) is
 
   inside_kept : (fault : WriteFault) (e : Early Outside fault) →
-      Grows old.to_inside (text_behind [] rules sides.Inside e.first_is) new.to_inside
+      Grows old.to_inside (text_behind [] origin sides.Inside e.first_is) new.to_inside
   inside_kept fault e = subst (λ (l : List ℕ). Grows old.to_inside l new.to_inside)
       (append-nil (records_text sides.Inside e.first)
       ∙ ap (λ (l : List Timed). records_text sides.Inside l) e.first_are)
       (grows_more old.to_inside e.middle.to_inside new.to_inside _ _ e.took_inside e.failed.1)
 
   fails_outside : (fault : WriteFault) → Early Outside fault →
-      FailsOutside open_gate rules bytes others [] old new fault
+      FailsOutside open_gate origin bytes others [] old new fault
   fails_outside fault e = record {
     inputs = e.went_is;
     front_of_all = e.front_went;
@@ -253,7 +254,7 @@ module _ {R Q W V : Type 0} {G : source.Ghosts R} {H : source.Ghosts Q} {S : sin
     kept = inl (inside_kept fault e);
   }
 
-  fails_inside : (fault : WriteFault) → Early Inside fault → FailsInside open_gate rules bytes others [] old new fault
+  fails_inside : (fault : WriteFault) → Early Inside fault → FailsInside open_gate origin bytes others [] old new fault
   fails_inside fault e = record {
     inputs = e.went_is;
     front_of_all = e.front_went;
@@ -266,7 +267,7 @@ module _ {R Q W V : Type 0} {G : source.Ghosts R} {H : source.Ghosts Q} {S : sin
   }
 
   -- or one did before
-  failed : (which : Which) (fault : WriteFault) → Early which fault → Halts open_gate rules bytes others [] old new
+  failed : (which : Which) (fault : WriteFault) → Early which fault → Halts open_gate origin bytes others [] old new
   failed Outside fault e = let f = fails_outside fault e in
       record {
         to_outside = record {
@@ -287,7 +288,7 @@ module _ {R Q W V : Type 0} {G : source.Ghosts R} {H : source.Ghosts Q} {S : sin
       }
   failed Report fault e = absurd e.failed
 
-  halts : PassesHalted rules HandsOut EndsWith begin old end new → Halts open_gate rules bytes others [] old new
+  halts : PassesHalted origin HandsOut EndsWith begin old end new → Halts open_gate origin bytes others [] old new
   halts p = elim p.took [
     | inl took ↦ halted p.inputs p.went p.come p.front took
     | inr fails ↦ failed fails.0.which fails.0.fault (early fails.0.which fails.0.fault (record {
@@ -299,8 +300,8 @@ module _ {R Q W V : Type 0} {G : source.Ghosts R} {H : source.Ghosts Q} {S : sin
     }))
   ]
 
-  pub runs_to : (result : Result Totals Fault) → PassesOr open_gate rules begin old end new result →
-      RunsTo open_gate rules bytes others [] old new result
+  pub runs_to : (result : Result Totals Fault) → PassesOr open_gate origin begin old end new result →
+      RunsTo open_gate origin bytes others [] old new result
   runs_to (Ok totals) p = well totals p
   runs_to (Err (Capture side fault)) p = to_fault side fault p
   runs_to (Err (Write Outside fault)) p = fails_outside fault (early Outside fault p)
@@ -309,7 +310,7 @@ module _ {R Q W V : Type 0} {G : source.Ghosts R} {H : source.Ghosts Q} {S : sin
   runs_to (Err (Run fault)) p = (p.0, halts p.1)
 
   -- and how many reads failed
-  pub reads_of : (result : Result Totals Fault) → PassesOr open_gate rules begin old end new result →
+  pub reads_of : (result : Result Totals Fault) → PassesOr open_gate origin begin old end new result →
       (¬ IsOfRun result) → (read : Result (Unit {0}) Fault) × IsReading result read × ReadBy begin end live read
   reads_of (Ok totals) p not_run = grind (arith, common_steps, nat_tests, read_well, well)
   reads_of (Err (Capture side fault)) p not_run = grind (arith, common_steps, nat_tests, told, read_to_fault)

@@ -5,7 +5,7 @@ use Rattle.napt_wire.specs.declared.Side.{Side}
 use Rattle.napt_capture.specs.declared.device.Sink as sink
 use Rattle.napt_capture.specs.declared.device.Source as source
 use Rattle.napt_capture.specs.declared.fault.CaptureFault.{CaptureFault}
-use Rattle.napt_config.specs.Rules.{Rules}
+use Rattle.napt_run.specs.Origins.{Origin}
 use Rattle.napt_dispatch.specs.{Dispatch.{departed, departed_of}, Passing.{HasCome, timed}, declared.{departures.Departed.Departed, stopped.Stopped.Stopped}}
 use Rattle.napt_dispatch.specs.declared.workers.Passed.{Passed}
 use Rattle.napt_dispatch.specs.Passing as passing
@@ -15,13 +15,13 @@ use Rattle.napt_records.specs.{Begun.AreBegun, Counts.AreCountsOf, Merged.{AreLi
 use Rattle.napt_records.specs.declared.{Fault.TheVariants.{Capture, Run, Write}, merged_streams.MergedStreams.MergedStreams}
 use Rattle.napt_rules.specs.Prelude.{Arrival}
 use Rattle.napt_sequential.specs.declared.{outcome.Stepped.Stepped, passage.{Passage.Passage, Trace.Trace}}
-use Rattle.napt_sequential.proofs.Joined.{steps_long, steps_ran, steps_traces}
+use Rattle.napt_sequential.proofs.Joined.{steps_long, steps_outcomes, steps_traces}
 use Rattle.napt_run.specs.{Leaving.{AreSound, FailsToBegin, Takes, Timed}, Logging.{EntersFront, FailsOver, Legs, LogsTo, as_run, legs_told}}
 use Rattle.napt_run.specs.LeavingWithLogs.{AreSettled, FailsEither, IsSamePlace, TakesBoth, legs_in, outcomes_in}
 use Rattle.napt_run.specs.Passed.{EntersBy, EntersFirst, EntersTo, FailsAfter, FailsFirst, PassesBy, PassesHalted, PassesOr, PassesTo, passed_as}
 use Rattle.napt_run.specs.{Runs.{IfHeld, left_of}, Streams.AreTaken, declared.leaving.{Leaving.Leaving, OutputFault.OutputFault}}
 use Rattle.napt_run.specs.declared.{leaving_with_log.{LeavingFault.{LeavingFault, TheVariants.{Output, Log}}, LeavingWithLog.LeavingWithLog}, logging.Halt.Halt}
-use Rattle.napt_run.{specs.declared.passing.Totals.Totals, proofs.{Behind.{IfHeld-by, front, taken_is, whole_is}, TraceFronts.{TraceFront, trace_front}}}
+use Rattle.napt_run.{specs.declared.passing.Totals.Totals, proofs.{Behind.{IfHeld-by, front, taken_is, whole_is}, Fronts.outcomes_of, TraceFronts.{TraceFront, trace_front}}}
 use Rattle.napt_run.specs.declared.logging.Halt.TheVariants as halts
 
 -- WHAT LEAVES
@@ -30,8 +30,8 @@ module _ {P : Type 0} (tells : Passage → P) where
   abbrev legs_of : Trace → Legs P
   legs_of trace = (trace.now, tells trace.first, tells trace.second)
 
-  abbrev Goes : Rules → List Arrival → List (ℕ × Departed P)
-  Goes rules inputs = timed inputs (departed tells rules inputs)
+  abbrev Goes : Origin → List Arrival → List (ℕ × Departed P)
+  Goes origin inputs = timed inputs (departed tells origin.rules origin.state inputs)
 
   timed_outcomes : (inputs : List Arrival) (all : List Stepped) →
       outcomes_in (timed inputs (map (departed_of tells) all)) ≡ timed inputs (map (λ s. s.outcome) all)
@@ -47,30 +47,30 @@ module _ {P : Type 0} (tells : Passage → P) where
   timed_legs (input ∷ inputs) (step ∷ all) same =
       ap (λ (l : List (Legs P)). legs_of step.trace ∷ l) (timed_legs inputs all (omega (arith, same)))
 
-  outcomes_left : (rules : Rules) (inputs : List Arrival) → outcomes_in (Goes rules inputs) ≡ left_of rules inputs
-  outcomes_left rules inputs = grind (arith, common_steps, nat_tests, timed_outcomes, steps_ran)
+  outcomes_left : (origin : Origin) (inputs : List Arrival) → outcomes_in (Goes origin inputs) ≡ left_of origin inputs
+  outcomes_left origin inputs = grind (arith, common_steps, nat_tests, timed_outcomes, steps_outcomes, outcomes_of)
 
-  legs_left : (rules : Rules) (inputs : List Arrival) → legs_in (Goes rules inputs) ≡ legs_told tells rules inputs
-  legs_left rules inputs = grind (arith, common_steps, nat_tests, timed_legs, steps_long, steps_traces)
+  legs_left : (origin : Origin) (inputs : List Arrival) → legs_in (Goes origin inputs) ≡ legs_told tells origin inputs
+  legs_left origin inputs = grind (arith, common_steps, nat_tests, timed_legs, steps_long, steps_traces)
 
-  outcomes_front : (rules : Rules) (inputs : List Arrival) (went : List (ℕ × Departed P)) →
-      IsFront went (Goes rules inputs) → IsFront (outcomes_in went) (left_of rules inputs)
-  outcomes_front rules inputs went (rest, is) = (
+  outcomes_front : (origin : Origin) (inputs : List Arrival) (went : List (ℕ × Departed P)) →
+      IsFront went (Goes origin inputs) → IsFront (outcomes_in went) (left_of origin inputs)
+  outcomes_front origin inputs went (rest, is) = (
     outcomes_in rest,
     sym (map-append (λ left. let t : Timed = (left.0, left.1.outcome) in t) went rest)
-        ∙ (ap (λ l. outcomes_in l) is ∙ outcomes_left rules inputs),
+        ∙ (ap (λ l. outcomes_in l) is ∙ outcomes_left origin inputs),
   )
 
-  legs_front : (rules : Rules) (inputs : List Arrival) (went : List (ℕ × Departed P)) →
-      IsFront went (Goes rules inputs) → TraceFront legs_of rules inputs (legs_in went)
-  legs_front rules inputs went (rest, is) =
-      trace_front legs_of rules inputs (legs_in went) (legs_in rest)
+  legs_front : (origin : Origin) (inputs : List Arrival) (went : List (ℕ × Departed P)) →
+      IsFront went (Goes origin inputs) → TraceFront legs_of origin inputs (legs_in went)
+  legs_front origin inputs went (rest, is) =
+      trace_front legs_of origin inputs (legs_in went) (legs_in rest)
       (sym (map-append (λ left. let l : Legs P = (left.1.now, left.1.first, left.1.second) in l) went rest)
-      ∙ (ap (λ l. legs_in l) is ∙ legs_left rules inputs))
+      ∙ (ap (λ l. legs_in l) is ∙ legs_left origin inputs))
 
 -- A RUN
 
-module _ {P A F W V K E : Type 0} {S : sink.Ghosts W} {T : sink.Ghosts V} (tells : Passage → P) (rules : Rules)
+module _ {P A F W V K E : Type 0} {S : sink.Ghosts W} {T : sink.Ghosts V} (tells : Passage → P) (origin : Origin)
     (hands : A → List Arrival → A → Type 0) (ends : A → Option F → A → Type 0)
     (enters : K → List (Legs P) → K → Type 0) (fails : K → List (Legs P) → E → K → Type 0) (is_settled : K → Type 0)
     (more : (x y z : K) (xs ys : List (Legs P)) → enters x xs y → enters y ys z → enters x (xs ++ ys) z)
@@ -81,20 +81,20 @@ module _ {P A F W V K E : Type 0} {S : sink.Ghosts W} {T : sink.Ghosts V} (tells
   Failed went fault = passing.Fails (TakesBoth enters) (FailsEither enters fails) before went fault after
 
   abbrev Told : Option F → Type 0
-  Told end = passing.PassesTo tells rules hands ends (TakesBoth enters) (FailsEither enters fails)
+  Told end = passing.PassesTo tells origin.rules origin.state hands ends (TakesBoth enters) (FailsEither enters fails)
       (AreSettled is_settled) from before left after end
 
   abbrev Halted : Type 0
-  Halted = passing.PassesHalted tells rules hands ends (TakesBoth enters) (FailsEither enters fails)
+  Halted = passing.PassesHalted tells origin.rules origin.state hands ends (TakesBoth enters) (FailsEither enters fails)
       (AreSettled is_settled) from before left after
 
   abbrev pub RunPasses : Result Passed (Stopped F (LeavingFault E)) → Type 0
-  RunPasses result = passing.Passes tells rules hands ends (TakesBoth enters) (FailsEither enters fails)
+  RunPasses result = passing.Passes tells origin.rules origin.state hands ends (TakesBoth enters) (FailsEither enters fails)
       (AreSettled is_settled) from before left after result
 
   -- THE OUTPUTS
 
-  passes_to : (end : Option F) → Told end → PassesTo rules hands ends from before.leaving left after.leaving end
+  passes_to : (end : Option F) → Told end → PassesTo origin hands ends from before.leaving left after.leaving end
   passes_to end p = grind (arith, common_steps, nat_tests, outcomes_left)
 
   output_failed : (went : List (ℕ × Departed P)) (fault : OutputFault) → Failed went (Output fault) →
@@ -111,13 +111,13 @@ module _ {P A F W V K E : Type 0} {S : sink.Ghosts W} {T : sink.Ghosts V} (tells
 
   -- where the log failed the outputs have what left before
   log_failed : (inputs : List Arrival) (went : List (ℕ × Departed P)) → HasCome hands ends from inputs left →
-      IsFront went (Goes tells rules inputs) → (fault : E) → Failed went (Log fault) →
-      PassesHalted rules hands ends from before.leaving left after.leaving
+      IsFront went (Goes tells origin inputs) → (fault : E) → Failed went (Log fault) →
+      PassesHalted origin hands ends from before.leaving left after.leaving
   log_failed inputs went come front fault f = record {
     inputs = inputs;
     went = outcomes_in f.first;
     come = come;
-    front = outcomes_front tells rules inputs f.first (
+    front = outcomes_front tells origin inputs f.first (
       f.others ++ front.0,
       sym (append_assoc f.first f.others front.0)
           ∙ (ap (λ (l : List (ℕ × Departed P)). l ++ front.0) (sym f.went_is) ∙ front.1),
@@ -127,38 +127,38 @@ module _ {P A F W V K E : Type 0} {S : sink.Ghosts W} {T : sink.Ghosts V} (tells
   }
 
   halted_by : (p : Halted) (fault : LeavingFault E) → Failed p.went fault →
-      PassesHalted rules hands ends from before.leaving left after.leaving
+      PassesHalted origin hands ends from before.leaving left after.leaving
   halted_by p (Output fault) f = record {
     inputs = p.inputs;
     went = outcomes_in p.went;
     come = p.come;
-    front = outcomes_front tells rules p.inputs p.went p.front;
+    front = outcomes_front tells origin p.inputs p.went p.front;
     took = inr (fault, output_failed p.went fault f);
   }
   halted_by p (Log fault) f = log_failed p.inputs p.went p.come p.front fault f
 
-  halted : (p : Halted) → PassesHalted rules hands ends from before.leaving left after.leaving
+  halted : (p : Halted) → PassesHalted origin hands ends from before.leaving left after.leaving
   halted p = elim p.took [
     | inl took ↦ record {
       inputs = p.inputs;
       went = outcomes_in p.went;
       come = p.come;
-      front = outcomes_front tells rules p.inputs p.went p.front;
+      front = outcomes_front tells origin p.inputs p.went p.front;
       took = inl took.took;
     }
     | inr failed ↦ halted_by p failed.0 failed.1
   ]
 
   pub passes_by : (result : Result Passed (Stopped F (LeavingFault E))) → RunPasses result →
-      PassesBy rules hands ends from before.leaving left after.leaving result
+      PassesBy origin hands ends from before.leaving left after.leaving result
   unfolding passes_to
-  passes_by (Ok passed) p = record { whole = passes_to None p.whole; bindings = p.bindings }
+  passes_by (Ok passed) p = record { whole = passes_to None p.whole; bindings = p.bindings; left = p.leaves }
   passes_by (Err (stops.Arrival fault)) p = passes_to (Some fault) p
   passes_by (Err (stops.Departure (Output fault))) p = record {
     inputs = p.inputs;
     went = outcomes_in p.went;
     come = p.come;
-    front = outcomes_front tells rules p.inputs p.went p.front;
+    front = outcomes_front tells origin p.inputs p.went p.front;
     failed = output_failed p.went fault p.failed;
   }
   passes_by (Err (stops.Departure (Log fault))) p = log_failed p.inputs p.went p.come p.front fault p.failed
@@ -167,14 +167,14 @@ module _ {P A F W V K E : Type 0} {S : sink.Ghosts W} {T : sink.Ghosts V} (tells
   -- THE LOG
 
   abbrev First : Type 0
-  First = EntersFirst tells rules hands ends enters fails is_settled from before.log.now left after.log.now
+  First = EntersFirst tells origin hands ends enters fails is_settled from before.log.now left after.log.now
 
   abbrev FailedFirst : E → Type 0
   FailedFirst fault =
-      FailsFirst tells rules hands ends enters fails is_settled from before.log.now left after.log.now fault
+      FailsFirst tells origin hands ends enters fails is_settled from before.log.now left after.log.now fault
 
   enters_to : (end : Option F) → Told end →
-      EntersTo tells rules hands ends enters fails is_settled from before.log.now left after.log.now end
+      EntersTo tells origin hands ends enters fails is_settled from before.log.now left after.log.now end
   enters_to end p = grind (arith, common_steps, nat_tests, legs_left)
 
   legs_join : (went first others : List (ℕ × Departed P)) → went ≡ first ++ others →
@@ -182,9 +182,9 @@ module _ {P A F W V K E : Type 0} {S : sink.Ghosts W} {T : sink.Ghosts V} (tells
   legs_join went first others is = grind (arith, common_steps, nat_tests, ℕ, map-append)
 
   enters_first : (inputs : List Arrival) (went : List (ℕ × Departed P)) → HasCome hands ends from inputs left →
-      IsFront went (Goes tells rules inputs) → enters before.log.now (legs_in went) after.log.now → First
+      IsFront went (Goes tells origin inputs) → enters before.log.now (legs_in went) after.log.now → First
   enters_first inputs went come front entered =
-      let f : TraceFront (legs_of tells) rules inputs (legs_in went) = legs_front tells rules inputs went front in
+      let f : TraceFront (legs_of tells) origin inputs (legs_in went) = legs_front tells origin inputs went front in
       record {
         first = f.first;
         later = f.later;
@@ -198,9 +198,9 @@ module _ {P A F W V K E : Type 0} {S : sink.Ghosts W} {T : sink.Ghosts V} (tells
   output_entered went fault f = grind (arith, common_steps, nat_tests, legs_join)
 
   fails_first : (inputs : List Arrival) (went : List (ℕ × Departed P)) → HasCome hands ends from inputs left →
-      IsFront went (Goes tells rules inputs) → (fault : E) → Failed went (Log fault) → FailedFirst fault
+      IsFront went (Goes tells origin inputs) → (fault : E) → Failed went (Log fault) → FailedFirst fault
   fails_first inputs went come front fault f =
-      let g : TraceFront (legs_of tells) rules inputs (legs_in went) = legs_front tells rules inputs went front in
+      let g : TraceFront (legs_of tells) origin inputs (legs_in went) = legs_front tells origin inputs went front in
       record {
         first = g.first;
         later = g.later;
@@ -217,7 +217,7 @@ module _ {P A F W V K E : Type 0} {S : sink.Ghosts W} {T : sink.Ghosts V} (tells
   enters_or_fails p (Log fault) f = inr (fault, fails_first p.inputs p.went p.come p.front fault f)
 
   pub enters_by : (result : Result Passed (Stopped F (LeavingFault E))) → RunPasses result →
-      EntersBy tells rules hands ends enters fails is_settled from before.log.now left after.log.now result
+      EntersBy tells origin hands ends enters fails is_settled from before.log.now left after.log.now result
   enters_by (Ok passed) p = enters_to None p.whole
   enters_by (Err (stops.Arrival fault)) p = enters_to (Some fault) p
   enters_by (Err (stops.Departure (Output fault))) p =
@@ -240,7 +240,7 @@ module _ {P A F W V K E : Type 0} {S : sink.Ghosts W} {T : sink.Ghosts V} (tells
 
 module _ {R Q W V P K E : Type 0} {G : source.Ghosts R} {H : source.Ghosts Q} {S : sink.Ghosts W} {T : sink.Ghosts V}
     (tells : Passage → P) (enters : K → List (Legs P) → K → Type 0) (fails : K → List (Legs P) → E → K → Type 0)
-    (is_settled : K → Type 0) (open_gate : Bool) (rules : Rules) (from : MergedStreams R Q G H)
+    (is_settled : K → Type 0) (open_gate : Bool) (origin : Origin) (from : MergedStreams R Q G H)
     (before : Leaving W V S T) (left : MergedStreams R Q G H) (after : Leaving W V S T) (old new : K)
     (bytes others : Option (List ℕ)) (live : AreLive from)
     (begun : (b o : List ℕ) → bytes ≡ Some b → others ≡ Some o → AreBegun from b o)
@@ -248,33 +248,33 @@ module _ {R Q W V P K E : Type 0} {G : source.Ghosts R} {H : source.Ghosts Q} {S
   held : (first later : List Arrival) → HasCome HandsOut EndsWith from (first ++ later) left →
       IfHeld bytes others (λ all. IsFront first all.arrivals)
   held first later (inl handed) =
-      front open_gate rules from before left after bytes others live begun sound counts (first ++ later) first later
+      front open_gate origin from before left after bytes others live begun sound counts (first ++ later) first later
       left refl handed
   held first later (inr (end, came)) =
-      front open_gate rules from before left after bytes others live begun sound counts (first ++ later) first later
+      front open_gate origin from before left after bytes others live begun sound counts (first ++ later) first later
       came.last refl came.handed
 
-  enters_front : EntersFirst tells rules HandsOut EndsWith enters fails is_settled from old left new →
-      EntersFront tells rules enters fails is_settled bytes others old new
+  enters_front : EntersFirst tells origin HandsOut EndsWith enters fails is_settled from old left new →
+      EntersFront tells origin enters fails is_settled bytes others old new
   enters_front e = record { inputs = e.first; front = held e.first e.later e.come; entered = e.entered }
 
-  fails_over : (fault : E) → FailsFirst tells rules HandsOut EndsWith enters fails is_settled from old left new fault →
-      FailsOver tells rules enters fails is_settled bytes others old new fault
+  fails_over : (fault : E) → FailsFirst tells origin HandsOut EndsWith enters fails is_settled from old left new fault →
+      FailsOver tells origin enters fails is_settled bytes others old new fault
   fails_over fault e = record { inputs = e.first; front = held e.first e.later e.come; failed = e.failed }
 
-  pub logs_to : (result : Result Totals (Halt E)) → PassesOr open_gate rules from before left after (as_run result) →
-      EntersBy tells rules HandsOut EndsWith enters fails is_settled from old left new (passed_as result) →
-      LogsTo tells rules enters fails is_settled bytes others old new result
+  pub logs_to : (result : Result Totals (Halt E)) → PassesOr open_gate origin from before left after (as_run result) →
+      EntersBy tells origin HandsOut EndsWith enters fails is_settled from old left new (passed_as result) →
+      LogsTo tells origin enters fails is_settled bytes others old new result
   logs_to (Ok totals) p e = record {
     inputs = e.inputs;
-    all = whole_is open_gate rules from before left after bytes others live begun sound counts e.inputs totals.cuts
+    all = whole_is open_gate origin from before left after bytes others live begun sound counts e.inputs totals.cuts
         e.came p.cut_inside p.cut_outside;
     entered = e.entered;
     settled = e.settled;
   }
   logs_to (Err (halts.Run (Capture side fault))) p e = record {
     inputs = e.inputs;
-    taken = taken_is open_gate rules from before left after bytes others live begun sound counts side fault e.inputs
+    taken = taken_is open_gate origin from before left after bytes others live begun sound counts side fault e.inputs
         e.came;
     entered = e.entered;
     settled = e.settled;
@@ -288,17 +288,17 @@ module _ {R Q W V P K E : Type 0} {G : source.Ghosts R} {H : source.Ghosts Q} {S
 
 -- BEFORE ANYTHING CAME
 
-module _ {P K E : Type 0} (tells : Passage → P) (rules : Rules) (enters : K → List (Legs P) → K → Type 0)
+module _ {P K E : Type 0} (tells : Passage → P) (origin : Origin) (enters : K → List (Legs P) → K → Type 0)
     (fails : K → List (Legs P) → E → K → Type 0) (is_settled : K → Type 0) (inside outside : Option (List ℕ)) (it : K)
     (none : enters it [] it) where
   -- the headers of the outputs could not be written
   pub unbegun_logs : {W V : Type 0} {S : sink.Ghosts W} {T : sink.Ghosts V} (old new : Leaving W V S T)
       (fault : Fault) → FailsToBegin old fault new →
-      LogsTo tells rules enters fails is_settled inside outside it it (Err (halts.Run fault))
+      LogsTo tells origin enters fails is_settled inside outside it it (Err (halts.Run fault))
   unbegun_logs old new fault p = grind (arith, common_steps, nat_tests, front, IfHeld-by)
 
   -- a header of a capture was refused
   pub unread_logs : is_settled it → (side : Side) (fault : CaptureFault) →
       IfHeld inside outside (λ all. AreTaken side fault all []) →
-      LogsTo tells rules enters fails is_settled inside outside it it (Err (halts.Run (Capture side fault)))
+      LogsTo tells origin enters fails is_settled inside outside it it (Err (halts.Run (Capture side fault)))
   unread_logs settled side fault taken = grind (arith, common_steps, nat_tests)

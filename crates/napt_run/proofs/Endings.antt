@@ -4,12 +4,13 @@ use Rattle.std.{proofs.lemmas.{Grind.common_steps, Bool.Decides.nat_tests}, spec
 use Rattle.std.proofs.Common.{◌≡◌, ◌≢◌, ◌⊎◌, ℕ, ◌+◌, Bool, true, false, append-nil, List, Option, Result, Ok, Err, IfErr, IfOk, OnOk, refl, ◌∙◌, ap, subst}
 use Rattle.napt_wire.specs.declared.Side.TheVariants as sides
 use Rattle.napt_capture.specs.declared.device.Sink.{Ghosts}
-use Rattle.napt_config.specs.Rules.{Rules}
+use Rattle.napt_dispatch.specs.declared.workers.Passed.{Passed}
+use Rattle.napt_run.specs.Origins.{Origin, ran_by}
 use Rattle.napt_records.specs.{Counts.AreCountsOf, Report.{report_of, report_text}, declared.{Fault.{Fault, TheVariants.{Run, Write}}, Which.Which}}
 use Rattle.napt_records.specs.{declared.Which.TheVariants.{Outside, Inside, Report}, Faults.tells_shut_gate}
-use Rattle.napt_rules.specs.{Prelude.{Arrival, ran}, declared.Outcome.Outcome}
-use Rattle.napt_run.specs.{Captures.{failed_readings, failed_writings}, Runs.{IfHeld, IsToldOf}}
-use Rattle.napt_run.specs.Streams.{DeviceGets, Explains, GetsReport, HasAll, HasPart, HasRead, HasText, IsOfRun, IsReading, IsReportFault, IsSettledBy, IsStopFault, ReportGets, Reports, ReportsAll, Streams, ended}
+use Rattle.napt_rules.specs.{Prelude.{Arrival}, declared.Outcome.Outcome}
+use Rattle.napt_run.specs.{Captures.{failed_readings, failed_writings}, Runs.{IfHeld, IsToldOf, passed_if}}
+use Rattle.napt_run.specs.Streams.{DeviceGetsFrom, Explains, GetsReport, HasAll, HasPart, HasRead, HasText, IsOfRun, IsReading, IsReportFault, IsSettledBy, IsStopFault, LeavesInTheEnd, ReportGetsFrom, Reports, ReportsAll, Streams, ended}
 use Rattle.napt_run.{specs.declared.passing.Totals.Totals, proofs.Streamed.{IfHeld-all, IfHeld-map}}
 use Rattle.napt_sequential.specs.declared.fault.RunFault.TheVariants as faults
 
@@ -34,26 +35,26 @@ module _ (P : Result Totals Fault → Result (Unit {0}) Fault → Type 0) (well 
   at_end told result ends = grind (arith, common_steps, nat_tests, at_report)
 
 -- all of the text, where no report could be made of it
-pub all_left : (rules : Rules) (which : Which) (inside outside : Option (List ℕ)) (old new : Option (List ℕ)) →
-    IfHeld inside outside (λ all. HasAll rules which all old new) →
-    IfHeld inside outside (λ all. HasText rules which all old new ⊎ HasPart rules which all old new)
-all_left rules which inside outside old new p = grind (arith, common_steps, nat_tests, IfHeld-map, append-nil)
+pub all_left : (origin : Origin) (which : Which) (inside outside : Option (List ℕ)) (old new : Option (List ℕ)) →
+    IfHeld inside outside (λ all. HasAll origin which all old new) →
+    IfHeld inside outside (λ all. HasText origin which all old new ⊎ HasPart origin which all old new)
+all_left origin which inside outside old new p = grind (arith, common_steps, nat_tests, IfHeld-map, append-nil)
 
-module _ (rules : Rules) (inside outside : Option (List ℕ)) (old new : Option
+module _ (origin : Origin) (inside outside : Option (List ℕ)) (old new : Option
     (List ℕ)) where
   outside_ends : (told : Result Totals Fault) (result : Result (Unit {0}) Fault) → Ends told result →
-      Streams rules Outside (ended told) inside outside old new →
-      Streams rules Outside (ended result) inside outside old new
-  outside_ends = at_end (λ told result. Streams rules Outside (ended told) inside outside old new →
-      Streams rules Outside (ended result) inside outside old new) (λ totals p. p) (λ totals fault p. p)
-      (λ totals p. all_left rules Outside inside outside old new p) (λ fault p. p)
+      Streams origin Outside (ended told) inside outside old new →
+      Streams origin Outside (ended result) inside outside old new
+  outside_ends = at_end (λ told result. Streams origin Outside (ended told) inside outside old new →
+      Streams origin Outside (ended result) inside outside old new) (λ totals p. p) (λ totals fault p. p)
+      (λ totals p. all_left origin Outside inside outside old new p) (λ fault p. p)
 
   inside_ends : (told : Result Totals Fault) (result : Result (Unit {0}) Fault) → Ends told result →
-      Streams rules Inside (ended told) inside outside old new →
-      Streams rules Inside (ended result) inside outside old new
-  inside_ends = at_end (λ told result. Streams rules Inside (ended told) inside outside old new →
-      Streams rules Inside (ended result) inside outside old new) (λ totals p. p) (λ totals fault p. p)
-      (λ totals p. all_left rules Inside inside outside old new p) (λ fault p. p)
+      Streams origin Inside (ended told) inside outside old new →
+      Streams origin Inside (ended result) inside outside old new
+  inside_ends = at_end (λ told result. Streams origin Inside (ended told) inside outside old new →
+      Streams origin Inside (ended result) inside outside old new) (λ totals p. p) (λ totals fault p. p)
+      (λ totals p. all_left origin Inside inside outside old new p) (λ fault p. p)
 
 pub explains_ends : (inside outside : Option (List ℕ)) (told : Result Totals Fault)
     (result : Result (Unit {0}) Fault) → Ends told result → IfErr told (Explains inside outside) →
@@ -141,19 +142,19 @@ module _ (told : Result Totals Fault) (result : Result (Unit {0}) Fault) (ends :
   pub settled_by : {P : Type 0} → (IsSettledBy (ended told) → P) → IsSettledBy (ended result) → P
   settled_by holds settled = holds (settled_ends told result ends settled)
 
-  module _ {D : Type 0} (S : Ghosts D) (rules : Rules) (inside outside : Option (List ℕ)) (old new : D) where
-    device_by : (which : Which) → (Streams rules which (ended told) inside outside (S.contents old) (S.contents new) →
-        Streams rules which (ended result) inside outside (S.contents old) (S.contents new)) →
+  module _ {D : Type 0} (S : Ghosts D) (origin : Origin) (inside outside : Option (List ℕ)) (old new : D) where
+    device_by : (which : Which) → (Streams origin which (ended told) inside outside (S.contents old) (S.contents new) →
+        Streams origin which (ended result) inside outside (S.contents old) (S.contents new)) →
         ((¬ IsOfRun result) → failed_writings which (ended told) ≡ failed_writings which (ended result)) →
-        DeviceGets S rules which inside outside told old new → DeviceGets S rules which inside outside result old new
+        DeviceGetsFrom S origin which inside outside told old new → DeviceGetsFrom S origin which inside outside result old new
     device_by which gets writings p = grind (arith, common_steps, nat_tests, not_run, settled_by)
 
-    pub outside_by : DeviceGets S rules Outside inside outside told old new →
-        DeviceGets S rules Outside inside outside result old new
+    pub outside_by : DeviceGetsFrom S origin Outside inside outside told old new →
+        DeviceGetsFrom S origin Outside inside outside result old new
     outside_by p = grind (arith, common_steps, nat_tests, device_by, outside_ends, outside_written)
 
-    pub inside_by : DeviceGets S rules Inside inside outside told old new →
-        DeviceGets S rules Inside inside outside result old new
+    pub inside_by : DeviceGetsFrom S origin Inside inside outside told old new →
+        DeviceGetsFrom S origin Inside inside outside result old new
     inside_by p = grind (arith, common_steps, nat_tests, device_by, inside_ends, inside_written)
 
 -- THE REPORT
@@ -162,23 +163,23 @@ abbrev Written : Totals → Result (Unit {0}) Fault → Option (List ℕ) → Op
 Written totals result old new = (outcomes : List Outcome) → AreCountsOf outcomes totals.counts →
     GetsReport (report_of totals.cuts.inside totals.cuts.outside outcomes totals.passed.bindings.items) result old new
 
-text_told : (rules : Rules) (totals : Totals) (inputs : List Arrival) →
-    totals.passed.bindings.items ≡ (ran rules inputs).bindings →
-    report_of totals.cuts.inside totals.cuts.outside (ran rules inputs).outcomes totals.passed.bindings.items
-    ≡ report_text totals.cuts.inside totals.cuts.outside (ran rules inputs)
+text_told : (origin : Origin) (totals : Totals) (inputs : List Arrival) →
+    totals.passed.bindings.items ≡ (ran_by origin inputs).bindings →
+    report_of totals.cuts.inside totals.cuts.outside (ran_by origin inputs).outcomes totals.passed.bindings.items
+    ≡ report_text totals.cuts.inside totals.cuts.outside (ran_by origin inputs)
 unfolding report_text
-text_told rules totals inputs is = grind (arith, common_steps, nat_tests)
+text_told origin totals inputs is = grind (arith, common_steps, nat_tests)
 
-all_reported : (rules : Rules) (inside outside : Option (List ℕ)) (old new : Option (List ℕ))
-    (totals : Totals) (result : Result (Unit {0}) Fault) → IsToldOf rules inside outside totals →
-    Written totals result old new → IfHeld inside outside (λ all. ReportsAll rules result all old new)
-all_reported rules inside outside old new totals result told written =
+all_reported : (origin : Origin) (inside outside : Option (List ℕ)) (old new : Option (List ℕ))
+    (totals : Totals) (result : Result (Unit {0}) Fault) → IsToldOf origin inside outside totals →
+    Written totals result old new → IfHeld inside outside (λ all. ReportsAll origin result all old new)
+all_reported origin inside outside old new totals result told written =
     IfHeld-map (λ all. all ≡ record { arrivals = told.inputs; end = Ok totals.cuts })
-    (λ all. ReportsAll rules result all old new) inside outside (λ all is. rw is (
+    (λ all. ReportsAll origin result all old new) inside outside (λ all is. rw is (
       totals.cuts,
       refl,
-      subst (λ t. GetsReport t result old new) (text_told rules totals told.inputs told.bindings)
-          (written (ran rules told.inputs).outcomes told.counts),
+      subst (λ t. GetsReport t result old new) (text_told origin totals told.inputs told.bindings)
+          (written (ran_by origin told.inputs).outcomes told.counts),
     )) told.all
 
 -- a fault that is not one of writing the report
@@ -186,23 +187,23 @@ abbrev pub IsBeforeReport : Fault → Type 0
 IsBeforeReport (Write Report fault) = ⊥
 IsBeforeReport other = Unit {0}
 
-nothing_reported : (rules : Rules) (inside outside : Option (List ℕ))
+nothing_reported : (origin : Origin) (inside outside : Option (List ℕ))
     (old new : Option (List ℕ)) (fault : Fault) → IsBeforeReport fault → new ≡ old →
-    Reports rules (Err fault) inside outside old new
-nothing_reported rules inside outside old new fault stop same = grind (arith, common_steps, nat_tests, IfHeld-all)
+    Reports origin (Err fault) inside outside old new
+nothing_reported origin inside outside old new fault stop same = grind (arith, common_steps, nat_tests, IfHeld-all)
 
-report_ends : (rules : Rules) (inside outside : Option (List ℕ))
+report_ends : (origin : Origin) (inside outside : Option (List ℕ))
     (old new : Option (List ℕ)) (told : Result Totals Fault) (result : Result (Unit {0}) Fault) → Ends told result →
-    IfOk told (IsToldOf rules inside outside) → IfErr told IsBeforeReport → IfErr told (λ _. new ≡ old) →
-    IfOk told (λ totals. Written totals result old new) → Reports rules result inside outside old new
-report_ends rules inside outside old new = at_end (λ told result. IfOk told (IsToldOf rules inside outside) →
+    IfOk told (IsToldOf origin inside outside) → IfErr told IsBeforeReport → IfErr told (λ _. new ≡ old) →
+    IfOk told (λ totals. Written totals result old new) → Reports origin result inside outside old new
+report_ends origin inside outside old new = at_end (λ told result. IfOk told (IsToldOf origin inside outside) →
     IfErr told IsBeforeReport → IfErr told (λ _. new ≡ old) → IfOk told (λ totals. Written totals result old new) →
-    Reports rules result inside outside old new)
-    (λ totals told stop same written. all_reported rules inside outside old new totals (Ok tt) told written)
-    (λ totals fault told stop same written. all_reported rules inside outside old new totals (Err
+    Reports origin result inside outside old new)
+    (λ totals told stop same written. all_reported origin inside outside old new totals (Ok tt) told written)
+    (λ totals fault told stop same written. all_reported origin inside outside old new totals (Err
     (Write Report fault)) told written) (λ totals told stop same written. IfHeld-all (λ all. new ≡ old) inside outside
-    (λ all. written (ran rules told.inputs).outcomes told.counts))
-    (λ fault told stop same written. nothing_reported rules inside outside old new fault stop same)
+    (λ all. written (ran_by origin told.inputs).outcomes told.counts))
+    (λ fault told stop same written. nothing_reported origin inside outside old new fault stop same)
 
 -- AND WHAT WAS WRITTEN OF IT
 
@@ -235,18 +236,32 @@ written_flushed : (P : Type 0) (told : Result Totals Fault) (written result : Re
     result ≡ result_and told written → OnOk told (OnOk written P) → OnOk result P
 written_flushed P told written result is flushed = grind (arith, common_steps, nat_tests)
 
-pub report_by : {U : Type 0} (S : Ghosts U) (rules : Rules) (inside outside : Option (List ℕ)) (old new : U)
+pub report_by : {U : Type 0} (S : Ghosts U) (origin : Origin) (inside outside : Option (List ℕ)) (old new : U)
     (told : Result Totals Fault) (written result : Result (Unit {0}) Fault) → result ≡ result_and told written →
-    IfErr written IsReportFault → IfOk told (IsToldOf rules inside outside) → IfErr told IsBeforeReport →
+    IfErr written IsReportFault → IfOk told (IsToldOf origin inside outside) → IfErr told IsBeforeReport →
     IfErr told (λ _. new ≡ old) → IfErr told (λ _. written ≡ Ok tt) →
     IfOk told (λ totals. Written totals written (S.contents old) (S.contents new)) →
     OnOk told (OnOk written (S.is_flushed new)) → S.failed new ≡ S.failed old + failed_writings Report written →
-    ReportGets S rules inside outside result old new
-report_by S rules inside outside old new told written result is fault says stop same nothing made flushed counted =
+    ReportGetsFrom S origin inside outside result old new
+report_by S origin inside outside old new told written result is fault says stop same nothing made flushed counted =
     record {
-      gets = report_ends rules inside outside (S.contents old) (S.contents new) told result
+      gets = report_ends origin inside outside (S.contents old) (S.contents new) told result
           (ends_and told written result is fault) says stop (same_contents S.contents old new told same)
           (written_all told written result (S.contents old) (S.contents new) is made);
       count = counted ∙ ap (λ (n : ℕ). S.failed old + n) (written_fails told written result is nothing stop);
       settled = written_flushed (S.is_flushed new) told written result is flushed;
     }
+
+-- WHAT IS RETURNED, which gives the state that is left
+
+pub ended_passed : (told : Result Totals Fault) (written : Result (Unit {0}) Fault) (result : Result Passed Fault) →
+    result ≡ passed_if told written → ended result ≡ result_and told written
+ended_passed told written result is = grind (arith, common_steps, nat_tests)
+
+pub err_ended : {T : Type 0} (result : Result T Fault) (P : Fault → Type 0) → IfErr (ended result) P → IfErr result P
+err_ended result P p = grind (arith, common_steps, nat_tests)
+
+pub left_if : (origin : Origin) (inside outside : Option (List ℕ)) (told : Result Totals Fault)
+    (written : Result (Unit {0}) Fault) → IfOk told (IsToldOf origin inside outside) →
+    IfOk (passed_if told written) (LeavesInTheEnd origin inside outside)
+left_if origin inside outside told written p = grind (arith, common_steps, nat_tests, IfHeld-map)

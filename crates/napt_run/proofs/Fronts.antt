@@ -4,10 +4,10 @@ use Rattle.std.proofs.Common.{◌≡◌, suc, ◌≤◌, List, [], ◌∷◌, �
 use Rattle.std.proofs.lemmas.List.Elements.{All-head, All-tail, All-nil, All-cons}
 use Rattle.napt_wire.specs.declared.Side.{Side}
 use Rattle.napt_capture.specs.Text.{file_header, text}
-use Rattle.napt_config.specs.Rules.{Rules}
+use Rattle.napt_run.specs.Origins.{Origin, ran_by}
 use Rattle.napt_dispatch.specs.Passing.{timed}
 use Rattle.napt_records.specs.Output.{IsTime, IsTimely, packet_to, record_at, records_to}
-use Rattle.napt_rules.specs.{Prelude.{Arrival, last_clock, opening, ran, run, run_from}, declared.Outcome.Outcome}
+use Rattle.napt_rules.specs.{Prelude.{Arrival, course_from, last_clock, run_from}, declared.Outcome.Outcome}
 use Rattle.napt_laws.{specs.Dispatching.IsFront, proofs.Grown.{outcomes_long, run_append}}
 use Rattle.napt_run.specs.{Leaving.{AreTimes, Timed, records_text}, Runs.left_of, Streams.capture_text}
 
@@ -21,10 +21,10 @@ records_same side (input ∷ inputs) [] = refl
 records_same side (input ∷ inputs) (outcome ∷ outcomes) =
     grind (arith, common_steps, nat_tests, records_same side inputs outcomes)
 
-pub capture_is : (rules : Rules) (side : Side) (inputs : List Arrival) → file_header ++ records_text side
-    (left_of rules inputs) ≡ capture_text rules side inputs
+pub capture_is : (origin : Origin) (side : Side) (inputs : List Arrival) → file_header ++ records_text side
+    (left_of origin inputs) ≡ capture_text origin side inputs
 unfolding text
-capture_is rules side inputs = grind (arith, common_steps, nat_tests, flat_map, records_same)
+capture_is origin side inputs = grind (arith, common_steps, nat_tests, flat_map, records_same)
 
 -- TIMES
 
@@ -45,13 +45,13 @@ times_of (input ∷ inputs) (outcome ∷ outcomes) all =
 
 -- OUTCOMES
 
-outcomes_of : (rules : Rules) (inputs : List Arrival) → (ran rules inputs).outcomes
-    ≡ (run rules inputs (opening rules)).outcomes
-unfolding ran
-outcomes_of rules inputs = refl
+pub outcomes_of : (origin : Origin) (inputs : List Arrival) → (ran_by origin inputs).outcomes
+    ≡ (course_from origin.rules origin.state inputs).outcomes
+unfolding ran_by
+outcomes_of origin inputs = refl
 
-pub as_many : (rules : Rules) (inputs : List Arrival) → length (ran rules inputs).outcomes ≡ length inputs
-as_many rules inputs = grind (arith, common_steps, nat_tests, outcomes_of, outcomes_long)
+pub as_many : (origin : Origin) (inputs : List Arrival) → length (ran_by origin inputs).outcomes ≡ length inputs
+as_many origin inputs = grind (arith, common_steps, nat_tests, outcomes_of, outcomes_long)
 
 pub outcomes_back : (inputs : List Arrival) (outcomes : List Outcome) → length outcomes ≡ length inputs →
     map (λ (t : Timed). t.1) (timed inputs outcomes) ≡ outcomes
@@ -67,8 +67,8 @@ timed_long [] outcomes same = refl
 timed_long (input ∷ inputs) [] same = omega (arith, same)
 timed_long (input ∷ inputs) (outcome ∷ outcomes) same = ap suc (timed_long inputs outcomes (omega (arith, same)))
 
-left_long : (rules : Rules) (inputs : List Arrival) → length (left_of rules inputs) ≡ length inputs
-left_long rules inputs = timed_long inputs (ran rules inputs).outcomes (as_many rules inputs)
+left_long : (origin : Origin) (inputs : List Arrival) → length (left_of origin inputs) ≡ length inputs
+left_long origin inputs = timed_long inputs (ran_by origin inputs).outcomes (as_many origin inputs)
 
 -- FRONTS
 
@@ -80,17 +80,18 @@ timed_append (x ∷ xs) ys [] ps same = absurd (omega (arith, same))
 timed_append (x ∷ xs) ys (o ∷ os) ps same =
     ap (λ (l : List Timed). (x.time, o) ∷ l) (timed_append xs ys os ps (omega (arith, same)))
 
-pub left_front : (rules : Rules) (xs ys : List Arrival) → (more : List Timed) × (left_of rules
-    (xs ++ ys) ≡ left_of rules xs ++ more)
-left_front rules xs ys =
+pub left_front : (origin : Origin) (xs ys : List Arrival) → (more : List Timed) × (left_of origin
+    (xs ++ ys) ≡ left_of origin xs ++ more)
+left_front origin xs ys =
     let later : List Outcome =
-    (run_from rules (length xs) (last_clock 0 xs) ys (run rules xs (opening rules)).list).outcomes in
-    let whole : (ran rules (xs ++ ys)).outcomes ≡ (ran rules xs).outcomes ++ later =
-    outcomes_of rules (xs ++ ys)
-    ∙ ap (λ c. c.outcomes) (run_append rules 0 0 xs ys (opening rules) (length xs) (omega arith))
-    ∙ ap (λ (l : List Outcome). l ++ later) (sym (outcomes_of rules xs)) in (
+    (run_from origin.rules (length xs) (last_clock origin.state.clock xs) ys
+    (course_from origin.rules origin.state xs).list).outcomes in
+    let whole : (ran_by origin (xs ++ ys)).outcomes ≡ (ran_by origin xs).outcomes ++ later =
+    outcomes_of origin (xs ++ ys)
+    ∙ ap (λ c. c.outcomes) (run_append origin.rules 0 origin.state.clock xs ys origin.state.list (length xs) (omega arith))
+    ∙ ap (λ (l : List Outcome). l ++ later) (sym (outcomes_of origin xs)) in (
       timed ys later,
-      ap (timed (xs ++ ys)) whole ∙ timed_append xs ys (ran rules xs).outcomes later (as_many rules xs),
+      ap (timed (xs ++ ys)) whole ∙ timed_append xs ys (ran_by origin xs).outcomes later (as_many origin xs),
     )
 
 pub same_front : {X : Type 0} (a b x y : List X) → length a ≡ length b → a ++ x ≡ b ++ y → a ≡ b
@@ -98,26 +99,26 @@ same_front a b x y n e = sym (take-append_seam a x) ∙ ap (take (length a)) e �
     ∙ take-append_seam b y
 
 -- the inputs of which these left
-pub record Front (rules : Rules) (inputs : List Arrival) (went : List Timed) : Type 0 where
+pub record Front (origin : Origin) (inputs : List Arrival) (went : List Timed) : Type 0 where
   pub first : List Arrival
   pub later : List Arrival
   pub whole : inputs ≡ first ++ later
-  pub went_is : went ≡ left_of rules first
+  pub went_is : went ≡ left_of origin first
 
-pub front_of : (rules : Rules) (inputs : List Arrival) (went : List Timed) → IsFront went (left_of rules inputs) →
-    Front rules inputs went
-front_of rules inputs went (rest, is) =
+pub front_of : (origin : Origin) (inputs : List Arrival) (went : List Timed) → IsFront went (left_of origin inputs) →
+    Front origin inputs went
+front_of origin inputs went (rest, is) =
     let first : List Arrival = take (length went) inputs in
     let later : List Arrival = drop (length went) inputs in
     let whole : first ++ later ≡ inputs = take-append-drop (length went) inputs in
-    let long : length (went ++ rest) ≡ length inputs = ap (λ (l : List Timed). length l) is ∙ left_long rules inputs in
+    let long : length (went ++ rest) ≡ length inputs = ap (λ (l : List Timed). length l) is ∙ left_long origin inputs in
     let fits : length went ≤ length inputs = omega (arith, long, length-append went rest) in
-    let (more, split) = left_front rules first later in
-    let ends : went ++ rest ≡ left_of rules first ++ more = is ∙ ap (left_of rules) (sym whole) ∙ split in
+    let (more, split) = left_front origin first later in
+    let ends : went ++ rest ≡ left_of origin first ++ more = is ∙ ap (left_of origin) (sym whole) ∙ split in
     record {
       first = first;
       later = later;
       whole = sym whole;
-      went_is = same_front went (left_of rules first) rest more
-          (sym (left_long rules first ∙ length-take-le (length went) inputs fits)) ends;
+      went_is = same_front went (left_of origin first) rest more
+          (sym (left_long origin first ∙ length-take-le (length went) inputs fits)) ends;
     }

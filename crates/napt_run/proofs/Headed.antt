@@ -4,7 +4,7 @@ use Rattle.std.proofs.Common.{◌≡◌, ◌⊎◌, inl, inr, ℕ, ◌≤◌, Bo
 use Rattle.napt_wire.specs.declared.Side.{Side}
 use Rattle.napt_wire.specs.declared.Side.TheVariants as sides
 use Rattle.napt_capture.specs.{Text.file_header, declared.{device.Sink.Ghosts, fault.WriteFault.WriteFault}}
-use Rattle.napt_config.specs.Rules.{Rules}
+use Rattle.napt_run.specs.Origins.{Origin}
 use Rattle.napt_laws.specs.Dispatching.{IsFront}
 use Rattle.napt_records.specs.declared.{Fault.{Fault, TheVariants.{Capture, Run, Write}}, Which.TheVariants.{Outside, Inside, Report}}
 use Rattle.napt_rules.specs.Prelude.{Arrival}
@@ -16,30 +16,30 @@ none_held : (inside outside : Option (List ℕ)) → IfHeld inside outside (λ a
 none_held inside outside = grind (arith, common_steps, nat_tests, IfHeld-by)
 
 -- an output whose header was written before
-left_behind : {D : Type 0} {S : Ghosts D} (rules : Rules) (inside outside : Option (List ℕ)) (side : Side)
+left_behind : {D : Type 0} {S : Ghosts D} (origin : Origin) (inside outside : Option (List ℕ)) (side : Side)
     (old mid new : Output D S) → Grows old file_header mid → (inputs : List Arrival) →
-    IfHeld inside outside (λ all. IsFront inputs all.arrivals) → Grows mid (text_behind [] rules side inputs) new
-    ⊎ ((fault : WriteFault) × (broke : Breaks mid (text_behind [] rules side inputs) fault new) × (0 ≤ broke.count)) →
-    IsLeft rules inside outside file_header side old new
-left_behind rules inside outside side old mid new begun inputs front (inl grown) = record {
+    IfHeld inside outside (λ all. IsFront inputs all.arrivals) → Grows mid (text_behind [] origin side inputs) new
+    ⊎ ((fault : WriteFault) × (broke : Breaks mid (text_behind [] origin side inputs) fault new) × (0 ≤ broke.count)) →
+    IsLeft origin inside outside file_header side old new
+left_behind origin inside outside side old mid new begun inputs front (inl grown) = record {
   inputs = inputs;
   front_of_all = front;
   left = inl (grows_more old mid new _ _ begun grown);
 }
-left_behind rules inside outside side old mid new begun inputs front (inr (fault, broke, some)) = record {
+left_behind origin inside outside side old mid new begun inputs front (inr (fault, broke, some)) = record {
   inputs = inputs;
   front_of_all = front;
   left = inr (fault, breaks_more old mid new _ _ fault begun broke, first_within old mid new _ _ fault begun broke);
 }
 
-module _ {W V : Type 0} {S : Ghosts W} {T : Ghosts V} (open_gate : Bool) (rules : Rules)
+module _ {W V : Type 0} {S : Ghosts W} {T : Ghosts V} (open_gate : Bool) (origin : Origin)
     (inside outside : Option (List ℕ)) where
   abbrev To : List ℕ → Leaving W V S T → Leaving W V S T → Result Totals Fault → Type 0
-  To front old new result = RunsTo open_gate rules inside outside front old new result
+  To front old new result = RunsTo open_gate origin inside outside front old new result
 
   module _ (old mid new : Leaving W V S T) (begins : Begins old mid) where
-    wrote : (inputs : List Arrival) → Writes open_gate rules inside outside [] mid new inputs →
-        Writes open_gate rules inside outside file_header old new inputs
+    wrote : (inputs : List Arrival) → Writes open_gate origin inside outside [] mid new inputs →
+        Writes open_gate origin inside outside file_header old new inputs
     wrote inputs p = record {
       to_outside = grows_more old.to_outside mid.to_outside new.to_outside _ _ begins.to_outside p.to_outside;
       to_inside = grows_more old.to_inside mid.to_inside new.to_inside _ _ begins.to_inside p.to_inside;
@@ -47,14 +47,14 @@ module _ {W V : Type 0} {S : Ghosts W} {T : Ghosts V} (open_gate : Bool) (rules 
     }
 
     broke : (inputs : List Arrival) (fault : WriteFault) →
-        Breaks mid.to_outside (text_behind [] rules sides.Outside inputs) fault new.to_outside →
-        Breaks old.to_outside (text_behind file_header rules sides.Outside inputs) fault new.to_outside
+        Breaks mid.to_outside (text_behind [] origin sides.Outside inputs) fault new.to_outside →
+        Breaks old.to_outside (text_behind file_header origin sides.Outside inputs) fault new.to_outside
     broke inputs fault p = breaks_more old.to_outside mid.to_outside new.to_outside _ _ fault begins.to_outside p
 
-    fails_outside : (fault : WriteFault) → (p : FailsOutside open_gate rules inside outside [] mid new fault) →
-        Grows mid.to_inside (text_behind [] rules sides.Inside p.before) new.to_inside
+    fails_outside : (fault : WriteFault) → (p : FailsOutside open_gate origin inside outside [] mid new fault) →
+        Grows mid.to_inside (text_behind [] origin sides.Inside p.before) new.to_inside
         ⊎ ((fault.written ≤ 0) × (new.to_inside ≡ mid.to_inside)) →
-        FailsOutside open_gate rules inside outside file_header old new fault
+        FailsOutside open_gate origin inside outside file_header old new fault
     fails_outside fault p (inl kept) = record {
       inputs = p.inputs;
       front_of_all = p.front_of_all;
@@ -73,8 +73,8 @@ module _ {W V : Type 0} {S : Ghosts W} {T : Ghosts V} (open_gate : Bool) (rules 
           (subst (λ o. Grows old.to_inside file_header o) (sym same) begins.to_inside));
     }
 
-    fails_inside : (fault : WriteFault) → FailsInside open_gate rules inside outside [] mid new fault →
-        FailsInside open_gate rules inside outside file_header old new fault
+    fails_inside : (fault : WriteFault) → FailsInside open_gate origin inside outside [] mid new fault →
+        FailsInside open_gate origin inside outside file_header old new fault
     fails_inside fault p = record {
       inputs = p.inputs;
       front_of_all = p.front_of_all;
@@ -82,11 +82,11 @@ module _ {W V : Type 0} {S : Ghosts W} {T : Ghosts V} (open_gate : Bool) (rules 
       broke = breaks_more old.to_inside mid.to_inside new.to_inside _ _ fault begins.to_inside p.broke;
     }
 
-    halts : Halts open_gate rules inside outside [] mid new → Halts open_gate rules inside outside file_header old new
+    halts : Halts open_gate origin inside outside [] mid new → Halts open_gate origin inside outside file_header old new
     halts p = record {
-      to_outside = left_behind rules inside outside sides.Outside old.to_outside mid.to_outside new.to_outside
+      to_outside = left_behind origin inside outside sides.Outside old.to_outside mid.to_outside new.to_outside
           begins.to_outside p.to_outside.inputs p.to_outside.front_of_all p.to_outside.left;
-      to_inside = left_behind rules inside outside sides.Inside old.to_inside mid.to_inside new.to_inside
+      to_inside = left_behind origin inside outside sides.Inside old.to_inside mid.to_inside new.to_inside
           begins.to_inside p.to_inside.inputs p.to_inside.front_of_all p.to_inside.left;
     }
 
@@ -97,6 +97,7 @@ module _ {W V : Type 0} {S : Ghosts W} {T : Ghosts V} (open_gate : Bool) (rules 
       all = p.all;
       counts = p.counts;
       bindings = p.bindings;
+      left = p.left;
     }
     headed (Err (Capture side fault)) p = record {
       inputs = p.inputs;

@@ -4,7 +4,7 @@ use Rattle.napt_wire.specs.declared.Side.{Side}
 use Rattle.napt_wire.specs.declared.Side.TheVariants as sides
 use Rattle.napt_capture.specs.declared.{device.Sink.Ghosts, fault.CaptureFault.CaptureFault, spelling.Spelling.Spelling, records.Records.Records}
 use Rattle.napt_capture.specs.{Capture.{captured, spelling_in}, Reading.{Gives, Says, StopsBy}}
-use Rattle.napt_config.specs.Rules.{Rules}
+use Rattle.napt_run.specs.Origins.{Origin}
 use Rattle.napt_records.{specs.{Taking.{Inputs, at_fault, inputs_until}, declared.Fault.{Fault, TheVariants.{Capture, Run, Write}}}, proofs.Left.StopsBy-says}
 use Rattle.napt_run.specs.{Files.{files_until, unless_bad, unless_refused}, Leaving.IsSettled, LeavingLaws.grows_none, Runs.{IfHeld, RunsTo, RunsToFault}}
 use Rattle.napt_run.{specs.{Streams.{AreTaken, IsFaultOf, IsHeaderFault}, declared.leaving.Leaving.Leaving}, proofs.Behind.{IfHeld-by, refuses}}
@@ -50,10 +50,10 @@ none_taken inside outside side fault ends =
     IfHeld-by (λ all. AreTaken side fault all []) inside outside (λ b o is same.
     (refuses side fault b o [] ((files_until b o).arrivals, refl) (ends b o is same)).taken)
 
-module _ {W V : Type 0} {S : Ghosts W} {T : Ghosts V} (open_gate : Bool) (rules : Rules)
+module _ {W V : Type 0} {S : Ghosts W} {T : Ghosts V} (open_gate : Bool) (origin : Origin)
     (inside outside : Option (List ℕ)) (old : Leaving W V S T) (settled : IsSettled old) where
   header_fails : (side : Side) (fault : CaptureFault) → EndsAtHeader side fault inside outside →
-      RunsToFault open_gate rules inside outside [] old old side fault
+      RunsToFault open_gate origin inside outside [] old old side fault
   header_fails side fault ends = record {
     inputs = [];
     wrote = record { to_outside = grows_none old.to_outside; to_inside = grows_none old.to_inside; settled = settled };
@@ -64,9 +64,9 @@ module _ {W V : Type 0} {S : Ghosts W} {T : Ghosts V} (open_gate : Bool) (rules 
 
   pub header_failed : (side : Side) (fault : Fault) (known left : Option (List ℕ)) →
       ((inner : CaptureFault) → HeadsBadly known left inner → EndsAtHeader side inner inside outside) →
-      IsHeaderFault side known left fault → RunsTo open_gate rules inside outside [] old old (Err fault)
+      IsHeaderFault side known left fault → RunsTo open_gate origin inside outside [] old old (Err fault)
   header_failed side (Capture other fault) known left ends is =
-      subst (λ (s : Side). RunsToFault open_gate rules inside outside []
+      subst (λ (s : Side). RunsToFault open_gate origin inside outside []
       old old s fault) (sym is.0) (header_fails side fault (ends fault is.1))
   header_failed side (Run fault) known left ends is = absurd is
   header_failed side (Write which fault) known left ends is = absurd is

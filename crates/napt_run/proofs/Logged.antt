@@ -17,7 +17,7 @@ use Rattle.napt_sequential.{specs.{Traces.traces, declared.{fault.RunFault.RunFa
 use Rattle.napt_sequential.specs.declared.fault.RunFault.TheVariants as reasons
 use Rattle.napt_run.specs.LeavingLaws.{breaks_more, grows_more}
 use Rattle.napt_run.specs.LoggedStreams.{FailsAtMostOnce, HasBytes, HasLog, HasPart, HasRows, HasWritten, LogIsLeft, LoggedSays, besides_log, fault_of}
-use Rattle.napt_run.specs.{Logging.{EntersAll, EntersFront, FailsOver, Legs, LogsTo, as_run, legs_told}, Outputs.{Breaks, Grows}, Runs.{IfHeld, ResultSays}}
+use Rattle.napt_run.specs.{Logging.{EntersAll, EntersFront, FailsOver, Legs, LogsTo, as_run, legs_told}, Outputs.{Breaks, Grows}, Origins.opened, Runs.{IfHeld, ResultSays}}
 use Rattle.napt_run.specs.RunningLogs.{Adds, AreLaws, Enters, Fails, FailsBy, FailsMore, Flushes, GoesOn, Halts, IsAt, IsFlushedAt, traces_of}
 use Rattle.napt_run.specs.{Streams.{AreTaken, DeviceGets, HasRead, IsOfRun}, declared.logged_fault.LoggedFault.{LoggedFault, TheVariants.{Run, Log}}}
 use Rattle.napt_run.specs.declared.{logging.Halt.Halt, output.Output.Output, passing.Totals.Totals, running_log.RunningLog.RunningLog}
@@ -158,7 +158,7 @@ traces_back (trace ∷ all) = ap (λ (l : List Trace). trace ∷ l) (traces_back
 
 -- the traces of the legs of these inputs
 abbrev pub told_traces : Rules → List Arrival → List Trace
-told_traces rules inputs = traces_of (legs_told (λ (p : Passage). p) rules inputs)
+told_traces rules inputs = traces_of (legs_told (λ (p : Passage). p) (opened rules) inputs)
 
 pub traces_told : (rules : Rules) (inputs : List Arrival) → told_traces rules inputs ≡ traces rules inputs
 traces_told rules inputs = traces_back (traces rules inputs)
@@ -182,13 +182,13 @@ module _ {L : Type 0} {S : Ghosts L} (rules : Rules) (laws : AreLaws rules) (ins
   Settled log = S.is_flushed log.output.device.now
 
   abbrev pub Watched : Result Totals (Halt LoggedFault) → Type 0
-  Watched result = LogsTo (λ (p : Passage). p) rules EntersLegs FailsLegs Settled inside outside mid after result
+  Watched result = LogsTo (λ (p : Passage). p) (opened rules) EntersLegs FailsLegs Settled inside outside mid after result
 
   abbrev Front : Type 0
-  Front = EntersFront (λ (p : Passage). p) rules EntersLegs FailsLegs Settled inside outside mid after
+  Front = EntersFront (λ (p : Passage). p) (opened rules) EntersLegs FailsLegs Settled inside outside mid after
 
   abbrev Failed : LoggedFault → Type 0
-  Failed fault = FailsOver (λ (p : Passage). p) rules EntersLegs FailsLegs Settled inside outside mid after fault
+  Failed fault = FailsOver (λ (p : Passage). p) (opened rules) EntersLegs FailsLegs Settled inside outside mid after fault
 
   grew : (inputs : List Arrival) → Grows mid.output (rows_after rules [] inputs) after.output →
       Grows old.output (log_so_far rules inputs) after.output
@@ -231,14 +231,14 @@ module _ {L : Type 0} {S : Ghosts L} (rules : Rules) (laws : AreLaws rules) (ins
 
   -- the input whose trace was not taken
   next_of : (inputs : List Arrival) (fault : RunFault) (p : Halts rules [] (traces rules inputs) fault mid after) →
-      NextInput rules inputs p.first p.next
-  next_of inputs fault p = next_input rules inputs p.first p.next p.others p.all
+      NextInput (opened rules) inputs p.first p.next
+  next_of inputs fault p = next_input (opened rules) inputs p.first p.next p.others p.all
 
   halted_part : (inputs : List Arrival) (fault : RunFault) →
       IfHeld inside outside (λ all. IsFront inputs all.arrivals) →
       Halts rules [] (traces rules inputs) fault mid after → LeavesPart rules inside outside old.output after.output
   halted_part inputs fault front p =
-      let n : NextInput rules inputs p.first p.next = next_of inputs fault p in
+      let n : NextInput (opened rules) inputs p.first p.next = next_of inputs fault p in
       grown_part n.before (grew n.before (subst (λ (l : Text). Grows mid.output l after.output)
       (ap (λ (ts : List Trace). rows_with rules [] ts) n.first_is ∙ rows_told rules laws n.before) p.wrote))
       (front_first inside outside inputs n.before (n.input ∷ n.later)
@@ -343,7 +343,7 @@ module _ {L : Type 0} {S : Ghosts L} (rules : Rules) (laws : AreLaws rules) (ins
 
   -- or it did not fail, and what lives was written
   module _ (last : RunningLog L S) (totals : Totals)
-      (s : EntersAll (λ (p : Passage). p) rules EntersLegs FailsLegs Settled inside outside mid after totals.cuts) where
+      (s : EntersAll (λ (p : Passage). p) (opened rules) EntersLegs FailsLegs Settled inside outside mid after totals.cuts) where
     front_all : IfHeld inside outside (λ all. IsFront s.inputs all.arrivals)
     front_all = grind (arith, common_steps, nat_tests, IfHeld-map, append-nil)
 
@@ -472,7 +472,7 @@ module _ {D : Type 0} (S : Ghosts D) (rules : Rules) (inside outside : Option (L
       Device which (Ok totals) → Device which (besides_log (Err fault))
   device_after which totals fault text p =
       of_run which (besides_log (Err fault)) (text_stops fault text) (record {
-        gets = all_left rules which inside outside _ _ p.gets;
+        gets = all_left (opened rules) which inside outside _ _ p.gets;
         count = λ no. absurd (no tt);
         settled = λ settled. absurd settled;
       })
@@ -519,12 +519,12 @@ module _ {L : Type 0} {S : Ghosts L} (open_gate : Bool) (rules : Rules) (laws : 
   too_many_at inputs p = grind (arith, common_steps, nat_tests, traces_long, length-append)
 
   -- a trace of a run always comes next
-  never_refused : (inputs : List Arrival) (first : List Trace) (next : Trace) → NextInput rules inputs first next →
+  never_refused : (inputs : List Arrival) (first : List Trace) (next : Trace) → NextInput (opened rules) inputs first next →
       (¬ IsNext first next) → ⊥
   never_refused inputs first next n never = grind (arith, common_steps, nat_tests)
 
   pub halt_says : (halt : Halt LoggedFault) → Halted halt →
-      ResultSays open_gate rules inside outside (as_run (Err halt)) →
+      ResultSays open_gate (opened rules) inside outside (as_run (Err halt)) →
       LoggedSays open_gate rules inside outside (Err (fault_of halt))
   halt_says (halts.Run (faults.Capture side fault)) p says = grind (arith, common_steps, nat_tests)
   halt_says (halts.Run (faults.Write which fault)) p says = grind (arith, common_steps, nat_tests)
@@ -541,7 +541,7 @@ module _ {L : Type 0} {S : Ghosts L} (open_gate : Bool) (rules : Rules) (laws : 
   halt_says (halts.Log (Run (faults.Run (reasons.Pool fault)))) p says =
       let h : Halts rules [] (traces rules p.inputs) (reasons.Pool fault) mid after =
       halt_at p.inputs (reasons.Pool fault) p.failed in
-      absurd (never_refused p.inputs h.first h.next (next_input rules p.inputs h.first h.next h.others h.all)
+      absurd (never_refused p.inputs h.first h.next (next_input (opened rules) p.inputs h.first h.next h.others h.all)
       h.of_traces.1)
   halt_says (halts.Log (Run (faults.Capture side fault))) p says = absurd (p.failed rules [] begun.at)
   halt_says (halts.Log (Run (faults.Write which fault))) p says = absurd (p.failed rules [] begun.at)

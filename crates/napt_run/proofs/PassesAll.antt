@@ -5,73 +5,73 @@ use Rattle.std.{proofs.Common.{◌≡◌, ℕ, Bool, List, [], ◌++◌, All, Re
 use Rattle.napt_wire.specs.declared.Side.{Side}
 use Rattle.napt_wire.specs.declared.Side.TheVariants as sides
 use Rattle.napt_capture.specs.{Text.file_header, declared.device.Sink.Ghosts}
-use Rattle.napt_config.specs.Rules.{Rules}
+use Rattle.napt_run.specs.Origins.{Origin, ran_by}
 use Rattle.napt_dispatch.specs.declared.workers.Passed.{Passed}
 use Rattle.napt_records.specs.{Counts.AreCountsOf, Output.IsTimely, Report.{report_of, report_text}, declared.report.Counts.Counts}
-use Rattle.napt_rules.specs.{Prelude.{Arrival, ran}, declared.{Outcome.Outcome, Row.Row}}
+use Rattle.napt_rules.specs.{Prelude.{Arrival}, declared.{Outcome.Outcome, Row.Row}}
 use Rattle.napt_sequential.{proofs.Inputs.came_whole, specs.declared.fault.RunFault.RunFault}
 use Rattle.napt_run.specs.{Leaving.Begins, LeavingLaws.grows_more, Outputs.Grows, Passed.PassesWell, Runs.text_behind}
 use Rattle.napt_run.specs.{Streams.capture_text, Whole.{IsTallyOf, WritesAll}, declared.{leaving.Leaving.Leaving, output.Output.Output, whole.Tally.Tally}}
 use Rattle.napt_run.proofs.{Counted.all_counted, Fronts.{capture_is, times_of}}
 
 -- the run over all inputs
-pub passes_all : {F W V : Type 0} {S : Ghosts W} {T : Ghosts V} (rules : Rules) (from left : List Arrival)
+pub passes_all : {F W V : Type 0} {S : Ghosts W} {T : Ghosts V} (origin : Origin) (from left : List Arrival)
     (old new : Leaving W V S T) (passed : Passed) → AreCountsOf [] old.counts → All IsTimely from →
-    PassesWell {F = F} rules (λ x xs y. x ≡ xs ++ y) (λ x end y. x ≡ []) from old left new passed →
-    WritesAll [] rules from old new (record { counts = new.counts; bindings = passed.bindings })
-passes_all rules from left old new passed none timely p =
+    PassesWell {F = F} origin (λ x xs y. x ≡ xs ++ y) (λ x end y. x ≡ []) from old left new passed →
+    WritesAll [] origin from old new (record { counts = new.counts; passed = passed })
+passes_all origin from left old new passed none timely p =
     grind (arith, common_steps, nat_tests, came_whole, times_of, all_counted)
 
 -- behind the headers
-pub headed_all : {W V : Type 0} {S : Ghosts W} {T : Ghosts V} (rules : Rules) (inputs : List Arrival)
+pub headed_all : {W V : Type 0} {S : Ghosts W} {T : Ghosts V} (origin : Origin) (inputs : List Arrival)
     (old mid new : Leaving W V S T) → Begins old mid → (r : Result Tally RunFault) →
-    IfOk r (WritesAll [] rules inputs mid new) → IfOk r (WritesAll file_header rules inputs old new)
-headed_all rules inputs old mid new begins (Err fault) p = tt
-headed_all rules inputs old mid new begins (Ok tally) p = record {
+    IfOk r (WritesAll [] origin inputs mid new) → IfOk r (WritesAll file_header origin inputs old new)
+headed_all origin inputs old mid new begins (Err fault) p = tt
+headed_all origin inputs old mid new begins (Ok tally) p = record {
   to_outside = grows_more old.to_outside mid.to_outside new.to_outside _ _ begins.to_outside p.to_outside;
   to_inside = grows_more old.to_inside mid.to_inside new.to_inside _ _ begins.to_inside p.to_inside;
   is_tally = p.is_tally;
 }
 
 -- the device of an output, which is left as the output leaves it
-capture_appended : {D : Type 0} {S : Ghosts D} (rules : Rules) (side : Side) (inputs : List Arrival)
-    (old new : Output D S) → Grows old (text_behind file_header rules side inputs) new → (start last : D) →
+capture_appended : {D : Type 0} {S : Ghosts D} (origin : Origin) (side : Side) (inputs : List Arrival)
+    (old new : Output D S) → Grows old (text_behind file_header origin side inputs) new → (start last : D) →
     old.device.now ≡ start → (new.device.ghost_name ≡ old.device.ghost_name → last ≡ new.device.now) →
-    Appends (S.contents start) (S.contents last) (capture_text rules side inputs)
-capture_appended rules side inputs old new grown start last from at =
+    Appends (S.contents start) (S.contents last) (capture_text origin side inputs)
+capture_appended origin side inputs old new grown start last from at =
     grind (arith, common_steps, nat_tests, ℕ, capture_is)
 
-module _ {W V : Type 0} {S : Ghosts W} {T : Ghosts V} (rules : Rules) (inputs : List Arrival)
+module _ {W V : Type 0} {S : Ghosts W} {T : Ghosts V} (origin : Origin) (inputs : List Arrival)
     (old new : Leaving W V S T) where
-  pub told_outside : (r : Result Tally RunFault) → IfOk r (WritesAll file_header rules inputs old new) →
+  pub told_outside : (r : Result Tally RunFault) → IfOk r (WritesAll file_header origin inputs old new) →
       (start last : W) → old.to_outside.device.now ≡ start →
       (new.to_outside.device.ghost_name ≡ old.to_outside.device.ghost_name → last ≡ new.to_outside.device.now) →
-      OnOk r (Appends (S.contents start) (S.contents last) (capture_text rules sides.Outside inputs))
+      OnOk r (Appends (S.contents start) (S.contents last) (capture_text origin sides.Outside inputs))
   told_outside r p start last from at = grind (arith, common_steps, nat_tests, capture_appended)
 
-  pub told_inside : (r : Result Tally RunFault) → IfOk r (WritesAll file_header rules inputs old new) →
+  pub told_inside : (r : Result Tally RunFault) → IfOk r (WritesAll file_header origin inputs old new) →
       (start last : V) → old.to_inside.device.now ≡ start →
       (new.to_inside.device.ghost_name ≡ old.to_inside.device.ghost_name → last ≡ new.to_inside.device.now) →
-      OnOk r (Appends (T.contents start) (T.contents last) (capture_text rules sides.Inside inputs))
+      OnOk r (Appends (T.contents start) (T.contents last) (capture_text origin sides.Inside inputs))
   told_inside r p start last from at = grind (arith, common_steps, nat_tests, capture_appended)
 
-  pub told_tally : (r : Result Tally RunFault) → IfOk r (WritesAll file_header rules inputs old new) →
-      IfOk r (IsTallyOf rules inputs)
+  pub told_tally : (r : Result Tally RunFault) → IfOk r (WritesAll file_header origin inputs old new) →
+      IfOk r (IsTallyOf origin inputs)
   told_tally r p = grind (arith, common_steps, nat_tests)
 
 -- WHAT IS MADE OF IT
 
 -- a capture that was kept in memory, once it is taken out of its device
-pub kept_text : (rules : Rules) (side : Side) (inputs arrivals : List Arrival) (none last kept : List ℕ) → none ≡ [] →
-    inputs ≡ arrivals → kept ≡ last → last ≡ none ++ capture_text rules side inputs →
-    kept ≡ capture_text rules side arrivals
-kept_text rules side inputs arrivals none last kept empty are taken appended = grind (arith, common_steps, nat_tests, ℕ)
+pub kept_text : (origin : Origin) (side : Side) (inputs arrivals : List Arrival) (none last kept : List ℕ) → none ≡ [] →
+    inputs ≡ arrivals → kept ≡ last → last ≡ none ++ capture_text origin side inputs →
+    kept ≡ capture_text origin side arrivals
+kept_text origin side inputs arrivals none last kept empty are taken appended = grind (arith, common_steps, nat_tests, ℕ)
 
-pub told_report : (rules : Rules) (inputs arrivals : List Arrival) (tally : Tally) (counts : Counts) (rows : List Row)
-    (cut_inside cut_outside : Bool) (told : List ℕ) → inputs ≡ arrivals → IsTallyOf rules inputs tally →
-    counts ≡ tally.counts → rows ≡ tally.bindings.items → ((outcomes : List Outcome) → AreCountsOf outcomes counts →
+pub told_report : (origin : Origin) (inputs arrivals : List Arrival) (tally : Tally) (counts : Counts) (rows : List Row)
+    (cut_inside cut_outside : Bool) (told : List ℕ) → inputs ≡ arrivals → IsTallyOf origin inputs tally →
+    counts ≡ tally.counts → rows ≡ tally.passed.bindings.items → ((outcomes : List Outcome) → AreCountsOf outcomes counts →
     told ≡ report_of cut_inside cut_outside outcomes rows) →
-    told ≡ report_text cut_inside cut_outside (ran rules arrivals)
+    told ≡ report_text cut_inside cut_outside (ran_by origin arrivals)
 unfolding report_text
-told_report rules inputs arrivals tally counts rows cut_inside cut_outside told are tells counts_are rows_are says =
+told_report origin inputs arrivals tally counts rows cut_inside cut_outside told are tells counts_are rows_are says =
     grind (arith, common_steps, nat_tests)

@@ -6,12 +6,13 @@ use Rattle.napt_wire.specs.declared.Side.{Side}
 use Rattle.napt_wire.specs.declared.Side.TheVariants as sides
 use Rattle.napt_capture.specs.{Contents.Contents, Capture.{failed_reads, read_whole}, Reading.{Gives, IsForRecords, ReadsWhole, Says}}
 use Rattle.napt_capture.specs.declared.fault.{WriteFault.WriteFault, CaptureFault.CaptureFault}
-use Rattle.napt_config.specs.Rules.{Rules}
+use Rattle.napt_dispatch.specs.declared.workers.Passed.{Passed}
+use Rattle.napt_run.specs.Origins.{GivesState, Origin}
 use Rattle.napt_records.{specs.declared.{Fault.{Fault, TheVariants.{Capture, Run, Write}}, Which.Which}, proofs.Left.{StopsBy-says, StopsBy-then}}
 use Rattle.napt_records.specs.declared.Which.TheVariants.{Outside, Inside, Report}
 use Rattle.napt_sequential.specs.declared.fault.RunFault.{RunFault, TheVariants.TooMany}
 use Rattle.napt_run.specs.declared.captures.{Captures.Captures, Outputs.Outputs}
-use Rattle.napt_run.specs.Captures.{Answers, AreOutputs, AreTooMany, Explains, Gets, IfKnown, IsPastInside, IsReadFrom, IsReadable, IsUnread, IsWriteFaultOf, Receives, Share, both_by, failed_readings, share_of, text_to, texts, texts_by, texts_made, whole}
+use Rattle.napt_run.specs.Captures.{Answers, AreOutputs, AreTooMany, Explains, GetsFrom, IfKnown, IsPastInside, IsReadFrom, IsReadable, IsUnread, IsWriteFaultOf, Leaves, Receives, Share, arrivals_of, both_by, failed_readings, share_of, text_to, texts_from, texts_by, texts_made, whole}
 
 IfKnown-more : {P Q : List ℕ → List ℕ → Type 0} (inside outside : Option (List ℕ))
     → ((bytes others : List ℕ) → P bytes others → Q bytes others) → IfKnown inside outside P → IfKnown inside outside Q
@@ -37,86 +38,86 @@ own_readings side fault old new more = grind (arith, common_steps, nat_tests)
 
 -- THE TEXTS
 
-many_texts : (rules : Rules) (captures : Captures) → AreTooMany captures → texts_by rules (Ok captures)
+many_texts : (origin : Origin) (captures : Captures) → AreTooMany captures → texts_by origin (Ok captures)
     ≡ Err (Run TooMany)
-many_texts rules captures many = grind (arith, common_steps, nat_tests, le-leb)
+many_texts origin captures many = grind (arith, common_steps, nat_tests, le-leb)
 
-pub few_texts : (rules : Rules) (captures : Captures) → (AreTooMany captures → ⊥) → texts_by rules (Ok captures)
-    ≡ Ok (texts_made rules captures)
-few_texts rules captures few = grind (arith, common_steps, nat_tests, lt-leb, lt_of_not-le)
+pub few_texts : (origin : Origin) (captures : Captures) → (AreTooMany captures → ⊥) → texts_by origin (Ok captures)
+    ≡ Ok (texts_made origin captures)
+few_texts origin captures few = grind (arith, common_steps, nat_tests, lt-leb, lt_of_not-le)
 
 -- of captures that were read
-pub texts_read : (rules : Rules) (inside outside : Option (List ℕ)) (captures : Captures)
+pub texts_read : (origin : Origin) (inside outside : Option (List ℕ)) (captures : Captures)
     → IsReadFrom inside captures.inside → IsReadFrom outside captures.outside
-    → IfKnown inside outside (λ bytes others. texts rules bytes others ≡ texts_by rules (Ok captures))
-texts_read rules None outside captures first second = tt
-texts_read rules (Some bytes) None captures first second = tt
-texts_read rules (Some bytes) (Some others) captures first second = grind (arith, common_steps, nat_tests, ap₂)
+    → IfKnown inside outside (λ bytes others. texts_from origin bytes others ≡ texts_by origin (Ok captures))
+texts_read origin None outside captures first second = tt
+texts_read origin (Some bytes) None captures first second = tt
+texts_read origin (Some bytes) (Some others) captures first second = grind (arith, common_steps, nat_tests, ap₂)
 
 -- of which outputs were made
-abbrev pub AreMade : Rules → Option (List ℕ) → Option (List ℕ) → Captures → Type 0
-AreMade rules inside outside captures =
-    IfKnown inside outside (λ bytes others. texts rules bytes others ≡ Ok (texts_made rules captures))
+abbrev pub AreMade : Origin → Option (List ℕ) → Option (List ℕ) → Captures → Type 0
+AreMade origin inside outside captures =
+    IfKnown inside outside (λ bytes others. texts_from origin bytes others ≡ Ok (texts_made origin captures))
 
-pub texts_known : {X : Type 0} (x : X) (rules : Rules) (inside outside : Option (List ℕ)) (captures : Captures)
+pub texts_known : {X : Type 0} (x : X) (origin : Origin) (inside outside : Option (List ℕ)) (captures : Captures)
     → IsReadFrom inside captures.inside → IsReadFrom outside captures.outside
-    → (AreTooMany captures → ◌≡◌ {A = Result X RunFault} (Ok x) (Err TooMany)) → AreMade rules inside outside captures
-texts_known x rules inside outside captures first second few =
+    → (AreTooMany captures → ◌≡◌ {A = Result X RunFault} (Ok x) (Err TooMany)) → AreMade origin inside outside captures
+texts_known x origin inside outside captures first second few =
     IfKnown-more inside outside
-    (λ bytes others is. is ∙ few_texts rules captures (λ many. let never = few many in absurd cc))
-    (texts_read rules inside outside captures first second)
+    (λ bytes others is. is ∙ few_texts origin captures (λ many. let never = few many in absurd cc))
+    (texts_read origin inside outside captures first second)
 
 -- THE RESULT
 
 -- what a result says of both captures, and a fault of each
-pub record Answered (rules : Rules) (inside outside : Option (List ℕ))
+pub record Answered (origin : Origin) (inside outside : Option (List ℕ))
     (result : Result (Unit {0}) Fault) : Type 0 where
-  pub answer : IfKnown inside outside (λ bytes others. Answers (texts rules bytes others) result)
+  pub answer : IfKnown inside outside (λ bytes others. Answers (texts_from origin bytes others) result)
   pub fault : IfErr result (Explains inside outside)
 
 readable : (known : Option (List ℕ)) (contents : Contents) → IsReadFrom known contents → IsReadable known
 readable known contents is = grind (arith, common_steps, nat_tests)
 
-answers_inside : (rules : Rules) (inside outside : Option (List ℕ)) (fault : Fault) → IsUnread sides.Inside inside fault
-    → IfKnown inside outside (λ bytes others. Answers (texts rules bytes others) (Err fault))
-answers_inside rules inside outside fault p = grind (arith, common_steps, nat_tests, StopsBy-then)
+answers_inside : (origin : Origin) (inside outside : Option (List ℕ)) (fault : Fault) → IsUnread sides.Inside inside fault
+    → IfKnown inside outside (λ bytes others. Answers (texts_from origin bytes others) (Err fault))
+answers_inside origin inside outside fault p = grind (arith, common_steps, nat_tests, StopsBy-then)
 
-past_inside : (rules : Rules) (a : Contents) (b : Result Contents CaptureFault) →
-    IsPastInside (texts_by rules (both_by (Ok a) b))
-past_inside rules a b = grind (arith, common_steps, nat_tests, cases_Bool)
+past_inside : (origin : Origin) (a : Contents) (b : Result Contents CaptureFault) →
+    IsPastInside (texts_by origin (both_by (Ok a) b))
+past_inside origin a b = grind (arith, common_steps, nat_tests, cases_Bool)
 
-outside_by : (rules : Rules) (inside known : Option (List ℕ)) (contents : Contents) (fault : Fault) →
+outside_by : (origin : Origin) (inside known : Option (List ℕ)) (contents : Contents) (fault : Fault) →
     IsReadFrom inside contents → IsUnread sides.Outside known fault
-    → IfKnown inside known (λ bytes others. Answers (texts rules bytes others) (Err fault))
-outside_by rules None known contents fault first p = tt
-outside_by rules (Some bytes) None contents fault first p = tt
-outside_by rules (Some bytes) (Some others) contents (Capture sides.Outside fault) first p = (
-  rw first (past_inside rules contents (read_whole others)),
+    → IfKnown inside known (λ bytes others. Answers (texts_from origin bytes others) (Err fault))
+outside_by origin None known contents fault first p = tt
+outside_by origin (Some bytes) None contents fault first p = tt
+outside_by origin (Some bytes) (Some others) contents (Capture sides.Outside fault) first p = (
+  rw first (past_inside origin contents (read_whole others)),
   StopsBy-then fault (λ (is : read_whole others ≡ Err fault). rw (first, is) refl) p.0,
 )
-outside_by rules (Some bytes) (Some others) contents (Capture sides.Inside fault) first p = absurd p
-outside_by rules (Some bytes) (Some others) contents (Run fault) first p = absurd p
-outside_by rules (Some bytes) (Some others) contents (Write which fault) first p = absurd p
+outside_by origin (Some bytes) (Some others) contents (Capture sides.Inside fault) first p = absurd p
+outside_by origin (Some bytes) (Some others) contents (Run fault) first p = absurd p
+outside_by origin (Some bytes) (Some others) contents (Write which fault) first p = absurd p
 
-run_answer : (rules : Rules) (captures : Captures) (fault : RunFault) → (fault ≡ TooMany → AreTooMany captures) →
-    (AreTooMany captures → fault ≡ TooMany) → Answers (texts_by rules (Ok captures)) (Err (Run fault))
-run_answer rules captures fault many only = grind (arith, common_steps, nat_tests, many_texts, few_texts)
+run_answer : (origin : Origin) (captures : Captures) (fault : RunFault) → (fault ≡ TooMany → AreTooMany captures) →
+    (AreTooMany captures → fault ≡ TooMany) → Answers (texts_by origin (Ok captures)) (Err (Run fault))
+run_answer origin captures fault many only = grind (arith, common_steps, nat_tests, many_texts, few_texts)
 
-answers_run : {X : Type 0} (rules : Rules) (inside outside : Option (List ℕ)) (captures : Captures) (fault : RunFault)
+answers_run : {X : Type 0} (origin : Origin) (inside outside : Option (List ℕ)) (captures : Captures) (fault : RunFault)
     → IsReadFrom inside captures.inside → IsReadFrom outside captures.outside
     → (◌≡◌ {A = Result X RunFault} (Err fault) (Err TooMany) → AreTooMany captures)
     → (AreTooMany captures → ◌≡◌ {A = Result X RunFault} (Err fault) (Err TooMany))
-    → IfKnown inside outside (λ bytes others. Answers (texts rules bytes others) (Err (Run fault)))
-answers_run {X} rules inside outside captures fault first second many only =
+    → IfKnown inside outside (λ bytes others. Answers (texts_from origin bytes others) (Err (Run fault)))
+answers_run {X} origin inside outside captures fault first second many only =
     IfKnown-more inside outside
-    (λ bytes others is. subst (λ t. Answers t (Err (Run fault))) (sym is) (run_answer rules captures fault
+    (λ bytes others is. subst (λ t. Answers t (Err (Run fault))) (sym is) (run_answer origin captures fault
     (λ same. many (ap (λ f. Err f) same)) (λ h. let same = only h in cc)))
-    (texts_read rules inside outside captures first second)
+    (texts_read origin inside outside captures first second)
 
-pub answers_ok : (rules : Rules) (inside outside : Option (List ℕ)) (captures : Captures) →
-    AreMade rules inside outside captures
-    → IfKnown inside outside (λ bytes others. Answers (texts rules bytes others) (Ok tt))
-answers_ok rules inside outside captures made = IfKnown-more inside outside (λ bytes others is. rw is refl) made
+pub answers_ok : (origin : Origin) (inside outside : Option (List ℕ)) (captures : Captures) →
+    AreMade origin inside outside captures
+    → IfKnown inside outside (λ bytes others. Answers (texts_from origin bytes others) (Ok tt))
+answers_ok origin inside outside captures made = IfKnown-more inside outside (λ bytes others is. rw is refl) made
 
 explains_outside : (inside known : Option (List ℕ)) (contents : Contents) (fault : Fault) →
     IsReadFrom inside contents → IsUnread sides.Outside known fault → Explains inside known fault
@@ -126,24 +127,24 @@ explains_inside : (inside outside : Option (List ℕ)) (fault : Fault) →
     IsUnread sides.Inside inside fault → Explains inside outside fault
 explains_inside inside outside fault p = grind (arith, common_steps, nat_tests)
 
-pub answered_inside : (rules : Rules) (inside outside : Option (List ℕ)) (fault : Fault) →
-    IsUnread sides.Inside inside fault → Answered rules inside outside (Err fault)
-answered_inside rules inside outside fault p = grind (arith, common_steps, nat_tests, answers_inside, explains_inside)
+pub answered_inside : (origin : Origin) (inside outside : Option (List ℕ)) (fault : Fault) →
+    IsUnread sides.Inside inside fault → Answered origin inside outside (Err fault)
+answered_inside origin inside outside fault p = grind (arith, common_steps, nat_tests, answers_inside, explains_inside)
 
-pub answered_outside : (rules : Rules) (inside outside : Option (List ℕ)) (contents : Contents) (fault : Fault) →
-    IsReadFrom inside contents → IsUnread sides.Outside outside fault → Answered rules inside outside (Err fault)
-answered_outside rules inside outside contents fault first p = record {
-  answer = outside_by rules inside outside contents fault first p;
+pub answered_outside : (origin : Origin) (inside outside : Option (List ℕ)) (contents : Contents) (fault : Fault) →
+    IsReadFrom inside contents → IsUnread sides.Outside outside fault → Answered origin inside outside (Err fault)
+answered_outside origin inside outside contents fault first p = record {
+  answer = outside_by origin inside outside contents fault first p;
   fault = explains_outside inside outside contents fault first p;
 }
 
-pub answered_run : {X : Type 0} (rules : Rules) (inside outside : Option (List ℕ))
+pub answered_run : {X : Type 0} (origin : Origin) (inside outside : Option (List ℕ))
     (captures : Captures) (fault : RunFault) → IsReadFrom inside captures.inside → IsReadFrom outside captures.outside
     → (◌≡◌ {A = Result X RunFault} (Err fault) (Err TooMany) → AreTooMany captures)
     → (AreTooMany captures → ◌≡◌ {A = Result X RunFault} (Err fault) (Err TooMany))
-    → Answered rules inside outside (Err (Run fault))
-answered_run {X} rules inside outside captures fault first second many only = record {
-  answer = answers_run {X = X} rules inside outside captures fault first second many only;
+    → Answered origin inside outside (Err (Run fault))
+answered_run {X} origin inside outside captures fault first second many only = record {
+  answer = answers_run {X = X} origin inside outside captures fault first second many only;
   fault = (readable inside captures.inside first, readable outside captures.outside second);
 }
 
@@ -151,11 +152,11 @@ writes_is : (which : Which) (fault : Fault) → IsWriteFaultOf which fault →
     (inner : WriteFault) × (fault ≡ Write which inner)
 writes_is which fault is = grind (arith, common_steps, nat_tests)
 
-pub answered_write : (which : Which) (rules : Rules) (inside outside : Option (List ℕ))
+pub answered_write : (which : Which) (origin : Origin) (inside outside : Option (List ℕ))
     (captures : Captures) (fault : Fault) → IsReadFrom inside captures.inside →
-    IsReadFrom outside captures.outside → IsWriteFaultOf which fault → AreMade rules inside outside captures
-    → Answered rules inside outside (Err fault)
-answered_write which rules inside outside captures fault first second is made =
+    IsReadFrom outside captures.outside → IsWriteFaultOf which fault → AreMade origin inside outside captures
+    → Answered origin inside outside (Err fault)
+answered_write which origin inside outside captures fault first second is made =
     grind (arith, common_steps, nat_tests, writes_is, IfKnown-more, readable)
 
 -- THE OUTPUTS
@@ -166,17 +167,17 @@ text_of Outside outputs = outputs.to_outside
 text_of Inside outputs = outputs.to_inside
 text_of Report outputs = string_bytes outputs.report
 
-text_is : (which : Which) (rules : Rules) (captures : Captures) (outputs : Outputs) →
-    AreOutputs rules captures outputs → text_of which outputs ≡ text_to which (texts_made rules captures)
-text_is which rules captures outputs made = grind (arith, common_steps, nat_tests)
+text_is : (which : Which) (origin : Origin) (captures : Captures) (outputs : Outputs) →
+    AreOutputs origin captures outputs → text_of which outputs ≡ text_to which (texts_made origin captures)
+text_is which origin captures outputs made = grind (arith, common_steps, nat_tests)
 
 -- what was received of it
-pub received : (which : Which) (share : Share) (rules : Rules) (inside outside : Option (List ℕ))
+pub received : (which : Which) (share : Share) (origin : Origin) (inside outside : Option (List ℕ))
     (captures : Captures) (outputs : Outputs)
-    (told : List ℕ) (old new : Option (List ℕ)) → AreMade rules inside outside captures →
-    AreOutputs rules captures outputs → told ≡ text_of which outputs → Receives share told old new
-    → Gets rules which share inside outside old new
-received which share rules inside outside captures outputs told old new known made is got =
+    (told : List ℕ) (old new : Option (List ℕ)) → AreMade origin inside outside captures →
+    AreOutputs origin captures outputs → told ≡ text_of which outputs → Receives share told old new
+    → GetsFrom origin which share inside outside old new
+received which share origin inside outside captures outputs told old new known made is got =
     grind (arith, common_steps, nat_tests, IfKnown-more, text_is)
 
 -- what a fault of writing an output says of the outputs before it
@@ -186,3 +187,10 @@ before_inside fault is = grind (arith, common_steps, nat_tests)
 pub before_report : (fault : Fault) → IsWriteFaultOf Report fault → (share_of Outside (Err fault) ≡ whole)
     × (share_of Inside (Err fault) ≡ whole)
 before_report fault is = grind (arith, common_steps, nat_tests)
+
+-- THE STATE THAT IS LEFT
+
+pub leaves : (origin : Origin) (inside outside : Option (List ℕ)) (captures : Captures) (passed : Passed) →
+    IsReadFrom inside captures.inside → IsReadFrom outside captures.outside →
+    GivesState origin (arrivals_of captures) passed → Leaves origin inside outside passed
+leaves origin inside outside captures passed first second left = grind (arith, common_steps, nat_tests)

@@ -6,11 +6,11 @@ use Rattle.napt_wire.specs.declared.Side.{Side}
 use Rattle.napt_wire.specs.declared.Side.TheVariants as sides
 use Rattle.napt_capture.specs.{Capture.{Held, asked_of, captured, contents_by, read_whole, spelling_in}, Contents.{Contents, Entry}}
 use Rattle.napt_capture.specs.declared.{TheConstants.MOST_ASKED, fault.CaptureFault.CaptureFault, spelling.Spelling.Spelling}
-use Rattle.napt_config.specs.Rules.{Rules}
+use Rattle.napt_run.specs.Origins.{Origin, ran_by}
 use Rattle.napt_records.specs.{declared.{Fault.Fault, merged_streams.{Cuts.Cuts, SideFault.SideFault}}, Report.report_text, Taking.{Inputs, inputs_until}}
 use Rattle.napt_records.proofs.Merges.{merge_ends, merges_whole}
-use Rattle.napt_rules.specs.Prelude.{Arrival, ran}
-use Rattle.napt_run.specs.{Captures.{Texts, arrivals_of, both_by, texts, texts_by, texts_made}, Files.{files_until, unless_bad, unless_refused}}
+use Rattle.napt_rules.specs.Prelude.{Arrival}
+use Rattle.napt_run.specs.{Captures.{Texts, arrivals_of, both_by, texts_from, texts_by, texts_made}, Files.{files_until, unless_bad, unless_refused}}
 use Rattle.napt_run.specs.{StreamLaws.{OutputsAreTheSame, ReportsAreTheSame}, Streams.capture_text, declared.captures.Captures.Captures}
 
 -- what a file holds that reads as these contents
@@ -29,26 +29,26 @@ held_is bytes contents is = elim (cases_Bool (nat_lt MOST_ASKED (asked_of bytes)
 ]
 
 -- the captures of which the texts are
-record OfCaptures (rules : Rules) (inside outside : Result Contents CaptureFault) (all : Texts) : Type 0 where
+record OfCaptures (origin : Origin) (inside outside : Result Contents CaptureFault) (all : Texts) : Type 0 where
   captures : Captures
   inside_is : inside ≡ Ok captures.inside
   outside_is : outside ≡ Ok captures.outside
-  all_is : texts_made rules captures ≡ all
+  all_is : texts_made origin captures ≡ all
 
-few_texts : (rules : Rules) (captures : Captures) (all : Texts) → texts_by rules (Ok captures) ≡ Ok all →
-    texts_made rules captures ≡ all
-few_texts rules captures all is = grind (arith, common_steps, nat_tests, cases_Bool)
+few_texts : (origin : Origin) (captures : Captures) (all : Texts) → texts_by origin (Ok captures) ≡ Ok all →
+    texts_made origin captures ≡ all
+few_texts origin captures all is = grind (arith, common_steps, nat_tests, cases_Bool)
 
-of_captures : (rules : Rules) (inside outside : Result Contents CaptureFault) (all : Texts) →
-    texts_by rules (both_by inside outside) ≡ Ok all → OfCaptures rules inside outside all
-of_captures rules (Ok a) (Ok b) all is = record {
+of_captures : (origin : Origin) (inside outside : Result Contents CaptureFault) (all : Texts) →
+    texts_by origin (both_by inside outside) ≡ Ok all → OfCaptures origin inside outside all
+of_captures origin (Ok a) (Ok b) all is = record {
   captures = record { inside = a; outside = b };
   inside_is = refl;
   outside_is = refl;
-  all_is = few_texts rules (record { inside = a; outside = b }) all is;
+  all_is = few_texts origin (record { inside = a; outside = b }) all is;
 }
-of_captures rules (Ok a) (Err fault) all is = absurd cc
-of_captures rules (Err fault) outside all is = absurd cc
+of_captures origin (Ok a) (Err fault) all is = absurd cc
+of_captures origin (Err fault) outside all is = absurd cc
 
 -- the headers are good
 good_by : (side : Side) (r : Result Spelling CaptureFault) (inputs : Inputs) (cuts : Cuts) →
@@ -67,9 +67,9 @@ behind_headers inside outside cuts is =
     first ∙ good sides.Outside outside all cuts (sym (ap (λ (i : Inputs). i.end) first) ∙ is)
 
 -- what the files give as they arrive is what they hold
-record Agree (rules : Rules) (inside outside : List ℕ) (all : Texts) (cuts : Cuts) : Type 0 where
+record Agree (origin : Origin) (inside outside : List ℕ) (all : Texts) (cuts : Cuts) : Type 0 where
   captures : Captures
-  all_is : texts_made rules captures ≡ all
+  all_is : texts_made origin captures ≡ all
   arrivals : (files_until inside outside).arrivals ≡ arrivals_of captures
   inside_cut : captures.inside.cut ≡ cuts.inside
   outside_cut : captures.outside.cut ≡ cuts.outside
@@ -77,11 +77,11 @@ record Agree (rules : Rules) (inside outside : List ℕ) (all : Texts) (cuts : C
 ok_is : (a b : Bool) → (let x : Result Bool CaptureFault = Ok a in x ≡ Ok b) → a ≡ b
 ok_is a b is = cc
 
-agree : (rules : Rules) (inside outside : List ℕ) (all : Texts) (cuts : Cuts) →
-    texts rules inside outside ≡ Ok all → (files_until inside outside).end ≡ Ok cuts →
-    Agree rules inside outside all cuts
-agree rules inside outside all cuts is end =
-    let of = of_captures rules (read_whole inside) (read_whole outside) all is in
+agree : (origin : Origin) (inside outside : List ℕ) (all : Texts) (cuts : Cuts) →
+    texts_from origin inside outside ≡ Ok all → (files_until inside outside).end ≡ Ok cuts →
+    Agree origin inside outside all cuts
+agree origin inside outside all cuts is end =
+    let of = of_captures origin (read_whole inside) (read_whole outside) all is in
     let a : Held = held_as of.captures.inside in
     let b : Held = held_as of.captures.outside in
     let files : files_until inside outside ≡ inputs_until a b = behind_headers inside outside cuts end
@@ -110,28 +110,28 @@ is_ok_of : (r : Result Cuts SideFault) → IsOk r → (cuts : Cuts) × (r ≡ Ok
 is_ok_of r is = grind (arith, common_steps, nat_tests)
 
 pub outputs_same : OutputsAreTheSame
-outputs_same rules inside outside done old new other = (
+outputs_same origin inside outside done old new other = (
   λ got wrote.
-      let (all, is, text) = ok_and (texts rules inside outside) _ got in
+      let (all, is, text) = ok_and (texts_from origin inside outside) _ got in
       let (cuts, end) = is_ok_of (files_until inside outside).end wrote.0 in
-      let p = agree rules inside outside all cuts is end in
-      let same = ap (capture_text rules sides.Outside) p.arrivals ∙ ap (λ (t : Texts). t.outside) p.all_is in
+      let p = agree origin inside outside all cuts is end in
+      let same = ap (capture_text origin sides.Outside) p.arrivals ∙ ap (λ (t : Texts). t.outside) p.all_is in
       appends_one old all.outside new other text (subst (λ l. Appends (Some old) other l) same wrote.1),
   λ got wrote.
-      let (all, is, text) = ok_and (texts rules inside outside) _ got in
+      let (all, is, text) = ok_and (texts_from origin inside outside) _ got in
       let (cuts, end) = is_ok_of (files_until inside outside).end wrote.0 in
-      let p = agree rules inside outside all cuts is end in
-      let same = ap (capture_text rules sides.Inside) p.arrivals ∙ ap (λ (t : Texts). t.inside) p.all_is in
+      let p = agree origin inside outside all cuts is end in
+      let same = ap (capture_text origin sides.Inside) p.arrivals ∙ ap (λ (t : Texts). t.inside) p.all_is in
       appends_one old all.inside new other text (subst (λ l. Appends (Some old) other l) same wrote.1),
 )
 
 pub reports_same : ReportsAreTheSame
-reports_same rules inside outside done old new other got wrote =
-    let (all, is, text) = ok_and (texts rules inside outside) _ got in
+reports_same origin inside outside done old new other got wrote =
+    let (all, is, text) = ok_and (texts_from origin inside outside) _ got in
     let (cuts, end, told) = wrote in
-    let p = agree rules inside outside all cuts is end in
-    let same : report_text cuts.inside cuts.outside (ran rules (files_until inside outside).arrivals) ≡ all.report =
-    ap (λ (l : List Arrival). report_text cuts.inside cuts.outside (ran rules l)) p.arrivals
-    ∙ ap₂ (λ x y. report_text x y (ran rules (arrivals_of p.captures))) (sym p.inside_cut) (sym p.outside_cut)
+    let p = agree origin inside outside all cuts is end in
+    let same : report_text cuts.inside cuts.outside (ran_by origin (files_until inside outside).arrivals) ≡ all.report =
+    ap (λ (l : List Arrival). report_text cuts.inside cuts.outside (ran_by origin l)) p.arrivals
+    ∙ ap₂ (λ x y. report_text x y (ran_by origin (arrivals_of p.captures))) (sym p.inside_cut) (sym p.outside_cut)
     ∙ ap (λ (t : Texts). t.report) p.all_is in
     appends_one old all.report new other text (subst (λ l. Appends (Some old) other l) same told)

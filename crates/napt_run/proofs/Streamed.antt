@@ -4,13 +4,13 @@ use Rattle.std.proofs.Common.{◌≡◌, ◌⊎◌, inl, inr, ℕ, ◌+◌, ◌-
 use Rattle.napt_wire.specs.declared.Side.{Side}
 use Rattle.napt_wire.specs.declared.Side.TheVariants as sides
 use Rattle.napt_capture.specs.{Text.file_header, declared.{device.Sink.Ghosts, fault.{CaptureFault.CaptureFault, WriteFault.WriteFault}}}
-use Rattle.napt_config.specs.Rules.{Rules}
+use Rattle.napt_run.specs.Origins.{Origin}
 use Rattle.napt_laws.specs.Dispatching.{IsFront}
 use Rattle.napt_records.specs.{Taking.Inputs, declared.{Fault.{Fault, TheVariants.{Capture, Run, Write}}, Which.{Which, TheVariants.{Outside, Inside, Report}}}}
 use Rattle.napt_rules.specs.Prelude.{Arrival}
 use Rattle.napt_run.specs.{Captures.failed_writings, Outputs.{Breaks, Grows}, Runs.{FailsOutside, IfHeld, IsLeft, IsToldOf, ResultSays, RunsTo, text_behind}}
 use Rattle.napt_run.specs.Files.{files_until}
-use Rattle.napt_run.specs.Streams.{DeviceGets, AreTaken, Explains, HasFront, HasPart, HasText, HasWritten, IsOfRun, IsSettledBy, IsStopFault, Streams, capture_text, ended, side_of}
+use Rattle.napt_run.specs.Streams.{DeviceGetsFrom, AreTaken, Explains, HasFront, HasPart, HasText, HasWritten, IsOfRun, IsSettledBy, IsStopFault, Streams, capture_text, ended, side_of}
 use Rattle.napt_run.{specs.declared.{leaving.Leaving.Leaving, output.Output.Output, passing.Totals.Totals}, proofs.{Behind.IfHeld-by, Fronts.capture_is}}
 use Rattle.napt_sequential.specs.declared.fault.RunFault.{RunFault}
 
@@ -25,22 +25,22 @@ IfHeld-all P inside outside all = IfHeld-by P inside outside (λ b o is same. al
 -- OF ONE OUTPUT
 
 -- its text
-grown_text : (rules : Rules) (side : Side) (inputs : List Arrival) (old new : Option (List ℕ)) →
-    Appends old new (text_behind file_header rules side inputs) → Appends old new (capture_text rules side inputs)
-grown_text rules side inputs old new grown = grind (arith, common_steps, nat_tests, ℕ, capture_is)
+grown_text : (origin : Origin) (side : Side) (inputs : List Arrival) (old new : Option (List ℕ)) →
+    Appends old new (text_behind file_header origin side inputs) → Appends old new (capture_text origin side inputs)
+grown_text origin side inputs old new grown = grind (arith, common_steps, nat_tests, ℕ, capture_is)
 
 -- or a front of it
-broken_text : {W : Type 0} {S : Ghosts W} (rules : Rules) (side : Side) (inputs : List Arrival)
+broken_text : {W : Type 0} {S : Ghosts W} (origin : Origin) (side : Side) (inputs : List Arrival)
     (old new : Output W S) (fault : WriteFault) → old.written ≡ 0 →
-    Breaks old (text_behind file_header rules side inputs) fault new →
-    (count : ℕ) × (fault.written ≡ min count (2 ^ 64 - 1)) × (count ≤ length (capture_text rules side inputs))
-    × Appends (S.contents old.device.now) (S.contents new.device.now) (take count (capture_text rules side inputs))
-broken_text {W} {S} rules side inputs old new fault none p = (
+    Breaks old (text_behind file_header origin side inputs) fault new →
+    (count : ℕ) × (fault.written ≡ min count (2 ^ 64 - 1)) × (count ≤ length (capture_text origin side inputs))
+    × Appends (S.contents old.device.now) (S.contents new.device.now) (take count (capture_text origin side inputs))
+broken_text {W} {S} origin side inputs old new fault none p = (
   p.count,
   omega (arith, p.counted 0 (omega (arith, none))),
-  subst (λ (l : List ℕ). p.count ≤ length l) (capture_is rules side inputs) p.within,
+  subst (λ (l : List ℕ). p.count ≤ length l) (capture_is origin side inputs) p.within,
   subst (λ (l : List ℕ). Appends (S.contents old.device.now) (S.contents new.device.now) (take p.count l))
-      (capture_is rules side inputs) p.appended,
+      (capture_is origin side inputs) p.appended,
 )
 
 -- the device is the same, and so many more of its calls failed
@@ -56,11 +56,11 @@ one_counted : {W : Type 0} {S : Ghosts W} (old new : Output W S) (text : List �
     Breaks old text fault new → Counted old new 1
 one_counted old new text fault p = record { same = p.same; count = p.failed_once }
 
-module _ {W V : Type 0} {S : Ghosts W} {T : Ghosts V} (open_gate : Bool) (rules : Rules)
+module _ {W V : Type 0} {S : Ghosts W} {T : Ghosts V} (open_gate : Bool) (origin : Origin)
     (inside outside : Option (List ℕ))
     (old new : Leaving W V S T) where
   abbrev To : Result Totals Fault → Type 0
-  To result = RunsTo open_gate rules inside outside file_header old new result
+  To result = RunsTo open_gate origin inside outside file_header old new result
 
   -- THE FAULT, AND THE REPORT
 
@@ -70,29 +70,29 @@ module _ {W V : Type 0} {S : Ghosts W} {T : Ghosts V} (open_gate : Bool) (rules 
   stops : (result : Result Totals Fault) → To result → IfErr result (IsStopFault open_gate)
   stops result p = grind (arith, common_steps, nat_tests)
 
-  tells : (result : Result Totals Fault) → To result → IfOk result (IsToldOf rules inside outside)
+  tells : (result : Result Totals Fault) → To result → IfOk result (IsToldOf origin inside outside)
   tells result p = grind (arith, common_steps, nat_tests)
 
-  pub says : (result : Result Totals Fault) → To result → ResultSays open_gate rules inside outside result
+  pub says : (result : Result Totals Fault) → To result → ResultSays open_gate origin inside outside result
   says result p = record { told = tells result p; fault = explains result p; stop = stops result p }
 
 -- WHAT AN OUTPUT GOT
 
 -- by what it was before and after
-record At {D : Type 0} {S : Ghosts D} (rules : Rules) (which : Which) (inside outside : Option (List ℕ))
+record At {D : Type 0} {S : Ghosts D} (origin : Origin) (which : Which) (inside outside : Option (List ℕ))
     (result : Result Totals Fault) (old new : Output D S) : Type 0 where
-  gets : Streams rules which (ended result) inside outside (S.contents old.device.now) (S.contents new.device.now)
+  gets : Streams origin which (ended result) inside outside (S.contents old.device.now) (S.contents new.device.now)
   same : new.device.ghost_name ≡ old.device.ghost_name
   counted : (¬ IsOfRun result) → Counted old new (failed_writings which (ended result))
   settled : IsSettledBy (ended result) → S.is_flushed new.device.now
 
-module _ {D : Type 0} {S : Ghosts D} (rules : Rules) (which : Which) (inside outside : Option (List ℕ))
+module _ {D : Type 0} {S : Ghosts D} (origin : Origin) (which : Which) (inside outside : Option (List ℕ))
     (old new : Output D S) where
   abbrev Grew : List Arrival → Type 0
-  Grew inputs = Grows old (text_behind file_header rules (side_of which) inputs) new
+  Grew inputs = Grows old (text_behind file_header origin (side_of which) inputs) new
 
   abbrev Was : Result Totals Fault → Type 0
-  Was result = At rules which inside outside result old new
+  Was result = At origin which inside outside result old new
 
   abbrev CountsNone : Fault → Type 0
   CountsNone fault = failed_writings which (Err fault) ≡ 0
@@ -111,38 +111,38 @@ module _ {D : Type 0} {S : Ghosts D} (rules : Rules) (which : Which) (inside out
       grind (arith, common_steps, nat_tests, IfHeld-map, grown_text, none_counted)
 
   has_text : (inputs : List Arrival) → IfHeld inside outside (λ all. IsFront inputs all.arrivals) → Grew inputs →
-      IfHeld inside outside (λ all. HasText rules which all (S.contents old.device.now) (S.contents new.device.now))
+      IfHeld inside outside (λ all. HasText origin which all (S.contents old.device.now) (S.contents new.device.now))
   has_text inputs front grown = grind (arith, common_steps, nat_tests, IfHeld-map, grown_text)
 
   has_front : (inputs : List Arrival) (fault : WriteFault) → old.written ≡ 0 →
       IfHeld inside outside (λ all. IsFront inputs all.arrivals) →
-      Breaks old (text_behind file_header rules (side_of which) inputs) fault new →
-      IfHeld inside outside (λ all. HasFront rules which fault.written all (S.contents old.device.now)
+      Breaks old (text_behind file_header origin (side_of which) inputs) fault new →
+      IfHeld inside outside (λ all. HasFront origin which fault.written all (S.contents old.device.now)
       (S.contents new.device.now))
   has_front inputs fault none front broke = grind (arith, common_steps, nat_tests, IfHeld-map, broken_text)
 
   -- the run itself failed
   has_part : (inputs : List Arrival) (fault : WriteFault) → IfHeld inside outside (λ all. IsFront inputs all.arrivals) →
-      (broke : Breaks old (text_behind file_header rules (side_of which) inputs) fault new) →
+      (broke : Breaks old (text_behind file_header origin (side_of which) inputs) fault new) →
       length file_header ≤ broke.count →
-      IfHeld inside outside (λ all. HasPart rules which all (S.contents old.device.now) (S.contents new.device.now))
+      IfHeld inside outside (λ all. HasPart origin which all (S.contents old.device.now) (S.contents new.device.now))
   has_part inputs fault front broke headed = grind (arith, common_steps, nat_tests, IfHeld-map, ℕ, capture_is)
 
   abbrev Halted : Inputs → Type 0
-  Halted all = HasText rules which all (S.contents old.device.now) (S.contents new.device.now)
-      ⊎ HasPart rules which all (S.contents old.device.now) (S.contents new.device.now)
+  Halted all = HasText origin which all (S.contents old.device.now) (S.contents new.device.now)
+      ⊎ HasPart origin which all (S.contents old.device.now) (S.contents new.device.now)
 
-  at_halt : (fault : RunFault) → IsLeft rules inside outside file_header (side_of which) old new → Was (Err (Run fault))
+  at_halt : (fault : RunFault) → IsLeft origin inside outside file_header (side_of which) old new → Was (Err (Run fault))
   at_halt fault p = elim p.left [
     | inl grown ↦ record {
-      gets = IfHeld-map (λ all. HasText rules which all (S.contents old.device.now) (S.contents new.device.now))
+      gets = IfHeld-map (λ all. HasText origin which all (S.contents old.device.now) (S.contents new.device.now))
           Halted inside outside (λ all text. inl text) (has_text p.inputs p.front_of_all grown);
       same = grown.same;
       counted = λ not_run. absurd (not_run tt);
       settled = λ settled. absurd settled;
     }
     | inr broken ↦ record {
-      gets = IfHeld-map (λ all. HasPart rules which all (S.contents old.device.now) (S.contents new.device.now))
+      gets = IfHeld-map (λ all. HasPart origin which all (S.contents old.device.now) (S.contents new.device.now))
           Halted inside outside (λ all part. inr part) (has_part p.inputs broken.0 p.front_of_all broken.1 broken.2);
       same = broken.1.same;
       counted = λ not_run. absurd (not_run tt);
@@ -150,31 +150,31 @@ module _ {D : Type 0} {S : Ghosts D} (rules : Rules) (which : Which) (inside out
     }
   ]
 
-module _ {W V : Type 0} {S : Ghosts W} {T : Ghosts V} (open_gate : Bool) (rules : Rules)
+module _ {W V : Type 0} {S : Ghosts W} {T : Ghosts V} (open_gate : Bool) (origin : Origin)
     (inside outside : Option (List ℕ))
     (old new : Leaving W V S T) where
   abbrev IsAtOutside : Result Totals Fault → Type 0
-  IsAtOutside result = At rules Outside inside outside result old.to_outside new.to_outside
+  IsAtOutside result = At origin Outside inside outside result old.to_outside new.to_outside
 
   abbrev IsAtInside : Result Totals Fault → Type 0
-  IsAtInside result = At rules Inside inside outside result old.to_inside new.to_inside
+  IsAtInside result = At origin Inside inside outside result old.to_inside new.to_inside
 
   abbrev Runs : Result Totals Fault → Type 0
-  Runs result = RunsTo open_gate rules inside outside file_header old new result
+  Runs result = RunsTo open_gate origin inside outside file_header old new result
 
   -- what the run left when it failed itself
   at_outside : old.to_outside.written ≡ 0 → (result : Result Totals Fault) → Runs result → IsAtOutside result
   at_outside none (Ok totals) p = grind (arith, common_steps, nat_tests, at_end)
   at_outside none (Err (Capture side fault)) p = grind (arith, common_steps, nat_tests, at_fault)
   at_outside none (Err (Write Outside fault)) p = record {
-    gets = has_front rules Outside inside outside old.to_outside new.to_outside p.inputs fault
+    gets = has_front origin Outside inside outside old.to_outside new.to_outside p.inputs fault
         none p.front_of_all p.broke;
     same = p.broke.same;
     counted = λ not_run. one_counted _ _ _ fault p.broke;
     settled = λ settled. absurd settled;
   }
   at_outside none (Err (Write Inside fault)) p = record {
-    gets = has_text rules Outside inside outside old.to_outside new.to_outside p.inputs p.front_of_all p.wrote;
+    gets = has_text origin Outside inside outside old.to_outside new.to_outside p.inputs p.front_of_all p.wrote;
     same = p.wrote.same;
     counted = λ not_run. none_counted _ _ _ p.wrote;
     settled = λ settled. absurd settled;
@@ -183,16 +183,16 @@ module _ {W V : Type 0} {S : Ghosts W} {T : Ghosts V} (open_gate : Bool) (rules 
   at_outside none (Err (Run fault)) p = grind (arith, common_steps, nat_tests, at_halt)
 
   -- where the output to the outside failed, the one to the inside may not be begun
-  kept : (fault : WriteFault) (p : FailsOutside open_gate rules inside outside file_header old new fault) →
-      Grows old.to_inside (text_behind file_header rules sides.Inside p.before) new.to_inside
+  kept : (fault : WriteFault) (p : FailsOutside open_gate origin inside outside file_header old new fault) →
+      Grows old.to_inside (text_behind file_header origin sides.Inside p.before) new.to_inside
       ⊎ ((fault.written ≤ length file_header) × (new.to_inside ≡ old.to_inside)) →
       IsAtInside (Err (Write Outside fault))
   kept fault p (inl grown) = record {
-    gets = IfHeld-map (λ all. HasText rules Inside all (T.contents old.to_inside.device.now)
+    gets = IfHeld-map (λ all. HasText origin Inside all (T.contents old.to_inside.device.now)
         (T.contents new.to_inside.device.now))
-        (λ all. HasWritten rules Inside Outside fault.written all (T.contents old.to_inside.device.now)
+        (λ all. HasWritten origin Inside Outside fault.written all (T.contents old.to_inside.device.now)
         (T.contents new.to_inside.device.now)) inside outside (λ all text. inl text)
-        (has_text rules Inside inside outside old.to_inside new.to_inside p.before p.front_before grown);
+        (has_text origin Inside inside outside old.to_inside new.to_inside p.before p.front_before grown);
     same = grown.same;
     counted = λ not_run. none_counted _ _ _ grown;
     settled = λ settled. absurd settled;
@@ -204,7 +204,7 @@ module _ {W V : Type 0} {S : Ghosts W} {T : Ghosts V} (open_gate : Bool) (rules 
   at_inside none (Err (Capture side fault)) p = grind (arith, common_steps, nat_tests, at_fault)
   at_inside none (Err (Write Outside fault)) p = kept fault p p.kept
   at_inside none (Err (Write Inside fault)) p = record {
-    gets = has_front rules Inside inside outside old.to_inside new.to_inside p.inputs fault none p.front_of_all p.broke;
+    gets = has_front origin Inside inside outside old.to_inside new.to_inside p.inputs fault none p.front_of_all p.broke;
     same = p.broke.same;
     counted = λ not_run. one_counted _ _ _ fault p.broke;
     settled = λ settled. absurd settled;
@@ -215,24 +215,24 @@ module _ {W V : Type 0} {S : Ghosts W} {T : Ghosts V} (open_gate : Bool) (rules 
 -- WHERE THE DEVICES ARE LEFT
 
 -- the device of an output, which is left as the output leaves it
-done : {D : Type 0} {S : Ghosts D} (rules : Rules) (which : Which) (inside outside : Option (List ℕ))
+done : {D : Type 0} {S : Ghosts D} (origin : Origin) (which : Which) (inside outside : Option (List ℕ))
     (result : Result Totals Fault) (old new : Output D S) →
-    At rules which inside outside result old new → (start last : D) → old.device.now ≡ start →
+    At origin which inside outside result old new → (start last : D) → old.device.now ≡ start →
     (new.device.ghost_name ≡ old.device.ghost_name → last ≡ new.device.now) →
-    DeviceGets S rules which inside outside result start last
-done rules which inside outside result old new is start last from at = grind (arith, common_steps, nat_tests)
+    DeviceGetsFrom S origin which inside outside result start last
+done origin which inside outside result old new is start last from at = grind (arith, common_steps, nat_tests)
 
-module _ {W V : Type 0} {S : Ghosts W} {T : Ghosts V} (open_gate : Bool) (rules : Rules)
+module _ {W V : Type 0} {S : Ghosts W} {T : Ghosts V} (open_gate : Bool) (origin : Origin)
     (inside outside : Option (List ℕ))
     (old new : Leaving W V S T) (result : Result Totals Fault)
-    (runs : RunsTo open_gate rules inside outside file_header old new
+    (runs : RunsTo open_gate origin inside outside file_header old new
     result) where
   pub outside_gets : old.to_outside.written ≡ 0 → (start last : W) → old.to_outside.device.now ≡ start →
       (new.to_outside.device.ghost_name ≡ old.to_outside.device.ghost_name → last ≡ new.to_outside.device.now) →
-      DeviceGets S rules Outside inside outside result start last
+      DeviceGetsFrom S origin Outside inside outside result start last
   outside_gets none start last from at = grind (arith, common_steps, nat_tests, done, at_outside)
 
   pub inside_gets : old.to_inside.written ≡ 0 → (start last : V) → old.to_inside.device.now ≡ start →
       (new.to_inside.device.ghost_name ≡ old.to_inside.device.ghost_name → last ≡ new.to_inside.device.now) →
-      DeviceGets T rules Inside inside outside result start last
+      DeviceGetsFrom T origin Inside inside outside result start last
   inside_gets none start last from at = grind (arith, common_steps, nat_tests, done, at_inside)

@@ -7,11 +7,12 @@ use Rattle.napt_wire.specs.declared.Side.TheVariants as sides
 use Rattle.napt_capture.specs.{Contents.Contents, Capture.{failed_reads, read_whole}, Reading.{IsForRecords, StopsBy}, Text.text}
 use Rattle.napt_capture.specs.declared.fault.CaptureFault.{CaptureFault}
 use Rattle.napt_config.specs.Rules.{Rules}
+use Rattle.napt_dispatch.specs.declared.workers.Passed.{Passed}
 use Rattle.napt_records.specs.declared.{Fault.{Fault, TheVariants.{Capture, Run, Write}}, Which.{Which, TheVariants.{Outside, Inside, Report}}}
 use Rattle.napt_records.specs.{Output.records_to, Report.report_text, Taking.merged}
 use Rattle.napt_sequential.specs.declared.fault.RunFault.TheVariants.{Memory, TooMany, Pool}
-use Rattle.napt_run.specs.declared.captures.{Captures.Captures, Outputs.Outputs}
-use Rattle.napt_rules.specs.Prelude.{Arrival, ran}
+use Rattle.napt_run.specs.{Origins.{GivesState, Origin, opened, ran_by}, declared.captures.{Captures.Captures, Outputs.Outputs}}
+use Rattle.napt_rules.specs.Prelude.{Arrival}
 
 -- WHAT IS READ: the inside capture first
 
@@ -34,27 +35,31 @@ pub record Texts : Type 0 where
 abbrev pub arrivals_of : Captures → List Arrival
 arrivals_of captures = merged captures.inside.records captures.outside.records
 
-abbrev pub texts_made : Rules → Captures → Texts
-texts_made rules captures =
+abbrev pub texts_made : Origin → Captures → Texts
+texts_made origin captures =
     let arrivals : List Arrival = arrivals_of captures in
     record {
-      outside = text (records_to sides.Outside arrivals (ran rules arrivals).outcomes);
-      inside = text (records_to sides.Inside arrivals (ran rules arrivals).outcomes);
-      report = report_text captures.inside.cut captures.outside.cut (ran rules arrivals);
+      outside = text (records_to sides.Outside arrivals (ran_by origin arrivals).outcomes);
+      inside = text (records_to sides.Inside arrivals (ran_by origin arrivals).outcomes);
+      report = report_text captures.inside.cut captures.outside.cut (ran_by origin arrivals);
     }
 
 -- more than a run can count
 abbrev pub AreTooMany : Captures → Type 0
 AreTooMany captures = 2 ^ 32 ≤ length captures.inside.records + length captures.outside.records
 
-abbrev pub texts_by : Rules → Result Captures Fault → Result Texts Fault
-texts_by rules (Err fault) = Err fault
-texts_by rules (Ok captures) =
+abbrev pub texts_by : Origin → Result Captures Fault → Result Texts Fault
+texts_by origin (Err fault) = Err fault
+texts_by origin (Ok captures) =
     if nat_le (2 ^ 32) (length captures.inside.records + length captures.outside.records) then Err (Run TooMany)
-    else Ok (texts_made rules captures)
+    else Ok (texts_made origin captures)
 
+abbrev pub texts_from : Origin → List ℕ → List ℕ → Result Texts Fault
+texts_from origin inside outside = texts_by origin (read_both inside outside)
+
+-- from the bindings that a configuration opens with
 abbrev pub texts : Rules → List ℕ → List ℕ → Result Texts Fault
-texts rules inside outside = texts_by rules (read_both inside outside)
+texts rules inside outside = texts_from (opened rules) inside outside
 
 -- WHAT A DEVICE GETS
 
@@ -93,10 +98,19 @@ abbrev pub IfKnown : Option (List ℕ) → Option (List ℕ) → (List ℕ → L
 IfKnown inside outside Holds = IfSome inside (λ bytes. IfSome outside (λ others. Holds bytes others))
 
 -- it got this share of its text
+abbrev pub GetsFrom : Origin → Which → Share → Option (List ℕ) → Option (List ℕ) → Option (List ℕ) → Option (List ℕ) →
+    Type 0
+GetsFrom origin which nothing inside outside old new = new ≡ old
+GetsFrom origin which share inside outside old new = IfKnown inside outside (λ bytes others.
+    IsOkAnd (texts_from origin bytes others) (λ all. Receives share (text_to which all) old new))
+
 abbrev pub Gets : Rules → Which → Share → Option (List ℕ) → Option (List ℕ) → Option (List ℕ) → Option (List ℕ) → Type 0
-Gets rules which nothing inside outside old new = new ≡ old
-Gets rules which share inside outside old new = IfKnown inside outside (λ bytes others.
-    IsOkAnd (texts rules bytes others) (λ all. Receives share (text_to which all) old new))
+Gets rules which share inside outside old new = GetsFrom (opened rules) which share inside outside old new
+
+-- what is returned gives the state that the run leaves
+abbrev pub Leaves : Origin → Option (List ℕ) → Option (List ℕ) → Passed → Type 0
+Leaves origin inside outside passed = IfKnown inside outside (λ bytes others.
+    IsOkAnd (read_both bytes others) (λ captures. GivesState origin (arrivals_of captures) passed))
 
 -- THE RESULT
 
@@ -159,10 +173,11 @@ IsUnread sides.Outside known (Capture sides.Outside fault) = IsFaultIn known fau
 IsUnread side known other = ⊥
 
 -- the outputs made for these captures
-pub record AreOutputs (rules : Rules) (captures : Captures) (outputs : Outputs) : Type 0 where
-  pub to_outside : outputs.to_outside ≡ (texts_made rules captures).outside
-  pub to_inside : outputs.to_inside ≡ (texts_made rules captures).inside
-  pub report : string_bytes outputs.report ≡ (texts_made rules captures).report
+pub record AreOutputs (origin : Origin) (captures : Captures) (outputs : Outputs) : Type 0 where
+  pub to_outside : outputs.to_outside ≡ (texts_made origin captures).outside
+  pub to_inside : outputs.to_inside ≡ (texts_made origin captures).inside
+  pub report : string_bytes outputs.report ≡ (texts_made origin captures).report
+  pub left : GivesState origin (arrivals_of captures) outputs.passed
 
 -- the output that goes to a side
 abbrev pub output_to : Side → Which

@@ -9,6 +9,7 @@ pub use Rattle.napt_records.specs.MergeLaws
 pub use Rattle.napt_records.specs.Taking
 pub use Rattle.napt_records.specs.Output
 pub use Rattle.napt_records.specs.Report
+pub mod Origins
 pub mod Captures
 pub mod Files
 pub mod Outputs

@@ -11,7 +11,7 @@ use Rattle.napt_records.specs.declared.Fault.TheVariants as faults
 use Rattle.napt_records.specs.declared.Which.TheVariants as outputs
 use Rattle.napt_rules.specs.Prelude.{Arrival}
 use Rattle.napt_sequential.specs.declared.fault.RunFault.TheVariants as reasons
-use Rattle.napt_run.specs.{Captures.IfKnown, Files.files_until, Runs.IsToldOf}
+use Rattle.napt_run.specs.{Captures.IfKnown, Files.files_until, Origins.opened, Runs.IsToldOf}
 use Rattle.napt_run.specs.{Streams.{AreTaken, DeviceGets, Explains, IsOfRun, IsSettledBy, IsStopFault, ended}, declared.logging.Halt.Halt}
 use Rattle.napt_run.specs.declared.{output.Output.Output, logged_fault.LoggedFault.{LoggedFault, TheVariants.{Run, Log}}, passing.Totals.Totals}
 use Rattle.napt_run.specs.declared.logging.Halt.TheVariants as halts
@@ -116,7 +116,7 @@ IsLoggedStop open_gate (Run fault) = IsStopFault open_gate fault
 -- what the result of a run says of the captures
 pub record LoggedSays (open_gate : Bool) (rules : Rules) (inside outside : Option (List ℕ))
     (result : Result Totals LoggedFault) : Type 0 where
-  pub told : IfOk result (IsToldOf rules inside outside)
+  pub told : IfOk result (IsToldOf (opened rules) inside outside)
   pub fault : IfErr result (LoggedExplains inside outside)
   pub stop : IfErr result (IsLoggedStop open_gate)
 

@@ -2,11 +2,11 @@
 use Rattle.std.specs.Prelude.{◌≡◌, ◌⊎◌, ℕ, List, Option, map, Result, Ok, Err}
 use Rattle.napt_wire.specs.declared.Side.{Side}
 use Rattle.napt_capture.specs.declared.fault.CaptureFault.{CaptureFault}
-use Rattle.napt_config.specs.Rules.{Rules}
+use Rattle.napt_run.specs.Origins.{Origin}
 use Rattle.napt_laws.specs.Dispatching.{IsFront}
 use Rattle.napt_records.specs.declared.{Fault.{Fault, TheVariants.{Capture, Run, Write}}, merged_streams.Cuts.Cuts}
 use Rattle.napt_rules.specs.Prelude.{Arrival}
-use Rattle.napt_sequential.specs.{Traces.traces, declared.{fault.RunFault.TheVariants.Memory, passage.Passage.Passage}}
+use Rattle.napt_sequential.specs.{Traces.traces_of, declared.{fault.RunFault.TheVariants.Memory, passage.{Passage.Passage, Trace.Trace}}}
 use Rattle.napt_run.specs.{Runs.IfHeld, Streams.AreTaken, declared.{logging.Halt.Halt, passing.Totals.Totals}}
 use Rattle.napt_run.specs.declared.logging.Halt.TheVariants as halts
 
@@ -20,38 +20,42 @@ as_run (Err (halts.Log fault)) = Err (Run Memory)
 abbrev pub Legs : Type 0 → Type 0
 Legs P = ℕ × P × P
 
--- what a run over these inputs tells of their legs
-abbrev pub legs_told : {P : Type 0} → (Passage → P) → Rules → List Arrival → List (Legs P)
-legs_told tells rules inputs = map (λ trace. (trace.now, tells trace.first, tells trace.second)) (traces rules inputs)
+abbrev pub traces_by : Origin → List Arrival → List Trace
+traces_by origin inputs = traces_of origin.rules origin.state inputs
 
-module _ {P K E : Type 0} (tells : Passage → P) (rules : Rules) (enters : K → List (Legs P) → K → Type 0)
+-- what a run over these inputs tells of their legs
+abbrev pub legs_told : {P : Type 0} → (Passage → P) → Origin → List Arrival → List (Legs P)
+legs_told tells origin inputs =
+    map (λ trace. (trace.now, tells trace.first, tells trace.second)) (traces_by origin inputs)
+
+module _ {P K E : Type 0} (tells : Passage → P) (origin : Origin) (enters : K → List (Legs P) → K → Type 0)
     (fails : K → List (Legs P) → E → K → Type 0) (is_settled : K → Type 0) (inside outside : Option (List ℕ))
     (old new : K) where
   -- all inputs, and it is settled
   pub record EntersAll (cuts : Cuts) : Type 0 where
     pub inputs : List Arrival
     pub all : IfHeld inside outside (λ all. all ≡ record { arrivals = inputs; end = Ok cuts })
-    pub entered : enters old (legs_told tells rules inputs) new
+    pub entered : enters old (legs_told tells origin inputs) new
     pub settled : is_settled new
 
   -- the inputs before a fault of a capture, and it is settled
   pub record EntersToFault (side : Side) (fault : CaptureFault) : Type 0 where
     pub inputs : List Arrival
     pub taken : IfHeld inside outside (λ all. AreTaken side fault all inputs)
-    pub entered : enters old (legs_told tells rules inputs) new
+    pub entered : enters old (legs_told tells origin inputs) new
     pub settled : is_settled new
 
   -- a front of the inputs
   pub record EntersFront : Type 0 where
     pub inputs : List Arrival
     pub front : IfHeld inside outside (λ all. IsFront inputs all.arrivals)
-    pub entered : enters old (legs_told tells rules inputs) new
+    pub entered : enters old (legs_told tells origin inputs) new
 
   -- a front of the inputs, and it failed over them
   pub record FailsOver (fault : E) : Type 0 where
     pub inputs : List Arrival
     pub front : IfHeld inside outside (λ all. IsFront inputs all.arrivals)
-    pub failed : fails old (legs_told tells rules inputs) fault new
+    pub failed : fails old (legs_told tells origin inputs) fault new
 
   -- where the run failed, the log may have failed too
   abbrev pub LogsTo : Result Totals (Halt E) → Type 0

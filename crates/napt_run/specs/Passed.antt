@@ -2,13 +2,13 @@
 use Rattle.std.specs.Prelude.{◌≡◌, ◌⊎◌, ◌^◌, ◌<◌, Bool, List, ◌++◌, length, Option, None, Some, Result, Ok, Err}
 use Rattle.napt_capture.specs.declared.device.Sink as sink
 use Rattle.napt_capture.specs.declared.device.Source as source
-use Rattle.napt_config.specs.Rules.{Rules}
+use Rattle.napt_run.specs.Origins.{GivesState, Origin, ran_by}
 use Rattle.napt_dispatch.specs.{Dispatch.IsFaultUnder, Passing.HasCome, declared.{stopped.Stopped.Stopped, workers.Passed.Passed}}
 use Rattle.napt_dispatch.specs.declared.stopped.Stopped.TheVariants as stops
 use Rattle.napt_laws.specs.Dispatching.{IsFront}
 use Rattle.napt_records.specs.{Merged.{EndsWith, HandsOut, cut_of}, declared.Fault.{Fault, TheVariants.{Capture, Run, Write}}}
 use Rattle.napt_records.specs.declared.merged_streams.{MergedStreams.MergedStreams, SideFault.SideFault}
-use Rattle.napt_rules.specs.Prelude.{Arrival, ran}
+use Rattle.napt_rules.specs.Prelude.{Arrival}
 use Rattle.napt_sequential.specs.{Inputs.Came, declared.passage.Passage.Passage}
 use Rattle.napt_run.specs.{Leaving.{Fails, IsSettled, Takes, Timed}, Logging.{Legs, legs_told}, Runs.left_of, declared.leaving.Leaving.Leaving}
 use Rattle.napt_run.specs.declared.{leaving.OutputFault.OutputFault, leaving_with_log.LeavingFault.{LeavingFault, TheVariants.{Output, Log}}, logging.Halt.Halt}
@@ -27,27 +27,28 @@ pub record FailsAfter {W V : Type 0} {S : sink.Ghosts W} {T : sink.Ghosts V} (be
   pub took : Takes before first middle
   pub failed : Fails middle others fault after
 
-module _ {A F W V : Type 0} {S : sink.Ghosts W} {T : sink.Ghosts V} (rules : Rules)
+module _ {A F W V : Type 0} {S : sink.Ghosts W} {T : sink.Ghosts V} (origin : Origin)
     (hands : A → List Arrival → A → Type 0) (ends : A → Option F → A → Type 0) (from : A) (before : Leaving W V S T)
     (left : A) (after : Leaving W V S T) where
   -- the arrivals ended or failed, and what leaves of the inputs before was taken
   pub record PassesTo (end : Option F) : Type 0 where
     pub inputs : List Arrival
     pub came : Came hands ends from inputs end left
-    pub took : Takes before (left_of rules inputs) after
+    pub took : Takes before (left_of origin inputs) after
     pub settled : IsSettled after
     pub few : length inputs < 2 ^ 64
 
   pub record PassesWell (passed : Passed) : Type 0 where
     pub whole : PassesTo None
-    pub bindings : passed.bindings.items ≡ (ran rules whole.inputs).bindings
+    pub bindings : passed.bindings.items ≡ (ran_by origin whole.inputs).bindings
+    pub left : GivesState origin whole.inputs passed
 
   -- an output failed, and what left before is the first of what leaves
   pub record PassesEarly (fault : OutputFault) : Type 0 where
     pub inputs : List Arrival
     pub went : List Timed
     pub come : HasCome hands ends from inputs left
-    pub front : IsFront went (left_of rules inputs)
+    pub front : IsFront went (left_of origin inputs)
     pub failed : FailsAfter before went fault after
 
   -- the run itself failed, or its log. An output may have failed too
@@ -55,7 +56,7 @@ module _ {A F W V : Type 0} {S : sink.Ghosts W} {T : sink.Ghosts V} (rules : Rul
     pub inputs : List Arrival
     pub went : List Timed
     pub come : HasCome hands ends from inputs left
-    pub front : IsFront went (left_of rules inputs)
+    pub front : IsFront went (left_of origin inputs)
     pub took : Takes before went after ⊎ ((fault : OutputFault) × FailsAfter before went fault after)
 
   abbrev pub PassesBy : {E : Type 0} → Result Passed (Stopped F (LeavingFault E)) → Type 0
@@ -66,11 +67,11 @@ module _ {A F W V : Type 0} {S : sink.Ghosts W} {T : sink.Ghosts V} (rules : Rul
   PassesBy (Err (stops.Run fault)) = PassesHalted
 
 module _ {R Q W V : Type 0} {G : source.Ghosts R} {H : source.Ghosts Q} {S : sink.Ghosts W} {T : sink.Ghosts V}
-    (open_gate : Bool) (rules : Rules) (from : MergedStreams R Q G H) (before : Leaving W V S T)
+    (open_gate : Bool) (origin : Origin) (from : MergedStreams R Q G H) (before : Leaving W V S T)
     (left : MergedStreams R Q G H) (after : Leaving W V S T) where
   -- all went well, with these totals for the report
   pub record PassesAll (totals : Totals) : Type 0 where
-    pub well : PassesWell rules HandsOut EndsWith from before left after totals.passed
+    pub well : PassesWell origin HandsOut EndsWith from before left after totals.passed
     pub counts : totals.counts ≡ after.counts
     pub cut_inside : totals.cuts.inside ≡ cut_of left.inside
     pub cut_outside : totals.cuts.outside ≡ cut_of left.outside
@@ -78,15 +79,15 @@ module _ {R Q W V : Type 0} {G : source.Ghosts R} {H : source.Ghosts Q} {S : sin
   abbrev pub PassesOr : Result Totals Fault → Type 0
   PassesOr (Ok totals) = PassesAll totals
   PassesOr (Err (Capture side fault)) =
-      PassesTo rules HandsOut EndsWith from before left after (Some (record { side = side; fault = fault }))
+      PassesTo origin HandsOut EndsWith from before left after (Some (record { side = side; fault = fault }))
   PassesOr (Err (Write which fault)) =
-      PassesEarly rules HandsOut EndsWith from before left after (record { which = which; fault = fault })
+      PassesEarly origin HandsOut EndsWith from before left after (record { which = which; fault = fault })
   PassesOr (Err (Run fault)) =
-      IsFaultUnder open_gate fault × PassesHalted rules HandsOut EndsWith from before left after
+      IsFaultUnder open_gate fault × PassesHalted origin HandsOut EndsWith from before left after
 
 -- THE LOG
 
-module _ {P A F K E : Type 0} (tells : Passage → P) (rules : Rules) (hands : A → List Arrival → A → Type 0)
+module _ {P A F K E : Type 0} (tells : Passage → P) (origin : Origin) (hands : A → List Arrival → A → Type 0)
     (ends : A → Option F → A → Type 0) (enters : K → List (Legs P) → K → Type 0)
     (fails : K → List (Legs P) → E → K → Type 0) (is_settled : K → Type 0) (from : A) (old : K) (left : A)
     (new : K) where
@@ -94,7 +95,7 @@ module _ {P A F K E : Type 0} (tells : Passage → P) (rules : Rules) (hands : A
   pub record EntersTo (end : Option F) : Type 0 where
     pub inputs : List Arrival
     pub came : Came hands ends from inputs end left
-    pub entered : enters old (legs_told tells rules inputs) new
+    pub entered : enters old (legs_told tells origin inputs) new
     pub settled : is_settled new
 
   -- it was entered the first of the inputs that came
@@ -102,14 +103,14 @@ module _ {P A F K E : Type 0} (tells : Passage → P) (rules : Rules) (hands : A
     pub first : List Arrival
     pub later : List Arrival
     pub come : HasCome hands ends from (first ++ later) left
-    pub entered : enters old (legs_told tells rules first) new
+    pub entered : enters old (legs_told tells origin first) new
 
   -- or failed over them
   pub record FailsFirst (fault : E) : Type 0 where
     pub first : List Arrival
     pub later : List Arrival
     pub come : HasCome hands ends from (first ++ later) left
-    pub failed : fails old (legs_told tells rules first) fault new
+    pub failed : fails old (legs_told tells origin first) fault new
 
   abbrev pub EntersBy : Result Passed (Stopped F (LeavingFault E)) → Type 0
   EntersBy (Ok passed) = EntersTo None

@@ -1,21 +1,21 @@
 -- A run that succeeds writes the same, whether its captures are read as they arrive or whole.
 use Rattle.std.specs.Prelude.{◌≡◌, ℕ, List, Option, Some, Ok}
-use Rattle.napt_config.specs.Rules.{Rules}
+use Rattle.napt_run.specs.Origins.{Origin}
 use Rattle.napt_records.specs.declared.Which.TheVariants.{Outside, Inside, Report}
-use Rattle.napt_run.specs.{Captures.{Gets, whole}, Streams.{Streams, Reports}}
+use Rattle.napt_run.specs.{Captures.{GetsFrom, whole}, Streams.{Streams, Reports}}
 
 -- what `run_captures` promises of an output, and what `run_streams` does, over the same bytes
 abbrev pub OutputsAreTheSame : Type 0
-OutputsAreTheSame = (rules : Rules) (inside outside : List ℕ) (done : Unit {0}) (old : List ℕ)
+OutputsAreTheSame = (origin : Origin) (inside outside : List ℕ) (done : Unit {0}) (old : List ℕ)
     (new other : Option (List ℕ)) →
-    (Gets rules Outside whole (Some inside) (Some outside) (Some old) new →
-    Streams rules Outside (Ok done) (Some inside) (Some outside) (Some old) other → other ≡ new)
-    × (Gets rules Inside whole (Some inside) (Some outside) (Some old) new →
-    Streams rules Inside (Ok done) (Some inside) (Some outside) (Some old) other → other ≡ new)
+    (GetsFrom origin Outside whole (Some inside) (Some outside) (Some old) new →
+    Streams origin Outside (Ok done) (Some inside) (Some outside) (Some old) other → other ≡ new)
+    × (GetsFrom origin Inside whole (Some inside) (Some outside) (Some old) new →
+    Streams origin Inside (Ok done) (Some inside) (Some outside) (Some old) other → other ≡ new)
 
 -- and of the report
 abbrev pub ReportsAreTheSame : Type 0
-ReportsAreTheSame = (rules : Rules) (inside outside : List ℕ) (done : Unit {0}) (old : List ℕ)
+ReportsAreTheSame = (origin : Origin) (inside outside : List ℕ) (done : Unit {0}) (old : List ℕ)
     (new other : Option (List ℕ)) →
-    Gets rules Report whole (Some inside) (Some outside) (Some old) new →
-    Reports rules (Ok done) (Some inside) (Some outside) (Some old) other → other ≡ new
+    GetsFrom origin Report whole (Some inside) (Some outside) (Some old) new →
+    Reports origin (Ok done) (Some inside) (Some outside) (Some old) other → other ≡ new

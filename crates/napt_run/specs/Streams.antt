@@ -8,19 +8,19 @@ use Rattle.napt_capture.specs.{Capture.spelling_in, Reading.{Gives, Says, StopsB
 use Rattle.napt_capture.specs.declared.{records.Records.Records, fault.CaptureFault.{CaptureFault, TheVariants.{TooLarge, Read, Memory}}}
 use Rattle.napt_capture.specs.declared.device.Sink as sink
 use Rattle.napt_config.specs.Rules.{Rules}
-use Rattle.napt_dispatch.specs.Dispatch.{IsFaultUnder}
+use Rattle.napt_dispatch.specs.{Dispatch.IsFaultUnder, declared.workers.Passed.Passed}
 use Rattle.napt_records.specs.{Output.records_to, Report.report_text, Taking.Inputs, declared.{merged_streams.Cuts.Cuts, Fault.Fault}}
 use Rattle.napt_records.specs.declared.{Fault.TheVariants.{Capture, Run, Write}, Which.{Which, TheVariants.{Outside, Inside, Report}}}
 use Rattle.napt_laws.specs.Dispatching.{IsFront}
-use Rattle.napt_run.specs.{Captures.{IfKnown, failed_readings, failed_writings}, Files.files_until}
-use Rattle.napt_rules.specs.Prelude.{Arrival, ran}
+use Rattle.napt_run.specs.{Captures.{IfKnown, failed_readings, failed_writings}, Files.files_until, Origins.{GivesState, Origin, opened, ran_by}}
+use Rattle.napt_rules.specs.Prelude.{Arrival}
 use Rattle.napt_sequential.specs.declared.fault.RunFault.TheVariants as faults
 
 -- WHAT IS WRITTEN
 
 -- the text of a capture that a run over these inputs writes
-abbrev pub capture_text : Rules → Side → List Arrival → List ℕ
-capture_text rules side inputs = text (records_to side inputs (ran rules inputs).outcomes)
+abbrev pub capture_text : Origin → Side → List Arrival → List ℕ
+capture_text origin side inputs = text (records_to side inputs (ran_by origin inputs).outcomes)
 
 abbrev pub side_of : Which → Side
 side_of Outside = sides.Outside
@@ -28,21 +28,21 @@ side_of Inside = sides.Inside
 side_of Report = sides.Inside
 
 -- all of the text
-abbrev pub HasAll : Rules → Which → Inputs → Option (List ℕ) → Option (List ℕ) → Type 0
-HasAll rules which all old new = IsOk all.end × Appends old new (capture_text rules (side_of which) all.arrivals)
+abbrev pub HasAll : Origin → Which → Inputs → Option (List ℕ) → Option (List ℕ) → Type 0
+HasAll origin which all old new = IsOk all.end × Appends old new (capture_text origin (side_of which) all.arrivals)
 
 -- all of the text of a front of the inputs
-abbrev pub HasText : Rules → Which → Inputs → Option (List ℕ) → Option (List ℕ) → Type 0
-HasText rules which all old new =
+abbrev pub HasText : Origin → Which → Inputs → Option (List ℕ) → Option (List ℕ) → Type 0
+HasText origin which all old new =
     (inputs : List Arrival) × IsFront inputs all.arrivals
-    × Appends old new (capture_text rules (side_of which) inputs)
+    × Appends old new (capture_text origin (side_of which) inputs)
 
 -- as much of it as the fault says, whose number saturates
-abbrev pub HasFront : Rules → Which → ℕ → Inputs → Option (List ℕ) → Option (List ℕ) → Type 0
-HasFront rules which written all old new =
+abbrev pub HasFront : Origin → Which → ℕ → Inputs → Option (List ℕ) → Option (List ℕ) → Type 0
+HasFront origin which written all old new =
     (inputs : List Arrival) × IsFront inputs all.arrivals × ((count : ℕ) × (written ≡ min count (2 ^ 64 - 1))
-    × (count ≤ length (capture_text rules (side_of which) inputs))
-    × Appends old new (take count (capture_text rules (side_of which) inputs)))
+    × (count ≤ length (capture_text origin (side_of which) inputs))
+    × Appends old new (take count (capture_text origin (side_of which) inputs)))
 
 -- the inputs before a fault of a side; a front of them, if its device or memory failed
 abbrev pub AreTaken : Side → CaptureFault → Inputs → List Arrival → Type 0
@@ -55,34 +55,34 @@ abbrev pub IsUnbegun : ℕ → Option (List ℕ) → Option (List ℕ) → Type 
 IsUnbegun written old new = (written ≤ length file_header) × (new ≡ old)
 
 -- writing an output failed after so many bytes
-abbrev pub HasWritten : Rules → Which → Which → ℕ → Inputs → Option (List ℕ) → Option (List ℕ) → Type 0
-HasWritten rules which Report written all old new = HasAll rules which all old new
-HasWritten rules Outside Outside written all old new = HasFront rules Outside written all old new
-HasWritten rules Inside Inside written all old new = HasFront rules Inside written all old new
-HasWritten rules Outside Inside written all old new = HasText rules Outside all old new
-HasWritten rules other Outside written all old new = HasText rules other all old new ⊎ IsUnbegun written old new
-HasWritten rules Report Inside written all old new = HasText rules Report all old new
+abbrev pub HasWritten : Origin → Which → Which → ℕ → Inputs → Option (List ℕ) → Option (List ℕ) → Type 0
+HasWritten origin which Report written all old new = HasAll origin which all old new
+HasWritten origin Outside Outside written all old new = HasFront origin Outside written all old new
+HasWritten origin Inside Inside written all old new = HasFront origin Inside written all old new
+HasWritten origin Outside Inside written all old new = HasText origin Outside all old new
+HasWritten origin other Outside written all old new = HasText origin other all old new ⊎ IsUnbegun written old new
+HasWritten origin Report Inside written all old new = HasText origin Report all old new
 
 -- at least the header, and as much of it as a failed write left
-abbrev pub HasPart : Rules → Which → Inputs → Option (List ℕ) → Option (List ℕ) → Type 0
-HasPart rules which all old new =
+abbrev pub HasPart : Origin → Which → Inputs → Option (List ℕ) → Option (List ℕ) → Type 0
+HasPart origin which all old new =
     (inputs : List Arrival) × IsFront inputs all.arrivals × ((count : ℕ) × (length file_header ≤ count)
-    × (count ≤ length (capture_text rules (side_of which) inputs))
-    × Appends old new (take count (capture_text rules (side_of which) inputs)))
+    × (count ≤ length (capture_text origin (side_of which) inputs))
+    × Appends old new (take count (capture_text origin (side_of which) inputs)))
 
 -- by the result of the run
-abbrev pub GetsOf : Rules → Which → Result (Unit {0}) Fault → Inputs → Option (List ℕ) → Option (List ℕ) → Type 0
-GetsOf rules which (Ok done) all old new = HasAll rules which all old new
-GetsOf rules which (Err (Capture side fault)) all old new =
+abbrev pub GetsOf : Origin → Which → Result (Unit {0}) Fault → Inputs → Option (List ℕ) → Option (List ℕ) → Type 0
+GetsOf origin which (Ok done) all old new = HasAll origin which all old new
+GetsOf origin which (Err (Capture side fault)) all old new =
     (inputs : List Arrival) × AreTaken side fault all inputs
-    × Appends old new (capture_text rules (side_of which) inputs)
-GetsOf rules which (Err (Write other fault)) all old new = HasWritten rules which other fault.written all old new
-GetsOf rules which (Err (Run fault)) all old new = HasText rules which all old new ⊎ HasPart rules which all old new
+    × Appends old new (capture_text origin (side_of which) inputs)
+GetsOf origin which (Err (Write other fault)) all old new = HasWritten origin which other fault.written all old new
+GetsOf origin which (Err (Run fault)) all old new = HasText origin which all old new ⊎ HasPart origin which all old new
 
-abbrev pub Streams : Rules → Which → Result (Unit {0}) Fault → Option (List ℕ) → Option (List ℕ) → Option (List ℕ) →
+abbrev pub Streams : Origin → Which → Result (Unit {0}) Fault → Option (List ℕ) → Option (List ℕ) → Option (List ℕ) →
     Option (List ℕ) → Type 0
-Streams rules which result inside outside old new =
-    IfKnown inside outside (λ bytes others. GetsOf rules which result (files_until bytes others) old new)
+Streams origin which result inside outside old new =
+    IfKnown inside outside (λ bytes others. GetsOf origin which result (files_until bytes others) old new)
 
 -- THE REPORT
 
@@ -93,20 +93,20 @@ GetsReport report (Err (Write Report fault)) old new =
     (fault.written ≤ length report) × Appends old new (take fault.written report)
 GetsReport report (Err other) old new = new ≡ old
 
-abbrev pub ReportsAll : Rules → Result (Unit {0}) Fault → Inputs → Option (List ℕ) → Option (List ℕ) → Type 0
-ReportsAll rules result all old new =
+abbrev pub ReportsAll : Origin → Result (Unit {0}) Fault → Inputs → Option (List ℕ) → Option (List ℕ) → Type 0
+ReportsAll origin result all old new =
     (cuts : Cuts) × (all.end ≡ Ok cuts)
-    × GetsReport (report_text cuts.inside cuts.outside (ran rules all.arrivals)) result old new
+    × GetsReport (report_text cuts.inside cuts.outside (ran_by origin all.arrivals)) result old new
 
-abbrev pub ReportsOf : Rules → Result (Unit {0}) Fault → Inputs → Option (List ℕ) → Option (List ℕ) → Type 0
-ReportsOf rules (Ok done) all old new = ReportsAll rules (Ok done) all old new
-ReportsOf rules (Err (Write Report fault)) all old new = ReportsAll rules (Err (Write Report fault)) all old new
-ReportsOf rules (Err other) all old new = new ≡ old
+abbrev pub ReportsOf : Origin → Result (Unit {0}) Fault → Inputs → Option (List ℕ) → Option (List ℕ) → Type 0
+ReportsOf origin (Ok done) all old new = ReportsAll origin (Ok done) all old new
+ReportsOf origin (Err (Write Report fault)) all old new = ReportsAll origin (Err (Write Report fault)) all old new
+ReportsOf origin (Err other) all old new = new ≡ old
 
-abbrev pub Reports : Rules → Result (Unit {0}) Fault → Option (List ℕ) → Option (List ℕ) → Option (List ℕ) →
+abbrev pub Reports : Origin → Result (Unit {0}) Fault → Option (List ℕ) → Option (List ℕ) → Option (List ℕ) →
     Option (List ℕ) → Type 0
-Reports rules result inside outside old new =
-    IfKnown inside outside (λ bytes others. ReportsOf rules result (files_until bytes others) old new)
+Reports origin result inside outside old new =
+    IfKnown inside outside (λ bytes others. ReportsOf origin result (files_until bytes others) old new)
 
 -- THE FAULT
 
@@ -168,18 +168,33 @@ HasRead inside_failed outside_failed old new other_old other_new result =
 -- THE DEVICES
 
 -- what a run leaves on the device of a capture; its fault may hide failed calls
-pub record DeviceGets {D T : Type 0} (S : sink.Ghosts D) (rules : Rules) (which : Which)
+pub record DeviceGetsFrom {D T : Type 0} (S : sink.Ghosts D) (origin : Origin) (which : Which)
     (inside outside : Option (List ℕ)) (result : Result T Fault) (old new : D) : Type 0 where
-  pub gets : Streams rules which (ended result) inside outside (S.contents old) (S.contents new)
+  pub gets : Streams origin which (ended result) inside outside (S.contents old) (S.contents new)
   pub count : (¬ IsOfRun result) → S.failed new ≡ S.failed old + failed_writings which (ended result)
   pub settled : IsSettledBy (ended result) → S.is_flushed new
 
 -- and on that of the report
-pub record ReportGets {D : Type 0} (S : sink.Ghosts D) (rules : Rules) (inside outside : Option (List ℕ))
+pub record ReportGetsFrom {D : Type 0} (S : sink.Ghosts D) (origin : Origin) (inside outside : Option (List ℕ))
     (result : Result (Unit {0}) Fault) (old new : D) : Type 0 where
-  pub gets : Reports rules result inside outside (S.contents old) (S.contents new)
+  pub gets : Reports origin result inside outside (S.contents old) (S.contents new)
   pub count : S.failed new ≡ S.failed old + failed_writings Report result
   pub settled : OnOk result (S.is_flushed new)
+
+-- from the bindings that a configuration opens with
+abbrev pub DeviceGets : {D T : Type 0} → sink.Ghosts D → Rules → Which → Option (List ℕ) → Option (List ℕ) →
+    Result T Fault → D → D → Type 0
+DeviceGets S rules which inside outside result old new =
+    DeviceGetsFrom S (opened rules) which inside outside result old new
+
+abbrev pub ReportGets : {D : Type 0} → sink.Ghosts D → Rules → Option (List ℕ) → Option (List ℕ) →
+    Result (Unit {0}) Fault → D → D → Type 0
+ReportGets S rules inside outside result old new = ReportGetsFrom S (opened rules) inside outside result old new
+
+-- what is returned gives the state that the run leaves
+abbrev pub LeavesInTheEnd : Origin → Option (List ℕ) → Option (List ℕ) → Passed → Type 0
+LeavesInTheEnd origin inside outside passed =
+    IfKnown inside outside (λ bytes others. GivesState origin (files_until bytes others).arrivals passed)
 
 -- STEPS
 

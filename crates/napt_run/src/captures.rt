@@ -1,15 +1,18 @@
 //! A run over captures: reads both, runs in memory, and only then writes.
 ghost use Rattle.std.specs.Prelude.{◌≡◌, ◌↔◌, ◌+◌, ◌-◌, ◌^◌, ◌<◌, length, All, OnOk, IfOk, IfErr, Err, true, false};
 ghost use Rattle.napt_capture.specs.Text.{IsWritable};
-ghost use Rattle.napt_run.specs.Captures.{Answers, AreOutputs, AreTooMany, Explains, Gets, IfKnown, IsReadFrom, IsUnread, IsWriteFaultOf, Receives, failed_readings, failed_writings, output_to, share_of, texts};
+ghost use Rattle.napt_rules.specs.Prelude.{Takes};
+ghost use Rattle.napt_run.specs.Captures.{Answers, AreOutputs, AreTooMany, Explains, Gets, GetsFrom, IfKnown, IsReadFrom, IsUnread, IsWriteFaultOf, Leaves, Receives, failed_readings, failed_writings, output_to, share_of, texts, texts_from};
+ghost use Rattle.napt_run.specs.{Origins.origin_of, Streams.ended};
 ghost use Rattle.napt_sequential.specs.Faults.{is_gate_fault};
 ghost use Rattle.napt_records.specs.Faults.{tells_shut_gate};
 
 use crate::kept::Kept;
-use crate::passing::Setting;
+use crate::start::{Setting, Start, unbegun, without_state};
 use crate::whole::Tally;
 use napt_capture::{Capture, Sink, Source, Watched, read_capture, write_text};
 use napt_config::Config;
+use napt_dispatch::Passed;
 use napt_pool::Gate;
 use napt_records::{Fault, Merged, Which, report_of};
 use napt_sequential::{MOST_INPUTS, RunFault};
@@ -25,12 +28,13 @@ struct Captures {
     outside: Capture,
 }
 
-/// What a run writes.
+/// What a run writes, and what gives the state that it leaves.
 #[derive(Drop)]
 struct Outputs {
     to_outside: Kept,
     to_inside: Kept,
     report: String,
+    passed: Passed,
 }
 
 /// Reads the capture of a side.
@@ -66,12 +70,12 @@ impl Captures {
 
 /// Runs over the captures, and makes everything to be written.
 fn make_outputs<T: Threads + Wait + Copy + Send + 'static, G: Gate + Send + Sync + Drop + 'static>(
-    setting: Setting<'_, T, G>,
+    setting: Setting<'_, '_, T, G>,
     captures: Captures,
 ) -> Result<Outputs, RunFault>
     requires inside { All IsWritable captures.inside.records }
     requires outside { All IsWritable captures.outside.records }
-    ensures ok { IfOk result (λ outputs. AreOutputs setting.entry.config.now captures outputs) }
+    ensures ok { IfOk result (λ outputs. AreOutputs (origin_of setting.entry.start) captures outputs) }
     ensures too_many { (result ≡ Err RunFault.TooMany) ↔ AreTooMany captures }
     ensures gate { G.is_open ≡ true → IfErr result (λ fault. is_gate_fault fault ≡ false) }
 {
@@ -83,12 +87,13 @@ fn make_outputs<T: Threads + Wait + Copy + Send + 'static, G: Gate + Send + Sync
     let inputs = Merged::new(inside.records, outside.records);
     let mut to_outside = Watched::new(Kept::new(alloc)?);
     let mut to_inside = Watched::new(Kept::new(alloc)?);
-    let Tally { counts, bindings } = setting.run_into(inputs, &mut to_outside, &mut to_inside)?;
-    let report = report_of(alloc, &counts, &bindings, inside.cut, outside.cut)?;
+    let Tally { counts, passed } = setting.run_into(inputs, &mut to_outside, &mut to_inside)?;
+    let report = report_of(alloc, &counts, &passed.bindings, inside.cut, outside.cut)?;
     Ok(Outputs {
         to_outside: to_outside.into_inner(),
         to_inside: to_inside.into_inner(),
         report,
+        passed,
     })
 }
 
@@ -199,18 +204,89 @@ pub fn run_captures<
     ensures inside_flushed { OnOk result (V.is_flushed to_inside.new) }
     ensures report_flushed { OnOk result (U.is_flushed report.new) }
 {
+    let state = unbegun(alloc);
+    let start = Start {
+        config,
+        state: &state,
+    };
+    let run = resume_captures(
+        rt, alloc, start, inside, outside, to_outside, to_inside, report, gate,
+    );
+    without_state(run)
+}
+
+/// Translates both captures as `run_captures` does, but goes on from a state that the configuration takes: behind its own
+/// redirects, with the bindings of the state that live or are held at its clock. Returns, once the report is written, what
+/// gives the state that the run leaves. `run_captures` is this from no bindings, at time 0.
+///
+/// Fails as `run_captures` does.
+pub fn resume_captures<
+    T: Threads + Wait + Copy + Send + 'static,
+    R: Source,
+    Q: Source,
+    W: Sink,
+    V: Sink,
+    U: Sink,
+    G: Gate + Send + Sync + Drop + 'static,
+>(
+    rt: &T,
+    alloc: Global,
+    start: Start<'_>,
+    inside: &mut R,
+    outside: &mut Q,
+    to_outside: &mut W,
+    to_inside: &mut V,
+    report: &mut U,
+    gate: Arc<G>,
+) -> Result<Passed, Fault>
+    requires taken { Takes start.config.now start.state.now }
+    requires inside { R.failed inside.old < 2 ^ 64 - 1 }
+    requires outside { Q.failed outside.old < 2 ^ 64 - 1 }
+    requires to_outside { W.failed to_outside.old < 2 ^ 64 - 1 }
+    requires to_inside { V.failed to_inside.old < 2 ^ 64 - 1 }
+    requires report { U.failed report.old < 2 ^ 64 - 1 }
+    ensures to_outside { GetsFrom (origin_of start) Which.Outside
+        (share_of Which.Outside (ended result)) (R.remaining inside.old) (Q.remaining outside.old)
+        (W.contents to_outside.old) (W.contents to_outside.new) }
+    ensures to_inside { GetsFrom (origin_of start) Which.Inside
+        (share_of Which.Inside (ended result)) (R.remaining inside.old) (Q.remaining outside.old)
+        (V.contents to_inside.old) (V.contents to_inside.new) }
+    ensures report { GetsFrom (origin_of start) Which.Report
+        (share_of Which.Report (ended result)) (R.remaining inside.old) (Q.remaining outside.old)
+        (U.contents report.old) (U.contents report.new) }
+    ensures left { IfOk result
+        (Leaves (origin_of start) (R.remaining inside.old) (Q.remaining outside.old)) }
+    ensures answer { IfKnown (R.remaining inside.old) (Q.remaining outside.old)
+        (λ bytes others. Answers (texts_from (origin_of start) bytes others) (ended result)) }
+    ensures fault { IfErr result
+        (Explains (R.remaining inside.old) (Q.remaining outside.old)) }
+    ensures gate { G.is_open ≡ true → IfErr result (λ fault. tells_shut_gate fault ≡ false) }
+    ensures inside_readings { R.failed inside.new
+        ≡ R.failed inside.old + failed_readings Side.Inside result }
+    ensures outside_readings { Q.failed outside.new
+        ≡ Q.failed outside.old + failed_readings Side.Outside result }
+    ensures outside_writings { W.failed to_outside.new
+        ≡ W.failed to_outside.old + failed_writings Which.Outside (ended result) }
+    ensures inside_writings { V.failed to_inside.new
+        ≡ V.failed to_inside.old + failed_writings Which.Inside (ended result) }
+    ensures report_writings { U.failed report.new
+        ≡ U.failed report.old + failed_writings Which.Report (ended result) }
+    ensures outside_flushed { OnOk result (W.is_flushed to_outside.new) }
+    ensures inside_flushed { OnOk result (V.is_flushed to_inside.new) }
+    ensures report_flushed { OnOk result (U.is_flushed report.new) }
+{
     let inside = read_side(alloc, Side::Inside, inside)?;
     let outside = read_side(alloc, Side::Outside, outside)?;
     let captures = Captures { inside, outside };
     let setting = Setting {
         rt,
         alloc,
-        config,
+        start,
         gate,
     };
     let outputs = make_outputs(setting, captures)?;
     write_side(Side::Outside, &outputs.to_outside, to_outside)?;
     write_side(Side::Inside, &outputs.to_inside, to_inside)?;
     write_report(report, &outputs.report)?;
-    Ok(())
+    Ok(outputs.passed)
 }

@@ -1,6 +1,7 @@
 //! A run from captures to captures: [`run_captures`] reads both captures whole, runs in memory and then writes;
 //! [`run_streams`] reads, translates and writes as the packets arrive, in bounded memory. If both succeed, they write the
-//! same bytes ([`streams_write_the_same`]).
+//! same bytes ([`streams_write_the_same`]). [`resume_captures`] and [`resume_streams`] do so from a state, and give the state
+//! that the run leaves.
 //!
 //! [`merge`] makes the inputs of a run from the records of both captures. [`run_plain`] takes them through the translators of
 //! all external addresses on one thread; [`run_workers`] does so by [`dispatch`], with one worker thread for each address,
@@ -20,20 +21,23 @@ mod passing;
 mod reporting;
 mod running_log;
 mod sources;
+mod start;
 mod streaming;
 mod streams;
 mod whole;
 
-pub use captures::run_captures;
+pub use captures::{resume_captures, run_captures};
 pub use laws::streams_write_the_same;
 pub use logged_fault::LoggedFault;
 pub use logged_streams::run_streams_with_log;
-pub use napt_dispatch::{Worker, dispatch, run_workers};
+pub use napt_dispatch::{Passed, Worker, dispatch, run_workers};
 pub use napt_records::{
     EndpointText, Fault, Which, cause_name, merge, merge_is_in_order, protocol_name, report_text,
 };
+pub use napt_rules::State;
 pub use napt_sequential::{
     Input, Outcome, Run, RunFault, Untold, legs_are_local, places_stand_for_legs, right_answers,
     run_plain, runs_are_sound, runs_keep_the_quota, translators_are_local,
 };
-pub use streams::run_streams;
+pub use start::Start;
+pub use streams::{resume_streams, run_streams};

@@ -1,14 +1,15 @@
 //! A run over captures as they arrive, with its log.
 ghost use Rattle.std.specs.Prelude.{◌≡◌, ◌-◌, ◌^◌, ◌<◌, [], IfErr, true};
 ghost use Rattle.napt_run.specs.LoggedStreams.{DeviceGetsOr, IsUnderOpenGate, LogGets, LogIsLeft, LoggedExplains, LoggedSays, besides_log, fault_of, reported_of};
-ghost use Rattle.napt_run.specs.{RunningLogs.{AreLaws, IsAt}, Streams.{HasRead, IsOfRun, ReportGets}};
+ghost use Rattle.napt_run.specs.{Origins.{opened, origin_of}, RunningLogs.{AreLaws, IsAt}, Streams.{HasRead, IsOfRun, ReportGets}};
 
 use crate::logged_fault::LoggedFault;
 use crate::logging::Halt;
 use crate::output::Output;
-use crate::passing::{Setting, Totals};
+use crate::passing::Totals;
 use crate::reporting::reported;
 use crate::running_log::RunningLog;
+use crate::start::{Setting, Start, unbegun};
 use napt_account::{KnownLog, traces_tell_the_log};
 use napt_capture::{Sink, Source};
 use napt_config::Config;
@@ -41,6 +42,7 @@ fn log_laws(config: &Config)
 
 impl<T: Threads + Wait + Copy + Send + 'static, G: Gate + Send + Sync + Drop + 'static> Setting<
     '_,
+    '_,
     T,
     G,
 > {
@@ -57,21 +59,22 @@ impl<T: Threads + Wait + Copy + Send + 'static, G: Gate + Send + Sync + Drop + '
         requires outside { Q.failed outside.old < 2 ^ 64 - 1 }
         requires to_outside { W.failed to_outside.old < 2 ^ 64 - 1 }
         requires to_inside { V.failed to_inside.old < 2 ^ 64 - 1 }
-        requires at { IsAt self.config.now [] log.old }
+        requires anew { origin_of self.start ≡ opened self.start.config.now }
+        requires at { IsAt self.start.config.now [] log.old }
         requires written { log.old.output.written ≡ 0 }
-        ensures to_outside { DeviceGetsOr W.Sink self.entry.config.now Which.Outside
+        ensures to_outside { DeviceGetsOr W.Sink self.entry.start.config.now Which.Outside
             (R.remaining inside.old) (Q.remaining outside.old) result
             to_outside.old to_outside.new }
-        ensures to_inside { DeviceGetsOr V.Sink self.entry.config.now Which.Inside
+        ensures to_inside { DeviceGetsOr V.Sink self.entry.start.config.now Which.Inside
             (R.remaining inside.old) (Q.remaining outside.old) result to_inside.old to_inside.new }
-        ensures log { LogIsLeft self.entry.config.now (R.remaining inside.old)
+        ensures log { LogIsLeft self.entry.start.config.now (R.remaining inside.old)
             (Q.remaining outside.old) result log.old.output log.new.output }
-        ensures says { LoggedSays G.is_open self.entry.config.now (R.remaining inside.old)
+        ensures says { LoggedSays G.is_open self.entry.start.config.now (R.remaining inside.old)
             (Q.remaining outside.old) result }
         ensures readings { (¬ IsOfRun (besides_log result)) → HasRead R.failed Q.failed
             inside.old inside.new outside.old outside.new (besides_log result) }
     {
-        log_laws(self.config);
+        log_laws(self.start.config);
         log.open()?;
         match self.stream(inside, outside, to_outside, to_inside, log) {
             Ok(totals) => {
@@ -160,10 +163,15 @@ pub fn run_streams_with_log<
         inside.old inside.new outside.old outside.new (besides_log result) }
 {
     let known = KnownLog::begin(alloc, config)?;
+    let state = unbegun(alloc);
+    let start = Start {
+        config,
+        state: &state,
+    };
     let setting = Setting {
         rt,
         alloc,
-        config,
+        start,
         gate,
     };
     let mut running = RunningLog::over(alloc, known, Output::over(log));

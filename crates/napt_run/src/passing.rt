@@ -2,28 +2,18 @@
 ghost use Rattle.std.specs.Prelude.{IfErr};
 ghost use Rattle.napt_dispatch.specs.Passing.{IsStoppedUnder};
 ghost use Rattle.napt_records.specs.Merged.{EndsWith, HandsOut};
-ghost use Rattle.napt_run.specs.{LeavingWithLogs.IsSamePlace, Logging.as_run, Passed.{EntersBy, PassesBy, PassesOr, passed_as}};
+ghost use Rattle.napt_run.specs.{LeavingWithLogs.IsSamePlace, Logging.as_run, Origins.origin_of, Passed.{EntersBy, PassesBy, PassesOr, passed_as}};
 
 use crate::leaving_with_log::{LeavingFault, LeavingWithLog};
 use crate::logging::{Halt, Logging};
+use crate::start::{Setting, Start};
 use napt_capture::{Sink, Source};
-use napt_config::Config;
 use napt_dispatch::{Passed, Stopped, run_through};
 use napt_pool::Gate;
 use napt_records::{Counts, Cuts, Fault, MergedStreams};
 use napt_sequential::Arrivals;
-use std::alloc::Global;
-use std::sync::{Arc, Wait};
+use std::sync::Wait;
 use std::thread::Threads;
-
-/// What a run needs besides its devices.
-#[derive(Drop)]
-pub(crate) struct Setting<'a, T, G> {
-    pub(crate) rt: &'a T,
-    pub(crate) alloc: Global,
-    pub(crate) config: &'a Config,
-    pub(crate) gate: Arc<G>,
-}
 
 /// What the report of a run is made from.
 #[derive(Drop)]
@@ -35,6 +25,7 @@ pub(crate) struct Totals {
 
 impl<T: Threads + Wait + Copy + Send + 'static, G: Gate + Send + Sync + Drop + 'static> Setting<
     '_,
+    '_,
     T,
     G,
 > {
@@ -44,9 +35,9 @@ impl<T: Threads + Wait + Copy + Send + 'static, G: Gate + Send + Sync + Drop + '
         inputs: &mut A,
         both: &mut LeavingWithLog<'_, '_, '_, W, V, K>,
     ) -> Result<Passed, Stopped<A::Fault, LeavingFault<K::Fault>>>
-        ensures outputs { PassesBy self.entry.config.now A.hands A.ends inputs.old both.old.leaving
+        ensures outputs { PassesBy (origin_of self.entry.start) A.hands A.ends inputs.old both.old.leaving
             inputs.new both.new.leaving result }
-        ensures log { EntersBy K.Told.tells self.entry.config.now A.hands A.ends K.enters K.fails
+        ensures log { EntersBy K.Told.tells (origin_of self.entry.start) A.hands A.ends K.enters K.fails
             K.is_settled inputs.old both.old.log.now inputs.new both.new.log.now result }
         ensures same { IsSamePlace both.old both.new }
         ensures stop { IfErr result (IsStoppedUnder G.is_open) }
@@ -54,10 +45,11 @@ impl<T: Threads + Wait + Copy + Send + 'static, G: Gate + Send + Sync + Drop + '
         let Setting {
             rt,
             alloc,
-            config,
+            start,
             gate,
         } = self;
-        run_through(rt, alloc, config, inputs, both, gate)
+        let Start { config, state } = start;
+        run_through(rt, alloc, config, state, inputs, both, gate)
     }
 
     /// Runs until the captures end or something fails.
@@ -66,9 +58,9 @@ impl<T: Threads + Wait + Copy + Send + 'static, G: Gate + Send + Sync + Drop + '
         inputs: &mut MergedStreams<'_, '_, R, Q>,
         both: &mut LeavingWithLog<'_, '_, '_, W, V, K>,
     ) -> Result<Totals, Halt<K::Fault>>
-        ensures outputs { PassesOr G.is_open self.entry.config.now inputs.old both.old.leaving
+        ensures outputs { PassesOr G.is_open (origin_of self.entry.start) inputs.old both.old.leaving
             inputs.new both.new.leaving (as_run result) }
-        ensures log { EntersBy K.Told.tells self.entry.config.now HandsOut EndsWith K.enters K.fails
+        ensures log { EntersBy K.Told.tells (origin_of self.entry.start) HandsOut EndsWith K.enters K.fails
             K.is_settled inputs.old both.old.log.now inputs.new both.new.log.now (passed_as result) }
         ensures same { IsSamePlace both.old both.new }
     {

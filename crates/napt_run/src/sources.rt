@@ -1,12 +1,13 @@
 //! The captures that a run reads.
 ghost use Rattle.std.specs.Prelude.{◌≡◌, ◌+◌, ◌-◌, ◌^◌, ◌<◌, [], List, Option, ℕ, IfErr, IfOk};
 ghost use Rattle.napt_records.specs.Counts.{AreCountsOf};
-ghost use Rattle.napt_run.specs.{Captures.failed_readings, Leaving.{AreSound, IsSettled}, Runs.RunsTo, LeavingWithLogs.IsSamePlace, Logging.{LogsTo, as_run}};
+ghost use Rattle.napt_run.specs.{Captures.failed_readings, Leaving.{AreSound, IsSettled}, Origins.origin_of, Runs.RunsTo, LeavingWithLogs.IsSamePlace, Logging.{LogsTo, as_run}};
 ghost use Rattle.napt_run.specs.Streams.{HasRead, IsBehindHeader, IsHeaderFault, IsOfRun};
 
 use crate::leaving_with_log::LeavingWithLog;
 use crate::logging::{Halt, Logging};
-use crate::passing::{Setting, Totals};
+use crate::passing::Totals;
+use crate::start::Setting;
 use napt_capture::{Records, Sink, Source};
 use napt_pool::Gate;
 use napt_records::{Fault, MergedStreams, Stream};
@@ -24,6 +25,7 @@ struct BothRecords {
 
 impl<T: Threads + Wait + Copy + Send + 'static, G: Gate + Send + Sync + Drop + 'static> Setting<
     '_,
+    '_,
     T,
     G,
 > {
@@ -40,11 +42,11 @@ impl<T: Threads + Wait + Copy + Send + 'static, G: Gate + Send + Sync + Drop + '
         requires counts { AreCountsOf [] both.old.leaving.counts }
         requires settled { IsSettled both.old.leaving }
         requires log { K.is_settled both.old.log.now }
-        ensures runs { RunsTo G.is_open self.entry.config.now (R.remaining inside.old)
+        ensures runs { RunsTo G.is_open (origin_of self.entry.start) (R.remaining inside.old)
             (Q.remaining outside.old) [] both.old.leaving both.new.leaving (as_run result) }
         ensures readings { (¬ IsOfRun (as_run result)) → HasRead R.failed Q.failed
             inside.old inside.new outside.old outside.new (as_run result) }
-        ensures logs { LogsTo K.Told.tells self.entry.config.now K.enters K.fails K.is_settled
+        ensures logs { LogsTo K.Told.tells (origin_of self.entry.start) K.enters K.fails K.is_settled
             (R.remaining inside.old) (Q.remaining outside.old) both.old.log.now both.new.log.now
             result }
         ensures same { IsSamePlace both.old both.new }
@@ -73,14 +75,14 @@ impl<T: Threads + Wait + Copy + Send + 'static, G: Gate + Send + Sync + Drop + '
         ensures runs { (bytes others : Option (List ℕ)) →
             IsBehindHeader R.Source records.inside bytes inside.old →
             IsBehindHeader Q.Source records.outside others outside.old →
-            RunsTo G.is_open self.entry.config.now bytes others [] both.old.leaving both.new.leaving
+            RunsTo G.is_open (origin_of self.entry.start) bytes others [] both.old.leaving both.new.leaving
             (as_run result) }
         ensures readings { (¬ IsOfRun (as_run result)) → HasRead R.failed Q.failed
             inside.old inside.new outside.old outside.new (as_run result) }
         ensures logs { (bytes others : Option (List ℕ)) →
             IsBehindHeader R.Source records.inside bytes inside.old →
             IsBehindHeader Q.Source records.outside others outside.old →
-            LogsTo K.Told.tells self.entry.config.now K.enters K.fails K.is_settled bytes others
+            LogsTo K.Told.tells (origin_of self.entry.start) K.enters K.fails K.is_settled bytes others
             both.old.log.now both.new.log.now result }
         ensures same { IsSamePlace both.old both.new }
     {

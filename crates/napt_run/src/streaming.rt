@@ -2,14 +2,15 @@
 ghost use Rattle.std.specs.Prelude.{◌≡◌, ◌-◌, ◌^◌, ◌<◌, []};
 ghost use Rattle.napt_capture.specs.Text.{file_header};
 ghost use Rattle.napt_records.specs.Counts.{AreCountsOf};
-ghost use Rattle.napt_run.specs.{Leaving.AreSound, Runs.{ResultSays, RunsTo}, LeavingWithLogs.IsSamePlace, Logging.{LogsTo, as_run}};
+ghost use Rattle.napt_run.specs.{Leaving.AreSound, Origins.origin_of, Runs.{ResultSays, RunsTo}, LeavingWithLogs.IsSamePlace, Logging.{LogsTo, as_run}};
 ghost use Rattle.napt_run.specs.Streams.{DeviceGets, HasRead, IsOfRun};
 
 use crate::leaving::Leaving;
 use crate::leaving_with_log::LeavingWithLog;
 use crate::logging::{Halt, Logging};
 use crate::output::Output;
-use crate::passing::{Setting, Totals};
+use crate::passing::Totals;
+use crate::start::Setting;
 use napt_capture::{Sink, Source};
 use napt_pool::Gate;
 use napt_records::Which;
@@ -17,6 +18,7 @@ use std::sync::Wait;
 use std::thread::Threads;
 
 impl<T: Threads + Wait + Copy + Send + 'static, G: Gate + Send + Sync + Drop + 'static> Setting<
+    '_,
     '_,
     T,
     G,
@@ -35,17 +37,17 @@ impl<T: Threads + Wait + Copy + Send + 'static, G: Gate + Send + Sync + Drop + '
         requires to_outside { W.failed to_outside.old < 2 ^ 64 - 1 }
         requires to_inside { V.failed to_inside.old < 2 ^ 64 - 1 }
         requires log { K.is_settled log.old }
-        ensures to_outside { DeviceGets W.Sink self.entry.config.now Which.Outside
+        ensures to_outside { DeviceGets W.Sink (origin_of self.entry.start) Which.Outside
             (R.remaining inside.old) (Q.remaining outside.old) (as_run result)
             to_outside.old to_outside.new }
-        ensures to_inside { DeviceGets V.Sink self.entry.config.now Which.Inside
+        ensures to_inside { DeviceGets V.Sink (origin_of self.entry.start) Which.Inside
             (R.remaining inside.old) (Q.remaining outside.old) (as_run result)
             to_inside.old to_inside.new }
-        ensures says { ResultSays G.is_open self.entry.config.now (R.remaining inside.old)
+        ensures says { ResultSays G.is_open (origin_of self.entry.start) (R.remaining inside.old)
             (Q.remaining outside.old) (as_run result) }
         ensures readings { (¬ IsOfRun (as_run result)) → HasRead R.failed Q.failed
             inside.old inside.new outside.old outside.new (as_run result) }
-        ensures logs { LogsTo K.Told.tells self.entry.config.now K.enters K.fails K.is_settled
+        ensures logs { LogsTo K.Told.tells (origin_of self.entry.start) K.enters K.fails K.is_settled
             (R.remaining inside.old) (Q.remaining outside.old) log.old log.new result }
     {
         let ours = Output::over(to_outside);
@@ -78,11 +80,11 @@ impl<T: Threads + Wait + Copy + Send + 'static, G: Gate + Send + Sync + Drop + '
         requires written { both.old.leaving.to_outside.written ≡ 0 }
         requires counts { AreCountsOf [] both.old.leaving.counts }
         requires log { K.is_settled both.old.log.now }
-        ensures runs { RunsTo G.is_open self.entry.config.now (R.remaining inside.old)
+        ensures runs { RunsTo G.is_open (origin_of self.entry.start) (R.remaining inside.old)
             (Q.remaining outside.old) file_header both.old.leaving both.new.leaving (as_run result) }
         ensures readings { (¬ IsOfRun (as_run result)) → HasRead R.failed Q.failed
             inside.old inside.new outside.old outside.new (as_run result) }
-        ensures logs { LogsTo K.Told.tells self.entry.config.now K.enters K.fails K.is_settled
+        ensures logs { LogsTo K.Told.tells (origin_of self.entry.start) K.enters K.fails K.is_settled
             (R.remaining inside.old) (Q.remaining outside.old) both.old.log.now both.new.log.now
             result }
         ensures same { IsSamePlace both.old both.new }

@@ -1,13 +1,17 @@
 //! A run over captures as they arrive.
-ghost use Rattle.std.specs.Prelude.{◌≡◌, ◌≢◌, ◌-◌, ◌^◌, ◌<◌, IfErr, Err, true, false};
+ghost use Rattle.std.specs.Prelude.{◌≡◌, ◌≢◌, ◌-◌, ◌^◌, ◌<◌, IfErr, IfOk, Err, true, false};
+ghost use Rattle.napt_rules.specs.Prelude.{Takes};
 ghost use Rattle.napt_records.specs.Faults.{tells_shut_gate};
-ghost use Rattle.napt_run.specs.{Logging.as_run, Streams.{DeviceGets, Explains, HasRead, IsOfRun, ReportGets}};
+ghost use Rattle.napt_run.specs.{Logging.as_run, Origins.origin_of, Runs.passed_if};
+ghost use Rattle.napt_run.specs.Streams.{DeviceGets, DeviceGetsFrom, Explains, HasRead, IsOfRun, LeavesInTheEnd, ReportGets, ReportGetsFrom, ended};
 
 use crate::logging::{Halt, Unlogged};
-use crate::passing::{Setting, Totals};
+use crate::passing::Totals;
 use crate::reporting::reported;
+use crate::start::{Setting, Start, unbegun, without_state};
 use napt_capture::{Sink, Source};
 use napt_config::Config;
+use napt_dispatch::Passed;
 use napt_pool::Gate;
 use napt_records::{Fault, Which};
 use napt_sequential::{NoFault, RunFault};
@@ -24,6 +28,15 @@ fn unlogged(streamed: Result<Totals, Halt<NoFault>>) -> Result<Totals, Fault>
         Err(Halt::Run(fault)) => Err(fault),
         Err(Halt::Log(none)) => match none {},
     }
+}
+
+/// What a run came to, once its report is written, if that was to be.
+fn passed_if(told: Result<Totals, Fault>, written: Result<(), Fault>) -> Result<Passed, Fault>
+    ensures { result ≡ passed_if told written }
+{
+    let Totals { passed, .. } = told?;
+    written?;
+    Ok(passed)
 }
 
 /// Translates both captures, and writes what leaves to each side, and a report, as `run_captures` does, but as the packets
@@ -81,15 +94,71 @@ pub fn run_streams<
     ensures readings { (¬ IsOfRun result) → HasRead R.failed Q.failed
         inside.old inside.new outside.old outside.new result }
 {
+    let state = unbegun(alloc);
+    let start = Start {
+        config,
+        state: &state,
+    };
+    let run = resume_streams(
+        rt, alloc, start, inside, outside, to_outside, to_inside, report, gate,
+    );
+    without_state(run)
+}
+
+/// Translates both captures as `run_streams` does, but goes on from a state, as `resume_captures` does. Returns, once the
+/// report is written, what gives the state that the run leaves. `run_streams` is this from no bindings, at time 0.
+///
+/// Fails as `run_streams` does.
+pub fn resume_streams<
+    T: Threads + Wait + Copy + Send + 'static,
+    R: Source,
+    Q: Source,
+    W: Sink,
+    V: Sink,
+    U: Sink,
+    G: Gate + Send + Sync + Drop + 'static,
+>(
+    rt: &T,
+    alloc: Global,
+    start: Start<'_>,
+    inside: &mut R,
+    outside: &mut Q,
+    to_outside: &mut W,
+    to_inside: &mut V,
+    report: &mut U,
+    gate: Arc<G>,
+) -> Result<Passed, Fault>
+    requires taken { Takes start.config.now start.state.now }
+    requires inside { R.failed inside.old < 2 ^ 64 - 1 }
+    requires outside { Q.failed outside.old < 2 ^ 64 - 1 }
+    requires to_outside { W.failed to_outside.old < 2 ^ 64 - 1 }
+    requires to_inside { V.failed to_inside.old < 2 ^ 64 - 1 }
+    requires report { U.failed report.old < 2 ^ 64 - 1 }
+    ensures to_outside { DeviceGetsFrom W.Sink (origin_of start) Which.Outside (R.remaining inside.old)
+        (Q.remaining outside.old) (ended result) to_outside.old to_outside.new }
+    ensures to_inside { DeviceGetsFrom V.Sink (origin_of start) Which.Inside (R.remaining inside.old)
+        (Q.remaining outside.old) (ended result) to_inside.old to_inside.new }
+    ensures report { ReportGetsFrom U.Sink (origin_of start) (R.remaining inside.old)
+        (Q.remaining outside.old) (ended result) report.old report.new }
+    ensures left { IfOk result
+        (LeavesInTheEnd (origin_of start) (R.remaining inside.old) (Q.remaining outside.old)) }
+    ensures fault { IfErr result
+        (Explains (R.remaining inside.old) (Q.remaining outside.old)) }
+    ensures too_many { result ≢ Err (Fault.Run RunFault.TooMany) }
+    ensures gate { G.is_open ≡ true → IfErr result (λ fault. tells_shut_gate fault ≡ false) }
+    // Unless the run itself failed, the failed read is the reported one; a failed write may hide it.
+    ensures readings { (¬ IsOfRun (ended result)) → HasRead R.failed Q.failed
+        inside.old inside.new outside.old outside.new (ended result) }
+{
     let setting = Setting {
         rt,
         alloc,
-        config,
+        start,
         gate,
     };
     let mut nobody = Unlogged;
     let streamed = setting.stream(inside, outside, to_outside, to_inside, &mut nobody);
     let told = unlogged(streamed);
     let written = reported(alloc, &told, report);
-    told.and(written)
+    passed_if(told, written)
 }

@@ -3,31 +3,31 @@ ghost use Rattle.std.specs.{Prelude.{◌≡◌, ◌-◌, ◌^◌, ◌<◌, [], A
 ghost use Rattle.napt_capture.specs.Text.{file_header};
 ghost use Rattle.napt_dispatch.specs.Dispatch.{IsFaultUnder};
 ghost use Rattle.napt_records.specs.{Counts.AreCountsOf, Output.IsTimely};
-ghost use Rattle.napt_run.specs.{Streams.capture_text, Whole.{IsTallyOf, WritesAll}};
+ghost use Rattle.napt_run.specs.{Origins.origin_of, Streams.capture_text, Whole.{IsTallyOf, WritesAll}};
 
 use crate::leaving::Leaving;
 use crate::leaving_with_log::LeavingWithLog;
 use crate::logging::Unlogged;
 use crate::output::Output;
-use crate::passing::Setting;
+use crate::start::Setting;
 use napt_capture::Sink;
 use napt_dispatch::{Passed, Stopped};
 use napt_pool::Gate;
 use napt_records::{Counts, Merged};
-use napt_rules::Row;
 use napt_sequential::RunFault;
 use napt_wire::Side;
 use std::sync::Wait;
 use std::thread::Threads;
 
-/// What the report of a run is made from, but which captures were cut.
+/// What the report of a run is made from, but which captures were cut, and the state that it leaves.
 #[derive(Drop)]
 pub(crate) struct Tally {
     pub(crate) counts: Counts,
-    pub(crate) bindings: Vec<Row>,
+    pub(crate) passed: Passed,
 }
 
 impl<T: Threads + Wait + Copy + Send + 'static, G: Gate + Send + Sync + Drop + 'static> Setting<
+    '_,
     '_,
     T,
     G,
@@ -43,10 +43,10 @@ impl<T: Threads + Wait + Copy + Send + 'static, G: Gate + Send + Sync + Drop + '
         requires to_outside { W.failed to_outside.old < 2 ^ 64 - 1 }
         requires to_inside { V.failed to_inside.old < 2 ^ 64 - 1 }
         ensures to_outside { OnOk result (Appends (W.contents to_outside.old)
-            (W.contents to_outside.new) (capture_text self.entry.config.now Side.Outside inputs)) }
+            (W.contents to_outside.new) (capture_text (origin_of self.entry.start) Side.Outside inputs)) }
         ensures to_inside { OnOk result (Appends (V.contents to_inside.old)
-            (V.contents to_inside.new) (capture_text self.entry.config.now Side.Inside inputs)) }
-        ensures tally { IfOk result (IsTallyOf self.entry.config.now inputs) }
+            (V.contents to_inside.new) (capture_text (origin_of self.entry.start) Side.Inside inputs)) }
+        ensures tally { IfOk result (IsTallyOf (origin_of self.entry.start) inputs) }
         ensures fault { IfErr result (IsFaultUnder G.is_open) }
     {
         let ours = Output::over(to_outside);
@@ -76,7 +76,7 @@ impl<T: Threads + Wait + Copy + Send + 'static, G: Gate + Send + Sync + Drop + '
         requires timely { All IsTimely inputs }
         requires counts { AreCountsOf [] both.old.leaving.counts }
         ensures ok { IfOk result
-            (WritesAll file_header self.entry.config.now inputs both.old.leaving both.new.leaving) }
+            (WritesAll file_header (origin_of self.entry.start) inputs both.old.leaving both.new.leaving) }
         ensures fault { IfErr result (IsFaultUnder G.is_open) }
     {
         match both.leaving.begin() {
@@ -94,13 +94,13 @@ impl<T: Threads + Wait + Copy + Send + 'static, G: Gate + Send + Sync + Drop + '
         requires timely { All IsTimely inputs }
         requires counts { AreCountsOf [] both.old.leaving.counts }
         ensures ok { IfOk result
-            (WritesAll [] self.entry.config.now inputs both.old.leaving both.new.leaving) }
+            (WritesAll [] (origin_of self.entry.start) inputs both.old.leaving both.new.leaving) }
         ensures fault { IfErr result (IsFaultUnder G.is_open) }
     {
         match self.run_all(&mut inputs, both) {
-            Ok(Passed { bindings, legs: _ }) => Ok(Tally {
+            Ok(passed) => Ok(Tally {
                 counts: both.leaving.counts,
-                bindings,
+                passed,
             }),
             Err(Stopped::Run(fault)) => Err(fault),
             Err(Stopped::Arrival(none)) => match none {},

@@ -11,6 +11,7 @@ use napt_config::Config;
 use napt_run::{Fault, LoggedFault, run_captures, run_streams, run_streams_with_log};
 use napt_samples::hosts::{RESOLVER, external};
 use std::alloc::{AllocError, Global};
+use std::ops::Range;
 use std::sync::{Arc, Wait};
 use std::test::Fail;
 use std::thread::Threads;
@@ -140,6 +141,9 @@ pub(crate) fn captured<T: Threads + Wait + AllocGlobal + Copy + Send + 'static>(
     })
 }
 
+/// All microseconds of a capture here.
+pub(crate) const ALL_TIMES: Range<u32> = 0..1_000_000;
+
 /// The header of a capture in microseconds, little-endian.
 pub(crate) const HEADER: [u8; 24] = [
     0xd4, 0xc3, 0xb2, 0xa1, 2, 0, 4, 0, 0, 0, 0, 0, 0, 0, 0, 0, 0xff, 0xff, 0, 0, 0x65, 0, 0, 0,
@@ -158,23 +162,33 @@ pub(crate) fn push_packet(
     text.extend_from_slice(bytes)
 }
 
-/// The thousand inputs as a capture of the inside.
-pub(crate) fn thousand_sent(alloc: Global) -> Result<Vec<u8>, AllocError> {
+/// A front or a rest of the thousand inputs, by the microseconds of their arrival, as a capture of the inside.
+pub(crate) fn sent_in(alloc: Global, times: &Range<u32>) -> Result<Vec<u8>, AllocError> {
     let mut text = Vec::from_slice(alloc, &HEADER)?;
     for input in &thousand_inputs(alloc)? {
         let microseconds = (input.time / 1000 & 0xf_ffff) as u32;
-        push_packet(&mut text, microseconds, &input.bytes)?;
+        if times.contains(&microseconds) {
+            push_packet(&mut text, microseconds, &input.bytes)?;
+        }
     }
     Ok(text)
 }
 
-/// A hundred packets of the resolver to the external endpoints of the thousand inputs in turn, one in each 10 ms, at
-/// the times of inside packets.
-fn hundred_replies(alloc: Global) -> Result<Vec<u8>, AllocError> {
+/// The thousand inputs as a capture of the inside.
+pub(crate) fn thousand_sent(alloc: Global) -> Result<Vec<u8>, AllocError> {
+    sent_in(alloc, &ALL_TIMES)
+}
+
+/// Of a hundred packets of the resolver to the external endpoints of the thousand inputs in turn, one in each 10 ms, at
+/// the times of inside packets, those that arrive at these microseconds.
+pub(crate) fn replies_in(alloc: Global, times: &Range<u32>) -> Result<Vec<u8>, AllocError> {
     let mut text = Vec::from_slice(alloc, &HEADER)?;
     for k in 0..100u16 {
-        let reply = udp(alloc, RESOLVER, external(1 + k % 3, 6000 + k % 4))?;
-        push_packet(&mut text, u32::from(k) * 10_000, &reply)?;
+        let microseconds = u32::from(k) * 10_000;
+        if times.contains(&microseconds) {
+            let reply = udp(alloc, RESOLVER, external(1 + k % 3, 6000 + k % 4))?;
+            push_packet(&mut text, microseconds, &reply)?;
+        }
     }
     Ok(text)
 }
@@ -187,7 +201,7 @@ fn large_run<T: Threads + Wait + AllocGlobal + Copy + Send + 'static>(
 ) -> Result<Written, Fail> {
     let alloc = rt.alloc();
     let settings = format!(in alloc; "{THREE_ADDRESSES}ring = {ring}\n")?;
-    let (inside, outside) = (thousand_sent(alloc)?, hundred_replies(alloc)?);
+    let (inside, outside) = (thousand_sent(alloc)?, replies_in(alloc, &ALL_TIMES)?);
     let given = Given {
         call: Call::Captures,
         settings: Some(&settings),

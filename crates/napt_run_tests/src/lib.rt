@@ -29,6 +29,8 @@ mod pool;
 #[cfg(test)]
 mod program;
 #[cfg(test)]
+mod resumed;
+#[cfg(test)]
 mod running_logs;
 pub mod sample_inputs;
 #[cfg(test)]

@@ -3,10 +3,10 @@ use Rattle.std.proofs.lemmas.{Grind.common_steps, Bool.Decides.nat_tests}
 use Rattle.std.{proofs.Common.{◌≡◌, ℕ, zero, suc, ◌+◌, max, List, [], ◌∷◌, ◌++◌, length, map, Some, Err, refl, sym, ◌∙◌, ap, arith}, specs.List.slice_get}
 use Rattle.napt_wire.specs.declared.Cause.{Cause}
 use Rattle.napt_config.specs.Rules.{Rules}
-use Rattle.napt_rules.specs.{Prelude.{Binding, opening, admission, Arrival, Course, first_leg, step_as, step, run, last_clock, ran}, declared.Outcome.Outcome}
+use Rattle.napt_rules.specs.{Prelude.{Binding, admission, Arrival, Course, first_leg, step_as, step, last_clock, State, course_from, ran_from}, declared.Outcome.Outcome}
 use Rattle.napt_laws.{specs.Dispatching.IsFront, proofs.Grown.outcomes_long}
-use Rattle.napt_sequential.specs.{declared.passage.{Passage.TheVariants.Nothing, Trace.Trace}, Steps.{joined, steps}}
-use Rattle.napt_sequential.{specs.Traces.{trace_of, traces_from, traces}, proofs.Passed.traces_grow}
+use Rattle.napt_sequential.specs.{declared.passage.{Passage.TheVariants.Nothing, Trace.Trace}, Steps.{joined, steps_of}}
+use Rattle.napt_sequential.{specs.Traces.{trace_of, traces_from, traces_of}, proofs.Passed.traces_grow}
 
 -- LISTS
 
@@ -54,44 +54,43 @@ traces_begin rules number clock (x ∷ xs) ys list =
     let more = traces_begin rules (number + 1) now xs ys first.list in
     (more.0, ap (λ (l : List Trace). trace_of rules.timers now first ∷ l) more.1)
 
-pub steps_long : (rules : Rules) (inputs : List Arrival) → length (steps rules inputs) ≡ length inputs
-steps_long rules inputs = grind (arith, common_steps, nat_tests, joined_long, outcomes_long, traces_long)
+pub steps_long : (rules : Rules) (state : State) (inputs : List Arrival) → length (steps_of rules state inputs) ≡ length inputs
+steps_long rules state inputs = grind (arith, common_steps, nat_tests, joined_long, outcomes_long, traces_long)
 
-pub steps_outcomes : (rules : Rules) (inputs : List Arrival) →
-    map (λ s. s.outcome) (steps rules inputs) ≡ (run rules inputs (opening rules)).outcomes
-steps_outcomes rules inputs = grind (arith, common_steps, nat_tests, joined_outcomes, outcomes_long, traces_long)
+pub steps_outcomes : (rules : Rules) (state : State) (inputs : List Arrival) →
+    map (λ s. s.outcome) (steps_of rules state inputs) ≡ (course_from rules state inputs).outcomes
+steps_outcomes rules state inputs = grind (arith, common_steps, nat_tests, joined_outcomes, outcomes_long, traces_long)
 
-pub steps_get : (rules : Rules) (inputs : List Arrival) (n : ℕ) (o : Outcome) (t : Trace) →
-    slice_get (run rules inputs (opening rules)).outcomes n ≡ Some o → slice_get (traces rules inputs) n ≡ Some t →
-    slice_get (steps rules inputs) n ≡ Some (record { outcome = o; trace = t })
-steps_get rules inputs n o t = joined_get (run rules inputs (opening rules)).outcomes (traces rules inputs) n o t
+pub steps_get : (rules : Rules) (state : State) (inputs : List Arrival) (n : ℕ) (o : Outcome) (t : Trace) →
+    slice_get (course_from rules state inputs).outcomes n ≡ Some o → slice_get (traces_of rules state inputs) n ≡ Some t →
+    slice_get (steps_of rules state inputs) n ≡ Some (record { outcome = o; trace = t })
+steps_get rules state inputs n o t = joined_get (course_from rules state inputs).outcomes (traces_of rules state inputs) n o t
 
 -- the trace of an input that is refused
-pub refused_trace : (rules : Rules) (done rest : List Arrival) (input : Arrival) (number now : ℕ) →
-    length done ≡ number → max (last_clock 0 done) input.clock ≡ now → (cause : Cause) →
-    admission rules input ≡ Err cause → slice_get (traces rules ((done ++ input ∷ []) ++ rest)) number
+pub refused_trace : (rules : Rules) (state : State) (done rest : List Arrival) (input : Arrival) (number now : ℕ) →
+    length done ≡ number → max (last_clock state.clock done) input.clock ≡ now → (cause : Cause) →
+    admission rules input ≡ Err cause → slice_get (traces_of rules state ((done ++ input ∷ []) ++ rest)) number
     ≡ Some (record { now = now; first = Nothing; second = Nothing })
-refused_trace rules done rest input number now long clock cause is =
-    let list : List Binding = (run rules done (opening rules)).list in
+refused_trace rules state done rest input number now long clock cause is =
+    let list : List Binding = (course_from rules state done).list in
     let none : Trace = record { now = now; first = Nothing; second = Nothing } in
-    let grown : traces rules (done ++ input ∷ []) ≡ traces rules done ++ none ∷ [] =
-    traces_grow rules 0 0 done input (opening rules) number (omega arith)
-    ∙ (ap (λ (t : ℕ). traces rules done ++ trace_of rules.timers t (step rules number t input list) ∷ []) clock
-    ∙ ap (λ a. traces rules done ++ trace_of rules.timers now (step_as rules (first_leg number now input.side) a list)
+    let grown : traces_of rules state (done ++ input ∷ []) ≡ traces_of rules state done ++ none ∷ [] =
+    traces_grow rules 0 state.clock done input state.list number (omega arith)
+    ∙ (ap (λ (t : ℕ). traces_of rules state done ++ trace_of rules.timers t (step rules number t input list) ∷ []) clock
+    ∙ ap (λ a. traces_of rules state done ++ trace_of rules.timers now (step_as rules (first_leg number now input.side) a list)
     ∷ []) is) in
-    let front = traces_begin rules 0 0 (done ++ input ∷ []) rest (opening rules) in
+    let front = traces_begin rules 0 state.clock (done ++ input ∷ []) rest state.list in
     ap (λ (ts : List Trace). slice_get ts number) (sym front.1 ∙ ap (λ (ts : List Trace). ts ++ front.0) grown)
-    ∙ get_at (traces rules done) none front.0 number (traces_long rules 0 0 done (opening rules) ∙ long)
+    ∙ get_at (traces_of rules state done) none front.0 number (traces_long rules 0 state.clock done state.list ∙ long)
 
 pub input_there : (done rest : List Arrival) (input : Arrival) (number : ℕ) → length done ≡ number →
     slice_get ((done ++ input ∷ []) ++ rest) number ≡ Some input
 input_there done rest input number long = get_at done input rest number long
 
 -- they have the outcomes of the run
-pub steps_ran : (rules : Rules) (inputs : List Arrival) →
-    map (λ s. s.outcome) (steps rules inputs) ≡ (ran rules inputs).outcomes
-unfolding ran
-steps_ran rules inputs = steps_outcomes rules inputs
+pub steps_ran : (rules : Rules) (state : State) (inputs : List Arrival) →
+    map (λ s. s.outcome) (steps_of rules state inputs) ≡ (ran_from rules state inputs).outcomes
+steps_ran rules state inputs = steps_outcomes rules state inputs
 
 joined_traces : (os : List Outcome) (ts : List Trace) → length os ≡ length ts → map (λ s. s.trace) (joined os ts) ≡ ts
 joined_traces [] [] e = refl
@@ -100,6 +99,6 @@ joined_traces (o ∷ os) [] e = absurd (omega arith)
 joined_traces (o ∷ os) (t ∷ ts) e = ap (λ (l : List Trace). t ∷ l) (joined_traces os ts (omega arith))
 
 -- and its traces
-pub steps_traces : (rules : Rules) (inputs : List Arrival) →
-    map (λ s. s.trace) (steps rules inputs) ≡ traces rules inputs
-steps_traces rules inputs = grind (arith, common_steps, nat_tests, joined_traces, outcomes_long, traces_long)
+pub steps_traces : (rules : Rules) (state : State) (inputs : List Arrival) →
+    map (λ s. s.trace) (steps_of rules state inputs) ≡ traces_of rules state inputs
+steps_traces rules state inputs = grind (arith, common_steps, nat_tests, joined_traces, outcomes_long, traces_long)

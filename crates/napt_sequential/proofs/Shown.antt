@@ -1,9 +1,9 @@
 -- The translators after all inputs have the bindings and counts of the run.
 use Rattle.std.{proofs.{lemmas.{Grind.common_steps, Bool.Decides.nat_tests}, Common.{◌≡◌, ℕ, List, length, map, refl, ◌∙◌, ap, arith}}, specs.Prelude.flat_map}
 use Rattle.napt_config.specs.Rules.{Rules}
-use Rattle.napt_rules.specs.{declared.{Row.Row, Outcome.Outcome}, Prelude.{of, opening, Arrival, rows, run, last_clock, legs_at, Ran, ran}}
+use Rattle.napt_rules.specs.{declared.{Row.Row, Outcome.Outcome}, Prelude.{of, Arrival, rows, last_clock, legs_at, Ran, State, course_from, ran_from}}
 use Rattle.napt_sequential.{specs.declared.counted_translator.CountedTranslator.CountedTranslator, proofs.Lists.{map_alike, flat_alike}}
-use Rattle.napt_sequential.specs.CountedTranslators.{RunState, IsCountedTranslator, AreCountedTranslators, rows_at, state_of}
+use Rattle.napt_sequential.specs.CountedTranslators.{RunState, IsCountedTranslator, AreCountedTranslators, rows_at, state_from}
 use Rattle.napt_laws.proofs.RunsLocal.{latest}
 
 counted_rows : (rules : Rules) (place address : ℕ) (state : RunState) (counted : CountedTranslator) →
@@ -11,26 +11,25 @@ counted_rows : (rules : Rules) (place address : ℕ) (state : RunState) (counted
     ≡ rows rules.timers now (of address state.list)
 counted_rows rules place address state counted is now e = grind (arith, common_steps, nat_tests, latest)
 
-pub run_shown : (rules : Rules) (inputs : List Arrival) (outcomes : List Outcome) (last : ℕ)
+pub run_shown : (rules : Rules) (state : State) (inputs : List Arrival) (outcomes : List Outcome) (last : ℕ)
     (translators : List CountedTranslator) (bindings : List Row) (legs : List ℕ) →
-    outcomes ≡ (run rules inputs (opening rules)).outcomes → last ≡ last_clock 0 inputs →
-    AreCountedTranslators rules (state_of rules inputs) translators →
+    outcomes ≡ (course_from rules state inputs).outcomes → last ≡ last_clock state.clock inputs →
+    AreCountedTranslators rules (state_from rules state inputs) translators →
     bindings ≡ flat_map (rows_at last) translators → legs ≡ map (λ (s : CountedTranslator). s.legs) translators →
-    (let r : Ran = record { outcomes = outcomes; bindings = bindings; legs = legs } in r ≡ ran rules inputs)
-unfolding ran
-run_shown rules inputs outcomes last translators bindings legs told clock are shown legs_are =
-    let state : RunState = state_of rules inputs in
-    let all : flat_map (rows_at last) translators ≡ flat_map (λ (address : ℕ). rows rules.timers (last_clock 0 inputs)
-    (of address state.list)) rules.pool =
-    flat_alike (rows_at last) (λ (address : ℕ). rows rules.timers (last_clock 0 inputs) (of address state.list))
+    (let r : Ran = record { outcomes = outcomes; bindings = bindings; legs = legs } in r ≡ ran_from rules state inputs)
+run_shown rules state inputs outcomes last translators bindings legs told clock are shown legs_are =
+    let after : RunState = state_from rules state inputs in
+    let all : flat_map (rows_at last) translators ≡ flat_map (λ (address : ℕ). rows rules.timers (last_clock state.clock inputs)
+    (of address after.list)) rules.pool =
+    flat_alike (rows_at last) (λ (address : ℕ). rows rules.timers (last_clock state.clock inputs) (of address after.list))
     translators rules.pool are.many
-    (λ place counted address is_there at. counted_rows rules place address state counted
+    (λ place counted address is_there at. counted_rows rules place address after counted
     (are.each place address counted at is_there) last clock
-    ∙ ap (λ (t : ℕ). rows rules.timers t (of address state.list)) clock) in
+    ∙ ap (λ (t : ℕ). rows rules.timers t (of address after.list)) clock) in
     let counts : map (λ (s : CountedTranslator). s.legs) translators
-    ≡ map (λ (address : ℕ). length (legs_at address state.acts)) rules.pool =
-    map_alike (λ (s : CountedTranslator). s.legs) (λ (address : ℕ). length (legs_at address state.acts))
+    ≡ map (λ (address : ℕ). length (legs_at address after.acts)) rules.pool =
+    map_alike (λ (s : CountedTranslator). s.legs) (λ (address : ℕ). length (legs_at address after.acts))
     translators rules.pool are.many
-    (λ place counted address is_there at. let is : IsCountedTranslator rules place address state counted =
+    (λ place counted address is_there at. let is : IsCountedTranslator rules place address after counted =
     are.each place address counted at is_there in is.legs) in
     rw (told, shown, legs_are, all, counts) refl

@@ -2,7 +2,7 @@
 use Rattle.std.proofs.lemmas.{Grind.common_steps, Bool.{Decides.nat_tests, eqb-true, eqb-false}}
 use Rattle.std.proofs.Common.{◌≡◌, ℕ, ◌≤◌, true, false, cond, List, [], ◌∷◌, ◌++◌, map, refl, sym, ◌∙◌, ap, subst, arith, eqb, append_assoc}
 use Rattle.napt_config.specs.Rules.{Rules}
-use Rattle.napt_rules.specs.{Prelude.{Binding, of, Acted, act, Arrival, Act, run, last_clock, acts_at, legs_at, Kept, kept_after}, declared.Leg.Leg}
+use Rattle.napt_rules.specs.{Prelude.{Binding, of, Acted, act, Arrival, Act, last_clock, State, course_from, acts_at, legs_at, Kept, kept_after}, declared.Leg.Leg}
 use Rattle.napt_laws.{specs.{Agreeing.IsAtOnce, Dispatching.IsFront}, proofs.LegsLocal.alike}
 use Rattle.napt_laws.proofs.{RunsLocal.{on_time, leg_at_once, other_at_once}, Turns.{InTurn, run_turn}}
 use Rattle.napt_sequential.specs.{declared.{passage.Passage.Passage, telling.Told.Told}, CountedTranslators.{act_of, act_there, told_of}, Steps.told_replies}
@@ -47,15 +47,15 @@ module _ {P : Type 0} (tells : Passage → P) (rules : Rules) (address : ℕ) wh
             (λ e. eqb-false a.address address h (sym e)) a.leg p.0.later) p.1
       ] refl
 
-  abbrev fresh_of : List Binding → Kept
-  fresh_of list = record { list = of address list; at = 0 }
+  abbrev fresh_of : State → Kept
+  fresh_of state = record { list = of address state.list; at = state.clock }
 
-  pub told_alone : (inputs : List Arrival) (list : List Binding) →
-      told_replies tells rules address (legs_at address (run rules inputs list).acts) (fresh_of list)
-      ≡ map (told_of tells rules.timers) (acts_at address (run rules inputs list).acts)
-  told_alone inputs list =
-      alone 0 (fresh_of list) list (run rules inputs list).acts (last_clock 0 inputs) (run rules inputs list).list
-      (record { agrees = record { same = refl; taken = refl }; past = omega arith }) (run_turn rules 0 0 inputs list)
+  pub told_alone : (state : State) (inputs : List Arrival) →
+      told_replies tells rules address (legs_at address (course_from rules state inputs).acts) (fresh_of state)
+      ≡ map (told_of tells rules.timers) (acts_at address (course_from rules state inputs).acts)
+  told_alone state inputs =
+      alone state.clock (fresh_of state) state.list (course_from rules state inputs).acts (last_clock state.clock inputs) (course_from rules state inputs).list
+      (record { agrees = record { same = refl; taken = refl }; past = omega arith }) (run_turn rules 0 state.clock inputs state.list)
 
   -- what is told of a front of the legs begins what is told of all
   told_front : (xs rest : List Leg) (own : Kept) →
@@ -68,12 +68,12 @@ module _ {P : Type 0} (tells : Passage → P) (rules : Rules) (address : ℕ) wh
   front_front xs ys zs h g = (h.0 ++ g.0, sym (append_assoc xs h.0 g.0) ∙ (ap (λ (l : List _). l ++ g.0) h.1 ∙ g.1))
 
   -- where a translator was given a front of its address's legs, and told of some of them as it does, this is the run's
-  pub right_told : (inputs : List Arrival) (list : List Binding) (given : List Leg) (taken : List (Told P)) →
-      IsFront given (legs_at address (run rules inputs list).acts) →
-      IsFront taken (told_replies tells rules address given (fresh_of list)) →
-      IsFront taken (map (told_of tells rules.timers) (acts_at address (run rules inputs list).acts))
-  right_told inputs list given taken front right =
-      front_front taken (told_replies tells rules address given (fresh_of list)) _ right
-      (subst (λ (l : List (Told P)). IsFront (told_replies tells rules address given (fresh_of list)) l)
-      (ap (λ (ls : List Leg). told_replies tells rules address ls (fresh_of list)) front.1 ∙ told_alone inputs list)
-      (told_front given front.0 (fresh_of list)))
+  pub right_told : (state : State) (inputs : List Arrival) (given : List Leg) (taken : List (Told P)) →
+      IsFront given (legs_at address (course_from rules state inputs).acts) →
+      IsFront taken (told_replies tells rules address given (fresh_of state)) →
+      IsFront taken (map (told_of tells rules.timers) (acts_at address (course_from rules state inputs).acts))
+  right_told state inputs given taken front right =
+      front_front taken (told_replies tells rules address given (fresh_of state)) _ right
+      (subst (λ (l : List (Told P)). IsFront (told_replies tells rules address given (fresh_of state)) l)
+      (ap (λ (ls : List Leg). told_replies tells rules address ls (fresh_of state)) front.1 ∙ told_alone state inputs)
+      (told_front given front.0 (fresh_of state)))

@@ -4,10 +4,10 @@ use Rattle.std.proofs.Common.{◌≡◌, ◌≢◌, ◌⊎◌, inl, true, ℕ, z
 use Rattle.napt_wire.specs.declared.{Side.TheVariants.Outside, Way.TheVariants.Incoming}
 use Rattle.napt_config.specs.{Rules.Rules, declared.settings.Timers.Timers}
 use Rattle.napt_rules.specs.declared.{Leg.Leg, End.{End, TheVariants.{ToOutside, ToInside, Onward, Dropped}}}
-use Rattle.napt_rules.specs.Prelude.{Through, Binding, Each, opening, Acted, act, Arrival, Act, Course, follow_by, step, run_from, run, is_in_or_dropped}
+use Rattle.napt_rules.specs.Prelude.{Through, Binding, Each, Acted, act, Arrival, Act, Course, follow_by, step, run_from, State, course_from, is_in_or_dropped}
 use Rattle.napt_laws.{specs.Places.{numbered, all_but_first, second_legs}, proofs.{AnyStep.{of_input, of_step}, LegLaws.in_stays_in}}
 use Rattle.napt_laws.proofs.Lists.{each_weaker, each_append}
-use Rattle.napt_sequential.specs.{declared.passage.{Passage.TheVariants.Nothing, Trace.Trace}, Traces.{passage_of, trace_of, traces_from, traces}}
+use Rattle.napt_sequential.specs.{declared.passage.{Passage.TheVariants.Nothing, Trace.Trace}, Traces.{passage_of, trace_of, traces_from, traces_of}}
 
 -- HOW AN ACT STANDS AMONG THOSE OF ITS INPUT, whose legs after the first are these
 
@@ -132,10 +132,10 @@ pub record IsTraced (timers : Timers) (all : List Trace) (acts : List Act) (a : 
   pub time : trace.now ≡ a.leg.now
   pub placed : IsPlaced timers trace (second_legs a.leg.number acts) a
 
-pub legs_traced : (rules : Rules) (inputs : List Arrival) →
-    (let acts : List Act = (run rules inputs (opening rules)).acts in
-    Each (IsTraced rules.timers (traces rules inputs) acts) acts)
-legs_traced rules inputs = grind (arith, common_steps, nat_tests, each_weaker, run_traced)
+pub legs_traced : (rules : Rules) (state : State) (inputs : List Arrival) →
+    (let acts : List Act = (course_from rules state inputs).acts in
+    Each (IsTraced rules.timers (traces_of rules state inputs) acts) acts)
+legs_traced rules state inputs = grind (arith, common_steps, nat_tests, each_weaker, run_traced)
 
 -- AN INPUT FROM OUTSIDE HAS ONE LEG AT MOST
 
@@ -176,9 +176,9 @@ outside_from rules number clock (x ∷ inputs) list (suc i) input at side =
     ∙ (ap (λ (k : ℕ). second_legs k (run_from rules (number + 1) now inputs first.list).acts) same
     ∙ outside_from rules (number + 1) now inputs first.list i input at side)
 
-pub outside_alone : (rules : Rules) (inputs : List Arrival) (n : ℕ) (input : Arrival) →
-    slice_get inputs n ≡ Some input → input.side ≡ Outside → second_legs n (run rules inputs (opening rules)).acts ≡ []
-outside_alone rules inputs n input at side =
+pub outside_alone : (rules : Rules) (state : State) (inputs : List Arrival) (n : ℕ) (input : Arrival) →
+    slice_get inputs n ≡ Some input → input.side ≡ Outside → second_legs n (course_from rules state inputs).acts ≡ []
+outside_alone rules state inputs n input at side =
     let same : n ≡ 0 + n = omega arith in
-    ap (λ (k : ℕ). second_legs k (run rules inputs (opening rules)).acts) same
-    ∙ outside_from rules 0 0 inputs (opening rules) n input at side
+    ap (λ (k : ℕ). second_legs k (course_from rules state inputs).acts) same
+    ∙ outside_from rules 0 state.clock inputs state.list n input at side

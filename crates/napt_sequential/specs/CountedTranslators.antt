@@ -1,9 +1,9 @@
 -- The translators of a sequential run, one for each external address in the order of the pool, and the one list of
 -- bindings that they split between them.
-use Rattle.std.specs.{Prelude.{◌≡◌, ℕ, ◌+◌, ◌<◌, ◌≤◌, ◌^◌, max, length, List, [], ◌∷◌, ◌++◌, Option, Some, None}, Option.option_map, List.slice_get}
+use Rattle.std.specs.{Prelude.{◌≡◌, ℕ, ◌+◌, ◌<◌, ◌≤◌, ◌^◌, max, length, List, [], ◌∷◌, ◌++◌, flat_map, Option, Some, None}, Option.option_map, List.slice_get}
 use Rattle.napt_wire.specs.{declared.{Protocol.Protocol, Way.{Way, TheVariants.{Outgoing, Incoming}}}, Fields.{source, destination, kind}}
 use Rattle.napt_config.specs.{declared.settings.Timers.Timers, Rules.Rules}
-use Rattle.napt_rules.specs.Prelude.{Binding, by_inside, by_number, opening, Acted, act, Arrival, rows, Act, Course, run, last_clock, legs_at, Kept, kept_act, answer_of}
+use Rattle.napt_rules.specs.Prelude.{Binding, by_inside, by_number, Acted, act, Arrival, rows, taken, Act, Course, State, anew, course_from, last_clock, legs_at, Kept, kept_act, answer_of, AreOrdered}
 use Rattle.napt_rules.specs.declared.{Row.Row, Leg.Leg, End.End, Outcome.Outcome}
 use Rattle.napt_rules.specs.declared.End.TheVariants as ends
 use Rattle.napt_table.specs.{declared.TimedRow.TimedRow, TimedRows.timed}
@@ -81,6 +81,20 @@ abbrev pub rows_at : ℕ → CountedTranslator → List Row
 rows_at now counted = rows counted.translator.rules.timers (max now counted.translator.table.at)
     counted.translator.table.list
 
+-- its bindings that are live or held at a time
+abbrev pub left_at : ℕ → CountedTranslator → List Binding
+left_at now counted = taken counted.translator.rules.timers (max now counted.translator.table.at)
+    counted.translator.table.list
+
+-- those of all translators, one after another, each in order
+pub record AreLeft (now : ℕ) (translators : List CountedTranslator) (made : List Binding) : Type 0 where
+  pub parts : List (List Binding)
+  pub list : made ≡ flat_map (λ part. part) parts
+  pub many : length parts ≡ length translators
+  pub each : (place : ℕ) (counted : CountedTranslator) (part : List Binding) →
+      slice_get translators place ≡ Some counted → slice_get parts place ≡ Some part →
+      AreOrdered (left_at now counted) part
+
 -- LOOK-UPS after a leg, by its packet before it and by how it ended
 
 abbrev pub seen_of : List ℕ → Seen
@@ -135,8 +149,12 @@ abbrev pub Steps : Rules → ℕ → Course → RunState → List CountedTransla
 Steps rules now course state translators stepped = Follows rules now course state translators stepped.outcome
     × (stepped.trace ≡ trace_of rules.timers now course)
 
--- after these inputs, and before any
+-- after these inputs from a state, and before any
+abbrev pub state_from : Rules → State → List Arrival → RunState
+state_from rules state inputs =
+    let course : Course = course_from rules state inputs in
+    record { clock = last_clock state.clock inputs; acts = course.acts; list = course.list }
+
+-- from the bindings that the configuration opens with
 abbrev pub state_of : Rules → List Arrival → RunState
-state_of rules inputs =
-    let course : Course = run rules inputs (opening rules) in
-    record { clock = last_clock 0 inputs; acts = course.acts; list = course.list }
+state_of rules inputs = state_from rules (anew rules) inputs

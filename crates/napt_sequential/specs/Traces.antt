@@ -6,7 +6,7 @@
 use Rattle.std.specs.Prelude.{ℕ, ◌+◌, max, List, [], ◌∷◌, Option, Some, None}
 use Rattle.napt_wire.specs.{declared.{Protocol.Protocol, Way.{Way, TheVariants.{Outgoing, Incoming}}}, Fields.{source, kind}}
 use Rattle.napt_config.specs.{Rules.Rules, declared.settings.Timers.Timers}
-use Rattle.napt_rules.specs.{Prelude.{Through, Binding, opening, Arrival, Act, Course, step}, declared.End.End}
+use Rattle.napt_rules.specs.{Prelude.{Through, Binding, Arrival, Act, Course, step, State, anew}, declared.End.End}
 use Rattle.napt_table.specs.{declared.TimedRow.TimedRow, TimedRows.timed}
 use Rattle.napt_translate.specs.Carried.{carried_by}
 use Rattle.napt_rules.specs.declared.End.TheVariants as ends
@@ -57,6 +57,10 @@ traces_from rules number clock (input ∷ inputs) list =
     let course : Course = step rules number now input list in
     trace_of rules.timers now course ∷ traces_from rules (number + 1) now inputs course.list
 
+-- from a state
+abbrev pub traces_of : Rules → State → List Arrival → List Trace
+traces_of rules state inputs = traces_from rules 0 state.clock inputs state.list
+
 -- from the bindings that the configuration opens with
 abbrev pub traces : Rules → List Arrival → List Trace
-traces rules inputs = traces_from rules 0 0 inputs (opening rules)
+traces rules inputs = traces_of rules (anew rules) inputs

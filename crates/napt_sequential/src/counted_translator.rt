@@ -4,7 +4,7 @@ ghost use Rattle.std.specs.Prelude.{◌≡◌, ◌-◌, ◌^◌, ◌<◌, IfOk, 
 
 use crate::passage::Passage;
 use crate::telling::{Telling, Told};
-use napt_rules::{Leg, Row};
+use napt_rules::{Leg, Row, StateBinding};
 use napt_translate::Translator;
 use std::alloc::{AllocError, Global};
 
@@ -16,7 +16,8 @@ pub(crate) struct CountedTranslator {
 }
 
 impl CountedTranslator {
-    ghost use Rattle.napt_sequential.specs.CountedTranslators.{told_at, counted_after, rows_at};
+    ghost use Rattle.napt_sequential.specs.CountedTranslators.{told_at, counted_after, left_at, rows_at};
+    ghost use Rattle.napt_rules.specs.Prelude.{AreOrdered};
 
     /// Translates and counts a leg; returns its answer and what it did.
     pub(crate) fn take(&mut self, alloc: Global, leg: Leg) -> Result<Told<Passage>, AllocError>
@@ -35,5 +36,12 @@ impl CountedTranslator {
         ensures { IfOk result (λ made. made.items ≡ rows_at now self.now) }
     {
         self.translator.bindings(alloc, now)
+    }
+
+    /// The bindings that are live or held at a time, in ns, in the order of their rows.
+    pub(crate) fn left(&self, alloc: Global, now: u64) -> Result<Vec<StateBinding>, AllocError>
+        ensures { IfOk result (λ made. AreOrdered (left_at now self.now) made.items) }
+    {
+        self.translator.left(alloc, now)
     }
 }

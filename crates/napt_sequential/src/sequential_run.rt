@@ -2,16 +2,17 @@
 
 ghost use Rattle.std.specs.Prelude.{◌≡◌, ◌↔◌, ◌+◌, ◌^◌, ◌<◌, ◌≤◌, ◌++◌, [], ◌∷◌, List, length, IfOk, IfErr, OnOk, Err};
 ghost use Rattle.napt_config.specs.Rules.{Rules, KeepsRules};
-ghost use Rattle.napt_rules.specs.Prelude.{Arrival};
+ghost use Rattle.napt_rules.specs.Prelude.{Arrival, Takes, under, IsInOrder};
+ghost use Rattle.napt_rules.specs.Sequential.{State};
 ghost use Rattle.napt_rules.specs.Sequential as model;
 ghost use Rattle.napt_sequential.specs.Faults.{IsOneThreadFault};
 
 use crate::counted_translator::CountedTranslator;
 use crate::outcome::Stepped;
-use crate::run::{begin, bindings, legs, step};
+use crate::run::{begin, bindings, left, legs, resume, step};
 use crate::{Input, MOST_INPUTS, RunFault};
 use napt_config::Config;
-use napt_rules::Row;
+use napt_rules::{Row, State};
 use std::alloc::{AllocError, Global};
 
 /// A run on one thread after some inputs. It keeps the translators of all external addresses, and nothing of the
@@ -20,14 +21,14 @@ use std::alloc::{AllocError, Global};
 pub struct SequentialRun {
     /// How many inputs it took.
     many: u64,
-    /// The latest clock so far, in ns; 0 before the first input.
+    /// The latest clock so far, in ns; that of the state before the first input.
     clock: u64,
     /// In the order of the pool.
     translators: Vec<CountedTranslator>,
 }
 
 impl SequentialRun {
-    ghost use Rattle.napt_sequential.specs.SequentialRuns.{StandsAfter, TellsLast};
+    ghost use Rattle.napt_sequential.specs.SequentialRuns.{StandsAfter, StandsFrom, TellsLastFrom};
 
     /// A run before its first input, with the bindings that the configuration opens with.
     pub fn begin(alloc: Global, config: &Config) -> Result<SequentialRun, AllocError>
@@ -38,6 +39,25 @@ impl SequentialRun {
         Ok(SequentialRun {
             many: 0,
             clock: 0,
+            translators,
+        })
+    }
+
+    /// A run that goes on from a state, before its first input: with the redirects of the configuration, and then the
+    /// bindings of the state that live or are held at its clock. Its inputs are numbered from 0.
+    pub fn resume(
+        alloc: Global,
+        config: &Config,
+        state: &State,
+    ) -> Result<SequentialRun, AllocError>
+        requires { Takes config.now state.now }
+        ensures kept { KeepsRules config.now }
+        ensures begun { IfOk result (StandsFrom config.now (under config.now state.now) []) }
+    {
+        let translators = resume(alloc, config, state)?;
+        Ok(SequentialRun {
+            many: 0,
+            clock: state.clock,
             translators,
         })
     }
@@ -54,12 +74,16 @@ impl SequentialRun {
         config: &Config,
         input: &Input,
     ) -> Result<Stepped, RunFault>
-        requires { (before : List Arrival) × StandsAfter config.now before self.old }
-        ensures tells { (before : List Arrival) → StandsAfter config.now before self.old →
-            IfOk result (TellsLast config.now before input.now) }
-        ensures stands { (before : List Arrival) → StandsAfter config.now before self.old →
-            OnOk result (StandsAfter config.now (before ++ input.now ∷ []) self.new) }
-        ensures too_many { (before : List Arrival) → StandsAfter config.now before self.old →
+        requires { (state : State) × ((before : List Arrival)
+            × StandsFrom config.now state before self.old) }
+        ensures tells { (state : State) (before : List Arrival) →
+            StandsFrom config.now state before self.old →
+            IfOk result (TellsLastFrom config.now state before input.now) }
+        ensures stands { (state : State) (before : List Arrival) →
+            StandsFrom config.now state before self.old →
+            OnOk result (StandsFrom config.now state (before ++ input.now ∷ []) self.new) }
+        ensures too_many { (state : State) (before : List Arrival) →
+            StandsFrom config.now state before self.old →
             (result ≡ Err RunFault.TooMany) ↔ (2 ^ 32 ≤ length before + 1) }
         ensures never_pool { IfErr result IsOneThreadFault }
     {
@@ -79,12 +103,14 @@ impl SequentialRun {
         input: &Input,
     ) -> Result<Stepped, AllocError>
         requires keeps { KeepsRules config.now }
-        requires few { (before : List Arrival) × StandsAfter config.now before self.old
-            × (length before + 1 < 2 ^ 32) }
-        ensures tells { (before : List Arrival) → StandsAfter config.now before self.old →
-            IfOk result (TellsLast config.now before input.now) }
-        ensures stands { (before : List Arrival) → StandsAfter config.now before self.old →
-            OnOk result (StandsAfter config.now (before ++ input.now ∷ []) self.new) }
+        requires few { (state : State) × ((before : List Arrival)
+            × StandsFrom config.now state before self.old × (length before + 1 < 2 ^ 32)) }
+        ensures tells { (state : State) (before : List Arrival) →
+            StandsFrom config.now state before self.old →
+            IfOk result (TellsLastFrom config.now state before input.now) }
+        ensures stands { (state : State) (before : List Arrival) →
+            StandsFrom config.now state before self.old →
+            OnOk result (StandsFrom config.now state (before ++ input.now ∷ []) self.new) }
     {
         let now = self.clock.max(input.clock);
         let stepped = step(alloc, config, &mut self.translators, self.many, now, input)?;
@@ -96,17 +122,30 @@ impl SequentialRun {
     /// The bindings that are live at the latest clock: by external address in the order of the pool, then by protocol
     /// (ICMP, TCP, UDP) and external number.
     pub fn bindings(&self, alloc: Global) -> Result<Vec<Row>, AllocError>
-        ensures { (rules : Rules) (inputs : List Arrival) → StandsAfter rules inputs self.now →
-            IfOk result (λ made. made.items ≡ (model.ran rules inputs).bindings) }
+        ensures { (rules : Rules) (state : State) (inputs : List Arrival) →
+            StandsFrom rules state inputs self.now →
+            IfOk result (λ made. made.items ≡ (model.ran_from rules state inputs).bindings) }
     {
         bindings(alloc, &self.translators, self.clock)
     }
 
     /// How many legs acted at each external address, in the order of the pool.
     pub fn legs(&self, alloc: Global) -> Result<Vec<u64>, AllocError>
-        ensures { (rules : Rules) (inputs : List Arrival) → StandsAfter rules inputs self.now →
-            IfOk result (λ made. made.items ≡ (model.ran rules inputs).legs) }
+        ensures { (rules : Rules) (state : State) (inputs : List Arrival) →
+            StandsFrom rules state inputs self.now →
+            IfOk result (λ made. made.items ≡ (model.ran_from rules state inputs).legs) }
     {
         legs(alloc, &self.translators)
+    }
+
+    /// The state that it leaves, from which a run goes on: the bindings that are live or held at the latest clock, in
+    /// the order of `bindings`.
+    pub fn left(&self, alloc: Global) -> Result<State, AllocError>
+        ensures { (rules : Rules) (state : State) (inputs : List Arrival) → KeepsRules rules →
+            StandsFrom rules state inputs self.now →
+            IfOk result (IsInOrder rules (model.left_by rules state inputs)) }
+    {
+        let _ = left(alloc, &self.translators, self.clock)?;
+        Err(AllocError)
     }
 }

@@ -139,7 +139,7 @@ impl<P: Telling> Dispatcher<P> {
             self.old arrivals.old departures.old pool.new self.new arrivals.new departures.new
             G.is_open) }
     {
-        let mut clock = 0u64;
+        let mut clock = self.clock;
         for _ in rt.forever() {
             let asks_device = arrivals.asks_device();
             self.make_ready(rt, pool, departures, asks_device)?;
@@ -181,7 +181,7 @@ impl<P: Telling> Dispatcher<P> {
 /// How the inputs ended.
 #[derive(Drop)]
 pub(crate) struct EndOfInputs<F> {
-    /// The greatest clock of the inputs, in ns. 0 if there were none.
+    /// The greatest clock of the inputs and of the state before them, in ns.
     pub(crate) clock: u64,
     /// The fault of the arrivals, if they failed.
     pub(crate) fault: Option<F>,

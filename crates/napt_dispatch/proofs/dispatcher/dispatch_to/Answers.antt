@@ -1,13 +1,12 @@
-use Rattle.std.proofs.{Common.{◌≡◌, [], length, refl, ap, ◌∙◌, inl, rules}, lemmas.{List.length-replicate, Result.err_from_is_err_and}}
+use Rattle.std.proofs.{Common.{◌≡◌, [], length, refl, sym, ap, ◌∙◌, inl, rules}, lemmas.{List.length-replicate, Result.err_from_is_err_and}}
 use Rattle.napt_pool.specs.Pools.{starts}
-use Rattle.napt_dispatch.{specs.QueueStates.unused, proofs.{Ended.length_started, Lanes.front_empty}}
+use Rattle.napt_dispatch.{specs.QueueStates.unused, proofs.Lanes.front_empty}
 use Rattle.napt_dispatch.proofs.Ending.{begun, ends_with, ends_early, ends_halted, ends_after, ends_by}
 use Rattle.napt_dispatch.proofs.dispatcher.dispatch_to.Goals as goal
 
 pub pass_all-requires : goal.pass_all-requires
 pass_all-requires g c =
-    let workers : length (starts c.args.pool.now) ≡ length c.args.config.now.pool =
-    rw c.requires.started (length_started c.args.config.now (length c.args.config.now.pool)) in (
+    let workers : length (starts c.args.pool.now) ≡ length c.args.config.now.pool = c.requires.workers in (
       c.type_bounds.static-D-Told,
       (
         search rules,
@@ -23,18 +22,18 @@ pass_all-requires g c =
     )
 
 pub returns-in-Ok-clause-ends : goal.returns-in-Ok-clause-ends
-returns-in-Ok-clause-ends g c =
+returns-in-Ok-clause-ends g c = λ start at.
     let first = c.in_ok-dispatcher.ensures in
     ends_by _ c.in-Ok.field-0.fault c.of.result c.of.ensures
-    (ends_with c.args.pool.now c.in_ok-dispatcher.dispatcher (begun c.args.config.now c.args.pool.now
+    (ends_with c.args.pool.now c.in_ok-dispatcher.dispatcher (at ∙ sym first.clock) (begun c.args.config.now start c.args.pool.now
     c.in_ok-dispatcher.dispatcher _
     (ap length c.pool.ensures.addresses) first.queues first.left first.under_way c.requires.unoffered
     c.requires.untaken) c.in-Ok.field-0 _ c.in-Ok.ensures c.in_ok-counts-in-Ok.ensures refl)
 
 pub returns-in-Err-Departure-clause-ends : goal.returns-in-Err-Departure-clause-ends
-returns-in-Err-Departure-clause-ends g c =
+returns-in-Err-Departure-clause-ends g c = λ start at.
     let first = c.in_ok-dispatcher.ensures in
-    ends_early c.args.pool.now c.in_ok-dispatcher.dispatcher (begun c.args.config.now c.args.pool.now
+    ends_early c.args.pool.now c.in_ok-dispatcher.dispatcher (at ∙ sym first.clock) (begun c.args.config.now start c.args.pool.now
     c.in_ok-dispatcher.dispatcher _
     (ap length c.pool.ensures.addresses) first.queues first.left first.under_way c.requires.unoffered
     c.requires.untaken) c.in-Err-Departure.fault (rw c.in-Err-Departure.field-0-is at c.in-Err-Departure.ensures)
@@ -43,7 +42,7 @@ pub returns-in_err-dispatcher-clause-halts : goal.returns-in_err-dispatcher-clau
 returns-in_err-dispatcher-clause-halts g c =
     let p = err_from_is_err_and c.from_residual.result c.from_residual.ensures.1 in
     rw p.1
-    (record {
+    (λ start at. record {
       inputs = [];
       went = [];
       come = inl (g.met.A.Arrivals.hands_none c.args.arrivals.now);
@@ -58,15 +57,15 @@ returns-in_err-counts-in-Ok-clause-halts g c =
     c.from_residual-in_err-counts-in-Ok.ensures.1 in
     let first = c.in_ok-dispatcher.ensures in
     rw p.1
-    (ends_after c.args.pool.now c.in_ok-dispatcher.dispatcher (begun c.args.config.now c.args.pool.now
+    (λ start at. ends_after c.args.pool.now c.in_ok-dispatcher.dispatcher (at ∙ sym first.clock) (begun c.args.config.now start c.args.pool.now
     c.in_ok-dispatcher.dispatcher _
     (ap length c.pool.ensures.addresses) first.queues first.left first.under_way c.requires.unoffered
     c.requires.untaken) c.in-Ok.field-0 c.in-Ok.ensures)
 
 pub returns-clause-halts : goal.returns-clause-halts
-returns-clause-halts g c =
+returns-clause-halts g c = λ start at.
     let first = c.in_ok-dispatcher.ensures in
-    ends_halted c.args.pool.now c.in_ok-dispatcher.dispatcher (begun c.args.config.now c.args.pool.now
+    ends_halted c.args.pool.now c.in_ok-dispatcher.dispatcher (at ∙ sym first.clock) (begun c.args.config.now start c.args.pool.now
     c.in_ok-dispatcher.dispatcher _
     (ap length c.pool.ensures.addresses) first.queues first.left first.under_way c.requires.unoffered
     c.requires.untaken) g.G.Gate.is_open c.in-Err-Run.fault (rw c.in-Err-Run.field-0-is at c.in-Err-Run.ensures)

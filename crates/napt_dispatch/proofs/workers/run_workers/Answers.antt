@@ -1,26 +1,26 @@
 use Rattle.std.{proofs.{Common.{◌≡◌, List, length, map, refl, sym, ap, subst, ◌∙◌}, lemmas.Result.IfOk-at_ok}, specs.Prelude.AllPairs}
 use Rattle.napt_config.specs.Rules.{Rules}
-use Rattle.napt_rules.specs.Prelude.{Arrival, Ran, AreRowsApart}
+use Rattle.napt_rules.specs.Prelude.{Ran, ran, anew, AreRowsApart}
 use Rattle.napt_pool.specs.Pools.{starts, accepts}
 use Rattle.napt_laws.proofs.{Rows.rows_apart, Grown.ran_long}
-use Rattle.napt_dispatch.{specs.Dispatch.started, proofs.Closed.{on_ok_at, rows_shown, workers_shown}}
+use Rattle.napt_dispatch.{specs.Dispatch.started, proofs.Closed.{on_ok_at, rows_shown, started_anew, workers_shown}}
 use Rattle.napt_dispatch.proofs.workers.run_workers.Goals as goal
 
 pub returns-clause-run : goal.returns-clause-run
+unfolding ran
 returns-clause-run g c =
-    let config : Rules = c.args.config.now in
-    let inputs : List Arrival = c.args.inputs.now in
+    let rules : Rules = c.args.config.now in
     let given = c.in_ok-outcomes.ensures.given in
-    let began : starts c.dispatch-dispatched.new.pool ≡ started config (length config.pool) =
-    c.dispatch-dispatched.ensures.starts ∙ c.in_ok-pool.ensures.started in
+    let pool = c.dispatch-dispatched.new.pool in
+    let began : starts pool ≡ started rules (length rules.pool) =
+    c.dispatch-dispatched.ensures.starts ∙ started_anew rules _ c.in_ok-pool.ensures.started in
     let settled = on_ok_at _ _ given c.dispatch-dispatched.ensures.settled in
     let answered = c.in_ok-outcomes.ensures.settled settled in
-    workers_shown _ config inputs (starts c.dispatch-dispatched.new.pool)
-    (accepts c.dispatch-dispatched.new.pool) (map (λ e. e.machine) c.in_ok-outcomes.ended.items)
-    c.in_ok-outcomes.outcomes.items c.in_ok-outcomes.legs.items c.last_clock.result c.in_ok-bindings.bindings.items
+    workers_shown _ rules (anew rules) c.args.inputs.now (starts pool) (accepts pool)
+    (map (λ e. e.machine) c.in_ok-outcomes.ended.items) c.in_ok-outcomes.outcomes.items c.in_ok-outcomes.legs.items
     began c.in_ok-outcomes.ensures.machines (IfOk-at_ok _ given c.dispatch-dispatched.ensures.run answered)
-    c.last_clock.ensures (rows_shown _ _ _ _ c.in_ok-bindings.ensures c.deref.ensures.value) (λ s. refl)
-    (λ s leg legs. refl)
+    c.last_clock.result c.last_clock.ensures (λ s. refl) (λ s leg legs. refl) c.in_ok-bindings.bindings.items
+    (rows_shown _ _ _ _ c.in_ok-bindings.ensures c.deref.ensures.value)
 
 pub returns-clause-one_each : goal.returns-clause-one_each
 returns-clause-one_each g c =

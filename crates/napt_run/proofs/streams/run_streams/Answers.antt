@@ -1,69 +1,19 @@
-use Rattle.std.proofs.Common.{subst, sym}
-use Rattle.napt_records.specs.declared.Which.TheVariants.{Inside, Outside}
-use Rattle.napt_run.{specs.{Runs.ResultSays, Streams.{DeviceGets, HasRead, IsOfRun}}, proofs.streams.run_streams.{Given.Over, Goals.After-and}}
-use Rattle.napt_run.proofs.Endings.{Ends, closed, ends_and, explains_ends, few_ends, gate_ends, inside_by, outside_by, reads_by, report_by}
+use Rattle.std.proofs.Common.{subst}
+use Rattle.napt_records.specs.declared.Which.TheVariants.{Outside, Inside}
+use Rattle.napt_run.specs.Streams.{DeviceGetsFrom, ReportGetsFrom, ended}
 use Rattle.napt_run.proofs.streams.run_streams.Goals as goal
 
-ends : (g : Over) (c : After-and g) → Ends c.unlogged-told.result c.and.result
-ends g c = ends_and c.unlogged-told.result c.reported-written.result c.and.result c.and.ensures
-    c.reported-written.ensures.fault
-
--- what it told, once it is known that nobody observed it
-to_outside : (g : Over) (c : After-and g) → DeviceGets g.W.Sink c.args.config.now Outside
-    (g.R.Source.remaining c.args.inside.now) (g.Q.Source.remaining c.args.outside.now) c.unlogged-told.result
-    c.args.to_outside.now c.stream-streamed.new.to_outside
-to_outside g c = subst (λ r. DeviceGets g.W.Sink c.args.config.now Outside
-    (g.R.Source.remaining c.args.inside.now) (g.Q.Source.remaining c.args.outside.now) r c.args.to_outside.now
-    c.stream-streamed.new.to_outside) (sym c.unlogged-told.ensures) c.stream-streamed.ensures.to_outside
-
-to_inside : (g : Over) (c : After-and g) → DeviceGets g.V.Sink c.args.config.now Inside
-    (g.R.Source.remaining c.args.inside.now) (g.Q.Source.remaining c.args.outside.now) c.unlogged-told.result
-    c.args.to_inside.now c.stream-streamed.new.to_inside
-to_inside g c = subst (λ r. DeviceGets g.V.Sink c.args.config.now Inside
-    (g.R.Source.remaining c.args.inside.now) (g.Q.Source.remaining c.args.outside.now) r c.args.to_inside.now
-    c.stream-streamed.new.to_inside) (sym c.unlogged-told.ensures) c.stream-streamed.ensures.to_inside
-
-says : (g : Over) (c : After-and g) → ResultSays g.G.Gate.is_open c.args.config.now
-    (g.R.Source.remaining c.args.inside.now) (g.Q.Source.remaining c.args.outside.now) c.unlogged-told.result
-says g c = subst (λ r. ResultSays g.G.Gate.is_open c.args.config.now (g.R.Source.remaining c.args.inside.now)
-    (g.Q.Source.remaining c.args.outside.now) r) (sym c.unlogged-told.ensures) c.stream-streamed.ensures.says
-
-reads : (g : Over) (c : After-and g) → (¬ IsOfRun c.unlogged-told.result) → HasRead g.R.Source.failed
-    g.Q.Source.failed c.args.inside.now c.stream-streamed.new.inside c.args.outside.now
-    c.stream-streamed.new.outside c.unlogged-told.result
-reads g c = subst (λ r. (¬ IsOfRun r) → HasRead g.R.Source.failed g.Q.Source.failed c.args.inside.now
-    c.stream-streamed.new.inside c.args.outside.now c.stream-streamed.new.outside r) (sym c.unlogged-told.ensures)
-    c.stream-streamed.ensures.readings
-
--- THE CLAUSES
-
 pub returns-clause-to_outside : goal.returns-clause-to_outside
-returns-clause-to_outside g c =
-    outside_by c.unlogged-told.result c.and.result (ends g c) g.W.Sink _ _ _ _ _ (to_outside g c)
+returns-clause-to_outside g c = rw c.without_state.ensures
+    (subst (λ o. DeviceGetsFrom g.W.Sink o Outside _ _ (ended c.resume_streams-run.result) _ _)
+    (c.unbegun-state.ensures.opens c.args.config.now) c.resume_streams-run.ensures.to_outside)
 
 pub returns-clause-to_inside : goal.returns-clause-to_inside
-returns-clause-to_inside g c =
-    inside_by c.unlogged-told.result c.and.result (ends g c) g.V.Sink _ _ _ _ _ (to_inside g c)
+returns-clause-to_inside g c = rw c.without_state.ensures
+    (subst (λ o. DeviceGetsFrom g.V.Sink o Inside _ _ (ended c.resume_streams-run.result) _ _)
+    (c.unbegun-state.ensures.opens c.args.config.now) c.resume_streams-run.ensures.to_inside)
 
 pub returns-clause-report : goal.returns-clause-report
-returns-clause-report g c =
-    report_by g.U.Sink c.args.config.now (g.R.Source.remaining c.args.inside.now)
-    (g.Q.Source.remaining c.args.outside.now) c.args.report.now c.reported-written.new.output
-    c.unlogged-told.result c.reported-written.result c.and.result c.and.ensures c.reported-written.ensures.fault
-    (says g c).told (closed _ c.unlogged-told.result (says g c).stop) c.reported-written.ensures.untouched
-    c.reported-written.ensures.nothing c.reported-written.ensures.written c.reported-written.ensures.flushed
-    c.reported-written.ensures.count
-
-pub returns-clause-fault : goal.returns-clause-fault
-returns-clause-fault g c = explains_ends _ _ c.unlogged-told.result c.and.result (ends g c) (says g c).fault
-
-pub returns-clause-too_many : goal.returns-clause-too_many
-returns-clause-too_many g c = few_ends g.G.Gate.is_open c.unlogged-told.result c.and.result (ends g c) (says g c).stop
-
-pub returns-clause-gate : goal.returns-clause-gate
-returns-clause-gate g c = gate_ends g.G.Gate.is_open c.unlogged-told.result c.and.result (ends g c) (says g c).stop
-
-pub returns-clause-readings : goal.returns-clause-readings
-returns-clause-readings g c =
-    reads_by c.unlogged-told.result c.and.result (ends g c) g.R.Source.failed g.Q.Source.failed c.args.inside.now
-    c.stream-streamed.new.inside c.args.outside.now c.stream-streamed.new.outside (reads g c)
+returns-clause-report g c = rw c.without_state.ensures
+    (subst (λ o. ReportGetsFrom g.U.Sink o _ _ (ended c.resume_streams-run.result) _ _)
+    (c.unbegun-state.ensures.opens c.args.config.now) c.resume_streams-run.ensures.report)

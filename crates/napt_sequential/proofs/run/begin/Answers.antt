@@ -1,5 +1,6 @@
 use Rattle.std.proofs.Common.{◌≡◌, ◌+◌, List, [], ◌∷◌, ◌++◌, length, sym, ◌∙◌, ap, subst, arith, length-append}
 use Rattle.napt_config.specs.Rules.{Rules}
+use Rattle.napt_rules.specs.Prelude.{State, anew}
 use Rattle.napt_translate.specs.Translators.{TranslatorState, begun}
 use Rattle.napt_sequential.specs.declared.counted_translator.CountedTranslator.{CountedTranslator}
 use Rattle.napt_sequential.proofs.Begun.{AreFresh, fresh, fresh_more, begin_translators}
@@ -8,9 +9,10 @@ use Rattle.napt_sequential.proofs.run.begin.Goals as goal
 pub loop-index-preserved : goal.loop-index-preserved
 loop-index-preserved c =
     let rules : Rules = c.args.config.now in
+    let state : State = anew rules in
     let translators : List CountedTranslator = c.loop-index.translators.items in
     let counted : CountedTranslator = record { translator = c.in_ok-translator.translator; legs = 0 } in
-    let is : counted ≡ fresh rules c.loop-index.index =
+    let is : counted ≡ fresh rules state c.loop-index.index =
     ap (λ (t : TranslatorState). let s : CountedTranslator = record { translator = t; legs = 0 } in s)
     (c.in_ok-translator.ensures.shown ∙ ap (begun c.loop-index.index) c.in_ok-copy.ensures) in
     let pushed : c.push.new.self.items ≡ translators ++ counted ∷ [] = c.in_ok-push.ensures.items in
@@ -19,12 +21,14 @@ loop-index-preserved c =
     record {
       many = let more = ap length pushed in let old = c.loop-index.invariant.many in omega arith;
       within = let long_pool = ap length c.pool.ensures.addresses in let test = c.loop-index-test.true in omega arith;
-      fresh = subst (AreFresh rules) (sym pushed)
-          (fresh_more rules translators c.loop-index.index c.loop-index.invariant.many c.loop-index.invariant.fresh
-          counted is);
+      fresh = subst (AreFresh rules state) (sym pushed)
+          (fresh_more rules state translators c.loop-index.index c.loop-index.invariant.many
+          c.loop-index.invariant.fresh counted is);
     }
 
 pub returns-clause-translators : goal.returns-clause-translators
-returns-clause-translators c = begin_translators c.args.config.now c.loop-index.translators.items (let long =
-    ap length c.pool.ensures.addresses in let many = c.loop-index.invariant.many in let end =
-    c.loop-index.auto.index-end in let test = c.loop-index-test.false in omega arith) c.loop-index.invariant.fresh
+returns-clause-translators c = begin_translators c.args.config.now (anew c.args.config.now)
+    c.loop-index.translators.items
+    (let long = ap length c.pool.ensures.addresses in let many = c.loop-index.invariant.many in
+    let end = c.loop-index.auto.index-end in let test = c.loop-index-test.false in omega arith)
+    c.loop-index.invariant.fresh

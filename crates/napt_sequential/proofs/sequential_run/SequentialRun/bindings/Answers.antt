@@ -3,6 +3,6 @@ use Rattle.napt_sequential.{specs.CountedTranslators.rows_at, proofs.{Results.if
 use Rattle.napt_sequential.proofs.sequential_run.SequentialRun.bindings.Goals as goal
 
 pub returns : goal.returns
-returns c = λ rules inputs stands. if_ok _ _ c.bindings.result (λ made shown.
-    bindings_shown rules inputs c.args.self.now stands made.items
+returns c = λ rules state inputs stands. if_ok _ _ c.bindings.result (λ made shown.
+    bindings_shown rules state inputs c.args.self.now stands made.items
     (shown ∙ ap (flat_map (rows_at c.args.self.now.clock)) c.deref.ensures.value)) c.bindings.ensures

@@ -3,6 +3,6 @@ use Rattle.napt_sequential.{specs.declared.counted_translator.CountedTranslator.
 use Rattle.napt_sequential.proofs.sequential_run.SequentialRun.legs.Goals as goal
 
 pub returns : goal.returns
-returns c = λ rules inputs stands. if_ok _ _ c.legs.result (λ made shown.
-    legs_shown rules inputs c.args.self.now stands made.items
+returns c = λ rules state inputs stands. if_ok _ _ c.legs.result (λ made shown.
+    legs_shown rules state inputs c.args.self.now stands made.items
     (shown ∙ ap (map (λ (s : CountedTranslator). s.legs)) c.deref.ensures.value)) c.legs.ensures

@@ -1,6 +1,6 @@
 use Rattle.std.proofs.Common.{sym, ◌∙◌, ap}
 use Rattle.napt_run.proofs.Streamed.{inside_gets, outside_gets, says}
-use Rattle.napt_run.proofs.passing.Setting.stream.Goals as goal
+use Rattle.napt_run.proofs.start.Setting.stream.Goals as goal
 
 pub returns-clause-to_outside : goal.returns-clause-to_outside
 returns-clause-to_outside g c =

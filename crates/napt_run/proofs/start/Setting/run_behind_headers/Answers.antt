@@ -2,8 +2,9 @@ use Rattle.std.proofs.Common.{◌≡◌, ℕ, ◌+◌, List, Option, None, Some,
 use Rattle.napt_records.specs.{Begun.{AreBegun, IsBegun}, Merged.AreLive}
 use Rattle.napt_wire.specs.declared.Side.TheVariants as sides
 use Rattle.napt_run.{specs.{Captures.failed_readings, Logging.as_run, Streams.IsBehindHeader}, proofs.Begun.{begun_live, none_is, stream_begun}}
-use Rattle.napt_run.proofs.{Behind.{reads_of, runs_to}, BothPassed.logs_to, passing.Setting.run_behind_headers.{Given.Over, Goals.After-pass-passed}}
-use Rattle.napt_run.proofs.passing.Setting.run_behind_headers.Goals as goal
+use Rattle.napt_run.proofs.{Behind.{reads_of, runs_to}, BothPassed.logs_to, start.Setting.run_behind_headers.{Given.Over, Goals.After-pass-passed}}
+use Rattle.napt_run.specs.Origins.{origin_of}
+use Rattle.napt_run.proofs.start.Setting.run_behind_headers.Goals as goal
 
 live : (g : Over) (c : After-pass-passed g) → AreLive c.new-inputs.result
 live g c =
@@ -32,7 +33,7 @@ begun g c bytes others ours theirs b o is same = record {
 pub returns-clause-runs : goal.returns-clause-runs
 returns-clause-runs g c bytes others ours theirs =
     let at = (goal.at.returns-clause-runs g c).After-pass-passed in
-    runs_to g.G.Gate.is_open c.args.self.config.now c.new-inputs.result c.args.both.now.leaving
+    runs_to g.G.Gate.is_open (origin_of c.args.self.start) c.new-inputs.result c.args.both.now.leaving
     c.pass-passed.new.inputs c.pass-passed.new.both.leaving bytes others (live g at)
     (begun g at bytes others ours theirs) c.requires.sound c.requires.counts (as_run c.pass-passed.result)
     c.pass-passed.ensures.outputs
@@ -41,7 +42,7 @@ pub returns-clause-logs : goal.returns-clause-logs
 returns-clause-logs g c bytes others ours theirs =
     let at = (goal.at.returns-clause-logs g c).After-pass-passed in
     logs_to g.K.Told.Telling.tells g.K.Logging.enters g.K.Logging.fails g.K.Logging.is_settled
-    g.G.Gate.is_open c.args.self.config.now c.new-inputs.result c.args.both.now.leaving c.pass-passed.new.inputs
+    g.G.Gate.is_open (origin_of c.args.self.start) c.new-inputs.result c.args.both.now.leaving c.pass-passed.new.inputs
     c.pass-passed.new.both.leaving c.args.both.now.log.now c.pass-passed.new.both.log.now bytes others (live g at)
     (begun g at bytes others ours theirs) c.requires.sound c.requires.counts c.pass-passed.result
     c.pass-passed.ensures.outputs c.pass-passed.ensures.log
@@ -50,7 +51,7 @@ pub returns-clause-readings : goal.returns-clause-readings
 returns-clause-readings g c not_run =
     let at = (goal.at.returns-clause-readings g c).After-pass-passed in
     let (read, is, by) =
-    reads_of g.G.Gate.is_open c.args.self.config.now c.new-inputs.result c.args.both.now.leaving
+    reads_of g.G.Gate.is_open (origin_of c.args.self.start) c.new-inputs.result c.args.both.now.leaving
     c.pass-passed.new.inputs c.pass-passed.new.both.leaving None None (live g at) (λ b o is same. none_is b is)
     c.requires.sound c.requires.counts (as_run c.pass-passed.result) c.pass-passed.ensures.outputs not_run in (
       read,

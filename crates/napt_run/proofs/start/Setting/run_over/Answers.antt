@@ -3,7 +3,8 @@ use Rattle.napt_wire.specs.declared.Side.TheVariants as sides
 use Rattle.napt_records.specs.declared.Fault.TheVariants.{Capture}
 use Rattle.napt_run.{specs.Captures.failed_readings, proofs.BothPassed.unread_logs}
 use Rattle.napt_run.proofs.Headers.{header_failed, header_of, inside_refused, more_after, none_taken, outside_refused}
-use Rattle.napt_run.proofs.passing.Setting.run_over.Goals as goal
+use Rattle.napt_run.specs.Origins.{origin_of}
+use Rattle.napt_run.proofs.start.Setting.run_over.Goals as goal
 
 pub returns-in_err-ours : goal.returns-in_err-ours
 returns-in_err-ours g c =
@@ -13,7 +14,7 @@ returns-in_err-ours g c =
     let unread = c.in_err-ours.ensures in
     let (fault, is, heads) = header_of sides.Inside c.in_err-ours.field-0.0 _ _ unread.fault in
     rw (p.1, p.2) (record {
-      runs = header_failed g.G.Gate.is_open c.args.self.config.now inside outside c.args.both.now.leaving
+      runs = header_failed g.G.Gate.is_open (origin_of c.args.self.start) inside outside c.args.both.now.leaving
           c.requires.settled sides.Inside c.in_err-ours.field-0.0 _ _ (λ inner. inside_refused _ _ _ inner)
           unread.fault;
       readings = λ not_run. rw is (
@@ -22,7 +23,7 @@ returns-in_err-ours g c =
         rw is at unread.count,
         sym (add-zero (g.Q.Source.failed c.args.outside.now)),
       );
-      logs = rw is (unread_logs g.K.Told.Telling.tells c.args.self.config.now g.K.Logging.enters g.K.Logging.fails
+      logs = rw is (unread_logs g.K.Told.Telling.tells (origin_of c.args.self.start) g.K.Logging.enters g.K.Logging.fails
           g.K.Logging.is_settled inside outside c.args.both.now.log.now
           (g.met.K.Logging.enters_none c.args.both.now.log.now) c.requires.log sides.Inside fault
           (none_taken _ _ sides.Inside fault (inside_refused _ _ _ fault heads)));
@@ -37,7 +38,7 @@ returns-in_err-theirs g c =
     let unread = c.in_err-theirs.ensures in
     let (fault, is, heads) = header_of sides.Outside c.in_err-theirs.field-0.0 _ _ unread.fault in
     rw (p.1, p.2) (record {
-      runs = header_failed g.G.Gate.is_open c.args.self.config.now inside outside c.args.both.now.leaving
+      runs = header_failed g.G.Gate.is_open (origin_of c.args.self.start) inside outside c.args.both.now.leaving
           c.requires.settled sides.Outside c.in_err-theirs.field-0.0 _ _
           (λ inner. outside_refused _ _ _ _ _ inner c.in_ok-ours.ensures.header.header) unread.fault;
       readings = λ not_run. rw is (
@@ -46,7 +47,7 @@ returns-in_err-theirs g c =
         c.in_ok-ours.ensures.count,
         rw is at unread.count,
       );
-      logs = rw is (unread_logs g.K.Told.Telling.tells c.args.self.config.now g.K.Logging.enters g.K.Logging.fails
+      logs = rw is (unread_logs g.K.Told.Telling.tells (origin_of c.args.self.start) g.K.Logging.enters g.K.Logging.fails
           g.K.Logging.is_settled inside outside c.args.both.now.log.now
           (g.met.K.Logging.enters_none c.args.both.now.log.now) c.requires.log sides.Outside fault
           (none_taken _ _ sides.Outside fault (outside_refused _ _ _ _ _ fault c.in_ok-ours.ensures.header.header

@@ -4,13 +4,13 @@ use Rattle.napt_records.specs.declared.Which.TheVariants as outputs
 use Rattle.napt_sequential.specs.Traces.{traces}
 use Rattle.napt_run.proofs.Endings.{closed}
 use Rattle.napt_run.proofs.Logged.{adds_fault, at_end, device_after, device_halted, ended_badly, ended_well, halt_is, halt_reads, halt_says, halted, opening, text_says, text_stops, unopened}
-use Rattle.napt_run.proofs.passing.Setting.stream_logged.Goals as goal
+use Rattle.napt_run.proofs.start.Setting.stream_logged.Goals as goal
 
 -- the log could not be opened
 pub returns-in_err-open : goal.returns-in_err-open
 returns-in_err-open g c =
     let p = err_from_is_err_and c.from_residual.result c.from_residual.ensures.1 in
-    let rules : Rules = c.args.self.config.now in
+    let rules : Rules = c.args.self.start.config.now in
     let inside : Option (List ℕ) = g.R.Source.remaining c.args.inside.now in
     let outside : Option (List ℕ) = g.Q.Source.remaining c.args.outside.now in
     let added = c.in_err-open.ensures rules c.log_laws.ensures.keeps c.requires.at in
@@ -30,11 +30,11 @@ pub returns-in_err-close-in-Ok : goal.returns-in_err-close-in-Ok
 returns-in_err-close-in-Ok g c =
     let from = c.from_residual-in_err-close-in-Ok in
     let p = err_from_is_err_and from.result from.ensures.1 in
-    let rules : Rules = c.args.self.config.now in
+    let rules : Rules = c.args.self.start.config.now in
     let inside : Option (List ℕ) = g.R.Source.remaining c.args.inside.now in
     let outside : Option (List ℕ) = g.Q.Source.remaining c.args.outside.now in
     let fault = c.in_err-close-in-Ok.field-0.0 in
-    let logs = c.in-Ok.ensures.logs in
+    let logs = rw c.requires.anew at c.in-Ok.ensures.logs in
     let begun = (c.in_ok-open.ensures rules c.log_laws.ensures.keeps c.requires.at).on in
     let there = at_end rules c.log_laws.ensures inside outside c.args.log.now c.open.new.self c.stream.new.log
     c.requires.written begun c.close.new.self c.in-Ok.totals logs in
@@ -42,9 +42,9 @@ returns-in_err-close-in-Ok g c =
     let text = adds_fault rules (traces rules logs.inputs) _ c.stream.new.log c.close.new.self fault added in
     rw (p.1, p.2) (record {
       to_outside = inl (device_after g.W.Sink rules inside outside c.args.to_outside.now c.stream.new.to_outside
-          outputs.Outside c.in-Ok.totals fault text c.in-Ok.ensures.to_outside);
+          outputs.Outside c.in-Ok.totals fault text (rw c.requires.anew at c.in-Ok.ensures.to_outside));
       to_inside = inl (device_after g.V.Sink rules inside outside c.args.to_inside.now c.stream.new.to_inside
-          outputs.Inside c.in-Ok.totals fault text c.in-Ok.ensures.to_inside);
+          outputs.Inside c.in-Ok.totals fault text (rw c.requires.anew at c.in-Ok.ensures.to_inside));
       log = ended_badly rules c.log_laws.ensures inside outside c.args.log.now c.open.new.self c.stream.new.log
           c.requires.written begun c.close.new.self c.in-Ok.totals logs fault added;
       says = text_says g.G.Gate.is_open rules inside outside fault text;
@@ -54,52 +54,54 @@ returns-in_err-close-in-Ok g c =
 -- all went well
 pub returns-in_ok-close-in-Ok : goal.returns-in_ok-close-in-Ok
 returns-in_ok-close-in-Ok g c =
-    let rules : Rules = c.args.self.config.now in
+    let rules : Rules = c.args.self.start.config.now in
     let inside : Option (List ℕ) = g.R.Source.remaining c.args.inside.now in
     let outside : Option (List ℕ) = g.Q.Source.remaining c.args.outside.now in
-    let logs = c.in-Ok.ensures.logs in
+    let logs = rw c.requires.anew at c.in-Ok.ensures.logs in
     let begun = (c.in_ok-open.ensures rules c.log_laws.ensures.keeps c.requires.at).on in
     let there = at_end rules c.log_laws.ensures inside outside c.args.log.now c.open.new.self c.stream.new.log
     c.requires.written begun c.close.new.self c.in-Ok.totals logs in
     record {
-      to_outside = inl c.in-Ok.ensures.to_outside;
-      to_inside = inl c.in-Ok.ensures.to_inside;
+      to_outside = inl (rw c.requires.anew at c.in-Ok.ensures.to_outside);
+      to_inside = inl (rw c.requires.anew at c.in-Ok.ensures.to_inside);
       log = ended_well rules c.log_laws.ensures inside outside c.args.log.now c.open.new.self c.stream.new.log
           c.requires.written begun c.close.new.self c.in-Ok.totals logs
           (c.in_ok-close-in-Ok.ensures rules logs.inputs c.log_laws.ensures.keeps there);
-      says = record { told = c.in-Ok.ensures.says.told; fault = tt; stop = tt };
+      says = record { told = rw c.requires.anew at c.in-Ok.ensures.says.told; fault = tt; stop = tt };
       readings = c.in-Ok.ensures.readings;
     }
 
 -- the run failed
 pub returns-in-Err : goal.returns-in-Err
 returns-in-Err g c =
-    let rules : Rules = c.args.self.config.now in
+    let rules : Rules = c.args.self.start.config.now in
     let inside : Option (List ℕ) = g.R.Source.remaining c.args.inside.now in
     let outside : Option (List ℕ) = g.Q.Source.remaining c.args.outside.now in
     let halt = c.in-Err.halt in
     let stopped = c.in-Err.ensures in
+    let logs = rw c.requires.anew at stopped.logs in
+    let says = rw c.requires.anew at stopped.says in
     let begun = (c.in_ok-open.ensures rules c.log_laws.ensures.keeps c.requires.at).on in
     let is = halt_is g.G.Gate.is_open rules c.log_laws.ensures inside outside c.args.log.now c.open.new.self
-    c.stream.new.log c.requires.written begun halt stopped.logs in
+    c.stream.new.log c.requires.written begun halt logs in
     record {
       to_outside = rw c.fault_of.ensures (inl (device_halted g.W.Sink rules inside outside c.args.to_outside.now
-          c.stream.new.to_outside outputs.Outside halt is stopped.to_outside));
+          c.stream.new.to_outside outputs.Outside halt is (rw c.requires.anew at stopped.to_outside)));
       to_inside = rw c.fault_of.ensures (inl (device_halted g.V.Sink rules inside outside c.args.to_inside.now
-          c.stream.new.to_inside outputs.Inside halt is stopped.to_inside));
+          c.stream.new.to_inside outputs.Inside halt is (rw c.requires.anew at stopped.to_inside)));
       log = rw c.fault_of.ensures (halted rules c.log_laws.ensures inside outside c.args.log.now c.open.new.self
           c.stream.new.log c.requires.written begun c.flush_after.new.self.output c.flush_after.ensures.same
-          c.flush_after.ensures.kept c.flush_after.ensures.counts halt stopped.logs
-          (closed g.G.Gate.is_open _ stopped.says.stop) c.flush_after.ensures.flushed);
+          c.flush_after.ensures.kept c.flush_after.ensures.counts halt logs
+          (closed g.G.Gate.is_open _ says.stop) c.flush_after.ensures.flushed);
       says = rw c.fault_of.ensures (halt_says g.G.Gate.is_open rules c.log_laws.ensures inside outside c.args.log.now
-          c.open.new.self c.stream.new.log c.requires.written begun halt stopped.logs stopped.says);
+          c.open.new.self c.stream.new.log c.requires.written begun halt logs says);
       readings = λ not_run. halt_reads g.G.Gate.is_open rules c.log_laws.ensures inside outside c.args.log.now
-          c.open.new.self c.stream.new.log c.requires.written begun halt stopped.logs g.R.Source.failed
+          c.open.new.self c.stream.new.log c.requires.written begun halt logs g.R.Source.failed
           g.Q.Source.failed c.args.inside.now c.stream.new.inside c.args.outside.now c.stream.new.outside
           stopped.readings c.fault_of.result c.fault_of.ensures not_run;
     }
 
 pub stream-requires-clause-log : goal.stream-requires-clause-log
 stream-requires-clause-log g c =
-    let flushed = (c.in_ok-open.ensures c.args.self.config.now c.log_laws.ensures.keeps c.requires.at).flushed in
+    let flushed = (c.in_ok-open.ensures c.args.self.start.config.now c.log_laws.ensures.keeps c.requires.at).flushed in
     search (rules, flushed)

@@ -1,6 +1,6 @@
 use Rattle.std.proofs.Common.{sym, ◌∙◌, ap}
 use Rattle.napt_run.proofs.PassesAll.{told_inside, told_outside, told_tally}
-use Rattle.napt_run.proofs.passing.Setting.run_into.Goals as goal
+use Rattle.napt_run.proofs.start.Setting.run_into.Goals as goal
 
 pub returns-clause-to_outside : goal.returns-clause-to_outside
 returns-clause-to_outside g c =

@@ -1,0 +1,8 @@
+use Rattle.std.proofs.Common.{List, ap, append-nil}
+use Rattle.napt_rules.specs.Prelude.{Binding, opening}
+use Rattle.napt_run.{specs.Origins.Origin, proofs.start.unbegun.Goals as goal}
+
+pub returns-clause-opens : goal.returns-clause-opens
+returns-clause-opens c rules =
+    ap (λ (l : List Binding). let o : Origin = record { rules = rules; state = record { clock = 0; list = l } } in o)
+    (append-nil (opening rules))
