@@ -4,7 +4,7 @@ use Rattle.std.specs.{Prelude.{◌≡◌, ℕ, ◌+◌, ◌^◌, ◌<◌, ◌==�
 use Rattle.napt_wire.specs.declared.{Endpoint.Endpoint, Protocol.{Protocol, TheVariants.{Icmp, Tcp, Udp}}}
 use Rattle.napt_config.specs.Text.{address_text}
 use Rattle.napt_rules.specs.declared.{Flow.Flow, Marks.Marks, Row.Row}
-use Rattle.napt_rules.specs.Prelude.{Binding, State}
+use Rattle.napt_rules.specs.Prelude.{Binding, Each, State}
 use Rattle.napt_state.specs.declared.line.StateLine.{StateLine}
 use Rattle.napt_state.specs.declared.line.StateLine.TheVariants as lines
 
@@ -104,6 +104,9 @@ state_lines state = lines.Clock state.clock
 
 abbrev pub state_text : State → Text
 state_text state = flat_map line_text (state_lines state)
+
+abbrev pub IsState : State → Type 0
+IsState state = Each IsStateLine (state_lines state)
 
 -- WHAT ENTRIES SAY
 

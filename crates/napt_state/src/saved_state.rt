@@ -5,22 +5,9 @@ ghost use Rattle.napt_state.specs.Saved as saved;
 ghost use Rattle.napt_state.specs.declared.line.StateLine.{StateLine as Told};
 
 use crate::StateLine;
+use crate::fault::StateReason;
 use std::alloc::Global;
-use std::io;
 use std::io::BufRead;
-
-/// Why the text of a state is refused.
-#[derive(Debug, Drop)]
-pub enum StateFault {
-    /// A read failed, memory ran out, or the bytes are not UTF-8.
-    Unread(io::Error),
-    /// Memory ran out.
-    Memory,
-    /// A line is none of a state, to its last character.
-    Wrong,
-    /// The last line breaks off: it has no end of a line.
-    Torn,
-}
 
 /// A text of a state that is read line by line, in the memory of its longest line.
 #[derive(Drop)]
@@ -55,7 +42,7 @@ impl<R: BufRead + Drop> SavedState<R> {
     }
 
     /// Reads the entry of the next line; `None` at the end.
-    pub fn next(&mut self) -> Result<Option<StateLine>, StateFault>
+    pub fn next(&mut self) -> Result<Option<StateLine>, StateReason>
         ensures lines { self.new.lines ≡ min (self.old.lines + 1) (2 ^ 64 - 1) }
         ensures entry { (entry : Told) (rest : List ℕ) → texts.IsStateLine entry →
             R.remaining self.old.reader ≡ Some (texts.line_text entry ++ rest) →
@@ -67,31 +54,31 @@ impl<R: BufRead + Drop> SavedState<R> {
             saved.UnlessUnread result (result ≡ Ok None) }
         ensures torn { (torn : List ℕ) → 0 < length torn → All (λ byte. byte ≢ 10) torn →
             R.remaining self.old.reader ≡ Some torn →
-            saved.UnlessUnread result (result ≡ Err StateFault.Torn) }
+            saved.UnlessUnread result (result ≡ Err StateReason.Torn) }
     {
         self.line.clear();
         self.lines = self.lines.saturating_add(1);
         let length = match self.reader.read_line(&mut self.line) {
             Ok(length) => length,
-            Err(error) => return Err(StateFault::Unread(error)),
+            Err(error) => return Err(StateReason::Unread(error)),
         };
         if length == 0 {
             return Ok(None);
         }
         let Some(text) = self.line.as_str().strip_suffix('\n') else {
-            return Err(StateFault::Torn);
+            return Err(StateReason::Torn);
         };
         let Some(entry) = StateLine::read(text) else {
-            return Err(StateFault::Wrong);
+            return Err(StateReason::WordCount);
         };
         self.again.clear();
         if entry.add_to(&mut self.again).is_err() {
-            return Err(StateFault::Memory);
+            return Err(StateReason::Memory);
         }
         if self.again.as_str() == self.line.as_str() {
             Ok(Some(entry))
         } else {
-            Err(StateFault::Wrong)
+            Err(StateReason::WordCount)
         }
     }
 }

@@ -1,6 +1,6 @@
 //! A text with a line of each kind is written and read back; damaged lines are refused, with their number.
 
-use crate::{SavedState, StateFault, StateLine};
+use crate::{SavedState, StateLine, StateReason};
 use napt_rules::{Flow, Marks, Row};
 use napt_wire::{Endpoint, Protocol};
 use std::test::Fail;
@@ -83,12 +83,12 @@ fn what_is_none_of_a_state_is_refused(rt: HostRuntime) -> Result<(), Fail> {
         "end 1 1\r\n",
     ] {
         let mut saved = SavedState::new(rt.alloc(), line.as_bytes());
-        assert!(rt; matches!(saved.next(), Err(StateFault::Wrong)));
+        assert!(rt; matches!(saved.next(), Err(StateReason::WordCount)));
         assert_eq!(rt; saved.line(), 1);
     }
     let mut saved = SavedState::new(rt.alloc(), "clock 1\nend 0".as_bytes());
     assert!(rt; matches!(saved.next(), Ok(Some(StateLine::Clock(1)))));
-    assert!(rt; matches!(saved.next(), Err(StateFault::Torn)));
+    assert!(rt; matches!(saved.next(), Err(StateReason::Torn)));
     assert_eq!(rt; saved.line(), 2);
     Ok(())
 }
