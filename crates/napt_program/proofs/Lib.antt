@@ -4,3 +4,4 @@ pub mod LogLemmas
 pub mod OneKind
 pub mod OptionLemmas
 pub mod PlaceLemmas
+pub mod StateLemmas
