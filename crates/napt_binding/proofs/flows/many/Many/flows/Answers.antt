@@ -1,7 +1,7 @@
 use Rattle.std.proofs.{lemmas.{Grind.common_steps, Bool.Decides.nat_tests}, Common.arith}
 use Rattle.napt_binding.proofs.Distinct.{not_in_slots_before, distinct_pushed, next_slot, empty_slot}
-use Rattle.napt_binding.proofs.flows.many.Many.compacted.Goals.{in-Some+in_ok-push, in_default}
-use Rattle.napt_binding.proofs.flows.many.Many.compacted.Goals as goal
+use Rattle.napt_binding.proofs.flows.many.Many.flows.Goals.{in-Some+in_ok-push, in_default}
+use Rattle.napt_binding.proofs.flows.many.Many.flows.Goals as goal
 
 pub loop-place-preserved : goal.loop-place-preserved
 loop-place-preserved c =

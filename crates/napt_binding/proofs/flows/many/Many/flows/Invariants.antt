@@ -1,6 +1,6 @@
 use Rattle.std.proofs.Common.{◌≡◌, ◌≤◌, length, take}
 use Rattle.napt_binding.specs.Slots.{somes, AreDistinct}
-use Rattle.napt_binding.proofs.flows.many.Many.compacted.Given as goal
+use Rattle.napt_binding.proofs.flows.many.Many.flows.Given as goal
 
 abbrev pub invariant-loop-place : goal.invariant-loop-place
 invariant-loop-place l =
