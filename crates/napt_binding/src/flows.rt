@@ -190,7 +190,8 @@ impl Flows {
 
     /// A copy of the flows, oldest first.
     fn copied(&self, alloc: Global) -> Result<Vec<Flow>, AllocError>
-        ensures { IfOk result (λ made. made.items ≡ self.now) }
+        ensures flows { IfOk result (λ made. made.items ≡ self.now) }
+        ensures distinct { IfOk result (λ made. AreDistinct made.items) }
     {
         match &self.kept {
             Kept::Empty => Ok(Vec::new(alloc)),
@@ -201,6 +202,7 @@ impl Flows {
     }
 
     /// A copy of the flows of a protocol that live at a time, in ns, oldest first.
+    #[tactic(auto, using(crate::proofs::Distinct::distinct_live))]
     pub fn live(
         &self,
         alloc: Global,
@@ -208,7 +210,8 @@ impl Flows {
         now: u64,
         protocol: Protocol,
     ) -> Result<Vec<Flow>, AllocError>
-        ensures { IfOk result (λ made. made.items ≡ life.live_flows timers now protocol self.now) }
+        ensures flows { IfOk result (λ made. made.items ≡ life.live_flows timers now protocol self.now) }
+        ensures distinct { IfOk result (λ made. AreDistinct made.items) }
     {
         let mut flows = self.copied(alloc)?;
         few::keep_standing(&mut flows, timers, now, protocol);

@@ -64,7 +64,8 @@ pub fn to_state(
     timers: IdleTimers,
     now: u64,
 ) -> Result<StateBinding, AllocError>
-    ensures { IfOk result (λ made. made ≡ life.with_live_flows timers now binding.now) }
+    ensures binding { IfOk result (λ made. made ≡ life.with_live_flows timers now binding.now) }
+    ensures distinct { IfOk result (λ made. AreDistinct made.flows) }
 {
     let row = binding.row.row();
     Ok(StateBinding {
