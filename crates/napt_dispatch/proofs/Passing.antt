@@ -154,8 +154,21 @@ module _ {P M G : Type 0} {tells : Passage → P} where
         Reads tells rules pool d inputs went mid_pool mid → now ≡ last_clock d.clock (inputs ++ input ∷ []) →
         Serves tells rules now input mid_pool mid later_pool later →
         Reads tells rules pool d (inputs ++ input ∷ []) went later_pool later
-    reads_more a clock b =
-        grind (arith, common_steps, nat_tests, grows_both, map-append, append_assoc, many_read, clock_more)
+    reads_more {went} {now} {input} a clock b = record {
+      starts_stay = b.starts_stay ∙ a.starts_stay;
+      grows = grows_both a.grows b.grows;
+      sized = b.sized;
+      times_are = b.times_are ∙ (ap (λ l. l ++ input.time ∷ []) a.times_are
+          ∙ sym (map-append (λ (i : Arrival). i.time) inputs (input ∷ [])));
+      left_is = b.left_stays ∙ a.left_is;
+      served = λ start at rest s.
+          let whole : (inputs ++ input ∷ []) ++ rest ≡ inputs ++ input ∷ rest = append_assoc inputs (input ∷ []) rest in
+          let before : Stands tells rules start inputs ((inputs ++ input ∷ []) ++ rest) (state_of mid_pool mid) =
+          rw whole (a.served start at (input ∷ rest) (rw whole at s)) in
+          b.served start inputs rest (many_read mid inputs a.times_are)
+          (ap (λ (t : ℕ). max (last_clock t inputs) input.clock) at
+          ∙ (sym (clock_more d.clock inputs input) ∙ sym clock)) before;
+    }
 
 -- where nothing is held and all outcomes left there is room
 pub room_idle : {P : Type 0} (d : Dispatcher P) → IsDone d → d.progress.under_way ≡ [] → HasRoom d

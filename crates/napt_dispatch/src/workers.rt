@@ -206,7 +206,7 @@ fn translators<P: Telling>(
 {
     let mut made = Vec::with_capacity(alloc, ended.len())?;
     for worker in ended {
-        made.push(worker.machine.translator)?;
+        made.push(worker.machine.into_translator())?;
     }
     Ok(made)
 }
@@ -222,7 +222,7 @@ fn result_of<P: Telling>(
         ≡ flat_map (λ e. rows_after clock e.machine) ended.items) }
     ensures translators { IfOk result (λ passed. passed.translators.items
         ≡ map (λ e. e.machine) ended.items) }
-    ensures legs { IfOk result (λ passed. passed.legs ≡ legs) }
+    ensures legs { IfOk result (λ passed. passed.legs.items ≡ legs.items) }
     ensures clock { IfOk result (λ passed. passed.clock ≡ clock) }
 {
     let bindings = bindings(alloc, &ended, clock)?;
