@@ -19,7 +19,7 @@ pub use flows::Flows;
 pub use idle_timers::IdleTimers;
 pub use inbound::inbound_of;
 pub use kept_row::KeptRow;
-pub use life::{end_of, is_live, until};
+pub use life::{end_of, is_live, is_live_flow, is_recent, until};
 pub use napt_rules::{Flow, Inbound, Marks, Sent};
 pub use state_binding::{from_state, to_state};
 pub use traffic::{send, take_in};

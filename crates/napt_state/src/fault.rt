@@ -1,5 +1,6 @@
 //! Why the text of a state is refused.
 
+use std::alloc::{AllocError, AllocFailed};
 use std::error::Error;
 use std::{fmt, io};
 
@@ -50,10 +51,55 @@ pub enum StateWord {
     Mark,
 }
 
+impl From<AllocError> for StateReason {
+    ghost use Rattle.std.specs.Prelude.{◌≡◌};
+    ghost use Rattle.napt_state.specs.declared.fault.StateReason.TheVariants.{Memory};
+
+    ghost from_gives = { λ _ e. e ≡ Memory };
+
+    fn from(_e: AllocError) -> StateReason {
+        StateReason::Memory
+    }
+}
+
+impl<T: Drop> From<AllocFailed<T>> for StateReason {
+    ghost use Rattle.std.specs.Prelude.{◌≡◌};
+    ghost use Rattle.napt_state.specs.declared.fault.StateReason.TheVariants.{Memory};
+
+    ghost from_gives = { λ _ e. e ≡ Memory };
+
+    fn from(_e: AllocFailed<T>) -> StateReason {
+        StateReason::Memory
+    }
+}
+
+impl fmt::Display for StateWord {
+    fn fmt<W: fmt::Write>(&self, f: &mut fmt::Formatter<W>) -> fmt::Result {
+        f.write_str(match self {
+            StateWord::Kind => "first word",
+            StateWord::Protocol => "protocol",
+            StateWord::Address => "address",
+            StateWord::Number | StateWord::Count => "number",
+            StateWord::Mark => "mark",
+        })
+    }
+}
+
 impl fmt::Display for StateFault {
     fn fmt<W: fmt::Write>(&self, f: &mut fmt::Formatter<W>) -> fmt::Result {
         let line = self.line;
-        write!(f, "line {line}")
+        write!(f, "line {line}: ")?;
+        match &self.reason {
+            StateReason::Unread(error) => write!(f, "not read: {error}"),
+            StateReason::Memory => f.write_str("not enough memory"),
+            StateReason::NotUtf8 => f.write_str("not UTF-8"),
+            StateReason::Torn => f.write_str("the text breaks off"),
+            StateReason::Word(kind, word) => write!(f, "{kind} '{word}'"),
+            StateReason::WordCount => f.write_str("too many words, or too few"),
+            StateReason::NoBinding => f.write_str("a flow before each binding"),
+            StateReason::Counts => f.write_str("counts of other lines"),
+            StateReason::BehindEnd => f.write_str("behind the end"),
+        }
     }
 }
 
