@@ -118,7 +118,7 @@ module _ {R Q W V : Type 0} {G : source.Ghosts R} {H : source.Ghosts Q} {S : sin
         counts = subst (λ c. AreCountsOf (ran_by origin whole.inputs).outcomes c) (sym p.counts)
             (counted whole.inputs whole.few whole.took);
         bindings = p.well.bindings;
-        left = p.well.left;
+        leaves = p.well.leaves;
       }
 
   refused : (side : Side) (fault : CaptureFault) (inputs : List Arrival) →

@@ -152,7 +152,7 @@ module _ {P A F W V K E : Type 0} {S : sink.Ghosts W} {T : sink.Ghosts V} (tells
   pub passes_by : (result : Result Passed (Stopped F (LeavingFault E))) → RunPasses result →
       PassesBy origin hands ends from before.leaving left after.leaving result
   unfolding passes_to
-  passes_by (Ok passed) p = record { whole = passes_to None p.whole; bindings = p.bindings; left = p.leaves }
+  passes_by (Ok passed) p = record { whole = passes_to None p.whole; bindings = p.bindings; leaves = p.leaves }
   passes_by (Err (stops.Arrival fault)) p = passes_to (Some fault) p
   passes_by (Err (stops.Departure (Output fault))) p = record {
     inputs = p.inputs;

@@ -97,7 +97,7 @@ module _ {W V : Type 0} {S : Ghosts W} {T : Ghosts V} (open_gate : Bool) (origin
       all = p.all;
       counts = p.counts;
       bindings = p.bindings;
-      left = p.left;
+      leaves = p.leaves;
     }
     headed (Err (Capture side fault)) p = record {
       inputs = p.inputs;

@@ -177,7 +177,7 @@ pub record AreOutputs (origin : Origin) (captures : Captures) (outputs : Outputs
   pub to_outside : outputs.to_outside ≡ (texts_made origin captures).outside
   pub to_inside : outputs.to_inside ≡ (texts_made origin captures).inside
   pub report : string_bytes outputs.report ≡ (texts_made origin captures).report
-  pub left : GivesState origin (arrivals_of captures) outputs.passed
+  pub leaves : GivesState origin (arrivals_of captures) outputs.passed
 
 -- the output that goes to a side
 abbrev pub output_to : Side → Which

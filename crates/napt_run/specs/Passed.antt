@@ -41,7 +41,7 @@ module _ {A F W V : Type 0} {S : sink.Ghosts W} {T : sink.Ghosts V} (origin : Or
   pub record PassesWell (passed : Passed) : Type 0 where
     pub whole : PassesTo None
     pub bindings : passed.bindings.items ≡ (ran_by origin whole.inputs).bindings
-    pub left : GivesState origin whole.inputs passed
+    pub leaves : GivesState origin whole.inputs passed
 
   -- an output failed, and what left before is the first of what leaves
   pub record PassesEarly (fault : OutputFault) : Type 0 where

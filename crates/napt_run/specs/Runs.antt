@@ -49,7 +49,7 @@ module _ {W V : Type 0} {S : Ghosts W} {T : Ghosts V} (open_gate : Bool) (origin
     pub all : IfHeld inside outside (λ all. all ≡ record { arrivals = inputs; end = Ok totals.cuts })
     pub counts : AreCountsOf (ran_by origin inputs).outcomes totals.counts
     pub bindings : totals.passed.bindings.items ≡ (ran_by origin inputs).bindings
-    pub left : GivesState origin inputs totals.passed
+    pub leaves : GivesState origin inputs totals.passed
 
   -- a capture had a fault
   pub record RunsToFault (side : Side) (fault : CaptureFault) : Type 0 where
@@ -94,7 +94,7 @@ pub record IsToldOf (origin : Origin) (inside outside : Option (List ℕ)) (tota
   pub all : IfHeld inside outside (λ all. all ≡ record { arrivals = inputs; end = Ok totals.cuts })
   pub counts : AreCountsOf (ran_by origin inputs).outcomes totals.counts
   pub bindings : totals.passed.bindings.items ≡ (ran_by origin inputs).bindings
-  pub left : GivesState origin inputs totals.passed
+  pub leaves : GivesState origin inputs totals.passed
 
 -- what the result of a run says of the captures, under a gate that promises yes or one that does not
 pub record ResultSays (open_gate : Bool) (origin : Origin) (inside outside : Option (List ℕ))

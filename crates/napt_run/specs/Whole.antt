@@ -11,7 +11,7 @@ use Rattle.napt_run.specs.{Outputs.Grows, Runs.text_behind, declared.{leaving.Le
 pub record IsTallyOf (origin : Origin) (inputs : List Arrival) (tally : Tally) : Type 0 where
   pub counts : AreCountsOf (ran_by origin inputs).outcomes tally.counts
   pub bindings : tally.passed.bindings.items ≡ (ran_by origin inputs).bindings
-  pub left : GivesState origin inputs tally.passed
+  pub leaves : GivesState origin inputs tally.passed
 
 -- both outputs have what leaves of them, behind this text, and the tally is theirs
 pub record WritesAll {W V : Type 0} {S : Ghosts W} {T : Ghosts V} (front : List ℕ) (origin : Origin)

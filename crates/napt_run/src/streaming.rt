@@ -3,7 +3,7 @@ ghost use Rattle.std.specs.Prelude.{◌≡◌, ◌-◌, ◌^◌, ◌<◌, []};
 ghost use Rattle.napt_capture.specs.Text.{file_header};
 ghost use Rattle.napt_records.specs.Counts.{AreCountsOf};
 ghost use Rattle.napt_run.specs.{Leaving.AreSound, Origins.origin_of, Runs.{ResultSays, RunsTo}, LeavingWithLogs.IsSamePlace, Logging.{LogsTo, as_run}};
-ghost use Rattle.napt_run.specs.Streams.{DeviceGets, HasRead, IsOfRun};
+ghost use Rattle.napt_run.specs.Streams.{DeviceGetsFrom, HasRead, IsOfRun};
 
 use crate::leaving::Leaving;
 use crate::leaving_with_log::LeavingWithLog;
@@ -37,10 +37,10 @@ impl<T: Threads + Wait + Copy + Send + 'static, G: Gate + Send + Sync + Drop + '
         requires to_outside { W.failed to_outside.old < 2 ^ 64 - 1 }
         requires to_inside { V.failed to_inside.old < 2 ^ 64 - 1 }
         requires log { K.is_settled log.old }
-        ensures to_outside { DeviceGets W.Sink (origin_of self.entry.start) Which.Outside
+        ensures to_outside { DeviceGetsFrom W.Sink (origin_of self.entry.start) Which.Outside
             (R.remaining inside.old) (Q.remaining outside.old) (as_run result)
             to_outside.old to_outside.new }
-        ensures to_inside { DeviceGets V.Sink (origin_of self.entry.start) Which.Inside
+        ensures to_inside { DeviceGetsFrom V.Sink (origin_of self.entry.start) Which.Inside
             (R.remaining inside.old) (Q.remaining outside.old) (as_run result)
             to_inside.old to_inside.new }
         ensures says { ResultSays G.is_open (origin_of self.entry.start) (R.remaining inside.old)

@@ -134,14 +134,14 @@ pub fn resume_streams<
     requires to_outside { W.failed to_outside.old < 2 ^ 64 - 1 }
     requires to_inside { V.failed to_inside.old < 2 ^ 64 - 1 }
     requires report { U.failed report.old < 2 ^ 64 - 1 }
-    ensures to_outside { DeviceGetsFrom W.Sink (origin_of start) Which.Outside (R.remaining inside.old)
+    ensures to_outside { DeviceGetsFrom W.Sink (origin_of start.entry) Which.Outside (R.remaining inside.old)
         (Q.remaining outside.old) (ended result) to_outside.old to_outside.new }
-    ensures to_inside { DeviceGetsFrom V.Sink (origin_of start) Which.Inside (R.remaining inside.old)
+    ensures to_inside { DeviceGetsFrom V.Sink (origin_of start.entry) Which.Inside (R.remaining inside.old)
         (Q.remaining outside.old) (ended result) to_inside.old to_inside.new }
-    ensures report { ReportGetsFrom U.Sink (origin_of start) (R.remaining inside.old)
+    ensures report { ReportGetsFrom U.Sink (origin_of start.entry) (R.remaining inside.old)
         (Q.remaining outside.old) (ended result) report.old report.new }
     ensures left { IfOk result
-        (LeavesInTheEnd (origin_of start) (R.remaining inside.old) (Q.remaining outside.old)) }
+        (LeavesInTheEnd (origin_of start.entry) (R.remaining inside.old) (Q.remaining outside.old)) }
     ensures fault { IfErr result
         (Explains (R.remaining inside.old) (Q.remaining outside.old)) }
     ensures too_many { result ≢ Err (Fault.Run RunFault.TooMany) }

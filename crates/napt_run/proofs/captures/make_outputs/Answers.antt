@@ -28,5 +28,5 @@ returns-clause-ok g c =
           ≡ report_of c.inside.inside.cut c.outside.inside.cut outcomes c.deref.result.now)) c.in_ok-report.was
           (c.report_of.ensures outcomes counted))
           ∙ ap₂ (λ (a b : Contents). report_text a.cut b.cut (ran_by origin arrivals)) c.inside.view_is c.outside.view_is;
-      left = subst (λ l. GivesState origin l c.in_ok-counts.field-0.passed) are c.in_ok-counts.ensures.tally.left;
+      leaves = subst (λ l. GivesState origin l c.in_ok-counts.field-0.passed) are c.in_ok-counts.ensures.tally.leaves;
     }
