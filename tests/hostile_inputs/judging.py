@@ -23,7 +23,7 @@ LINES = {
     4: f"capture (?:inside|outside) (?:{'|'.join(CAPTURE_FAULTS)})",
     5: "run too-many",
     6: "file (?:config|resume|inside|outside|to-outside|to-inside|report|save)|write (?:to-outside|to-inside|report|save)",
-    8: f"state (?:bad-line {NUMBER}|not-inside|not-paired|not-its-number|used-later|flows-share|redirected|shared)",
+    8: f"state (?:(?:bad-line|not-utf-8) {NUMBER}|not-inside|not-paired|not-its-number|used-later|flows-share|redirected|shared)",
 }
 FAULT_LINES = {status: re.compile(f"napt: (?:{line})\n".encode()) for status, line in LINES.items()}
 DROPS = translating.CAUSES

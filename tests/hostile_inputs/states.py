@@ -94,14 +94,16 @@ def read(data):
     try:
         while not is_last:
             number += 1
+            line = lines[number - 1].decode()
             # what stands behind the last end of a line is no line
             if number == len(lines):
                 raise ValueError
-            line = lines[number - 1].decode("ascii")
             if number == 1:
                 state.clock = number_in(CLOCK.fullmatch(line)[1])
             else:
                 is_last = take_line(state, line)
+    except UnicodeDecodeError:
+        raise Refused(f"not-utf-8 {number}") from None
     except (ValueError, TypeError):
         raise Refused(f"bad-line {number}") from None
     if lines[number:] != [b""]:

@@ -4,12 +4,13 @@ use Rattle.std.specs.Prelude.{Option}
 use Rattle.clap.specs.Words.{Text}
 use Rattle.napt_program.specs.{CommandLine.files_of, Command.IsRunStop, State.IsNewStop}
 use Rattle.napt_program.specs.declared.{options.Options.Options, stop.Stop.Stop, streams.Streams.Streams}
-use Rattle.napt_state.specs.{Saved.unless_for, declared.fault.StateReason.{StateReason, TheVariants.{Unread, Memory}}}
+use Rattle.napt_state.specs.{Saved.unless_for, declared.fault.StateReason.{StateReason, TheVariants.{Unread, NotUtf8, Memory}}}
 
 -- what would hold if a text was read, but does not, was not read
 pub unread : (reason : StateReason) (fact : Type 0) (told : Bool) → (fact → ⊥) → unless_for reason fact
     → (unless_for reason ⊥ → told ≡ false) → told ≡ false
 unread (Unread error) fact told not is told_so = told_so is
+unread NotUtf8 fact told not is told_so = told_so is
 unread Memory fact told not is told_so = told_so is
 unread other fact told not is told_so = told_so (not is)
 

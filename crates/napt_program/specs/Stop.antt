@@ -112,6 +112,7 @@ misfit_name misfit.Shared = codes "shared"
 
 abbrev pub state_name : StateRefusal → Text
 state_name (state.Line line_number) = codes "bad-line " ++ decimal line_number
+state_name (state.NotUtf8 line_number) = codes "not-utf-8 " ++ decimal line_number
 state_name (state.Binding why) = misfit_name why
 
 -- the fault line after the program's name

@@ -99,6 +99,7 @@ words tells where in a file, and what to do):
        which could not be written to standard output is write to-outside
   8  napt: state WORD
        bad-line N       line N is none of a state there, or it is missing
+       not-utf-8 N      line N is not UTF-8
        not-inside       the host of a binding is in no prefix of inside
        not-paired       its external address is not the one of its host
        not-its-number   a number of it is 0, or is not of its host's block

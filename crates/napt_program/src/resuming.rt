@@ -72,6 +72,7 @@ pub fn stop_of_state(fault: &StateFault) -> Stop
     match &fault.reason {
         StateReason::Memory => MEMORY,
         StateReason::Unread(error) => unread_state(error),
+        StateReason::NotUtf8 => Stop::State(StateRefusal::NotUtf8(fault.line)),
         _ => Stop::State(StateRefusal::Line(fault.line)),
     }
 }

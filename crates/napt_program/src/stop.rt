@@ -41,6 +41,8 @@ pub enum Stop {
 pub enum StateRefusal {
     /// The line of this number, from 1, is none of a state there, or the text ends before it.
     Line(u64),
+    /// The line of this number, from 1, is not UTF-8.
+    NotUtf8(u64),
     /// The configuration does not take a binding of it.
     Binding(Misfit),
 }
@@ -258,6 +260,7 @@ impl fmt::Display for StateRefusalName {
     fn fmt<W: fmt::Write>(&self, f: &mut fmt::Formatter<W>) -> fmt::Result {
         match self.0 {
             StateRefusal::Line(line) => write!(f, "bad-line {line}"),
+            StateRefusal::NotUtf8(line) => write!(f, "not-utf-8 {line}"),
             StateRefusal::Binding(misfit) => f.write_str(name_of_misfit(misfit)),
         }
     }
