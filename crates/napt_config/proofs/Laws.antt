@@ -5,10 +5,10 @@ use Rattle.std.specs.{BTreeMap.insert_entry, List.{list_any, before_first, after
 use Rattle.std.proofs.lemmas.{Bool.not-true, List.{Elements.{All-push, All-nil}, Folds.list_any_at}, Map.Views.{All-keys-insert_entry, All-values-insert_entry}}
 use Rattle.std.proofs.lemmas.Option.{cond_some, option_and_then_some}
 use Rattle.toml.specs.Data.{Data, Items, Members, get_member}
-use Rattle.napt_config.specs.Prelude.{BadAddress, BadPrefix, BadNumber, DoubleAddress, Missing, PrefixesOverlap, BlockTooLarge, PairWithBlock, HoldWithBlock, NotInside, NotInPool, DoublePair, TimerTooShort, UnknownKey, Timers, Network, IsNetwork, have_address, are_apart, address_of, network_of, network_at, number_of, is_slash, Rules, has, paired_with, paired, block_in, have_room, IsTimer, AreTimers, IsInside, IsQuota, IsBlock, AreBlocks, ArePairs, KeepsRules, item_count, short_list, text_in, number_in, table_in, list_up_to, between, with_address, pool_in, with_prefix, prefixes_in, inside_in, filter_in, refresh_in, choosing_in, timer_at, timers_at, idle_timers_in, timers_in, default_timers, ring_at, ring_in, quota_at, quota_in, block_size_at, block_size, block_size_in, address_in, with_pair, pairs_at, pairs_in, redirects_in, required, optional, configured, knows_all_keys}
+use Rattle.napt_config.specs.Prelude.{BadAddress, BadPrefix, BadNumber, DoubleAddress, Missing, PrefixesOverlap, BlockTooLarge, PairWithBlock, HoldWithBlock, NotInside, NotInPool, DoublePair, TimerTooShort, UnknownKey, Timers, Network, IsNetwork, have_address, are_apart, address_of, network_of, network_at, number_of, is_slash, Rules, has, paired_with, paired, block_in, have_room, IsTimer, AreTimers, IsInside, IsQuota, IsBlock, AreBlocks, ArePairs, KeepsRules, each_in_order, item_count, short_list, text_in, number_at, table_in, list_up_to, with_address, pool_in, with_prefix, prefixes_in, inside_in, filter_in, refresh_in, choosing_in, timer_at, timers_at, idle_timers_in, timers_in, default_timers, ring_in, quota_at, quota_in, block_size_at, block_size, block_size_in, address_in, with_pair, pairs_at, pairs_in, redirects_in, required, optional, configured, knows_all_keys}
 use Rattle.napt_config.proofs.Addresses.{address_of-bound}
 use Rattle.napt_config.proofs.{Chains.{list_up_to-counts, reads, holds, ok_or_ok, optional_reads, optional-absent, each_keeps, each_adds}, Indices.block_in-is}
-use Rattle.napt_config.proofs.{Numbers.{number_of-range, between-range}, PairEntries.{Pairs, sorted_inserted, one_more}, Pools.{AreDistinct, AreDistinct-push}}
+use Rattle.napt_config.proofs.{Numbers.{number_of-range, number_at-range}, PairEntries.{Pairs, sorted_inserted, one_more}, Pools.{AreDistinct, AreDistinct-push}}
 use Rattle.napt_config.proofs.RedirectEntries.{redirects_in-keeps}
 
 -- ---- texts
@@ -85,7 +85,7 @@ pub record PoolRules (pool : List ℕ) : Type 0 where
 nothing_yet : PoolSoFar []
 nothing_yet = record { addresses = All-nil _; distinct = λ i j i_in j_in same. absurd (omega arith) }
 
-pub pool_in-keeps : (table : Members) (pool : List ℕ) → pool_in table ≡ Ok pool → PoolRules pool
+pub pool_in-keeps : (table : Members) (pool : List ℕ) → pool_in each_in_order table ≡ Ok pool → PoolRules pool
 unfolding pool_in
 pool_in-keeps table pool is =
     reads (short_list (codes "pool") table) _ pool is λ entries listed more.
@@ -117,7 +117,7 @@ inside_keeps now next entry start is =
 inside_adds : (now next : List Network) (entry : Data) → with_prefix now entry ≡ Ok next → length next ≡ length now + 1
 inside_adds now next entry is = grind (arith, common_steps, inside_step, length-append)
 
-prefixes_in-keeps : (table : Members) (inside : List Network) → prefixes_in table ≡ Ok inside → IsInside inside
+prefixes_in-keeps : (table : Members) (inside : List Network) → prefixes_in each_in_order table ≡ Ok inside → IsInside inside
 unfolding prefixes_in
 prefixes_in-keeps table inside is =
     reads (short_list (codes "inside") table) _ inside is λ entries listed more.
@@ -149,14 +149,12 @@ inside_in-keeps pool table inside is = grind (arith, common_steps, prefixes_in-k
 timer_at-keeps : (least seconds : ℕ) (value : Data) → timer_at least value ≡ Ok seconds → IsTimer least seconds
 unfolding timer_at
 timer_at-keeps least seconds value is =
-    reads (number_in value) _ seconds is λ number _ read.
-    reads (ok_or (between 0 1_000_000_000 number) BadNumber) _ seconds read λ found ranged ruled.
+    reads (number_at 0 1_000_000_000 value) _ seconds is λ found ranged ruled.
     holds (nat_le least found) TimerTooShort _ seconds ruled λ long last.
     let same : found ≡ seconds = cc in
     subst (IsTimer least) same (record {
       low = leb-true _ _ long;
-      high =
-          (between-range 0 1_000_000_000 found number (ok_or_ok _ _ _ ranged)).1;
+      high = (number_at-range 0 1_000_000_000 found value ranged).1;
     })
 
 timer-keeps : (key : List ℕ) (least default seconds : ℕ) (table : Members) → IsTimer least default →
@@ -215,18 +213,14 @@ timers_in-keeps timers table is =
 abbrev pub IsRing : ℕ → Type 0
 IsRing slots = (1 ≤ slots) × (slots ≤ 4096)
 
-ring_at-keeps : (slots : ℕ) (value : Data) → ring_at value ≡ Ok slots → IsRing slots
-unfolding ring_at
-ring_at-keeps slots value is = grind (arith, common_steps, between-range, ok_or_ok)
-
 pub ring_in-keeps : (slots : ℕ) (table : Members) → ring_in table ≡ Ok slots → IsRing slots
 unfolding ring_in
-ring_in-keeps slots table is = optional_reads IsRing (codes "ring") 64 ring_at table slots is (omega arith, omega arith)
-    (λ value y read. ring_at-keeps y value read)
+ring_in-keeps slots table is = optional_reads IsRing (codes "ring") 64 (number_at 1 4096) table slots is
+    (omega arith, omega arith) (λ value y read. number_at-range 1 4096 y value read)
 
 quota_at-keeps : (quota : Option ℕ) (value : Data) → quota_at value ≡ Ok quota → IfSome quota IsQuota
 unfolding quota_at
-quota_at-keeps quota value is = grind (arith, common_steps, ok_or, between-range, ok_or_ok)
+quota_at-keeps quota value is = grind (arith, common_steps, number_at-range)
 
 pub quota_in-keeps : (quota : Option ℕ) (table : Members) → quota_in table ≡ Ok quota → IfSome quota IsQuota
 unfolding quota_in
@@ -241,12 +235,11 @@ pub record IsSize (size : ℕ) : Type 0 where
 block_size_at-keeps : (size : ℕ) (value : Data) → block_size_at value ≡ Ok size → IsSize size
 unfolding block_size_at
 block_size_at-keeps size value is =
-    reads (number_in value) _ size is λ number _ read.
-    reads (ok_or (between 64 32256 number) BadNumber) _ size read λ found ranged ruled.
+    reads (number_at 64 32256 value) _ size is λ found ranged ruled.
     holds (found % 2 == 0) BadNumber _ size ruled λ even last.
     let same : found ≡ size = cc in
     subst IsSize same (record {
-      range = between-range 64 32256 found number (ok_or_ok _ _ _ ranged);
+      range = number_at-range 64 32256 found value ranged;
       even = eqb-true _ _ even;
     })
 
@@ -336,7 +329,7 @@ no_pairs : (pool : List ℕ) (inside : List Network) → PairsSoFar pool inside 
 unfolding IsStrictlySortedBy
 no_pairs pool inside = record { ordered = tt; hosts = All-nil _; externals = All-nil _ }
 
-pairs_at-keeps : (pool : List ℕ) (inside : List Network) (value : Data) (pairs : Pairs) → pairs_at pool inside value
+pairs_at-keeps : (pool : List ℕ) (inside : List Network) (value : Data) (pairs : Pairs) → pairs_at each_in_order pool inside value
     ≡ Ok pairs → ArePairs pool inside pairs
 unfolding pairs_at
 pairs_at-keeps pool inside value pairs is =
@@ -356,20 +349,20 @@ none_are_pairs pool inside = let none = no_pairs pool inside in record {
 }
 
 pub pairs_in-keeps : (pool : List ℕ) (inside : List Network) (table : Members) (pairs : Pairs) →
-    pairs_in pool inside table ≡ Ok pairs → ArePairs pool inside pairs
+    pairs_in each_in_order pool inside table ≡ Ok pairs → ArePairs pool inside pairs
 unfolding pairs_in
 pairs_in-keeps pool inside table pairs is =
-    optional_reads (ArePairs pool inside) (codes "pair") [] (pairs_at pool inside) table pairs is
+    optional_reads (ArePairs pool inside) (codes "pair") [] (pairs_at each_in_order pool inside) table pairs is
     (none_are_pairs pool inside) (λ value y read. pairs_at-keeps pool inside value y read)
 
 unpaired : (pool : List ℕ) (inside : List Network) (table : Members) (pairs : Pairs) →
-    is_some (get_member (codes "pair") table) ≡ false → pairs_in pool inside table ≡ Ok pairs → pairs ≡ []
+    is_some (get_member (codes "pair") table) ≡ false → pairs_in each_in_order pool inside table ≡ Ok pairs → pairs ≡ []
 unfolding pairs_in
 unpaired pool inside table pairs none is =
-    optional-absent (codes "pair") [] (pairs_at pool inside) table pairs none is
+    optional-absent (codes "pair") [] (pairs_at each_in_order pool inside) table pairs none is
 
 are_blocks : (pool : List ℕ) (inside : List Network) (table : Members) (block : Option ℕ) (pairs : Pairs) →
-    IfSome block (SizeRules pool inside table) → pairs_in pool inside table ≡ Ok pairs
+    IfSome block (SizeRules pool inside table) → pairs_in each_in_order pool inside table ≡ Ok pairs
     → IfSome block (AreBlocks inside pool pairs)
 are_blocks pool inside table None pairs kept is = tt
 are_blocks pool inside table (Some size) pairs kept is = record {
@@ -408,7 +401,7 @@ pub configured-keeps : (table : Members) (rules : Rules) → configured table �
 unfolding configured
 configured-keeps table rules is =
     holds (knows_all_keys table) UnknownKey _ rules is λ _ rest.
-    reads (pool_in table) _ rules rest λ pool pool_is rest₁.
+    reads (pool_in each_in_order table) _ rules rest λ pool pool_is rest₁.
     reads (inside_in pool table) _ rules rest₁ λ inside inside_is rest₂.
     reads (filter_in table) _ rules rest₂ λ filter _ rest₃.
     reads (refresh_in table) _ rules rest₃ λ refresh _ rest₄.
@@ -417,8 +410,8 @@ configured-keeps table rules is =
     reads (ring_in table) _ rules rest₆ λ ring ring_is rest₇.
     reads (quota_in table) _ rules rest₇ λ quota quota_is rest₈.
     reads (block_size_in pool inside timers.hold table) _ rules rest₈ λ block block_is rest₉.
-    reads (pairs_in pool inside table) _ rules rest₉ λ pairs pairs_is rest₁₀.
-    reads (redirects_in inside (paired block inside pool pairs) (block_in block inside (length pool)) table) _ rules
+    reads (pairs_in each_in_order pool inside table) _ rules rest₉ λ pairs pairs_is rest₁₀.
+    reads (redirects_in each_in_order inside (paired block inside pool pairs) (block_in block inside (length pool)) table) _ rules
     rest₁₀ λ redirects redirects_are last.
     let made : Rules = record {
       pool = pool;

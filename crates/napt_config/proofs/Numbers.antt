@@ -1,9 +1,11 @@
 -- Decimal numbers in texts.
 use Rattle.std.proofs.lemmas.Grind.{common_steps}
-use Rattle.std.proofs.Common.{◌≡◌, ℕ, ◌^◌, ◌<◌, ◌≤◌, true, ℤ, pos, negsuc, Some, List, [], ◌∷◌, length, get_or, None, Err, nat_lt, refl, subst, leb-true, inl, inr, arith, rules}
+use Rattle.std.proofs.Common.{◌≡◌, ℕ, ◌^◌, ◌<◌, ◌≤◌, true, ℤ, pos, negsuc, Some, List, [], ◌∷◌, length, get_or, None, Ok, Err, nat_lt, refl, subst, leb-true, inl, inr, arith, rules}
 use Rattle.std.proofs.lemmas.{Bool.{cases_lt, and_parts, Decides.nat_tests}, Option.cond_some, Str.Parse.{IsNumeralModel, numerals_by_value, parse_digits}}
 use Rattle.std.specs.{Char.is_ascii_digit, List.list_all, Str.Parse.{ParsesUnsigned, digits_value}}
-use Rattle.napt_config.specs.Prelude.{number_of, is_number, between}
+use Rattle.toml.specs.Data.{Data}
+use Rattle.napt_config.proofs.Chains.{ok_or_ok}
+use Rattle.napt_config.specs.Prelude.{number_of, is_number, between, number_at}
 
 -- digits, as `parse` means them
 pub digits_model : IsNumeralModel (λ ds. list_all is_ascii_digit ds ≡ true) (digits_value 10)
@@ -41,10 +43,14 @@ pub number_of-range : (least most n : ℕ) (text : List ℕ) → number_of least
 unfolding number_of
 number_of-range least most n text is = grind (arith, common_steps, cond_some, and_parts, leb-true)
 
-pub between-range : (least most n : ℕ) (z : ℤ) → between least most z ≡ Some n → (least ≤ n) × (n ≤ most)
+between-range : (least most n : ℕ) (z : ℤ) → between least most z ≡ Some n → (least ≤ n) × (n ≤ most)
 between-range least most n (pos k) is =
     let (tests, same) = cond_some _ _ n is in
     let (low, high) = and_parts _ _ tests in
     let P : ℕ → Type 0 = λ k. (least ≤ k) × (k ≤ most) in
     subst P same (leb-true _ _ low, leb-true _ _ high)
 between-range least most n (negsuc k) is = cc
+
+pub number_at-range : (least most n : ℕ) (value : Data) → number_at least most value ≡ Ok n → (least ≤ n) × (n ≤ most)
+unfolding number_at
+number_at-range least most n value is = grind (arith, common_steps, between-range, ok_or_ok)

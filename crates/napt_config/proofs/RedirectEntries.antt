@@ -4,9 +4,9 @@ use Rattle.std.proofs.Common.{◌≡◌, ℕ, ◌+◌, ◌<◌, ◌≤◌, true,
 use Rattle.std.{specs.List.{before_first, after_first}, proofs.lemmas.{Bool.{not-true, or_parts, or_from}, List.Elements.{All-push, All-nil}}}
 use Rattle.std.proofs.lemmas.{List.Folds.list_any-append, Option.option_and_then_some}
 use Rattle.toml.specs.Data.{Data, Members}
-use Rattle.napt_config.specs.Prelude.{NotInside, RedirectInBlock, DoubleRedirect, Redirect, Block, Network, Socket, have_address, address_of, number_of, socket_of, socket_at, is_colon, IsRedirect, may_redirect, is_double, AreSingle, table_in, list_up_to, is_tcp_in, transport_address_in, port_in, redirect_in, have_double, with_redirect, redirects_at, redirects_in}
+use Rattle.napt_config.specs.Prelude.{NotInside, RedirectInBlock, DoubleRedirect, Redirect, Block, Network, Socket, have_address, address_of, number_of, socket_of, socket_at, is_colon, IsRedirect, may_redirect, is_double, AreSingle, table_in, each_in_order, list_up_to, is_tcp_in, transport_address_in, port_in, redirect_in, have_double, with_redirect, redirects_at, redirects_in}
 use Rattle.napt_config.proofs.Chains.{list_up_to-counts, reads, holds, ok_or_ok, optional_reads, each_keeps, each_adds}
-use Rattle.napt_config.proofs.Numbers.{number_of-range, between-range}
+use Rattle.napt_config.proofs.Numbers.{number_of-range, number_at-range}
 
 -- ---- one entry
 
@@ -32,7 +32,7 @@ transport_address_in-port key keys socket is = grind (arith, common_steps, socke
 
 port_in-some : (key : List ℕ) (keys : Members) (port : ℕ) → port_in key keys ≡ Ok port → 0 < port
 unfolding port_in
-port_in-some key keys port is = grind (arith, common_steps, between-range, ok_or_ok)
+port_in-some key keys port is = grind (arith, common_steps, number_at-range, ok_or_ok)
 
 redirect_in-is : (inside : List Network) (block : ℕ → Option Block) (entry : Data) (redirect : Redirect) →
     redirect_in inside block entry ≡ Ok redirect → IsRedirect inside redirect × IsInBlock block redirect
@@ -112,7 +112,7 @@ module _ (inside : List Network) (pair : ℕ → ℕ) (block : ℕ → Option Bl
   no_redirects = record { redirects = All-nil _; in_blocks = All-nil _; single = tt }
 
   redirects_at-keeps : (value : Data) (redirects : List Redirect) →
-      redirects_at inside pair block value ≡ Ok redirects → RedirectRules redirects
+      redirects_at each_in_order inside pair block value ≡ Ok redirects → RedirectRules redirects
   unfolding redirects_at
   redirects_at-keeps value redirects is =
       reads (list_up_to 256 value) _ redirects is λ entries counted more.
@@ -125,9 +125,9 @@ module _ (inside : List Network) (pair : ℕ → ℕ) (block : ℕ → Option Bl
             no_redirects more;
       }
 
-  pub redirects_in-keeps : (table : Members) (redirects : List Redirect) → redirects_in inside pair block table
+  pub redirects_in-keeps : (table : Members) (redirects : List Redirect) → redirects_in each_in_order inside pair block table
       ≡ Ok redirects → RedirectRules redirects
   unfolding redirects_in
   redirects_in-keeps table redirects is =
-      optional_reads RedirectRules (codes "redirect") [] (redirects_at inside pair block) table redirects is
+      optional_reads RedirectRules (codes "redirect") [] (redirects_at each_in_order inside pair block) table redirects is
       (record { few = omega arith; kept = no_redirects }) (λ value y read. redirects_at-keeps value y read)
