@@ -6,14 +6,4 @@ use Rattle.napt_capture.proofs.ahead.Ahead.read_more.Goals as goal
 
 pub returns-clause-bytes : goal.returns-clause-bytes
 returns-clause-bytes g c =
-    grind (
-      arith,
-      common_steps,
-      nat_tests,
-      length-append,
-      length-take-le,
-      length-drop,
-      with_items_is,
-      slice_range-read,
-      slice_range,
-    )
+    grind (arith, common_steps, length-take-le, with_items_is, slice_range-read, slice_range)
