@@ -1,8 +1,8 @@
 -- At each time the log of a whole run names what is live then.
+use Rattle.std.proofs.lemmas.Grind.{common_steps}
 use Rattle.std.{proofs.Common.{◌≡◌, ℕ, suc, ◌+◌, ◌<◌, ◌≤◌, max, List, [], ◌∷◌, ◌++◌, map, length, refl, sym, ◌∙◌, ap, subst, arith}, specs.Prelude.filter}
 use Rattle.std.specs.List.{list_any, fold}
-use Rattle.napt_config.specs.Rules.{Rules, KeepsRules}
-use Rattle.napt_rules.specs.Prelude.{Binding, is_live, opening, Arrival, row, Course, ahead, step, run_from, run, last_clock, OpeningIsSound, Apart}
+use Rattle.napt_rules.specs.Prelude.{Binding, is_live, opening, Arrival, row, Course, ahead, step, run_from, run, last_clock, OpeningIsSound, Apart, Rules, KeepsRules}
 use Rattle.napt_laws.proofs.{Grown.run_append, Turns.run_turn}
 use Rattle.napt_account.specs.{declared.log.Entry.Entry, Log.{begun, logged, log_of, stands_at}}
 use Rattle.napt_account.{specs.Attribution.{IsBeforeNext, has_ends, LogNamesTheHolders, LogListsTheLiving}, proofs.Retold.{RunRetold, run_retold}}
@@ -13,15 +13,7 @@ use Rattle.napt_binding.{specs.Ends.{end_of, is_before}, proofs.FirstEnds.ends_a
 -- what a list begins with
 begins : (rules : Rules) → KeepsRules rules → (list : List Binding) → Apart (map row list) →
     Tells rules.timers 0 list (map (begun rules.timers 0) list)
-begins rules keeps list apart = record {
-  made = each_mapped (λ (e : Entry). e.made ≤ 0) (begun rules.timers 0) list
-      (each_every (λ (b : Binding). 0 ≤ 0) list (λ b. omega arith));
-  holds = ap (map hold) (filter_seen (λ (e : Entry). is_before 0 e.end) (begun rules.timers 0) list)
-      ∙ (map_twice hold (begun rules.timers 0) (filter (λ b. is_before 0 (end_of rules.timers b)) list)
-      ∙ ap (map (hold_of rules.timers)) (filter_agrees (λ b. is_before 0 (end_of rules.timers b))
-      (is_live rules.timers 0) list (λ b. sym (ends_are_first rules.timers keeps.timers 0 b))));
-  differ = apart_differ (map row list) apart;
-}
+begins rules keeps list apart = grind (arith, common_steps, each_mapped, each_every, hold, filter_seen, map_twice, hold_of, filter_agrees, ends_are_first, apart_differ)
 
 -- what the traces of a run tell
 pub retold : (rules : Rules) → (keeps : KeepsRules rules) → OpeningIsSound → (inputs : List Arrival) →

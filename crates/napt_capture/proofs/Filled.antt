@@ -1,6 +1,6 @@
 -- The steps of reading over known bytes.
 use Rattle.std.{proofs.lemmas.{Grind.common_steps, Bool.Decides.nat_tests}, specs.Io.KnownBytes.{Consumes, IsAtEnd}}
-use Rattle.std.proofs.Common.{◌≡◌, ℕ, ◌+◌, ◌<◌, ◌≤◌, min, List, [], ◌++◌, length, take, drop, Option, Some, None, Result, Ok, Err, arith, take_all, length-take-le, length-append, append-nil, take_at, drop_at, drop_of_length-le}
+use Rattle.std.proofs.Common.{◌≡◌, ℕ, ◌<◌, ◌≤◌, min, List, [], ◌++◌, length, take, drop, Option, Some, None, Result, Ok, Err, arith, take_all, length-take-le, drop_of_length-le}
 use Rattle.napt_capture.specs.Prelude.{CaptureFault, Gives, Says}
 
 -- unless the device or memory failed

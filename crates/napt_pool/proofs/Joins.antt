@@ -2,7 +2,7 @@
 use Rattle.std.proofs.lemmas.Grind.{common_steps}
 use Rattle.std.proofs.Common.{rules, ◌≡◌, ℕ, zero, suc, ◌+◌, ◌<◌, add-one, refl, sym, ap, ◌∙◌, arith, Bool, true, false, List, map, length, [], ◌∷◌, ◌++◌, append_assoc, length-append, ◌⊎◌, inl, inr, ⊎_elim, get_or}
 use Rattle.std.{specs.Prelude.{Result, Ok, Err, OnOk, IfOk, IfErr, MatchResult, Contains, replicate}, proofs.lemmas.List.{length-map, nil_from_length}}
-use Rattle.std.{proofs.lemmas.Result.IfOk-weaker, specs.Vec.Iter.{into_iter_items, into_iter_len}}
+use Rattle.std.{specs.Vec.Iter.{into_iter_items, into_iter_len}}
 use Rattle.napt_pool.specs.declared.{fault.{PoolFault.PoolFault, Stop.{Stop, TheVariants.{Memory, GateShut, Ring}}}, machine.Machine.Ghosts}
 use Rattle.napt_pool.{specs.declared.{closing.{Closing.Closing, Ended.Ended}, message.Reply.TheVariants.Stopped, pool.Pool.Pool}, proofs.Steps.map-snoc}
 use Rattle.napt_pool.specs.{declared.thread_state.ThreadState.ThreadState, Faults.{is_shut, is_gate_shut, fault_of, IsFaultOf, IsFaultUpTo, IsLeastFault}}
