@@ -13,7 +13,15 @@ use Rattle.napt_binding.{specs.Ends.{end_of, is_before}, proofs.FirstEnds.ends_a
 -- what a list begins with
 begins : (rules : Rules) → KeepsRules rules → (list : List Binding) → Apart (map row list) →
     Tells rules.timers 0 list (map (begun rules.timers 0) list)
-begins rules keeps list apart = grind (arith, common_steps, each_mapped, each_every, hold, filter_seen, map_twice, hold_of, filter_agrees, ends_are_first, apart_differ)
+begins rules keeps list apart = record {
+  made = each_mapped (λ (e : Entry). e.made ≤ 0) (begun rules.timers 0) list
+      (each_every (λ (b : Binding). 0 ≤ 0) list (λ b. omega arith));
+  holds = ap (map hold) (filter_seen (λ (e : Entry). is_before 0 e.end) (begun rules.timers 0) list)
+      ∙ (map_twice hold (begun rules.timers 0) (filter (λ b. is_before 0 (end_of rules.timers b)) list)
+      ∙ ap (map (hold_of rules.timers)) (filter_agrees (λ b. is_before 0 (end_of rules.timers b))
+      (is_live rules.timers 0) list (λ b. sym (ends_are_first rules.timers keeps.timers 0 b))));
+  differ = apart_differ (map row list) apart;
+}
 
 -- what the traces of a run tell
 pub retold : (rules : Rules) → (keeps : KeepsRules rules) → OpeningIsSound → (inputs : List Arrival) →
