@@ -26,12 +26,7 @@ too_large least most text large = grind (arith, nat_tests)
 pub number_of-unread : {E : Type 0} (e : E) (least most : ℕ) (text : List ℕ) → most < 2 ^ 32 → is_number text ≡ true →
     ParsesUnsigned 32 10 text (Err e) → number_of least most text ≡ None
 number_of-unread e least most text bound number refused =
-    let unread = parse_digits digits_model 32 text (Err e) refused (are_digits text number) in
-    elim (cases_lt (digits_value 10 text) (2 ^ 32)) [
-      | inl fits ↦ absurd (unread (some_digits text number, fits))
-      | inr
-          large ↦ too_large least most text (omega arith)
-    ]
+    grind (arith, common_steps, parse_digits, digits_model, are_digits, cases_lt, some_digits, too_large)
 
 -- no text, no number
 pub number_of-nothing : (least most : ℕ) → number_of least most [] ≡ None

@@ -178,7 +178,8 @@ refresh_in table =
     optional (codes "refresh") Outbound (word_at ((codes "outbound", Outbound) ∷ (codes "both", Both) ∷ [])) table
 
 unfoldable pub keeps_parity_in : Members → Result Bool ConfigFault
-keeps_parity_in table = optional (codes "parity") true (word_at ((codes "kept", true) ∷ (codes "free", false) ∷ [])) table
+keeps_parity_in table =
+    optional (codes "parity") true (word_at ((codes "kept", true) ∷ (codes "free", false) ∷ [])) table
 
 unfoldable pub is_random_in : Members → Result Bool ConfigFault
 is_random_in table =
