@@ -12,7 +12,8 @@ three_pieces old a b c first second third is then last = grind (arith, common_st
 
 pub four_pieces : (old a b c d first second third fourth : List ℕ) → first ≡ old ++ a → second ≡ first ++ b →
     third ≡ second ++ c → fourth ≡ third ++ d → fourth ≡ old ++ (((a ++ b) ++ c) ++ d)
-four_pieces old a b c d first second third fourth is then after last = grind (arith, common_steps, two_pieces, three_pieces)
+four_pieces old a b c d first second third fourth is then after last =
+    two_pieces old ((a ++ b) ++ c) d third fourth (three_pieces old a b c first second third is then after) last
 
 -- texts of pieces that are the same one by one
 pub same_pieces : {X : Type 0} (f g : X → List ℕ) → ((x : X) → f x ≡ g x) → (xs : List X) → flat_map f xs
