@@ -1,8 +1,7 @@
 use Rattle.std.proofs.lemmas.{Grind.common_steps, Bool.Decides.nat_tests}
 use Rattle.std.proofs.Common.{◌≡◌, ◌↔◌, ◌+◌, ◌^◌, ◌<◌, ◌≤◌, inl, inr, List, [], ◌∷◌, ◌++◌, length, Result, Err, sym, ◌∙◌, ap, subst, arith}
 use Rattle.std.proofs.lemmas.{Bool.cases_lt, Result.err_from_is_err_and}
-use Rattle.napt_config.specs.Rules.{Rules}
-use Rattle.napt_rules.specs.Prelude.{Arrival, anew}
+use Rattle.napt_rules.specs.Prelude.{Arrival, Rules, anew}
 use Rattle.napt_sequential.specs.{SequentialRuns.StandsAfter, Traces.traces, declared.fault.RunFault.{RunFault, TheVariants.{TooMany, Memory}}}
 use Rattle.napt_sequential.{specs.declared.passage.Trace.Trace, proofs.Joined.traces_long}
 use Rattle.napt_sequential.specs.SequentialRuns as sequential

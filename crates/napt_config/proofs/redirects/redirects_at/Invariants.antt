@@ -1,7 +1,7 @@
 use Rattle.std.proofs.Common.{◌≡◌, ◌<◌, [], drop, length, IsOk}
 use Rattle.toml.specs.View.{items_view}
 use Rattle.napt_config.specs.Prelude.{paired, block_in, each_in_order, first_in_order, with_redirect}
-use Rattle.napt_config.proofs.redirects.redirects_of.Given as goal
+use Rattle.napt_config.proofs.redirects.redirects_at.Given as goal
 
 abbrev pub invariant-loop-entry : goal.invariant-loop-entry
 invariant-loop-entry l = let pair = paired l.block l.inside l.pool l.pairs.entries in

@@ -1,7 +1,7 @@
 use Rattle.std.proofs.Common.{◌≡◌, ◌<◌, [], drop, IsOk}
 use Rattle.toml.specs.View.{items_view}
 use Rattle.napt_config.specs.Configured.{each_in_order, first_in_order, with_prefix}
-use Rattle.napt_config.proofs.reading.prefixes_of.Given as goal
+use Rattle.napt_config.proofs.reading.prefixes.Given as goal
 
 abbrev pub invariant-loop-entry : goal.invariant-loop-entry
 invariant-loop-entry l = record {
