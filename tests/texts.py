@@ -1,8 +1,8 @@
 """Texts of packets, captures and runs: what tests/runs, tests/followed and tests/calls are written in.
 
 '#' begins a comment; an indented line goes on with the one above it. ` / ` stands between lines in one. `511 times ..` is a line so
-often, or some in turn: '+2' behind an address or a number adds 2 to it at each time but the first, and '-2' takes 2 away. `run WORDS`
-begins a run. What stands above the first such line stands at the beginning of each, and then what stands below the last line
+often, or some in turn: '+2' behind an address or a number adds 2 to it at each time but the first, and '-2' takes 2 away.
+`at (1 || 2) ..` is two lines, `at 1 ..` and `at 2 ..`. `run WORDS` begins a run; `run WORDS: ..` begins it with a line. What stands above the first such line stands at the beginning of each, and then what stands below the last line
 `given`. A packet is
     udp 10.0.0.2:5000 > 198.51.100.7:53
                                  UDP without payload, with lifetime 64, identification 1 and right checksums
@@ -21,6 +21,14 @@ begins a run. What stands above the first such line stands at the beginning of e
                                  those bytes with changes, each at a place from 0,
     udp_query and then 0000      with others behind,
     udp_query with 0 65 mended   or with right checksums
+Packets between an inside host and 198.51.100.7, at port 53 of UDP and 80 of TCP, or another remote, have short lines:
+    out 1 tcp S 10.0.0.3:80 as 203.0.113.1:82
+                                 at 1 s from that endpoint inside, and it leaves from the second one; none is named where
+                                 these are 10.0.0.2 and 203.0.113.1 with 5000, or with the identifier 7
+    in 2 udp 203.0.113.1:82 from 198.51.100.9:53 as 10.0.0.3:80
+                                 from the remote to the first endpoint, and it goes to the second one; so `out 1 udp to ..`
+    in 2 udp drop no-binding     dropped for that cause
+    binding udp                  that of the two endpoints
 """
 import dataclasses
 import ipaddress
@@ -53,11 +61,37 @@ def lines_of(text):
             lines[-1].text += f"\n{line.strip()}"
         elif line:
             lines.append(Line(number, line))
-    return [Line(line.number, it) for line in lines for it in repeated(line.text)]
+    return [Line(line.number, in_full(it)) for line in lines for each in repeated(line.text) for it in each_of(each)]
+
+
+def each_of(line):
+    """The lines that a line with `(1 || 2)` in it stands for."""
+    front, found, behind = re.fullmatch(r"(.*?)(?:\((.* \|\| .*?)\)(.*))?", line, re.DOTALL).groups()
+    return [it for text in found.split(" || ") for it in each_of(front + text + behind)] if found else [line]
+
+
+SHORT = re.compile(r"(out|in) (\S+) (udp|tcp \S+|echo)(?: (\d\S+))?(?: (?:to|from) (\S+))?(?: as (\S+)|( drop \S+))?|binding (udp|tcp|icmp)")
+PORTS = {"udp": ":53", "tcp": ":80", "echo": ""}
+
+
+def in_full(line):
+    """A line, also where it is short."""
+    if not (found := SHORT.fullmatch(line)):
+        return line
+    way, time, packet, first, second, remote, drop, protocol = (found[it] for it in (1, 2, 3, 4, 6, 5, 7, 8))
+    ends = [f"{address}:{7 if 'echo' in (packet, protocol) or protocol == 'icmp' else 5000}" for address in ("10.0.0.2", "203.0.113.1")]
+    if protocol:
+        return f"binding {protocol} {' '.join(ends)}"
+    remote = remote or f"198.51.100.7{PORTS[packet.split()[0]]}"
+    sides, form = (SIDES, f"{packet} {{}} > {remote}") if way == "out" else (SIDES[::-1], f"{packet} {remote} > {{}}")
+    came, left = (form.format(given or end) for given, end in zip((first, second), ends if way == "out" else ends[::-1]))
+    return f"{sides[0]} {time} {came} ->{drop or f' {sides[1]} {left}'}"
 
 
 def repeated(line):
     """A line, or some in turn, so often as it says."""
+    if begun := re.match(r"(run [^:]*): ", line):
+        return [begun[1], *repeated(line[begun.end() :])]
     found = re.match(r"(\d+) times (.*)", line, re.DOTALL)
     if not found:
         return line.split(" / ")
