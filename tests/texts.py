@@ -66,7 +66,7 @@ def lines_of(text):
 
 def each_of(line):
     """The lines that a line with `(1 || 2)` in it stands for."""
-    front, found, behind = re.fullmatch(r"(.*?)(?:\((.* \|\| .*?)\)(.*))?", line, re.DOTALL).groups()
+    front, found, behind = re.fullmatch(r"(.*?)(?:\(([^()]* \|\| [^()]*)\)(.*))?", line, re.DOTALL).groups()
     return [it for text in found.split(" || ") for it in each_of(front + text + behind)] if found else [line]
 
 
