@@ -29,6 +29,8 @@ Packets between an inside host and 198.51.100.7, at port 53 of UDP and 80 of TCP
                                  from the remote to the first endpoint, and it goes to the second one; so `out 1 udp to ..`
     in 2 udp drop no-binding     dropped for that cause
     binding udp                  that of the two endpoints
+    at 1 out udp 10.0.0.3:80 -> 82
+                                 such a packet as a call of a table; `at 1 in udp 203.0.113.1:82 -> ..`
 """
 import dataclasses
 import ipaddress
@@ -70,22 +72,31 @@ def each_of(line):
     return [it for text in found.split(" || ") for it in each_of(front + text + behind)] if found else [line]
 
 
-SHORT = re.compile(r"(out|in) (\S+) (udp|tcp \S+|echo)(?: (\d\S+))?(?: (?:to|from) (\S+))?(?: as (\S+)|( drop \S+))?|binding (udp|tcp|icmp)")
+ENDS = {"out": "10.0.0.2", "in": "203.0.113.1"}
+NUMBERS = {"udp": "5000", "tcp": "5000", "icmp": "7", "echo": "7"}
 PORTS = {"udp": ":53", "tcp": ":80", "echo": ""}
+PACKET = r"(udp|tcp \S+|echo)(?: (\d\S+))?(?: (?:to|from) (\S+))?"
 
 
 def in_full(line):
     """A line, also where it is short."""
-    if not (found := SHORT.fullmatch(line)):
-        return line
-    way, time, packet, first, second, remote, drop, protocol = (found[it] for it in (1, 2, 3, 4, 6, 5, 7, 8))
-    ends = [f"{address}:{7 if 'echo' in (packet, protocol) or protocol == 'icmp' else 5000}" for address in ("10.0.0.2", "203.0.113.1")]
-    if protocol:
-        return f"binding {protocol} {' '.join(ends)}"
-    remote = remote or f"198.51.100.7{PORTS[packet.split()[0]]}"
-    sides, form = (SIDES, f"{packet} {{}} > {remote}") if way == "out" else (SIDES[::-1], f"{packet} {remote} > {{}}")
-    came, left = (form.format(given or end) for given, end in zip((first, second), ends if way == "out" else ends[::-1]))
-    return f"{sides[0]} {time} {came} ->{drop or f' {sides[1]} {left}'}"
+    if found := re.fullmatch(r"binding (udp|tcp|icmp)", line):
+        return f"{line} {' '.join(f'{it}:{NUMBERS[found[1]]}' for it in ENDS.values())}"
+    if found := re.fullmatch(rf"at (\S+) (out|in) {PACKET}((?: in \S+ \S+)?\s+->.*)", line, re.DOTALL):
+        return f"at {found[1]} {found[2]}bound {between(*found.groups()[1:5])}{found[6]}"
+    if found := re.fullmatch(rf"(out|in) (\S+) {PACKET}(?: as (\S+)|( drop \S+))?", line):
+        way, time, packet, end, remote, second, drop = found.groups()
+        came, to = SIDES if way == "out" else SIDES[::-1]
+        other = second or f"{ENDS['in' if way == 'out' else 'out']}:{NUMBERS[packet.split()[0]]}"
+        return f"{came} {time} {between(way, packet, end, remote)} ->{drop or f' {to} {between(way, packet, other, remote)}'}"
+    return line
+
+
+def between(way, packet, end, remote):
+    """A packet from an end to the remote, or the other way, or between those that are meant where none is named."""
+    protocol = packet.split()[0]
+    end, remote = end or f"{ENDS[way]}:{NUMBERS[protocol]}", remote or f"198.51.100.7{PORTS[protocol]}"
+    return f"{packet} {end} > {remote}" if way == "out" else f"{packet} {remote} > {end}"
 
 
 def repeated(line):
