@@ -28,6 +28,8 @@ Packets between an inside host and 198.51.100.7, at port 53 of UDP and 80 of TCP
     in 2 udp 203.0.113.1:82 from 198.51.100.9:53 as 10.0.0.3:80
                                  from the remote to the first endpoint, and it goes to the second one; so `out 1 udp to ..`
     in 2 udp drop no-binding     dropped for that cause
+    reply 2 udp 10.0.0.3:80 from 198.51.100.9:53 as 203.0.113.1:82
+                                 a reply to that endpoint inside, which becomes one to the second; and `drop ..` behind it
     binding udp                  that of the two endpoints
     at 1 out udp 10.0.0.3:80 -> 82
                                  such a packet as a call of a table; `at 1 in udp 203.0.113.1:82 -> ..`
@@ -84,8 +86,11 @@ def in_full(line):
         return f"{line} {' '.join(f'{it}:{NUMBERS[found[1]]}' for it in ENDS.values())}"
     if found := re.fullmatch(rf"at (\S+) (out|in) {PACKET}((?: in \S+ \S+)?\s+->.*)", line, re.DOTALL):
         return f"at {found[1]} {found[2]}bound {between(*found.groups()[1:5])}{found[6]}"
-    if found := re.fullmatch(rf"(out|in) (\S+) {PACKET}(?: as (\S+)|( drop \S+))?", line):
+    if found := re.fullmatch(rf"(out|in|reply) (\S+) {PACKET}(?: as (\S+))?( drop \S+)?", line):
         way, time, packet, end, remote, second, drop = found.groups()
+        if way == "reply":
+            inside = end or f"{ENDS['out']}:{NUMBERS[packet.split()[0]]}"
+            return f"reply {time} {between('in', packet, inside, remote)} -> {between('in', packet, second, remote)} ->{drop or ' inside'}"
         came, to = SIDES if way == "out" else SIDES[::-1]
         other = second or f"{ENDS['in' if way == 'out' else 'out']}:{NUMBERS[packet.split()[0]]}"
         return f"{came} {time} {between(way, packet, end, remote)} ->{drop or f' {to} {between(way, packet, other, remote)}'}"
