@@ -2,8 +2,8 @@
 
 '#' begins a comment; an indented line goes on with the one above it. ` / ` stands between lines in one. `511 times ..` is a line so
 often, or some in turn: '+2' behind an address or a number adds 2 to it at each time but the first, and '-2' takes 2 away.
-`at (1 || 2) ..` is two lines, `at 1 ..` and `at 2 ..`. `run WORDS` begins a run; `run WORDS: ..` begins it with a line. What stands above the first such line stands at the beginning of each, and then what stands below the last line
-`given`. A packet is
+`at (1 || 2) ..` is two lines, `at 1 ..` and `at 2 ..`. `run WORDS` begins a run; `run WORDS: ..` begins it with a line. What stands above
+the first such line stands at the beginning of each, and then what stands below the last line `given`. A packet is
     udp 10.0.0.2:5000 > 198.51.100.7:53
                                  UDP without payload, with lifetime 64, identification 1 and right checksums
     tcp SA 10.0.0.2:5000 > 198.51.100.7:80
@@ -21,18 +21,18 @@ often, or some in turn: '+2' behind an address or a number adds 2 to it at each 
                                  those bytes with changes, each at a place from 0,
     udp_query and then 0000      with others behind,
     udp_query with 0 65 mended   or with right checksums
-Packets between an inside host and 198.51.100.7, at port 53 of UDP and 80 of TCP, or another remote, have short lines:
-    out 1 tcp S 10.0.0.3:80 as 203.0.113.1:82
-                                 at 1 s from that endpoint inside, and it leaves from the second one; none is named where
-                                 these are 10.0.0.2 and 203.0.113.1 with 5000, or with the identifier 7
+Packets between an inside host and a remote have short lines. An endpoint that is not named is 10.0.0.2 or 203.0.113.1 with 5000, or with
+the identifier 7, and a remote 198.51.100.7 with port 53 of UDP or 80 of TCP:
+    out 1 tcp S 10.0.0.3:80 to 198.51.100.9:80 as 203.0.113.1:82
+                                 from inside at 1 s, from the first endpoint to the remote, which leaves from the second
     in 2 udp 203.0.113.1:82 from 198.51.100.9:53 as 10.0.0.3:80
-                                 from the remote to the first endpoint, and it goes to the second one; so `out 1 udp to ..`
-    in 2 udp drop no-binding     dropped for that cause
+                                 from outside, from the remote to the first endpoint, which goes in to the second
     reply 2 udp 10.0.0.3:80 from 198.51.100.9:53 as 203.0.113.1:82
-                                 a reply to that endpoint inside, which becomes one to the second; and `drop ..` behind it
-    binding udp                  that of the two endpoints
+                                 a reply to the first endpoint, which becomes a packet to the second
+    in 2 udp drop no-binding     one that is dropped for that cause
+    binding udp                  the binding of the two
     at 1 out udp 10.0.0.3:80 -> 82
-                                 such a packet as a call of a table; `at 1 in udp 203.0.113.1:82 -> ..`
+                                 the same as a call of a table, and `at 1 in udp 203.0.113.1:82 -> ..`
 """
 import dataclasses
 import ipaddress
@@ -74,7 +74,6 @@ def each_of(line):
     return [it for text in found.split(" || ") for it in each_of(front + text + behind)] if found else [line]
 
 
-ENDS = {"out": "10.0.0.2", "in": "203.0.113.1"}
 NUMBERS = {"udp": "5000", "tcp": "5000", "icmp": "7", "echo": "7"}
 PORTS = {"udp": ":53", "tcp": ":80", "echo": ""}
 PACKET = r"(udp|tcp \S+|echo)(?: (\d\S+))?(?: (?:to|from) (\S+))?"
@@ -83,24 +82,25 @@ PACKET = r"(udp|tcp \S+|echo)(?: (\d\S+))?(?: (?:to|from) (\S+))?"
 def in_full(line):
     """A line, also where it is short."""
     if found := re.fullmatch(r"binding (udp|tcp|icmp)", line):
-        return f"{line} {' '.join(f'{it}:{NUMBERS[found[1]]}' for it in ENDS.values())}"
+        return f"{line} 10.0.0.2:{NUMBERS[found[1]]} 203.0.113.1:{NUMBERS[found[1]]}"
     if found := re.fullmatch(rf"at (\S+) (out|in) {PACKET}((?: in \S+ \S+)?\s+->.*)", line, re.DOTALL):
-        return f"at {found[1]} {found[2]}bound {between(*found.groups()[1:5])}{found[6]}"
+        time, way, packet, end, remote, rest = found.groups()
+        return f"at {time} {way}bound {between(way, packet, end, remote)}{rest}"
     if found := re.fullmatch(rf"(out|in|reply) (\S+) {PACKET}(?: as (\S+))?( drop \S+)?", line):
-        way, time, packet, end, remote, second, drop = found.groups()
+        way, time, packet, first, remote, second, drop = found.groups()
+        came, left = between(way, packet, first, remote), between(way, packet, second, remote, has_left=True)
         if way == "reply":
-            inside = end or f"{ENDS['out']}:{NUMBERS[packet.split()[0]]}"
-            return f"reply {time} {between('in', packet, inside, remote)} -> {between('in', packet, second, remote)} ->{drop or ' inside'}"
-        came, to = SIDES if way == "out" else SIDES[::-1]
-        other = second or f"{ENDS['in' if way == 'out' else 'out']}:{NUMBERS[packet.split()[0]]}"
-        return f"{came} {time} {between(way, packet, end, remote)} ->{drop or f' {to} {between(way, packet, other, remote)}'}"
+            return f"reply {time} {came} -> {left} ->{drop or ' inside'}"
+        source, target = SIDES if way == "out" else SIDES[::-1]
+        return f"{source} {time} {came} ->{drop or f' {target} {left}'}"
     return line
 
 
-def between(way, packet, end, remote):
-    """A packet from an end to the remote, or the other way, or between those that are meant where none is named."""
+def between(way, packet, end, remote, has_left=False):
+    """A packet between an end and a remote, as it comes or has left; where none is named, those that are meant."""
     protocol = packet.split()[0]
-    end, remote = end or f"{ENDS[way]}:{NUMBERS[protocol]}", remote or f"198.51.100.7{PORTS[protocol]}"
+    end = end or f"{'10.0.0.2' if has_left == (way == 'in') else '203.0.113.1'}:{NUMBERS[protocol]}"
+    remote = remote or f"198.51.100.7{PORTS[protocol]}"
     return f"{packet} {end} > {remote}" if way == "out" else f"{packet} {remote} > {end}"
 
 
