@@ -210,7 +210,8 @@ impl Flows {
         now: u64,
         protocol: Protocol,
     ) -> Result<Vec<Flow>, AllocError>
-        ensures flows { IfOk result (λ made. made.items ≡ life.live_flows timers now protocol self.now) }
+        ensures flows { IfOk result (λ made. made.items
+            ≡ life.live_flows timers now protocol self.now) }
         ensures distinct { IfOk result (λ made. AreDistinct made.items) }
     {
         let mut flows = self.copied(alloc)?;

@@ -170,7 +170,8 @@ module _ (table : Inside) (is : KeepsItsList table) (now : ℕ) (later : table.b
         ∙ ap (seen timers now) (held_found q n)));
     held = λ t from.
         let soon = ago_later timers table.bindings.at now later in
-        same_found {X = Row} address (λ r. r) (map row (purge timers t (list_of table))) (map row (purge timers t values))
+        same_found {X = Row} address (λ r. r) (map row (purge timers t (list_of table)))
+        (map row (purge timers t values))
         (rows_once timers t address (list_of table) list_once list_at)
         (rows_once timers t address values values_once values_at)
         (rows_at timers t address (list_of table) list_once list_at)

@@ -32,7 +32,8 @@ module _ (timers : Timers) (at address : ℕ) (b : Binding) where
     module _ (live : is_live timers ago b ≡ true) where
       pub one_is : one ≡ with_live_flows timers ago b ∷ []
       one_is =
-          ap (λ v. of address (filter (λ b. not b.row.fixed) (map (with_live_flows timers ago) (cond v (b ∷ []) [])))) live
+          ap (λ v. of address (filter (λ b. not b.row.fixed) (map (with_live_flows timers ago) (cond v (b ∷ []) []))))
+          live
           ∙ (ap (λ v. of address (cond (not v) (with_live_flows timers ago b ∷ []) [])) loose
           ∙ ap (λ v. cond v (with_live_flows timers ago b ∷ []) []) (eq-eqb b.row.external.address address here))
 
@@ -146,7 +147,8 @@ module _ (rules : Rules) (address : ℕ) (state : State) where
           (taken_up rules.timers state.clock address (drop (k + 1) state.list))
           (subst (Each (IsOwn rules state.clock))
           (sym (ap (taken_up rules.timers state.clock address) (take-append-drop (k + 1) state.list))
-          ∙ taken_up_append rules.timers state.clock address (take (k + 1) state.list) (drop (k + 1) state.list)) own) in
+          ∙ taken_up_append rules.timers state.clock address (take (k + 1) state.list) (drop (k + 1) state.list))
+          own) in
           (each_parts (IsOwn rules state.clock) (taken_up rules.timers state.clock address (take k state.list)) next
           (subst (Each (IsOwn rules state.clock))
           (ap (taken_up rules.timers state.clock address) (take_more state.list k d below)

@@ -18,7 +18,8 @@ invariant_of-self-in-Some c =
     let k : SendsKnown packet t.bindings c.send_known.new.self c.in-Some.number =
     subst (λ (found : Option ℕ). IfSome found (λ number.
     SendsKnown packet t.bindings c.send_known.new.self number)) c.in-Some.is c.in_ok-number.ensures.known in
-    keeps_after t _ packet.now (Sent packet) refl refl c.in_ok-number.ensures.timers k.place k.at c.and-self-inside.ensures
+    keeps_after t _ packet.now (Sent packet) refl refl c.in_ok-number.ensures.timers k.place k.at
+    c.and-self-inside.ensures
     (table_out (shown t) c.self.invariant.state packet c.requires.number c.requires.block)
     (k.sends (all t c.self.invariant packet.now le) (all_sound t c.self.invariant packet.now le).apart
     (all_taken t c.self.invariant packet.now le) (keep_now t c.self.invariant packet.now le)
