@@ -117,7 +117,8 @@ module _ (f : TranslatorState → List Leg → TranslatorState) where
             timers = refl;
             past = (at_once address).past;
             taken_are = (at_once address).agrees.taken
-                ∙ sym (of_purge rules.timers (hold_ago rules.timers (last_clock start.clock inputs)) address course.list);
+                ∙ sym (of_purge rules.timers (hold_ago rules.timers (last_clock start.clock inputs)) address
+                course.list);
           });
     }
 

@@ -22,7 +22,8 @@ pub many_read : {P : Type 0} (d : Dispatcher P) (inputs : List Arrival) →
 many_read d inputs times = grind (arith, common_steps, nat_tests, length-map, times_long)
 
 pub clock_on : (from : ℕ) (inputs : List Arrival) (input : Arrival) (clock own now : ℕ) →
-    clock ≡ last_clock from inputs → own ≡ input.clock → now ≡ max clock own → now ≡ last_clock from (inputs ++ input ∷ [])
+    clock ≡ last_clock from inputs → own ≡ input.clock → now ≡ max clock own → now ≡ last_clock from
+    (inputs ++ input ∷ [])
 clock_on from inputs input clock own now was same is = grind (arith, common_steps, nat_tests, clock_more)
 
 -- OVER A POOL
@@ -51,7 +52,8 @@ module _ {P M G : Type 0} {tells : Passage → P} where
     keeps = λ rules start done all s.
         record {
           stands = rw queues (known_stands rules start done all (length d.queues) (state_of pool d).lane
-              (progress_in d.progress) (progress_in later.progress) (over.known (whole_of tells rules start all)) s.stands);
+              (progress_in d.progress) (progress_in later.progress)
+              (over.known (whole_of tells rules start all)) s.stands);
         };
   }
 
@@ -125,7 +127,8 @@ module _ {P M G : Type 0} {tells : Passage → P} where
         (progress_in d.progress ++ Awaited way ∷ [])
         (known_push (whole_of tells rules start all) (progress_in d.progress) way none) s) in
         (goes.keeps rules start (done ++ input ∷ []) all (record {
-          stands = admits start (of_worker (accepts pool)) (of_worker (taken pool)) done rest (long ∙ sym at) clock expected;
+          stands = admits start (of_worker (accepts pool)) (of_worker (taken pool)) done rest
+              (long ∙ sym at) clock expected;
         })).stands;
   }
 

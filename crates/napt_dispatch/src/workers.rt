@@ -234,9 +234,9 @@ fn result_of<P: Telling>(
     })
 }
 
-/// The run of `run_workers`, from a state that the configuration takes, over inputs that come one at a time until their end or
-/// a fault. It begins with the configuration's redirects, and behind them the state's other bindings. The outcomes leave in the order
-/// of the inputs, each as soon as it is known. At most 131,072 inputs and 65,536 legs are kept.
+/// The run of `run_workers` from a state that the configuration takes, over inputs that come one at a time until their end
+/// or a fault. It begins with the configuration's redirects, and then the state's other bindings. The outcomes leave in the
+/// order of the inputs, each as soon as it is known. At most 131,072 inputs and 65,536 legs are kept.
 ///
 /// Before a device is asked for an input, the outcome of every input before it has left and is settled. The same holds at
 /// the end, and if the arrivals fail. The workers are closed and joined before an error is returned. A fault of the run is

@@ -11,14 +11,15 @@ returns-in-Whole-clause-run g c = λ replied.
     let rules : Rules = c.args.config.now in
     let start : State = anew rules in
     let pool = c.dispatch_to.new.pool in
-    let began : starts pool ≡ started_from rules start (length rules.pool) = c.dispatch_to.ensures.starts ∙ c.requires.started in
+    let began : starts pool ≡ started_from rules start (length rules.pool) = c.dispatch_to.ensures.starts
+    ∙ c.requires.started in
     subst (λ inputs. IsDispatchedFrom rules start inputs (accepts pool) c.dispatch_to.new.departures.outcomes.items
     c.in_ok-done.done.legs.items) c.in_ok-inputs.ensures
     (dispatched_whole rules start (λ queue. queue.items) (λ before pairs fault after. ⊤) (λ collected. ⊤)
     c.in_ok-inputs.inputs c.in_ok-collected.collected pool c.dispatch_to.new.arrivals c.dispatch_to.new.departures _
     (rw c.in-Whole.is at (c.in_ok-done.ensures.ends start refl)) c.in_ok-collected.ensures.outcomes
-    (right_since (λ passage. nothing_told) rules start (starts pool) (accepts pool) (takes pool) began replied (λ s leg. refl)
-    (λ s leg. refl)))
+    (right_since (λ passage. nothing_told) rules start (starts pool) (accepts pool) (takes pool) began replied
+    (λ s leg. refl) (λ s leg. refl)))
 
 pub returns-in-Whole-clause-settled : goal.returns-in-Whole-clause-settled
 returns-in-Whole-clause-settled g c =

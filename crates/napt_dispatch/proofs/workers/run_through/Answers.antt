@@ -47,8 +47,8 @@ returns-in-Ok-clause-passes g c =
     let rules : Rules = c.args.config.now in
     let pool = c.dispatch_to-dispatched.new.pool in
     let closed = c.in_ok-dispatched.ensures in
-    let e : EndsWith g.D.Told.Telling.tells c.args.config.now start g.A.Arrivals.hands g.A.Arrivals.ends g.D.Departures.takes
-    g.D.Departures.fails g.D.Departures.is_settled c.args.arrivals.now c.args.departures.now pool
+    let e : EndsWith g.D.Told.Telling.tells c.args.config.now start g.A.Arrivals.hands g.A.Arrivals.ends
+    g.D.Departures.takes g.D.Departures.fails g.D.Departures.is_settled c.args.arrivals.now c.args.departures.now pool
     c.dispatch_to-dispatched.new.arrivals c.dispatch_to-dispatched.new.departures None c.in_ok-dispatched.dispatched =
     subst (λ ending. EndsBy g.D.Told.Telling.tells c.args.config.now start g.A.Arrivals.hands g.A.Arrivals.ends
     g.D.Departures.takes g.D.Departures.fails g.D.Departures.is_settled c.args.arrivals.now c.args.departures.now pool
@@ -57,8 +57,8 @@ returns-in-Ok-clause-passes g c =
     (sym (ap (λ (s : State). s.clock) c.state.view_is))) in
     let began : starts pool ≡ started_from rules start (length rules.pool) =
     c.dispatch_to-dispatched.ensures.starts ∙ c.in_ok-pool.ensures.started in
-    let right = right_begin g.D.Told.Telling.tells rules start (starts pool) (accepts pool) (takes pool) began closed.taken
-    (λ s leg. refl) (λ s leg. refl) in
+    let right = right_begin g.D.Told.Telling.tells rules start (starts pool) (accepts pool)
+    (takes pool) began closed.taken (λ s leg. refl) (λ s leg. refl) in
     let done = (e.right (right e.offered_many)).1 in
     let machines = map (λ e. e.machine) c.in_ok-dispatched.ended.items in
     passes_well pool right c.in_ok-dispatched.dispatched c.in-Ok.passed e c.in-Ok.ensures.legs
@@ -77,8 +77,8 @@ returns-in-Arrival-clause-passes g c =
     let start : State = under c.args.config.now c.args.state.now in
     let pool = c.dispatch_to-dispatched.new.pool in
     let closed = c.in_ok-dispatched.ensures in
-    let e : EndsWith g.D.Told.Telling.tells c.args.config.now start g.A.Arrivals.hands g.A.Arrivals.ends g.D.Departures.takes
-    g.D.Departures.fails g.D.Departures.is_settled c.args.arrivals.now c.args.departures.now pool
+    let e : EndsWith g.D.Told.Telling.tells c.args.config.now start g.A.Arrivals.hands g.A.Arrivals.ends
+    g.D.Departures.takes g.D.Departures.fails g.D.Departures.is_settled c.args.arrivals.now c.args.departures.now pool
     c.dispatch_to-dispatched.new.arrivals c.dispatch_to-dispatched.new.departures (Some c.in-Arrival.fault)
     c.in_ok-dispatched.dispatched =
     subst (λ ending. EndsBy g.D.Told.Telling.tells c.args.config.now start g.A.Arrivals.hands g.A.Arrivals.ends

@@ -17,7 +17,8 @@ returns-clause-run g c =
     let given = c.in_ok-outcomes.ensures.given in
     let pool = c.dispatch-dispatched.new.pool in
     let began : starts pool ≡ started rules (length rules.pool) =
-    c.dispatch-dispatched.ensures.starts ∙ started_anew rules _ _ refl c.new.ensures.items c.in_ok-pool.ensures.started in
+    c.dispatch-dispatched.ensures.starts ∙ started_anew rules _ _ refl c.new.ensures.items c.in_ok-pool.ensures.started
+    in
     let settled = on_ok_at _ _ given c.dispatch-dispatched.ensures.settled in
     let answered = c.in_ok-outcomes.ensures.settled settled in
     workers_shown _ rules (anew rules) c.args.inputs.now (starts pool) (accepts pool)
