@@ -223,8 +223,6 @@ def is_refused(what, command, **how):
     return True
 
 
-
-
 def loaded(path):
     loader = importlib.machinery.SourceFileLoader(f"{path.name}_script", str(path))
     module = importlib.util.module_from_spec(importlib.util.spec_from_loader(loader.name, loader))

@@ -1,9 +1,9 @@
 """Texts of packets, captures and runs: what tests/runs, tests/followed and tests/calls are written in.
 
 '#' begins a comment; an indented line goes on with the one above it. ` / ` stands between lines in one. `511 times ..` is a line so
-often, or some in turn: '+2' behind an address or a number adds 2 to it at each time but the first, and '-2' takes 2 away. `run WORDS`
-begins a run. What stands above the first such line stands at the beginning of each, and then what stands below the last line
-`given`. A packet is
+often, or some in turn: '+2' behind an address or a number adds 2 to it at each time but the first, and '-2' takes 2 away.
+`at (1 || 2) ..` is two lines, `at 1 ..` and `at 2 ..`. `run WORDS` begins a run; `run WORDS: ..` begins it with a line. What stands above
+the first such line stands at the beginning of each, and then what stands below the last line `given`. A packet is
     udp 10.0.0.2:5000 > 198.51.100.7:53
                                  UDP without payload, with lifetime 64, identification 1 and right checksums
     tcp SA 10.0.0.2:5000 > 198.51.100.7:80
@@ -21,6 +21,18 @@ begins a run. What stands above the first such line stands at the beginning of e
                                  those bytes with changes, each at a place from 0,
     udp_query and then 0000      with others behind,
     udp_query with 0 65 mended   or with right checksums
+Packets between an inside host and a remote have short lines. An endpoint that is not named is 10.0.0.2 or 203.0.113.1 with 5000, or with
+the identifier 7, and a remote 198.51.100.7 with port 53 of UDP or 80 of TCP:
+    out 1 tcp S 10.0.0.3:80 to 198.51.100.9:80 as 203.0.113.1:82
+                                 from inside at 1 s, from the first endpoint to the remote, which leaves from the second
+    in 2 udp 203.0.113.1:82 from 198.51.100.9:53 as 10.0.0.3:80
+                                 from outside, from the remote to the first endpoint, which goes in to the second
+    reply 2 udp 10.0.0.3:80 from 198.51.100.9:53 as 203.0.113.1:82
+                                 a reply to the first endpoint, which becomes a packet to the second
+    in 2 udp drop no-binding     one that is dropped for that cause
+    binding udp                  the binding of the two
+    at 1 out udp 10.0.0.3:80 -> 82
+                                 the same as a call of a table, and `at 1 in udp 203.0.113.1:82 -> ..`
 """
 import dataclasses
 import ipaddress
@@ -53,11 +65,49 @@ def lines_of(text):
             lines[-1].text += f"\n{line.strip()}"
         elif line:
             lines.append(Line(number, line))
-    return [Line(line.number, it) for line in lines for it in repeated(line.text)]
+    return [Line(line.number, in_full(it)) for line in lines for each in repeated(line.text) for it in each_of(each)]
+
+
+def each_of(line):
+    """The lines that a line with `(1 || 2)` in it stands for."""
+    front, found, behind = re.fullmatch(r"(.*?)(?:\(([^()]* \|\| [^()]*)\)(.*))?", line, re.DOTALL).groups()
+    return [it for text in found.split(" || ") for it in each_of(front + text + behind)] if found else [line]
+
+
+NUMBERS = {"udp": "5000", "tcp": "5000", "icmp": "7", "echo": "7"}
+PORTS = {"udp": ":53", "tcp": ":80", "echo": ""}
+PACKET = r"(udp|tcp \S+|echo)(?: (\d\S+))?(?: (?:to|from) (\S+))?"
+
+
+def in_full(line):
+    """A line, also where it is short."""
+    if found := re.fullmatch(r"binding (udp|tcp|icmp)", line):
+        return f"{line} 10.0.0.2:{NUMBERS[found[1]]} 203.0.113.1:{NUMBERS[found[1]]}"
+    if found := re.fullmatch(rf"at (\S+) (out|in) {PACKET}((?: in \S+ \S+)?\s+->.*)", line, re.DOTALL):
+        time, way, packet, end, remote, rest = found.groups()
+        return f"at {time} {way}bound {between(way, packet, end, remote)}{rest}"
+    if found := re.fullmatch(rf"(out|in|reply) (\S+) {PACKET}(?: as (\S+))?( drop \S+)?", line):
+        way, time, packet, first, remote, second, drop = found.groups()
+        came, left = between(way, packet, first, remote), between(way, packet, second, remote, has_left=True)
+        if way == "reply":
+            return f"reply {time} {came} -> {left} ->{drop or ' inside'}"
+        source, target = SIDES if way == "out" else SIDES[::-1]
+        return f"{source} {time} {came} ->{drop or f' {target} {left}'}"
+    return line
+
+
+def between(way, packet, end, remote, has_left=False):
+    """A packet between an end and a remote, as it comes or has left; where none is named, those that are meant."""
+    protocol = packet.split()[0]
+    end = end or f"{'10.0.0.2' if has_left == (way == 'in') else '203.0.113.1'}:{NUMBERS[protocol]}"
+    remote = remote or f"198.51.100.7{PORTS[protocol]}"
+    return f"{packet} {end} > {remote}" if way == "out" else f"{packet} {remote} > {end}"
 
 
 def repeated(line):
     """A line, or some in turn, so often as it says."""
+    if begun := re.match(r"(run [^:]*): ", line):
+        return [begun[1], *repeated(line[begun.end() :])]
     found = re.match(r"(\d+) times (.*)", line, re.DOTALL)
     if not found:
         return line.split(" / ")

@@ -36,9 +36,10 @@ static const char HELP[] =
     "says that it is ready.\n"
     "\n"
     "  --keep DIR      keeps the captures that went to PROGRAM and came from it in DIR, under the names of its options, with\n"
-    "                  .pcap behind them. Where one of an earlier run is there the relay ends at once; where it ends before it\n"
-    "                  is ready it leaves none. Where one cannot be written any more, as on a full disk, a line says so, and\n"
-    "                  the captures end as after SIGTERM\n"
+    "                  .pcap behind them. Where one of an earlier run is there the relay ends at once, but where the words\n"
+    "                  have --resume: then the names have the next number, as inside-2.pcap. Where it ends before it is ready\n"
+    "                  it leaves none. Where one cannot be written any more, as on a full disk, a line says so, and the\n"
+    "                  captures end as after SIGTERM\n"
     "  --ready-fd N    writes the line 'ready' to the open file N too, and closes it; it is closed without the line where the\n"
     "                  relay ends before\n"
     "\n"
@@ -51,8 +52,8 @@ static const char HELP[] =
     "have them, and in the report (--report FILE of the words) the relay takes them from the packets and from those that are\n"
     "truncated.\n"
     "\n"
-    "SIGTERM, SIGINT and SIGHUP end the captures: what came is translated and leaves, and PROGRAM writes the report and the log\n"
-    "(--log FILE of the words) to their ends. Where PROGRAM ends by itself the relay ends too. The status is that of PROGRAM; it\n"
+    "SIGTERM, SIGINT and SIGHUP end the captures: what came is translated and leaves, and PROGRAM writes the report, the log\n"
+    "(--log FILE of the words) and the state (--save FILE) to their ends. Where PROGRAM ends by itself the relay ends too. The status is that of PROGRAM; it\n"
     "is 1 where a device, a folder or PROGRAM cannot be opened or a capture cannot be kept, and 2 for a mistake in the words.\n";
 
 enum {
@@ -238,13 +239,38 @@ static void take_back(void) {
     while (!is_ready && many_made > 0) unlink(made[--many_made]);
 }
 
-static Kept kept_file(const char *folder, const char *option) {
+// Where captures are kept, if they are, and their number, which names have from 2 on.
+typedef struct {
+    const char *path;
+    int number;
+} Folder;
+
+static const char *const OPTIONS[KEPT] = {"inside", "outside", "to-inside", "to-outside"};
+
+static char *path_in(const Folder *folder, const char *option) {
+    char *path, number[16] = "";
+    if (folder->number > 1) snprintf(number, sizeof number, "-%d", folder->number);
+    if (asprintf(&path, "%s/%s%s.pcap", folder->path, option, number) < 0) some(NULL);
+    return path;
+}
+
+// Takes the first number of which no capture is there.
+static void number_on(Folder *folder) {
+    for (int at = 0; at < KEPT; at++) {
+        char *path = path_in(folder, OPTIONS[at]);
+        bool is_there = access(path, F_OK) == 0;
+        free(path);
+        if (is_there) folder->number++, at = -1;
+    }
+}
+
+static Kept kept_file(const Folder *folder, const char *option) {
     Kept kept = {0};
-    if (!folder) return kept;
-    if (asprintf(&kept.path, "%s/%s.pcap", folder, option) < 0) some(NULL);
+    if (!folder->path) return kept;
+    kept.path = path_in(folder, option);
     kept.file = fopen(kept.path, "wbex");
     if (!kept.file && errno == EEXIST)
-        fail(1, "%s: a capture of an earlier run is there: --keep names a folder without any", kept.path);
+        fail(1, "%s: a capture of an earlier run is there: --keep names a folder without any, or --resume goes on", kept.path);
     if (!kept.file) fail(1, "%s: %s", kept.path, strerror(errno));
     made[many_made++] = kept.path;
     setvbuf(kept.file, NULL, _IOFBF, PIECE);
@@ -291,7 +317,7 @@ static void set_record(uint8_t *record, uint32_t bytes) {
     memcpy(record, fields, RECORD_BYTES);
 }
 
-static Side side_of(Device *device, const char *folder, const char *option) {
+static Side side_of(Device *device, const Folder *folder, const char *option) {
     // magic of nanoseconds, version 2.4, zone, significant figures, most bytes of a packet, raw IP
     static const uint32_t HEADER[6] = {0xA1B23C4D, 0x00040002, 0, 0, 262144, 101};
     Side side = {.device = device, .kept = kept_file(folder, option), .is_open = true};
@@ -347,7 +373,7 @@ typedef struct {
     bool has_begun, is_open;
 } Exit;
 
-static Exit exit_of(Device *device, const char *folder, const char *option) {
+static Exit exit_of(Device *device, const Folder *folder, const char *option) {
     Exit leaves = {.device = device, .kept = kept_file(folder, option), .is_open = true};
     pipe_of(&leaves.pipe, &leaves.far);
     return leaves;
@@ -468,6 +494,13 @@ static void take_report(Relay *relay, char **words, int *many) {
             words[kept++] = words[at];
     }
     *many = kept;
+}
+
+// Whether the words have --resume.
+static bool resumes(char **words, int many) {
+    for (int at = 0; at < many; at++)
+        if (strcmp(words[at], "--resume") == 0 || strncmp(words[at], "--resume=", 9) == 0) return true;
+    return false;
 }
 
 static void add_option(char **words, int *many, const char *option, int end) {
@@ -630,11 +663,11 @@ int main(int many, char **words) {
     ahead = lead_of_real();
     atexit(take_back);
     Relay relay = {.ready_fd = -1};
-    const char *folder = NULL;
+    Folder folder = {.number = 1};
     int at = 1;
     for (; at + 1 < many && strncmp(words[at], "--", 2) == 0; at += 2) {
         if (strcmp(words[at], "--keep") == 0)
-            folder = words[at + 1];
+            folder.path = words[at + 1];
         else if (strcmp(words[at], "--ready-fd") == 0)
             relay.ready_fd = file_number(words[at + 1]);
         else
@@ -646,10 +679,11 @@ int main(int many, char **words) {
     take_report(&relay, words + at + 2, &left);
     open_report(&relay.report);
     note_signals(&relay);
-    relay.sides[0] = side_of(&devices[0], folder, "inside");
-    relay.sides[1] = side_of(&devices[1], folder, "outside");
-    relay.exits[0] = exit_of(&devices[0], folder, "to-inside");
-    relay.exits[1] = exit_of(&devices[1], folder, "to-outside");
+    if (folder.path && resumes(words + at + 2, left)) number_on(&folder);
+    for (int side = 0; side < 2; side++) {
+        relay.sides[side] = side_of(&devices[side], &folder, OPTIONS[side]);
+        relay.exits[side] = exit_of(&devices[side], &folder, OPTIONS[2 + side]);
+    }
     start(&relay, words + at + 2, left);
     run(&relay);
     return end_of(&relay);

@@ -155,7 +155,7 @@ def of_configurations(draw):
 
 
 def of_words(draw):
-    files = {"napt.toml": configurations.Configuration(draw).text(), **plain_captures(draw)}
+    files = {"napt.toml": configurations.Configuration(draw).text(), **plain_captures(draw), "state": b"clock 1\nend 0 0\n"}
     return Case("words", files, command_lines.drawn(draw))
 
 

@@ -1,8 +1,9 @@
 """Command lines: the options of `napt --help`, and words that are none."""
 
-OPTIONS = ("--config", "--inside", "--outside", "--to-outside", "--to-inside", "--report")
+OPTIONS = ("--config", "--inside", "--outside", "--to-outside", "--to-inside", "--report", "--save", "--resume")
 INPUTS = ("napt.toml", "inside.pcap", "outside.pcap")
 OUTPUTS = ("to-outside.pcap", "to-inside.pcap", "report.txt")
+VALUED = dict(zip(OPTIONS, (*INPUTS, *OUTPUTS, "saved", "state")))
 OTHERS = (
     b"", b"-", b"--", b"---", b"-h", b"--help", b"-V", b"--version", b"-i", b"-hx", b"--x", b"--x=1", b"--inside=", b"--=", b"--insid",
     b"--INSIDE", b"--inside ", b"x", b" ", b"=", b"\xff", b"--\xff", b"--inside=\xff", b"\n", b"--help=1", b"-\xff", b"help",
@@ -14,14 +15,13 @@ FULL_DISK = b"/dev/full"
 
 
 def usual():
-    """All six options, each with its file."""
-    pairs = zip(OPTIONS, INPUTS + OUTPUTS)
-    return [word.encode() for pair in pairs for word in pair]
+    """All options but those of states, each with its file."""
+    return [word.encode() for pair in list(VALUED.items())[:6] for word in pair]
 
 
 def drawn(draw):
     words = []
-    for option, value in draw.sample(list(zip(OPTIONS, INPUTS + OUTPUTS)), draw.randrange(7)):
+    for option, value in draw.sample(list(VALUED.items()), draw.randrange(9)):
         others = (*VALUES, FULL_DISK) if value in OUTPUTS else VALUES
         word = draw.choice(others) if draw.random() < 0.15 else value.encode()
         if draw.random() < 0.3:

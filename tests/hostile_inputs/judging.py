@@ -5,7 +5,7 @@ import struct
 
 from shared import Wrong, want, want_same
 
-from . import captures, configured, translating
+from . import captures, configured, states, translating
 from .packets import summed
 
 NUMBER = "[1-9][0-9]*"
@@ -22,7 +22,8 @@ LINES = {
     3: f"config (?:{'|'.join(CONFIG_FAULTS)})",
     4: f"capture (?:inside|outside) (?:{'|'.join(CAPTURE_FAULTS)})",
     5: "run too-many",
-    6: "file (?:config|inside|outside|to-outside|to-inside|report)|write (?:to-outside|to-inside|report)",
+    6: "file (?:config|resume|inside|outside|to-outside|to-inside|report|save)|write (?:to-outside|to-inside|report|save)",
+    8: f"state (?:(?:bad-line|not-utf-8) {NUMBER}|not-inside|not-paired|not-its-number|used-later|flows-share|redirected|shared)",
 }
 FAULT_LINES = {status: re.compile(f"napt: (?:{line})\n".encode()) for status, line in LINES.items()}
 DROPS = translating.CAUSES
@@ -76,6 +77,8 @@ def judge_written(data):
     """An output of whichever kind."""
     if data.startswith(b"packets "):
         Report(data).judge()
+    elif data.startswith(b"clock "):
+        want(states.text_of(states.read(data)) == data, "the text of a state is another")
     else:
         judge_output(data)
 
@@ -95,9 +98,9 @@ def judge_end(outcome):
 def judge_unwritten(outcome):
     """After a fault nothing is written; before the inputs are read no output is made."""
     status = outcome.status
-    if status in (2, 3):
+    if status in (2, 3, 8):
         want(not outcome.made, f"status {status}, and {sorted(outcome.made)} was made")
-    if status in (2, 3, 4, 5) or outcome.fault.startswith(b"napt: file"):
+    if status in (2, 3, 4, 5, 8) or outcome.fault.startswith(b"napt: file"):
         want(outcome.standard == b"", f"status {status} and something on standard output")
         for name, data in outcome.made.items():
             want(data == b"", f"status {status} and something in {name}")

@@ -74,24 +74,25 @@ class Binding:
             return math.inf
         if self.protocol != TCP:
             return self.last + SECOND * timers[NAMES[self.protocol]]
-        return max(flow.end(timers) for flow in self.flows)
+        return max((flow.end(timers) for flow in self.flows), default=0)
 
-    def lives(self, now, timers):
-        """Whether it is live; a TCP binding that is loses its dead flows."""
-        is_live = now < self.end(timers)
-        if is_live and self.protocol == TCP:
-            self.flows = [flow for flow in self.flows if flow.is_live(now, timers)]
-        return is_live
+    def is_live(self, now, timers):
+        return now < self.end(timers)
+
+    def live_flows(self, now, timers):
+        """Outside TCP flows live as long as their binding."""
+        return [flow for flow in self.flows if self.protocol != TCP or flow.is_live(now, timers)]
 
     def flow_of(self, remote):
         return next((flow for flow in self.flows if flow.remote == remote), None)
 
-    def permits(self, filtering, remote):
+    def permits(self, filtering, remote, flows):
+        """Whether these flows of it, those that live, let a remote in."""
         if self.is_fixed or filtering == "independent":
             return True
         if filtering == "address":
-            return any(flow.remote[0] == remote[0] for flow in self.flows)
-        return self.flow_of(remote) is not None
+            return any(flow.remote[0] == remote[0] for flow in flows)
+        return any(flow.remote == remote for flow in flows)
 
     def row(self):
         (inside, number), (external, other) = self.inside, self.external
@@ -190,9 +191,12 @@ class Translator:
             self.bindings.append(Binding(PROTOCOLS[protocol], inside, external, is_fixed=True))
 
     def purge(self, now):
-        timers, kept = self.rules.timers, self.bindings + self.held
-        self.bindings = [binding for binding in self.bindings if binding.lives(now, timers)]
-        self.held = [it for it in kept if it.end(timers) <= now < it.end(timers) + SECOND * self.rules.hold]
+        timers, ago = self.rules.timers, now - SECOND * self.rules.hold
+        kept = [it for it in self.bindings + self.held if it.is_live(ago, timers)]
+        for it in kept:
+            it.flows = it.live_flows(ago, timers)
+        self.bindings = [it for it in kept if it.is_live(now, timers)]
+        self.held = [it for it in kept if not it.is_live(now, timers)]
 
     def found(self, protocol, address, inside=None, number=None):
         for binding in self.bindings:
@@ -257,6 +261,7 @@ class Translator:
         binding = self.found(packet.protocol, address, inside=inside) or self.made(packet.protocol, address, inside)
         if not binding.is_fixed:
             binding.last = now
+            binding.flows = binding.live_flows(now, self.rules.timers)
             if binding.flow_of(remote) is None:
                 binding.flows.append(Flow(remote))
             binding.flow_of(remote).use(now, "out", packet.flags())
@@ -271,9 +276,10 @@ class Translator:
         if packet.is_error():
             packet.revert(True, binding.inside)
             return
-        remote = packet.end(True)
-        if not binding.permits(self.rules.filter, remote):
+        remote, flows = packet.end(True), binding.live_flows(now, self.rules.timers)
+        if not binding.permits(self.rules.filter, remote, flows):
             raise Dropped("filtered")
+        binding.flows = flows
         flow = binding.flow_of(remote)
         if packet.protocol == TCP and flow:
             flow.use(now, "in", packet.flags())
@@ -317,8 +323,12 @@ def merged(inside, outside):
 
 def run(configured, inside, outside):
     """What the run over two captures leaves: the captures to outside and to inside, and the report."""
-    translator = Translator(configured)
-    counts, clock = Counter(), 0
+    return ran(Translator(configured), 0, inside, outside)[:3]
+
+
+def ran(translator, clock, inside, outside):
+    """The same of a translator from a time on, and the time at the end."""
+    counts = Counter()
     magic = b"\x4d\x3c\xb2\xa1"
     written = {"to outside": captures.header(magic), "to inside": captures.header(magic)}
     for is_outside, time, data in merged(inside.packets, outside.packets):
@@ -333,4 +343,4 @@ def run(configured, inside, outside):
     lines = [f"{name} {counts[name]}\n" for name in ["packets", "to outside", "to inside"] + [f"drop {cause}" for cause in CAUSES]]
     lines += [f"cut {side}\n" for side, read in (("inside", inside), ("outside", outside)) if read.is_cut]
     report = "".join(lines + translator.rows(clock)).encode()
-    return bytes(written["to outside"]), bytes(written["to inside"]), report
+    return bytes(written["to outside"]), bytes(written["to inside"]), report, clock

@@ -83,6 +83,9 @@ const WRITTEN: &str = "File to write, which nothing else may name";
 const NOT_WRITTEN: &str =
     "Never written: accepted as an option of napt, and refused if napt would refuse it";
 
+const RESUMED: &str =
+    "Only checked: accepted as an option of napt, and refused, with the reason, if napt would refuse it";
+
 /// The words of a call, the program's name first, and then always a command.
 #[derive(Drop)]
 pub struct Words {
@@ -174,7 +177,9 @@ fn show<'a>(alloc: Global, is_named: bool) -> Result<Command<'a>, AllocError> {
     }
     show.arg(value(alloc, "to-outside", "FILE", NOT_WRITTEN).hide(true))?
         .arg(value(alloc, "to-inside", "FILE", NOT_WRITTEN).hide(true))?
-        .arg(value(alloc, "report", "FILE", NOT_WRITTEN).hide(true))
+        .arg(value(alloc, "report", "FILE", NOT_WRITTEN).hide(true))?
+        .arg(value(alloc, "save", "FILE", NOT_WRITTEN).hide(true))?
+        .arg(value(alloc, "resume", "FILE", RESUMED).hide(true))
 }
 
 fn who<'a>(alloc: Global) -> Result<Command<'a>, AllocError> {

@@ -37,11 +37,13 @@ impl<'m> Options<'m> {
     pub fn option_of(&self, role: Role) -> &'static str {
         match role {
             Role::Config => "--config",
+            Role::Resume => "--resume",
             Role::Inside => "--inside",
             Role::Outside => self.outside.option(),
             Role::ToOutside => "--to-outside",
             Role::ToInside => "--to-inside",
             Role::Report => "--report",
+            Role::Save => "--save",
             Role::Log => "--to",
         }
     }
@@ -247,11 +249,13 @@ fn files_of(
 ) -> Result<napt_program::Options, AllocError> {
     Ok(napt_program::Options {
         config: file_of(alloc, matches, "config")?,
+        resume: file_of(alloc, matches, "resume")?,
         inside: file_of(alloc, matches, "inside")?,
         outside: file_of(alloc, matches, outside.name())?,
         to_outside: file_of(alloc, matches, "to-outside")?,
         to_inside: file_of(alloc, matches, "to-inside")?,
         report: file_of(alloc, matches, "report")?,
+        save: file_of(alloc, matches, "save")?,
     })
 }
 

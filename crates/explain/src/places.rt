@@ -23,12 +23,13 @@ struct Named<'a> {
 pub fn tell_file<R: Files + Eprint>(rt: &R, options: &Options<'_>, role: Role) -> Exit {
     let (files, option) = (&options.files, options.option_of(role));
     let path = match role {
-        Role::Config | Role::Log => None,
+        Role::Config | Role::Resume | Role::Log => None,
         Role::Inside => files.inside.as_ref(),
         Role::Outside => files.outside.as_ref(),
         Role::ToOutside => files.to_outside.as_ref(),
         Role::ToInside => files.to_inside.as_ref(),
         Role::Report => files.report.as_ref(),
+        Role::Save => files.save.as_ref(),
     };
     match (role, path) {
         (_, None) => {}
@@ -53,8 +54,10 @@ pub fn tell_closed<R: Eprint>(rt: &R, role: Role) -> Exit {
 /// The standard stream that may stand for a role.
 fn stream_of(role: Role) -> &'static str {
     match role {
-        Role::Config | Role::Inside | Role::Outside => "standard input",
-        Role::ToOutside | Role::ToInside | Role::Report | Role::Log => "standard output",
+        Role::Config | Role::Resume | Role::Inside | Role::Outside => "standard input",
+        Role::ToOutside | Role::ToInside | Role::Report | Role::Save | Role::Log => {
+            "standard output"
+        }
     }
 }
 
@@ -124,7 +127,7 @@ fn named_again<R: Files>(
 }
 
 /// The files of the options of `napt` in their order, and the standard streams that are in use for want of one.
-fn all_named<'a>(options: &'a Options<'_>) -> [Named<'a>; 8] {
+fn all_named<'a>(options: &'a Options<'_>) -> [Named<'a>; 9] {
     let files = &options.files;
     [
         Named::of("--config", files.config.as_ref(), INPUT),
@@ -141,6 +144,7 @@ fn all_named<'a>(options: &'a Options<'_>) -> [Named<'a>; 8] {
         Named::of("--to-outside", files.to_outside.as_ref(), OUTPUT),
         Named::of("--to-inside", files.to_inside.as_ref(), OUTPUT),
         Named::of("--report", files.report.as_ref(), OUTPUT),
+        Named::of("--resume", files.resume.as_ref(), INPUT),
     ]
 }
 

@@ -4,11 +4,16 @@ use crate::options::{Form, Options};
 use crate::places::{refuse_written, tell_closed, tell_file, tell_shared};
 use crate::refused;
 use napt_attribution::{Asked, answer_by_log, requests_at};
-use napt_commands::{Exit, text_at};
+use napt_commands::{Exit, tell_failed, text_at};
 use napt_config::{Config, ConfigFault};
 use napt_display::reasons::inside_prefixes;
-use napt_program::{InputFiles, Role, Stop, Streams, closed_stream, open_inputs, refuse_unmade};
+use napt_program::{
+    InputFiles, MEMORY, Role, Stop, Streams, closed_stream, open_inputs, refuse_unmade,
+};
+use napt_state::{read_state, take_up};
 use std::alloc::{AllocError, Global};
+use std::fs::File;
+use std::io::BufReader;
 use std::rt::Files;
 
 /// The prefixes of inside hosts in the built-in configuration (RFC 1918, section 3).
@@ -41,6 +46,7 @@ pub fn read_given<R: Files + Input + Eprint + AllocGlobal>(
         Some(written) => written,
         None => configuration(rt, options)?,
     };
+    refuse_state(rt, options, &written.config)?;
     let others = other_configurations(rt, options)?;
     let asked = requests_of(rt, options.form)?;
     let files = explain_file(rt, options, open_inputs(rt, &options.files))?;
@@ -68,6 +74,47 @@ pub fn answer<R: Files + Input + Print + Eprint + AllocGlobal>(
     };
     let asked = requests_of(rt, options.form)?;
     answer_by_log(rt, streams, &asked, &options.pieces, config.as_ref())
+}
+
+/// Refuses a state from which the run should go on, and explains why if `napt` would refuse it too: what is told is of runs
+/// that begin anew.
+fn refuse_state<R: Files + Eprint + AllocGlobal>(
+    rt: &R,
+    options: &Options<'_>,
+    config: &Config,
+) -> Result<(), Exit> {
+    let Some(path) = &options.files.resume else {
+        return Ok(());
+    };
+    explain_state(rt, path, config)?;
+    let _ = eprintln!(rt;
+        "explain: the state {path} is taken, but what is told here is of runs that begin anew: leave --resume out"
+    );
+    Err(Exit::Told(Stop::Usage))
+}
+
+/// Reads the state at a path, and explains why it is refused under the configuration, if it is.
+fn explain_state<R: Files + Eprint + AllocGlobal>(
+    rt: &R,
+    path: &str,
+    config: &Config,
+) -> Result<(), Exit> {
+    let file = match File::open(rt, path) {
+        Ok(file) => file,
+        Err(error) => {
+            tell_failed(rt, "--resume", path, &error);
+            return Err(Exit::Told(Stop::File(Role::Resume)));
+        }
+    };
+    let reader = BufReader::new(rt.alloc(), file).map_err(|_| Exit::As(MEMORY))?;
+    let mut state = match read_state(rt.alloc(), reader) {
+        Ok(state) => state,
+        Err(fault) => return Err(refused::tell_state(rt, path, &fault)),
+    };
+    match take_up(rt.alloc(), config, &mut state)? {
+        Some((row, misfit)) => Err(refused::tell_binding(rt, path, row, misfit)),
+        None => Ok(()),
+    }
 }
 
 /// Refuses the first option that wants a standard stream which another has, and prints why.

@@ -8,7 +8,8 @@ use napt_program::{
     Call, Devices, LineFault, MEMORY, Opened, Options, Stop, Streams, Tallied, open, parse_words,
     stop_of_run, words,
 };
-use napt_run::run_captures;
+use napt_rules::State;
+use napt_run::{Passed, Start, resume_captures};
 use std::alloc::Global;
 use std::env::Env;
 use std::rt::Files;
@@ -57,7 +58,12 @@ fn run<R: Files + Input + Print + Eprint + AllocGlobal + Threads + Wait + Copy +
     ensures { IfErr result (IsRunStop streams (files_of options.now)) }
 {
     let alloc = rt.alloc();
-    let Opened { config, devices } = open(rt, streams, options)?;
+    let Opened {
+        config,
+        state,
+        devices,
+        save,
+    } = open(rt, streams, options)?;
     let Devices {
         inside,
         outside,
@@ -68,10 +74,14 @@ fn run<R: Files + Input + Print + Eprint + AllocGlobal + Threads + Wait + Copy +
     let mut inside = Tallied::over(inside, call.at_terminal);
     let mut outside = Tallied::over(outside, call.at_terminal);
     let gate = gate(alloc)?;
-    let answer = run_captures(
+    let start = Start {
+        config: &config,
+        state: &state,
+    };
+    let answer = resume_captures(
         rt,
         alloc,
-        &config,
+        start,
         &mut inside,
         &mut outside,
         &mut to_outside,
@@ -79,11 +89,22 @@ fn run<R: Files + Input + Print + Eprint + AllocGlobal + Threads + Wait + Copy +
         &mut report,
         gate,
     );
-    if let Err(fault) = answer {
-        return Err(stop_of_run(options, fault));
-    }
+    let passed = match answer {
+        Ok(passed) => passed,
+        Err(fault) => return Err(stop_of_run(options, fault)),
+    };
     call.tell_cuts(rt, &inside, &outside);
-    Ok(())
+    match save {
+        Some(save) => save.finish(rt, alloc, &left(alloc, &passed)?),
+        None => Ok(()),
+    }
+}
+
+/// The state that a run leaves. Fails, as a run does, if memory runs out.
+fn left(alloc: Global, passed: &Passed) -> Result<State, Stop>
+    ensures { IfErr result (λ stop. stop ≡ MEMORY) }
+{
+    passed.left(alloc).map_err(|_| MEMORY)
 }
 
 /// The gate of a run, which always opens. Fails, as a run does, if memory runs out.

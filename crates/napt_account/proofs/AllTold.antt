@@ -3,11 +3,9 @@ use Rattle.std.proofs.lemmas.{Grind.common_steps, Bool.Decides.nat_tests}
 use Rattle.std.proofs.Common.{◌≡◌, ℕ, ◌+◌, ◌≤◌, max, Bool, true, false, ◌&&◌, cond, List, [], ◌∷◌, ◌++◌, length, map, drop, Option, Some, None, refl, sym, ◌∙◌, ap, subst, arith, append-nil, append_assoc}
 use Rattle.std.{specs.{Prelude.{filter, not}, List.{fold, Sorted.IsPermutation}}, proofs.lemmas.Bool.and_parts}
 use Rattle.std.proofs.lemmas.List.Sorted.{IsPermutation-refl, IsPermutation-sym, IsPermutation-trans, IsPermutation-cons, IsPermutation-middle, IsPermutation-append_left, IsPermutation-append_right, IsPermutation-filter_both}
-use Rattle.napt_config.specs.{Rules.{Rules, KeepsRules, AreTimers, pair_of}, declared.settings.{Redirect.Redirect, Timers.Timers}}
 use Rattle.napt_binding.{specs.Ends.{end_of, is_before}, proofs.FirstEnds.{ends_are_first, before_sooner}}
 use Rattle.napt_rules.specs.declared.{Leg.Leg, Row.Row}
-use Rattle.napt_rules.specs.Prelude.{Through, Binding, redirected, act, opening, row, Act, Arrival, Course, step, run, last_clock}
-use Rattle.napt_wire.specs.declared.Way.{Way, TheVariants.{Outgoing, Incoming}}
+use Rattle.napt_rules.specs.Prelude.{Through, Binding, redirected, act, opening, row, Act, Arrival, Course, step, run, last_clock, Rules, KeepsRules, AreTimers, pair_of, Redirect, Timers, Way, Outgoing, Incoming}
 use Rattle.napt_laws.proofs.{Grown.{grows, clock_more}, Turns.InTurn}
 use Rattle.napt_account.specs.{AllTold.{joined, all_ended, all_refused, origin, ToldIsTheLog}, declared.log.{Entry.Entry, Listed.Listed, Shortage.Shortage}}
 use Rattle.napt_account.specs.Log.{begun, counted, through, logged_by, logged, shortage_at, shortages, log_of}

@@ -1,8 +1,8 @@
 -- At each time the log of a whole run names what is live then.
+use Rattle.std.proofs.lemmas.Grind.{common_steps}
 use Rattle.std.{proofs.Common.{◌≡◌, ℕ, suc, ◌+◌, ◌<◌, ◌≤◌, max, List, [], ◌∷◌, ◌++◌, map, length, refl, sym, ◌∙◌, ap, subst, arith}, specs.Prelude.filter}
 use Rattle.std.specs.List.{list_any, fold}
-use Rattle.napt_config.specs.Rules.{Rules, KeepsRules}
-use Rattle.napt_rules.specs.Prelude.{Binding, is_live, opening, Arrival, row, Course, ahead, step, run_from, run, last_clock, OpeningIsSound, Apart}
+use Rattle.napt_rules.specs.Prelude.{Binding, is_live, opening, Arrival, row, Course, ahead, step, run_from, run, last_clock, OpeningIsSound, Apart, Rules, KeepsRules}
 use Rattle.napt_laws.proofs.{Grown.run_append, Turns.run_turn}
 use Rattle.napt_account.specs.{declared.log.Entry.Entry, Log.{begun, logged, log_of, stands_at}}
 use Rattle.napt_account.{specs.Attribution.{IsBeforeNext, has_ends, LogNamesTheHolders, LogListsTheLiving}, proofs.Retold.{RunRetold, run_retold}}

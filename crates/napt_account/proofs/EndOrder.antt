@@ -18,9 +18,7 @@ listed_has es l at = has_number 1 es at.place l.entry at.there l.number
     (let n : l.number ≡ at.place + 1 = at.number in omega (arith, n))
 
 has_listed : (es : List Entry) (l : Listed) → Has (numbered es) l → IsListed es l
-has_listed es l h =
-    let at = number_has 1 es l h in
-    record { place = at.place; number = (let n = at.is in omega (arith, n)); there = at.there }
+has_listed es l h = grind (arith, common_steps, number_has)
 
 -- A LIST THAT IS SORTED
 
@@ -177,9 +175,7 @@ module _ (now most : ℕ) (es : List Entry) (all : OpenEntries) (shows : Shows n
       (λ f at. open_listed all f.0 f.1 at) all.by_external.entries kept_each)
 
   kept_there : AreThere all (kept all)
-  kept_there l h =
-      let at = kept_at l h in
-      ap (listed_at all) (sym (under all shows.indexed at.0 l at.1)) ∙ at.1
+  kept_there l h = grind (arith, common_steps, kept_at, under)
 
   kept_has : (x : ExternalKey) (l : Listed) → listed_at all x ≡ Some l → Has (kept all) l
   kept_has x l at =
@@ -258,8 +254,7 @@ module _ (now : ℕ) (first old new : OpenEntries) (ended more : List Listed) (p
   its = under old parted.indexed key l at
 
   left_none : (x : ExternalKey) → listed_at old x ≡ None → listed_at new x ≡ None
-  left_none x none = left x ∙ elim (external_eq key x) as (λ v. cond v None (listed_at old x) ≡ None)
-      [ true ↦ refl | false ↦ none ]
+  left_none x none = grind (arith, common_steps)
 
   pushed_has : (m : Listed) → Has more m → Has ended m ⊎ (l ≡ m)
   pushed_has m h = grind (arith, common_steps, nat_tests, has_parts)

@@ -2,9 +2,7 @@
 use Rattle.std.proofs.lemmas.{Grind.common_steps, Bool.Decides.nat_tests}
 use Rattle.std.proofs.Common.{◌≡◌, ℕ, ◌<◌, ◌≤◌, Bool, true, false, ◌&&◌, cond, List, [], ◌∷◌, ◌++◌, map, Option, Some, refl, sym, ◌∙◌, ap, subst, arith, append-nil}
 use Rattle.std.{specs.{Prelude.{filter, find, nat_le}, List.fold}, proofs.lemmas.{Bool.{and_parts, and_from}, Option.same_Some}}
-use Rattle.napt_wire.specs.declared.Way.{Way, TheVariants.{Outgoing, Incoming}}
-use Rattle.napt_config.specs.{Rules.{Rules, AreTimers}, declared.settings.Timers.Timers}
-use Rattle.napt_rules.specs.Prelude.{Through, Binding, Each, change_first, same_protocol, same_endpoint, is_live, with_live_flows, purge, row, act, Act, Apart}
+use Rattle.napt_rules.specs.Prelude.{Through, Binding, Each, change_first, same_protocol, same_endpoint, is_live, with_live_flows, purge, row, act, Act, Apart, Way, Outgoing, Incoming, Rules, AreTimers, Timers}
 use Rattle.napt_rules.{specs.declared.{Row.Row, Leg.Leg}, proofs.{Lists.{each_filter, filter_all}, Life.lived}}
 use Rattle.napt_laws.proofs.Lists.{filter_narrow, find_passes, each_weaker, each_changed, each_pushed, each_kept}
 use Rattle.napt_laws.proofs.{Endpoints.{protocol_is, end_is, same_itself, end_itself}, Fresh.{IsFresh, fresh_purged}, Turns.InTurn}
@@ -63,8 +61,7 @@ pub rows_purge : (timers : Timers) (now : ℕ) (list : List Binding) → map row
 rows_purge timers now list = map_twice row (with_live_flows timers now) (living timers now list)
 
 pub shares_itself : (r : Row) → shares r r ≡ true
-shares_itself r = and_from (same_protocol r.protocol r.protocol) (same_endpoint r.external r.external)
-    (same_itself r.protocol) (end_itself r.external)
+shares_itself r = grind (arith, common_steps, and_from, same_itself, end_itself)
 
 each_rows : (P : Row → Type 0) (xs : List Binding) → Each P (map row xs) → Each (λ x. P (row x)) xs
 each_rows P xs h = each_shown P row xs h
@@ -97,12 +94,10 @@ module _ (way : Way) (now : ℕ) (r : Row) (end : Option ℕ) (opened : is_befor
   hold_changed h = cond (shares r h.0) (h.0, end) h
 
   pub changed_binding : (e : Entry) → (changed e).binding ≡ e.binding
-  changed_binding e = elim (is_of now r e) as (λ v. (cond v (counted way now end e) e).binding ≡ e.binding)
-      [ true ↦ counted_binding way now end e | false ↦ refl ]
+  changed_binding e = grind (arith, common_steps, counted_binding)
 
   pub changed_made : (e : Entry) → (changed e).made ≡ e.made
-  changed_made e = elim (is_of now r e) as (λ v. (cond v (counted way now end e) e).made ≡ e.made)
-      [ true ↦ counted_made way now end e | false ↦ refl ]
+  changed_made e = grind (arith, common_steps, counted_made)
 
   -- it has ended by an earlier time as before
   pub changed_before : (past : ℕ) → past ≤ now → (e : Entry) → is_before past (changed e).end ≡ is_before past e.end
@@ -170,8 +165,7 @@ module _ (timers : Timers) (t : AreTimers timers) (now : ℕ) where
   purge_holds list = alive_holds (living timers now list) (each_filter (is_live timers now) list)
 
   pub all_live : (list : List Binding) → Each (IsFresh timers now) list → living timers now list ≡ list
-  all_live list h = filter_all (is_live timers now) list
-      (each_weaker (IsFresh timers now) (λ b. is_live timers now b ≡ true) (λ b f. f.live) list h)
+  all_live list h = grind (arith, common_steps, filter_all, each_weaker)
 
 module _ (ends : EndsAreFirst) (timers : Timers) (t : AreTimers timers) where
   pub tells_later : (n m : ℕ) → n ≤ m → (list : List Binding) (entries : List Entry) → Tells timers n list entries →
@@ -216,8 +210,7 @@ module _ (ends : EndsAreFirst) (rules : Rules) (t : AreTimers rules.timers) (add
   new_open b fresh = sym (ends rules.timers t leg.now b) ∙ fresh.live
 
   pub own_differ : AllDiffer (map row list) → AllDiffer (map row own)
-  own_differ h = subst AllDiffer (sym (rows_purge rules.timers leg.now list))
-      (differ_kept (is_live rules.timers leg.now) list h)
+  own_differ h = grind (arith, common_steps, rows_purge, differ_kept)
 
   pub tells_act : (entries : List Entry) → Tells rules.timers leg.now list entries →
       Tells rules.timers leg.now (act rules address leg list).list

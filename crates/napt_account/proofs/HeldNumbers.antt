@@ -1,11 +1,11 @@
 -- A number goes to another inside endpoint only once its last binding had ended the hold before, in the words of the
 -- log.
+use Rattle.std.proofs.lemmas.Grind.{common_steps}
 use Rattle.std.proofs.Common.{◌≡◌, ◌≢◌, ℕ, ◌≤◌, Bool, true, false, ◌&&◌, cond, List, [], ◌∷◌, ◌++◌, map, filter, find, Option, Some, None, Ok, inl, inr, refl, sym, ◌∙◌, ap, subst, arith, true≢false}
 use Rattle.std.{specs.List.fold, proofs.lemmas.{Bool.{and_parts, and_from}, Option.same_Some}}
 use Rattle.napt_wire.specs.declared.Protocol.TheVariants as protocols
 use Rattle.napt_wire.specs.declared.{Protocol.Protocol, Flags.Flags, Kind.{Kind, TheVariants.{Udp, Tcp, Echo, ErrorOf}}, Way.{Way, TheVariants.{Outgoing, Incoming}}}
-use Rattle.napt_config.specs.{Rules.{Rules, KeepsRules, AreTimers}, declared.settings.Timers.Timers}
-use Rattle.napt_rules.specs.Prelude.{Through, Binding, Each, same_protocol, same_endpoint, is_live, with_live_flows, hold_ago, taken, granting_of, inbound_of, opening, sent_of, received_of, no_flags, served_at, Acted, act, act_out, act_in, act_by, Act, row, AreRowsApart, Apart, IsNumber, IsSound, OpeningIsSound, Inside, source, kind, local_of, local_end, is_error, CanCarry, reading, PacketsCarryNumbers, pair_of, run, last_clock}
+use Rattle.napt_rules.specs.Prelude.{Through, Binding, Each, same_protocol, same_endpoint, is_live, with_live_flows, hold_ago, taken, granting_of, inbound_of, opening, sent_of, received_of, no_flags, served_at, Acted, act, act_out, act_in, act_by, Act, row, AreRowsApart, Apart, IsNumber, IsSound, OpeningIsSound, Inside, source, kind, local_of, local_end, is_error, CanCarry, reading, PacketsCarryNumbers, pair_of, run, last_clock, Rules, KeepsRules, AreTimers, Timers}
 use Rattle.napt_rules.{specs.declared.{Row.Row, Leg.Leg, Sent.Sent, Received.Received}, proofs.Life.lived}
 use Rattle.napt_laws.specs.Held.{Holder, HaveSameEnds, have_same_ends, left_as, holders_after, AreHeldApart as HoldersApart, HeldApart as AllHoldersApart, OneOf, Covers, IsAccounted, AreAccounted}
 use Rattle.napt_laws.proofs.{Accounts.{taken_accounted, out_keeps_accounts, in_keeps_accounts, accounts_begin}, Living.{ago_before, ago_later, purge_taken}}
@@ -41,23 +41,10 @@ IsOne timers now r h = is_live timers now h.binding ≡ true → r.protocol ≡ 
     r.external ≡ (row h.binding).external → r.inside ≡ (row h.binding).inside
 
 ends_test : (a b : Row) → HaveSameEnds a b → have_same_ends a b ≡ true
-ends_test a b e =
-    and_from (same_protocol a.protocol b.protocol)
-    (same_endpoint a.external b.external && same_endpoint a.inside b.inside)
-    (ap (same_protocol a.protocol) (sym e.protocol) ∙ same_itself a.protocol)
-    (and_from (same_endpoint a.external b.external) (same_endpoint a.inside b.inside)
-    (ap (same_endpoint a.external) (sym e.external) ∙ end_itself a.external)
-    (ap (same_endpoint a.inside) (sym e.inside) ∙ end_itself a.inside))
+ends_test a b e = grind (arith, common_steps, and_from, same_itself, end_itself)
 
 ends_from : (a b : Row) → have_same_ends a b ≡ true → HaveSameEnds a b
-ends_from a b e =
-    let p = and_parts (same_protocol a.protocol b.protocol)
-    (same_endpoint a.external b.external && same_endpoint a.inside b.inside) e in
-    let q = and_parts (same_endpoint a.external b.external) (same_endpoint a.inside b.inside) p.1 in record {
-      protocol = protocol_is a.protocol b.protocol p.0;
-      external = end_is a.external b.external q.0;
-      inside = end_is a.inside b.inside q.1;
-    }
+ends_from a b e = grind (arith, common_steps, and_parts, protocol_is, end_is)
 
 module _ (ends : EndsAreFirst) (timers : Timers) (t : AreTimers timers) (now : ℕ) (way : Way) (went : Binding) where
   abbrev change : Entry → Entry
@@ -177,10 +164,7 @@ module _ (ends : EndsAreFirst) (carry : PacketsCarryNumbers) (rules : Rules) (ke
   all = taken timers leg.now list
 
   dead : (n m : ℕ) → n ≤ m → (b : Binding) → is_live timers n b ≡ false → is_live timers m b ≡ false
-  dead n m le b e = elim (is_live timers m b) as (λ v. is_live timers m b ≡ v → v ≡ false) [
-    | true ↦ λ h. absurd (true≢false (sym (lived timers n m le b h) ∙ e))
-    | false ↦ λ h. refl
-  ] refl
+  dead n m le b e = grind (arith, common_steps, true≢false, lived)
 
   -- a leg that changes nothing
   later_one : (h : Holder) → IsAccounted timers (hold_ago timers clock) list h →
@@ -191,13 +175,7 @@ module _ (ends : EndsAreFirst) (carry : PacketsCarryNumbers) (rules : Rules) (ke
   later_one h (inr o) = inr o
 
   on : AreAccounted timers leg.now list holders
-  on = record {
-    apart = a.apart;
-    past = each_weaker (λ h. h.made ≤ clock) (λ h. h.made ≤ leg.now) (λ h p. omega (arith, p, later)) holders a.past;
-    each = each_weaker (IsAccounted timers (hold_ago timers clock) list)
-        (IsAccounted timers (hold_ago timers leg.now) list)
-        later_one holders a.each;
-  }
+  on = grind (arith, common_steps, each_weaker, later_one)
 
   abbrev Kept : Acted → Type 0
   Kept acted = IsSound (pair_of rules) acted.list
@@ -285,12 +263,7 @@ module _ (ends : EndsAreFirst) (carry : PacketsCarryNumbers) (rules : Rules) (ke
 module _ (ends : EndsAreFirst) (timers : Timers) (t : AreTimers timers) where
   apart_one : (e d : Entry) (h k : Holder) → IsLike timers e h → IsLike timers d k → HoldersApart timers h k →
       AreHeldApart timers e d
-  apart_one e d h k l m apart p x i =
-      let ended = apart (sym l.ends.protocol ∙ (p ∙ m.ends.protocol)) (sym l.ends.external ∙ (x ∙ m.ends.external))
-      (λ same. i (l.ends.inside ∙ (same ∙ sym m.ends.inside))) in
-      ap (λ (n : ℕ). is_before (hold_ago timers n) e.end) m.made
-      ∙ (ap (is_before (hold_ago timers k.made)) l.end
-      ∙ (sym (ends timers t (hold_ago timers k.made) h.binding) ∙ ended))
+  apart_one e d h k l m apart p x i = grind (arith, common_steps)
 
   apart_each : (e : Entry) (h : Holder) → IsLike timers e h → (es : List Entry) (hs : List Holder) →
       Alike timers es hs → Each (HoldersApart timers h) hs → Each (AreHeldApart timers e) es

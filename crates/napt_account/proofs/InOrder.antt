@@ -170,8 +170,7 @@ order_is (l ∷ xs) differ = placed_order l (in_order_of_end xs) (order_is xs di
 -- a list in order with the elements of another is that one put in order
 pub is_order : (xs ys : List Listed) → InOrder xs → Differ ys → ((x : Listed) → Has xs x → Has ys x) →
     ((x : Listed) → Has ys x → Has xs x) → xs ≡ in_order_of_end ys
-is_order xs ys s differ f g = same_order xs (in_order_of_end ys) s (order_is ys differ)
-    (λ x h. has_order ys x (f x h)) (λ x h. g x (order_has ys x h))
+is_order xs ys s differ f g = grind (arith, common_steps, same_order, order_is, has_order, order_has)
 
 -- NUMBERED ENTRIES
 

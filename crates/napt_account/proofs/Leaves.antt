@@ -1,8 +1,7 @@
 -- Each leg leaves the binding that it went through an end that is to come.
 use Rattle.std.proofs.lemmas.{Grind.common_steps, Bool.Decides.nat_tests}
 use Rattle.std.proofs.Common.{◌≡◌, ℕ, ◌+◌, ◌≤◌, max, true, List, [], ◌∷◌, ◌++◌, length, Option, Some, None, sym, ◌∙◌, subst, arith}
-use Rattle.napt_wire.specs.declared.{Protocol.Protocol, Way.Way}
-use Rattle.napt_config.specs.{Rules.{Rules, KeepsRules, AreTimers}, declared.settings.Timers.Timers}
+use Rattle.napt_rules.specs.Prelude.{Protocol, Way, Rules, KeepsRules, AreTimers, Timers}
 use Rattle.napt_binding.{specs.Ends.{end_of, is_before, EndsAreFirst}, proofs.FirstEnds.ends_are_first}
 use Rattle.napt_rules.specs.{declared.{Leg.Leg, End.End}, Prelude.{Through, Binding, Each, purge, act, Act, Arrival, Course, opening, step}}
 use Rattle.napt_laws.proofs.{Fresh.{IsFresh, fresh_purged}, Lists.find_passes, Turns.{IsTurn, InTurn}, Grown.step_one}

@@ -1,8 +1,7 @@
 -- A run with its log as it runs: what it tells of one more input.
 use Rattle.std.proofs.{Common.{arith, ◌≡◌, max, List, [], ◌∷◌, ◌++◌, length, map, append-nil, sym, ◌∙◌, ap, drop, refl}, lemmas.Grind.common_steps}
 use Rattle.std.{proofs.lemmas.Bool.Decides.nat_tests, specs.{Prelude.{flat_map, filter}, List.fold}}
-use Rattle.napt_config.specs.Rules.{Rules, KeepsRules}
-use Rattle.napt_rules.specs.Prelude.{opening, Arrival, OpeningIsSound, last_clock}
+use Rattle.napt_rules.specs.Prelude.{opening, Arrival, OpeningIsSound, last_clock, Rules, KeepsRules}
 use Rattle.napt_sequential.specs.{declared.passage.Trace.Trace, Traces.traces}
 use Rattle.napt_account.specs.{declared.log.Entry.Entry, Book.{after_trace, lost_by, use_by_trace}, Log.{begun, log_of}}
 use Rattle.napt_account.{specs.{TraceLogs.entries_after, Uses.uses_of}, proofs.{Attribution.retold, Books.{fold_joined, uses_more, uses_told}}}
@@ -51,9 +50,7 @@ module _ (rules : Rules) (keeps : KeepsRules rules) (opens : OpeningIsSound) whe
   module _ (before : List Arrival) (input : Arrival) (trace : Trace)
       (more : traces rules (before ++ input ∷ []) ≡ traces rules before ++ trace ∷ []) where
     pub entries_next : after_trace (log_of rules before).entries trace ≡ (log_of rules (before ++ input ∷ [])).entries
-    entries_next = ap (λ (es : List Entry). after_trace es trace) (entries_told before)
-        ∙ (sym (fold_joined after_trace (traces rules before) (trace ∷ []) first)
-        ∙ (ap (fold after_trace first) (sym more) ∙ sym (entries_told (before ++ input ∷ []))))
+    entries_next = grind (arith, common_steps, entries_told, fold_joined)
 
     pub shortages_next : (log_of rules before).shortages ++ lost_by trace
         ≡ (log_of rules (before ++ input ∷ [])).shortages

@@ -22,9 +22,7 @@ pub external_is : (a b : ExternalKey) → external_eq a b ≡ true → a ≡ b
 external_is a b h = grind (arith, common_steps, nat_tests, and_parts)
 
 pub external_itself : (a : ExternalKey) → external_eq a a ≡ true
-external_itself a = and_from (eqb a.address a.address) _ (eq-eqb a.address a.address refl)
-    (and_from (eqb a.number a.number) (sameb the_type a.protocol a.protocol) (eq-eqb a.number a.number refl)
-    (eq-eqb (tag_of the_type a.protocol) (tag_of the_type a.protocol) refl))
+external_itself a = grind (arith, common_steps, and_from, eq-eqb)
 
 pub external_flip : (a b : ExternalKey) → external_eq a b ≡ external_eq b a
 external_flip a b = grind (arith, common_steps, nat_tests, external_is, external_itself)
@@ -41,9 +39,7 @@ due_of found = option_and_then (λ (o : Open). o.due) found
 
 pub listed_open : (all : OpenEntries) (x : ExternalKey) (l : Listed) → listed_at all x ≡ Some l →
     (o : Open) × (open_at all x ≡ Some o) × (o.listed ≡ l)
-listed_open all x l at = elim (open_at all x) as (λ (v : Option Open). open_at all x ≡ v →
-    option_map (λ (o : Open). o.listed) v ≡ Some l → (o : Open) × (open_at all x ≡ Some o) × (o.listed ≡ l))
-    [ None ↦ λ e h. cc | Some o ↦ λ e h. (o, e, same_Some o.listed l h) ] refl at
+listed_open all x l at = grind (arith, common_steps, same_Some)
 
 pub open_listed : (all : OpenEntries) (x : ExternalKey) (o : Open) → open_at all x ≡ Some o →
     listed_at all x ≡ Some o.listed
@@ -51,9 +47,7 @@ open_listed all x o at = ap (option_map (λ (o : Open). o.listed)) at
 
 pub under : (all : OpenEntries) → IsIndexed all → (x : ExternalKey) (l : Listed) → listed_at all x ≡ Some l →
     x ≡ external_key l.entry.binding
-under all indexed x l at =
-    let o = listed_open all x l at in
-    (indexed.placed x o.0 o.1).0 ∙ ap (λ (m : Listed). external_key m.entry.binding) o.2
+under all indexed x l at = grind (arith, common_steps, listed_open)
 
 pub indexed_but : (all : OpenEntries) → IsIndexed all → (x : ExternalKey) → IsIndexedBut x (due_at all x) all
 indexed_but all indexed x = grind (arith, common_steps, nat_tests, external_is)
@@ -140,12 +134,10 @@ module _ (now most : ℕ) (old new : OpenEntries) (es : List Entry) (shows : Sho
   put_was m differs at = grind (arith, common_steps, nat_tests, slice_get_within, length-append, get_before)
 
   put_here : (m : Listed) → listed_at old (external_key e.binding) ≡ Some m → m.number ≡ old.made + 1
-  put_here m at =
-      let never : None ≡ Some m = sym (ap (option_map (λ (o : Open). o.listed)) free) ∙ at in cc
+  put_here m at = grind (arith, common_steps)
 
   pub put_indexed : IsIndexedBut (external_key e.binding) None old
-  put_indexed = subst (λ (due : Option ℕ). IsIndexedBut (external_key e.binding) due old) (ap due_of free)
-      (indexed_but old shows.indexed (external_key e.binding))
+  put_indexed = grind (arith, common_steps, indexed_but)
 
   pub put_shows : is_before now e.end ≡ true → e.sent ≤ most → e.received ≤ most → new.made ≡ old.made + 1 →
       IsIndexed new →
@@ -178,8 +170,7 @@ module _ (now most : ℕ) (old new : OpenEntries) (es : List Entry) (shows : Sho
   its_key = (shows.indexed.placed x o at).0 ∙ ap external_key (sym same)
 
   change_here : (m : Listed) → listed_at old (external_key e.binding) ≡ Some m → m.number ≡ o.listed.number
-  change_here m there = ap (λ (l : Listed). l.number)
-      (same_Some m o.listed (sym there ∙ (ap (listed_at old) (sym its_key) ∙ was_at)))
+  change_here m there = grind (arith, common_steps, same_Some, its_key, was_at)
 
   change_other : (y : ExternalKey) (m : Listed) → external_eq (external_key e.binding) y ≡ false →
       listed_at old y ≡ Some m → m.number ≢ o.listed.number
@@ -226,8 +217,7 @@ module _ (now most : ℕ) (old new : OpenEntries) (es : List Entry) (shows : Sho
 -- THE OPEN ENTRY OF AN EXTERNAL ENDPOINT
 
 shares_key : (a b : Row) → external_key a ≡ external_key b → shares a b ≡ true
-shares_key a b same = ap (λ (k : ExternalKey). same_protocol k.protocol b.protocol
-    && ((k.address == b.external.address) && (k.number == b.external.number))) same ∙ shares_itself b
+shares_key a b same = grind (arith, common_steps, shares_itself)
 
 key_shares : (a b : Row) → shares a b ≡ true → external_key a ≡ external_key b
 key_shares a b h = grind (arith, common_steps, nat_tests, and_parts, end_is, protocol_is)
@@ -241,13 +231,11 @@ module _ (now most : ℕ) (all : OpenEntries) (es : List Entry) (shows : Shows n
       ∙ shows.has (listed_as i e) (record { place = i; number = refl; there = at }) p.0
 
   pub row_none : listed_at all (external_key r) ≡ None → list_any (is_of now r) es ≡ false
-  row_none none = none_at (is_of now r) es (λ j f there passed.
-      let never : None ≡ Some (listed_as j f) = sym none ∙ its_entry j f there passed in cc)
+  row_none none = grind (arith, common_steps, none_at, its_entry)
 
   module _ (l : Listed) (at : listed_at all (external_key r) ≡ Some l) where
     pub row_of : is_of now r l.entry ≡ true
-    row_of = and_from (is_before now l.entry.end) (shares r l.entry.binding) (shows.unended (external_key r) l at)
-        (shares_key r l.entry.binding (under all shows.indexed (external_key r) l at))
+    row_of = grind (arith, common_steps, and_from, shares_key, under)
 
     module _ (place : ℕ) (number : place + 1 ≡ l.number) where
       pub row_there : slice_get es place ≡ Some l.entry

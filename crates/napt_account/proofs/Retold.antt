@@ -3,8 +3,7 @@ use Rattle.std.proofs.lemmas.{Grind.common_steps, Bool.Decides.nat_tests}
 use Rattle.std.proofs.Common.{◌≡◌, ℕ, zero, suc, ◌+◌, ◌≤◌, max, Bool, true, false, ◌&&◌, ◌||◌, cond, List, [], ◌∷◌, ◌++◌, length, map, Option, Some, None, refl, sym, ◌∙◌, ap, subst, arith, append-nil, append_assoc}
 use Rattle.std.{specs.{Prelude.{filter, find, flat_map}, Option.{option_map, option_or}, List.{list_any, fold, slice_get}}, proofs.lemmas.Bool.and_from}
 use Rattle.std.proofs.lemmas.Option.{same_Some}
-use Rattle.napt_wire.specs.{declared.{Protocol.Protocol, Way.{Way, TheVariants.{Outgoing, Incoming}}, Cause.Cause}, Fields.{source, kind}}
-use Rattle.napt_config.specs.{Rules.{Rules, AreTimers}, declared.settings.Timers.Timers}
+use Rattle.napt_rules.specs.Prelude.{Protocol, Way, Outgoing, Incoming, Cause, source, kind, Rules, AreTimers, Timers}
 use Rattle.napt_rules.specs.{Prelude.{Through, Binding, Each, purge, opening, row, act, Arrival, Act, Course, step, run_from}, declared.{Row.Row, Leg.Leg}}
 use Rattle.napt_rules.specs.declared.End.{End, TheVariants.{ToOutside, ToInside, Onward, Dropped}}
 use Rattle.napt_table.specs.TimedRows.{timed}

@@ -1,8 +1,7 @@
 -- The log by the traces of a run's inputs is the log of the run.
 use Rattle.std.proofs.lemmas.{Grind.common_steps, Bool.Decides.nat_tests}
 use Rattle.std.{proofs.Common.{◌≡◌, ℕ, ◌+◌, max, List, [], ◌∷◌, ◌++◌, length, map, drop, refl, sym, ◌∙◌, ap, arith}, specs.Prelude.filter}
-use Rattle.napt_config.specs.Rules.{Rules, KeepsRules, pair_of}
-use Rattle.napt_rules.specs.Prelude.{Arrival, Binding, OpeningIsSound, last_clock, opening, redirected, step}
+use Rattle.napt_rules.specs.Prelude.{Arrival, Binding, OpeningIsSound, last_clock, opening, redirected, step, Rules, KeepsRules, pair_of}
 use Rattle.napt_sequential.{specs.{Traces.{traces, traces_from}, declared.passage.Trace.Trace}, proofs.Passed.traces_grow}
 use Rattle.napt_account.specs.{declared.log.{Entry.Entry, Listed.Listed, Shortage.Shortage}, Book.after_trace, KnownLogs.taken_in, Log.{begun, log_of}}
 use Rattle.napt_account.specs.Telling.{Told, ends_within, in_order_of_end, numbered, told_by}
@@ -22,12 +21,10 @@ time_more now (t ∷ before) trace = time_more t.now before trace
 
 pub entries_more : (rules : Rules) (before : List Trace) (trace : Trace) →
     entries_after rules (before ++ trace ∷ []) ≡ after_trace (entries_after rules before) trace
-entries_more rules before trace =
-    fold_joined after_trace before (trace ∷ []) (map (begun rules.timers 0) (opening rules))
+entries_more rules before trace = grind (arith, common_steps, fold_joined)
 
 pub first_long : (rules : Rules) → length (entries_after rules []) ≡ length rules.redirects
-first_long rules = long_mapped (begun rules.timers 0) (opening rules)
-    ∙ long_mapped (redirected (pair_of rules)) rules.redirects
+first_long rules = grind (arith, common_steps, long_mapped)
 
 pub taken_more : {X : Type 0} (past : List (ℕ × X)) (n : ℕ) (one : X) →
     taken_in (past ++ (n, one) ∷ []) ≡ taken_in past ++ one ∷ []

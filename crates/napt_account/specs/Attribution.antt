@@ -1,7 +1,6 @@
 -- The log of a whole run names exactly who had an external endpoint at a time.
 use Rattle.std.specs.{Prelude.{◌≡◌, ℕ, ◌<◌, ◌≤◌, ◌&&◌, Bool, List, [], ◌∷◌, ◌++◌, map, filter}, List.list_any}
-use Rattle.napt_wire.specs.declared.{Protocol.Protocol, Endpoint.Endpoint}
-use Rattle.napt_config.specs.{Rules.{Rules, KeepsRules}, declared.settings.Timers.Timers}
+use Rattle.napt_rules.specs.Prelude.{Protocol, Endpoint, Rules, KeepsRules, Timers}
 use Rattle.napt_rules.specs.{Prelude.{Binding, same_protocol, same_endpoint, is_live, opening, Arrival, row, run, last_clock}, declared.Row.Row}
 use Rattle.napt_account.specs.{declared.log.Entry.Entry, Log.{log_of, stands_at}}
 

@@ -1,7 +1,6 @@
 -- An entry that has ended is final.
 use Rattle.std.specs.{Prelude.{◌≡◌, ℕ, max, false, List, ◌∷◌, ◌++◌, Some}, List.slice_get}
-use Rattle.napt_config.specs.Rules.{Rules}
-use Rattle.napt_rules.specs.Prelude.{Arrival, last_clock}
+use Rattle.napt_rules.specs.Prelude.{Arrival, last_clock, Rules}
 use Rattle.napt_binding.specs.Ends.{is_before}
 use Rattle.napt_account.specs.{declared.log.Entry.Entry, Log.log_of}
 

@@ -1,7 +1,6 @@
 -- A run with its log as it runs, by the inputs that it took.
 use Rattle.std.specs.Prelude.{◌≡◌, ◌^◌, ◌≤◌, Bool, false, List, [], ◌∷◌, ◌++◌, length}
-use Rattle.napt_config.specs.Rules.{Rules, KeepsRules}
-use Rattle.napt_rules.specs.Prelude.{opening, Arrival, run}
+use Rattle.napt_rules.specs.Prelude.{opening, Arrival, run, Rules, KeepsRules}
 use Rattle.napt_sequential.specs.{SequentialRuns.StandsAfter, Traces.traces, declared.{fault.RunFault.RunFault, sequential_run.SequentialRun.SequentialRun}}
 use Rattle.napt_sequential.specs.declared.fault.RunFault.TheVariants as reasons
 use Rattle.napt_account.specs.{declared.known_run.LoggedStep.LoggedStep, KnownLogs.KnownTraces, Telling.{Told, told_by}, Uses.uses_of}

@@ -5,9 +5,7 @@
 -- has its quota, and that a pool has no port left, are events of their own.
 use Rattle.std.specs.{Prelude.{ℕ, suc, ◌+◌, nat_le, Bool, true, false, ◌&&◌, cond, List, [], ◌∷◌, ◌++◌, map, flat_map, Option, Some, None}, List.fold}
 use Rattle.std.specs.Option.{option_map}
-use Rattle.napt_wire.specs.declared.{Protocol.Protocol, Way.{Way, TheVariants.{Outgoing, Incoming}}, Cause.{Cause, TheVariants.{OverQuota, NoPort}}}
-use Rattle.napt_wire.specs.Fields.{source, kind}
-use Rattle.napt_config.specs.{Rules.Rules, declared.settings.Timers.Timers}
+use Rattle.napt_rules.specs.Prelude.{Protocol, Way, Outgoing, Incoming, Cause, OverQuota, NoPort, source, kind, Rules, Timers}
 use Rattle.napt_rules.specs.{Prelude.{Through, Binding, same_protocol, same_endpoint, opening, Arrival, row, Act, run}, declared.{Row.Row, Leg.Leg, End.End}}
 use Rattle.napt_rules.specs.declared.End.TheVariants.{Dropped}
 use Rattle.napt_translate.specs.Carried.{carried_by}

@@ -1,7 +1,6 @@
 -- What the log tells with each input, as the run goes on, and which bindings it has left at the end.
 use Rattle.std.specs.Prelude.{ℕ, ◌+◌, max, nat_lt, Bool, true, false, not, ◌&&◌, ◌||◌, cond, length, List, [], ◌∷◌, ◌++◌, drop, filter, Option, Some, None}
-use Rattle.napt_config.specs.Rules.{Rules}
-use Rattle.napt_rules.specs.Prelude.{Arrival, last_clock}
+use Rattle.napt_rules.specs.Prelude.{Arrival, last_clock, Rules}
 use Rattle.napt_binding.specs.Ends.{is_before}
 use Rattle.napt_account.specs.{declared.log.{Entry.Entry, Listed.Listed, Shortage.Shortage}, Log.{Logged, log_of}}
 

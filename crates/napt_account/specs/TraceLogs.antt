@@ -1,7 +1,6 @@
 -- The log by the traces of a run's inputs alone, without the inputs.
 use Rattle.std.specs.{Prelude.{◌≡◌, ℕ, ◌+◌, ◌≤◌, ◌<◌, ◌^◌, List, [], ◌∷◌, ◌++◌, length, map, drop, filter}, List.fold}
-use Rattle.napt_config.specs.Rules.{Rules, KeepsRules}
-use Rattle.napt_rules.specs.Prelude.{Arrival, opening}
+use Rattle.napt_rules.specs.Prelude.{Arrival, opening, Rules, KeepsRules}
 use Rattle.napt_sequential.specs.{Traces.traces, declared.{fault.RunFault.RunFault, passage.Trace.Trace}}
 use Rattle.napt_sequential.specs.declared.fault.RunFault.TheVariants as reasons
 use Rattle.napt_account.specs.{declared.{log.{Entry.Entry, Listed.Listed}, known_log.LoggedTrace.LoggedTrace}, Book.{after_trace, lost_by}, Log.begun}

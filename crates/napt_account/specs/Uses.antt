@@ -1,7 +1,6 @@
 -- What each input of a run did to the bindings, act by act, and which entries of the log are theirs.
 use Rattle.std.specs.{Prelude.{ℕ, ◌+◌, max, cond, length, List, [], ◌∷◌, map, Option, Some, None}, Option.option_or, List.fold}
-use Rattle.napt_wire.specs.declared.Way.{Way, TheVariants.{Outgoing, Incoming}}
-use Rattle.napt_config.specs.Rules.{Rules}
+use Rattle.napt_rules.specs.Prelude.{Way, Outgoing, Incoming, Rules}
 use Rattle.napt_rules.specs.{Prelude.{Through, Binding, opening, Arrival, row, Act, Course, step}, declared.Leg.Leg}
 use Rattle.napt_account.specs.{declared.{log.Entry.Entry, account.{Note.Note, Use.Use}}, Log.{begun, logged, place_of}}
 use Rattle.napt_account.specs.declared.account.Note.TheVariants as notes

@@ -151,6 +151,21 @@ fn use_kept(
     }
 }
 
+/// A copy of the flows of a protocol that live at a time, in ns.
+pub(crate) fn live_flows(
+    alloc: Global,
+    flows: &[Flow],
+    timers: IdleTimers,
+    now: u64,
+    protocol: Protocol,
+) -> Result<Vec<Flow>, AllocError>
+    ensures { IfOk result (λ made. made.items ≡ life.live_flows timers now protocol flows.now) }
+{
+    let mut flows = flows.to_vec(alloc)?;
+    few::keep_standing(&mut flows, timers, now, protocol);
+    Ok(flows)
+}
+
 impl Flows {
     /// No flows. It takes no memory.
     pub fn new(_alloc: Global) -> Flows
@@ -164,11 +179,30 @@ impl Flows {
         requires { AreDistinct flows.now }
         ensures { IfOk result (λ made. made ≡ flows.now) }
     {
-        let _ = flows.len();
-        Err(AllocError)
+        let kept = match flows.len() {
+            0 => Kept::Empty,
+            1 => Kept::One(flows[0]),
+            few if few <= FEW => Kept::Few(flows.to_vec(alloc)?),
+            _ => Kept::Many(Box::new(alloc, Many::of(alloc, flows)?)?),
+        };
+        Ok(Flows { kept })
+    }
+
+    /// A copy of the flows, oldest first.
+    fn copied(&self, alloc: Global) -> Result<Vec<Flow>, AllocError>
+        ensures flows { IfOk result (λ made. made.items ≡ self.now) }
+        ensures distinct { IfOk result (λ made. AreDistinct made.items) }
+    {
+        match &self.kept {
+            Kept::Empty => Ok(Vec::new(alloc)),
+            Kept::One(flow) => [*flow].to_vec(alloc),
+            Kept::Few(flows) => flows.to_vec(alloc),
+            Kept::Many(many) => many.flows(alloc),
+        }
     }
 
     /// A copy of the flows of a protocol that live at a time, in ns, oldest first.
+    #[tactic(auto, using(crate::proofs::Distinct::distinct_live))]
     pub fn live(
         &self,
         alloc: Global,
@@ -176,10 +210,13 @@ impl Flows {
         now: u64,
         protocol: Protocol,
     ) -> Result<Vec<Flow>, AllocError>
-        ensures { IfOk result (λ made. made.items ≡ life.live_flows timers now protocol self.now) }
+        ensures flows { IfOk result (λ made. made.items
+            ≡ life.live_flows timers now protocol self.now) }
+        ensures distinct { IfOk result (λ made. AreDistinct made.items) }
     {
-        let _ = &self.kept;
-        Err(AllocError)
+        let mut flows = self.copied(alloc)?;
+        few::keep_standing(&mut flows, timers, now, protocol);
+        Ok(flows)
     }
 
     /// The flows of a binding whose first packet goes out. They take no memory of their own.

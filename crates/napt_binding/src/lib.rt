@@ -11,6 +11,7 @@ mod kept_row;
 mod life;
 mod sent;
 mod session;
+mod state_binding;
 mod traffic;
 
 pub use addresses::Addresses;
@@ -18,8 +19,9 @@ pub use flows::Flows;
 pub use idle_timers::IdleTimers;
 pub use inbound::inbound_of;
 pub use kept_row::KeptRow;
-pub use life::{end_of, is_live, until};
+pub use life::{end_of, is_live, is_live_flow, is_recent, until};
 pub use napt_rules::{Flow, Inbound, Marks, Sent};
+pub use state_binding::{from_state, to_state};
 pub use traffic::{send, take_in};
 
 /// An inside endpoint and the external endpoint it is mapped to under one protocol (RFC 3022, section 2.2), with its

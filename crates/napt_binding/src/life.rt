@@ -15,7 +15,7 @@ use napt_wire::Protocol;
 pub(crate) const SECOND: u64 = 1_000_000_000;
 
 /// Whether `last` is less than `seconds` ago.
-pub(crate) fn is_recent(now: u64, last: u64, seconds: u64) -> bool
+pub fn is_recent(now: u64, last: u64, seconds: u64) -> bool
     requires { seconds ≤ 1_000_000_000 }
     ensures { result ≡ life.is_recent now last seconds }
 {
@@ -59,7 +59,7 @@ pub(crate) fn flow_moment(flow: &Flow, timers: IdleTimers) -> u64
 }
 
 /// Whether a TCP flow is live.
-pub(crate) fn is_live_flow(flow: &Flow, timers: IdleTimers, now: u64) -> bool
+pub fn is_live_flow(flow: &Flow, timers: IdleTimers, now: u64) -> bool
     ensures { result ≡ life.is_live_flow timers now flow.now }
 {
     is_recent(now, flow.last, idle(flow.marks, timers))

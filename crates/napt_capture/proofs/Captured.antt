@@ -1,15 +1,13 @@
 -- What a text begins with, and what it holds.
 use Rattle.std.proofs.lemmas.{Grind.common_steps, Bool.{Decides.nat_tests, cases_Bool, cases_lt, lt-ltb, le-ltb}}
 use Rattle.std.proofs.Common.{◌≡◌, ℕ, zero, suc, ◌+◌, ◌-◌, ◌<◌, ◌≤◌, inl, inr, Bool, true, false, List, [], ◌∷◌, length, take, drop, Option, Result, Ok, Err, refl, sym, ◌∙◌, ap, arith, length-drop, length-take-le, nat_lt}
-use Rattle.napt_capture.specs.Prelude.{LARGEST_RECORD, CaptureFault, TooLarge, Next, Whole, End, Spelling, spelling_of, units_per_second, Entry, Held, announced, asked_first, asked_records, captured, captured_by, captured_of, entry_in, fraction_of, held, held_by, next_by, next_in, number_behind, size_in, spelling_by, spelling_in}
-use Rattle.byteorder.specs.Endian.{big_number}
+use Rattle.napt_capture.specs.Prelude.{LARGEST_RECORD, CaptureFault, TooLarge, Next, Whole, End, Spelling, units_per_second, Entry, Held, announced, asked_first, asked_records, captured, captured_by, captured_of, entry_in, fraction_of, held, held_by, next_by, next_in, number_behind, size_in, spelling_by, spelling_in}
 
 -- THE HEADER OF A RECORD
 
 pub size_good : (s : Spelling) (number : ℕ) (header : List ℕ) → fraction_of s header < units_per_second s →
     captured_of s header ≤ LARGEST_RECORD → size_in s number header ≡ Ok (captured_of s header)
-size_good s number header less few =
-    rw (lt-ltb (fraction_of s header) (units_per_second s) less, le-ltb LARGEST_RECORD (captured_of s header) few) refl
+size_good s number header less few = grind (arith, common_steps, lt-ltb, le-ltb)
 
 announced_any : (s : Spelling) (n m : ℕ) (header : List ℕ) → announced (size_in s n header)
     ≡ announced (size_in s m header)
@@ -35,28 +33,21 @@ next_fault s n text fault long is = next_long s n text long ∙ ap (next_by s te
 
 pub next_cut : (s : Spelling) (n : ℕ) (text : List ℕ) (size : ℕ) → 16 ≤ length text →
     size_in s n (take 16 text) ≡ Ok size → length text < 16 + size → next_in s n text ≡ Ok (End true)
-next_cut s n text size long is short =
-    next_long s n text long ∙ ap (next_by s text) is ∙ rw (lt-ltb (length text) (16 + size) short) refl
+next_cut s n text size long is short = grind (arith, common_steps, next_long, lt-ltb)
 
 pub next_whole : (s : Spelling) (n : ℕ) (text : List ℕ) (size : ℕ) → size_in s n (take 16 text) ≡ Ok size →
     16 + size ≤ length text → next_in s n text ≡ Ok (Whole (entry_in s size text))
-next_whole s n text size is whole =
-    next_long s n text (omega (arith, whole)) ∙ ap (next_by s text) is
-    ∙ rw (le-ltb (length text) (16 + size) whole) refl
+next_whole s n text size is whole = grind (arith, common_steps, next_long, le-ltb)
 
 pub asked_short : (s : Spelling) (text : List ℕ) → length text < 16 → asked_first s text ≡ 16
 asked_short s text short = rw (lt-ltb (length text) 16 short) refl
 
 pub asked_long : (s : Spelling) (n : ℕ) (text : List ℕ) (size : Result ℕ CaptureFault) → 16 ≤ length text →
     size_in s n (take 16 text) ≡ size → asked_first s text ≡ 16 + announced size
-asked_long s n text size long is =
-    rw (le-ltb (length text) 16 long) (ap (λ k. 16 + k) (announced_any s 0 n (take 16 text) ∙ ap announced is))
+asked_long s n text size long is = grind (arith, common_steps, le-ltb, announced_any)
 
 pub asked_least : (s : Spelling) (text : List ℕ) → 16 ≤ asked_first s text
-asked_least s text = elim (cases_lt (length text) 16) [
-  | inl short ↦ omega (arith, asked_short s text short)
-  | inr long ↦ omega (arith, asked_long s 0 text (size_in s 0 (take 16 text)) long refl)
-]
+asked_least s text = grind (arith, common_steps, cases_lt, asked_short, asked_long)
 
 pub asked_most : (s : Spelling) (text : List ℕ) → asked_first s text ≤ 262160
 asked_most s text = grind (arith, common_steps, nat_tests, asked_short, asked_long, size_few)
@@ -82,6 +73,9 @@ first_of s n text = elim (cases_lt (length text) 16) [
   | inl short ↦ is_short short
   | inr long ↦ first_by s n text (size_in s n (take 16 text)) long refl
 ]
+
+-- what is first, and so what is next
+pub ruleset firsts = (is_short, next_short, is_bad, next_fault, is_cut, next_cut, is_whole, next_whole)
 
 pub entry_size : (s : Spelling) (text : List ℕ) (size : ℕ) → 16 + size ≤ length text →
     length (entry_in s size text).bytes ≡ size
@@ -188,10 +182,7 @@ spelling_by_never : (header : List ℕ) (o : Option Spelling) → spelling_by he
 spelling_by_never header o h = grind (arith, common_steps, nat_tests, cases_Bool)
 
 spelling_never : (header : List ℕ) → spelling_in header ≡ Err TooLarge → ⊥
-spelling_never header is = elim (cases_Bool (nat_lt (length header) 24)) [
-  | inl short ↦ let never = rw short at is in cc
-  | inr long ↦ spelling_by_never header (spelling_of (big_number 4 header)) (rw long at is)
-]
+spelling_never header is = grind (arith, common_steps, cases_Bool, nat_lt, spelling_by_never)
 
 captured_never : (r : Result Spelling CaptureFault) (text : List ℕ) → (r ≡ Err TooLarge → ⊥) →
     (captured_by r text).end ≡ Err TooLarge → ⊥

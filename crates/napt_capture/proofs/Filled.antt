@@ -1,6 +1,6 @@
 -- The steps of reading over known bytes.
 use Rattle.std.{proofs.lemmas.{Grind.common_steps, Bool.Decides.nat_tests}, specs.Io.KnownBytes.{Consumes, IsAtEnd}}
-use Rattle.std.proofs.Common.{◌≡◌, ℕ, ◌+◌, ◌<◌, ◌≤◌, min, List, [], ◌++◌, length, take, drop, Option, Some, None, Result, Ok, Err, arith, take_all, length-take-le, length-append, append-nil, take_at, drop_at, drop_of_length-le}
+use Rattle.std.proofs.Common.{◌≡◌, ℕ, ◌<◌, ◌≤◌, min, List, [], ◌++◌, length, take, drop, Option, Some, None, Result, Ok, Err, arith, take_all, length-take-le, drop_of_length-le}
 use Rattle.napt_capture.specs.Prelude.{CaptureFault, Gives, Says}
 
 -- unless the device or memory failed
@@ -40,18 +40,7 @@ pub record Fills (filled : ℕ) (buffer bytes left : List ℕ) : Type 0 where
 fills : (filled : ℕ) (buffer bytes left : List ℕ) → filled ≤ length buffer → bytes ≡ take filled buffer ++ left →
     (filled < length buffer → left ≡ []) → Fills filled buffer bytes left
 fills filled buffer bytes left within consumed at_end =
-    grind (
-      arith,
-      common_steps,
-      nat_tests,
-      length-take-le,
-      append-nil,
-      take_all,
-      drop_of_length-le,
-      length-append,
-      take_at,
-      drop_at,
-    )
+    grind (arith, common_steps, length-take-le, drop_of_length-le)
 
 pub filled_by : (old new : Option (List ℕ)) (filled : ℕ) (buffer : List ℕ) → filled ≤ length buffer →
     Consumes old new (take filled buffer) → (filled < length buffer → IsAtEnd new) → Gives old new (Fills filled buffer)

@@ -104,14 +104,9 @@ next_all s asked n filled header buffer text mid left items f room p fields size
 
 pub file_short : (filled : ℕ) (buffer bytes left : List ℕ) → length buffer ≡ 24 → filled < 24 →
     Fills filled buffer bytes left → (spelling_in (take 24 bytes) ≡ Err NoHeader) × (left ≡ drop 24 bytes)
-file_short filled buffer bytes left size short p =
-    let few : length (take 24 bytes) < 24 = omega (arith, length-take 24 bytes, p.size, size, short) in
-    (rw (lt-ltb (length (take 24 bytes)) 24 few) refl, p.left_is ∙ ap (λ k. drop k bytes) size)
+file_short filled buffer bytes left size short p = grind (arith, common_steps, length-take, lt-ltb)
 
 pub file_whole : (filled : ℕ) (buffer bytes left : List ℕ) (result : Result Spelling CaptureFault) →
     length buffer ≡ 24 → 24 ≤ filled → spelling_in buffer ≡ result → Fills filled buffer bytes left
     → (spelling_in (take 24 bytes) ≡ result) × (left ≡ drop 24 bytes)
-file_whole filled buffer bytes left result size full is p =
-    let all = fills_all filled buffer bytes left (omega (arith, size, full)) p in
-    let header : take 24 bytes ≡ buffer = ap (λ k. take k bytes) (sym size) ∙ all.front in
-    (ap spelling_in header ∙ is, all.left_is ∙ ap (λ k. drop k bytes) size)
+file_whole filled buffer bytes left result size full is p = grind (arith, common_steps, fills_all)

@@ -9,10 +9,7 @@ use Rattle.napt_capture.specs.Prelude.{failed_writes, DeviceFault, WriteFault, E
 -- the first was written whole, and then the second
 pub PutsAll-append : {before mid written : ℕ} {old now new : Option (List ℕ)} (xs ys : List ℕ)
     → PutsAll before old now xs mid → PutsAll mid now new ys written → PutsAll before old new (xs ++ ys) written
-PutsAll-append xs ys p q = record {
-  counted = omega (arith, length-append xs ys, p.counted, q.counted);
-  appended = Appends-trans _ _ _ xs ys p.appended q.appended;
-}
+PutsAll-append xs ys p q = grind (arith, common_steps, length-append)
 
 -- or a front of the second
 pub PutsFront-append : {before mid : ℕ} {old now new : Option (List ℕ)} {fault : WriteFault} (xs ys : List ℕ)
@@ -33,12 +30,7 @@ Puts-append old now new xs ys (Err _) p q = PutsFront-append xs ys p q
 -- a front of a text is a front of what is longer
 pub PutsFront-longer : {before : ℕ} {old new : Option (List ℕ)} {fault : WriteFault} (xs ys : List ℕ)
     → PutsFront before old new xs fault → PutsFront before old new (xs ++ ys) fault
-PutsFront-longer {old} {new} xs ys p = record {
-  taken = p.taken;
-  within = omega (arith, length-append xs ys, p.within);
-  counted = p.counted;
-  appended = subst (Appends old new) (sym (take-append-le p.taken xs ys p.within)) p.appended;
-}
+PutsFront-longer {old} {new} xs ys p = grind (arith, common_steps, length-append, take-append-le)
 
 -- a write of the rest that took some bytes
 pub takes_more : (r : Result ℕ DeviceFault) (old mid new : Option (List ℕ)) (bytes : List ℕ)
@@ -80,9 +72,7 @@ puts_more before count old mid new bytes r within appended rest =
 -- a fault that counts from the front of the text says how much of it was written
 pub PutsFront-fault : {old new : Option (List ℕ)} {fault : WriteFault} (xs : List ℕ)
     → PutsFront 0 old new xs fault → (fault.written ≤ length xs) × Appends old new (take fault.written xs)
-PutsFront-fault {old} {new} {fault} xs p =
-    let same : fault.written ≡ p.taken = omega (arith, p.counted) in
-    (omega (arith, p.within), subst (λ n. Appends old new (take n xs)) (sym same) p.appended)
+PutsFront-fault {old} {new} {fault} xs p = grind (arith, common_steps)
 
 -- a fault behind the whole text
 pub PutsAll-fault : (old now new : Option (List ℕ)) {written : ℕ} (xs : List ℕ) (n : ℕ)

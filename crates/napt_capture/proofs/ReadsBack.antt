@@ -42,9 +42,7 @@ time_of-written r h = omega (arith, seconds_of-written r h, fraction_of-written 
 
 size_in-written : (n : ℕ) (r : Entry) → IsWritable r → size_in written_spelling n (record_header r)
     ≡ Ok (length r.bytes)
-size_in-written n r h =
-    size_good written_spelling n (record_header r) (omega (arith, fraction_of-written r))
-    (omega (arith, captured_of-written r h, h.bytes)) ∙ ap (λ k. Ok k) (captured_of-written r h)
+size_in-written n r h = grind (arith, common_steps, size_good, fraction_of-written, captured_of-written)
 
 -- the text of a record begins with it
 next_in-written : (n : ℕ) (r : Entry) (more : List ℕ) → IsWritable r →

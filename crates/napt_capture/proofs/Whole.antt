@@ -14,8 +14,7 @@ asked_all s bytes records =
 
 pub asked_is : (s : Spelling) (bytes : List ℕ) → spelling_in (take 24 bytes) ≡ Ok s → asked_of bytes
     ≡ asked_all s bytes (held s 1 0 (drop 24 bytes)).records
-asked_is s bytes is =
-    ap (λ r. asked_by r bytes) is ∙ ap (λ r. asked_all s bytes (captured_by r (drop 24 bytes)).records) is
+asked_is s bytes is = grind (arith, common_steps)
 
 captured_is : (s : Spelling) (bytes : List ℕ) → spelling_in (take 24 bytes) ≡ Ok s → captured bytes
     ≡ held s 1 0 (drop 24 bytes)
@@ -75,10 +74,7 @@ large_is s asked n text large = rw (lt-ltb MOST_ASKED (asked + asked_first s tex
 
 whole_is : (s : Spelling) (asked n : ℕ) (text : List ℕ) (entry : Entry) → next_within s asked n text ≡ Ok (Whole entry)
     → next_in s n text ≡ Ok (Whole entry)
-whole_is s asked n text entry is = elim (cases_lt MOST_ASKED (asked + asked_first s text)) [
-  | inl large ↦ let never = sym (large_is s asked n text large) ∙ is in absurd cc
-  | inr few ↦ within_is s asked n text (Ok (Whole entry)) few is
-]
+whole_is s asked n text entry is = grind (arith, common_steps, cases_lt, large_is, within_is)
 
 pub Progress-more : (s : Spelling) (records : List Entry) (asked : ℕ) (bytes text left : List ℕ) (entry : Entry) →
     length records + 2 < 2 ^ 64 → Progress s records asked bytes text
@@ -106,8 +102,7 @@ Progress-more s records asked bytes text left entry few p q =
 asked_last : (s : Spelling) (text : List ℕ) (records more : List Entry) (asked : ℕ) (bytes : List ℕ) → more ≡ [] →
     asked ≡ 24 + asked_records records → text ≡ drop asked bytes
     → asked_all s bytes (records ++ more) ≡ asked + asked_first s text
-asked_last s text records more asked bytes none counted left_is =
-    rw (none, append-nil records, ← counted, ← left_is) refl
+asked_last s text records more asked bytes none counted left_is = grind (arith, common_steps, append-nil)
 
 -- else more is
 least_by : (s : Spelling) (n : ℕ) (text : List ℕ) (records : List Entry) (asked : ℕ) (bytes : List ℕ) →
@@ -151,8 +146,7 @@ least_by s n text records asked bytes (is_whole size is whole) counted left_is =
 asked_from : (s : Spelling) (records : List Entry) (asked : ℕ) (bytes text : List ℕ) →
     Progress s records asked bytes text → asked_of bytes
     ≡ asked_all s bytes (records ++ (held s (length records + 1) 0 text).records)
-asked_from s records asked bytes text p =
-    asked_is s bytes p.spelled ∙ ap (λ (h : Held). asked_all s bytes h.records) p.held_is
+asked_from s records asked bytes text p = grind (arith, common_steps, asked_is)
 
 asked_more : (s : Spelling) (records : List Entry) (asked : ℕ) (bytes text : List ℕ) →
     asked ≡ 24 + asked_records records → Progress s records asked bytes text
@@ -176,8 +170,7 @@ read_last s records asked bytes text end counted p few none =
 read_large : (s : Spelling) (records : List Entry) (asked : ℕ) (bytes text : List ℕ) →
     asked ≡ 24 + asked_records records → Progress s records asked bytes text
     → MOST_ASKED < asked + asked_first s text → read_whole bytes ≡ Err TooLarge
-read_large s records asked bytes text counted p large =
-    rw (lt-ltb MOST_ASKED (asked_of bytes) (omega (arith, large, asked_more s records asked bytes text counted p))) refl
+read_large s records asked bytes text counted p large = grind (arith, common_steps, lt-ltb, asked_more)
 
 read_end : (s : Spelling) (records : List Entry) (asked : ℕ) (bytes text left : List ℕ) (cut : Bool) →
     asked ≡ 24 + asked_records records → Progress s records asked bytes text

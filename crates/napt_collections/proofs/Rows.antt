@@ -83,8 +83,7 @@ empty_marked = record {
 module _ (words full : List ℕ) (m : IsMarked words full) (from d : ℕ) (within : from < 65536)
     (here : IsFirstAbsent (has_bit (get_or words (from / 64) d)) (from % 64) 64 None) where
   up_to_next : (j : ℕ) → from ≤ j → j < 64 * (from / 64 + 1) → has words j ≡ true
-  up_to_next = none_here words (from / 64) d (from % 64) from (omega (arith, m.many)) (omega arith) (λ j le less.
-      absurd (omega arith)) here
+  up_to_next = grind (arith, common_steps, none_here)
 
   -- up to a full word, or to the end
   up_to : (hi : ℕ) → hi ≤ 1024 → ((i : ℕ) → from / 64 + 1 ≤ i → i < hi → has full i ≡ true) → (j : ℕ) → from ≤ j →

@@ -58,13 +58,7 @@ module _ (word from : ℕ) (within : from < 64) where
 
     pub first_is : (from ≤ k) × (k < 64) × (has_bit word k ≡ false) × ((j : ℕ) → from ≤ j → j < k → has_bit word j
         ≡ true)
-    first_is = (
-      first_from,
-      found.0,
-      is_clear word k (sym (filled_from k first_from) ∙ found.1),
-      λ j le lt.
-          is_set word j (sym (filled_from j le) ∙ found.2 j lt),
-    )
+    first_is = grind (arith, common_steps, first_from, found, is_clear, filled_from, is_set)
 
 pub filled_small : (word from : ℕ) → word < 2 ^ 64 → filled word from < 2 ^ 64
 filled_small word from lt = or_lt 64 word (1 * 2 ^ from % 2 ^ 64 - 1) lt (omega arith)

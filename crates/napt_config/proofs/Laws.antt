@@ -5,39 +5,29 @@ use Rattle.std.specs.{BTreeMap.insert_entry, List.{list_any, before_first, after
 use Rattle.std.proofs.lemmas.{Bool.not-true, List.{Elements.{All-push, All-nil}, Folds.list_any_at}, Map.Views.{All-keys-insert_entry, All-values-insert_entry}}
 use Rattle.std.proofs.lemmas.Option.{cond_some, option_and_then_some}
 use Rattle.toml.specs.Data.{Data, Items, Members, get_member}
-use Rattle.napt_config.specs.Prelude.{BadAddress, BadPrefix, BadNumber, DoubleAddress, Missing, PrefixesOverlap, BlockTooLarge, PairWithBlock, HoldWithBlock, NotInside, NotInPool, DoublePair, TimerTooShort, UnknownKey, Timers, Network, IsNetwork, have_address, are_apart, address_of, network_of, network_at, number_of, is_slash, Rules, has, paired_with, paired, block_in, have_room, IsTimer, AreTimers, IsInside, IsQuota, IsBlock, AreBlocks, ArePairs, KeepsRules, item_count, short_list, text_in, number_in, table_in, list_up_to, between, with_address, pool_in, with_prefix, prefixes_in, inside_in, filter_in, refresh_in, choosing_in, timer_at, timers_at, idle_timers_in, timers_in, default_timers, ring_at, ring_in, quota_at, quota_in, block_size_at, block_size, block_size_in, address_in, with_pair, pairs_at, pairs_in, redirects_in, required, optional, configured, knows_all_keys}
+use Rattle.napt_config.specs.Prelude.{BadAddress, BadPrefix, BadNumber, DoubleAddress, Missing, PrefixesOverlap, BlockTooLarge, PairWithBlock, HoldWithBlock, NotInside, NotInPool, DoublePair, TimerTooShort, UnknownKey, Timers, Network, IsNetwork, have_address, are_apart, address_of, network_of, network_at, number_of, is_slash, Rules, has, paired_with, paired, block_in, have_room, IsTimer, AreTimers, IsInside, IsQuota, IsBlock, AreBlocks, ArePairs, KeepsRules, each_in_order, item_count, short_list, text_in, number_at, table_in, list_up_to, with_address, pool_in, with_prefix, prefixes_in, inside_in, filter_in, refresh_in, choosing_in, timer_at, timers_at, idle_timers_in, timers_in, default_timers, ring_in, quota_at, quota_in, block_size_at, block_size, block_size_in, address_in, with_pair, pairs_at, pairs_in, redirects_in, required, optional, configured, knows_all_keys}
 use Rattle.napt_config.proofs.Addresses.{address_of-bound}
 use Rattle.napt_config.proofs.{Chains.{list_up_to-counts, reads, holds, ok_or_ok, optional_reads, optional-absent, each_keeps, each_adds}, Indices.block_in-is}
-use Rattle.napt_config.proofs.{Numbers.{number_of-range, between-range}, PairEntries.{Pairs, sorted_inserted, one_more}, Pools.{AreDistinct, AreDistinct-push}}
+use Rattle.napt_config.proofs.{Numbers.{number_of-range, number_at-range}, PairEntries.{Pairs, sorted_inserted, one_more}, Pools.{AreDistinct, AreDistinct-push}}
 use Rattle.napt_config.proofs.RedirectEntries.{redirects_in-keeps}
 
 -- ---- texts
 
 network_at-is : (address bits : ℕ) (network : Network) → address < 2 ^ 32 → bits ≤ 32 → network_at address bits
     ≡ Some network → IsNetwork network
-network_at-is address bits network small few is =
-    let (test, same) = cond_some (address % 2 ^ (32 - bits) == 0) (record { address = address; bits = bits }) network
-    is in
-    subst IsNetwork same (record { address = small; bits = few; no_host_bits = eqb-true _ _ test })
+network_at-is address bits network small few is = grind (arith, common_steps, cond_some, eqb-true)
 
 network_of-is : (text : List ℕ) (network : Network) → network_of text ≡ Some network → IsNetwork network
 unfolding network_of
 network_of-is text network is =
-    option_and_then_some _ (address_of (before_first is_slash text)) network is λ address found more.
-    option_and_then_some _ (number_of 0 32 (after_first is_slash text)) network more λ bits counted made.
-    network_at-is address bits network (address_of-bound _ address found) (number_of-range 0 32 bits _ counted).1 made
+    grind (arith, common_steps, option_and_then_some, network_at-is, address_of-bound, number_of-range)
 
 -- ---- lists
 
 short_list-counts : (key : List ℕ) (table : Members) (entries : Items) → short_list key table ≡ Ok entries →
     (1 ≤ item_count entries) × (item_count entries ≤ 16)
 unfolding short_list
-short_list-counts key table entries is =
-    reads (required key table) _ entries is λ value _ listed.
-    reads (list_up_to 16 value) _ entries listed λ found counted ruled.
-    holds (nat_lt 0 (item_count found)) Missing _ entries ruled λ some last.
-    let same : found ≡ entries = cc in
-    rw (← same) (ltb-true 0 (item_count found) some, list_up_to-counts 16 value found counted)
+short_list-counts key table entries is = grind (arith, common_steps, reads, holds, nat_lt, ltb-true, list_up_to-counts)
 
 -- ---- pool
 
@@ -49,16 +39,7 @@ record PoolStep (pool next : List ℕ) : Type 0 where
 
 pool_step : (pool next : List ℕ) (entry : Data) → with_address pool entry ≡ Ok next → PoolStep pool next
 unfolding with_address
-pool_step pool next entry is =
-    reads (text_in entry) _ next is λ text _ read.
-    reads (ok_or (address_of text) BadAddress) _ next read λ address found ruled.
-    holds (not (has pool address)) DoubleAddress _ next ruled λ new last.
-    record {
-      address = address;
-      small = address_of-bound text address (ok_or_ok _ _ _ found);
-      new = not-true _ new;
-      is = cc;
-    }
+pool_step pool next entry is = grind (arith, common_steps, reads, ok_or, holds, address_of-bound, ok_or_ok, not-true)
 
 pub record PoolSoFar (pool : List ℕ) : Type 0 where
   pub addresses : All (λ address. address < 2 ^ 32) pool
@@ -85,7 +66,7 @@ pub record PoolRules (pool : List ℕ) : Type 0 where
 nothing_yet : PoolSoFar []
 nothing_yet = record { addresses = All-nil _; distinct = λ i j i_in j_in same. absurd (omega arith) }
 
-pub pool_in-keeps : (table : Members) (pool : List ℕ) → pool_in table ≡ Ok pool → PoolRules pool
+pub pool_in-keeps : (table : Members) (pool : List ℕ) → pool_in each_in_order table ≡ Ok pool → PoolRules pool
 unfolding pool_in
 pool_in-keeps table pool is =
     reads (short_list (codes "pool") table) _ pool is λ entries listed more.
@@ -117,7 +98,8 @@ inside_keeps now next entry start is =
 inside_adds : (now next : List Network) (entry : Data) → with_prefix now entry ≡ Ok next → length next ≡ length now + 1
 inside_adds now next entry is = grind (arith, common_steps, inside_step, length-append)
 
-prefixes_in-keeps : (table : Members) (inside : List Network) → prefixes_in table ≡ Ok inside → IsInside inside
+prefixes_in-keeps : (table : Members) (inside : List Network) → prefixes_in each_in_order table ≡ Ok inside →
+    IsInside inside
 unfolding prefixes_in
 prefixes_in-keeps table inside is =
     reads (short_list (codes "inside") table) _ inside is λ entries listed more.
@@ -148,16 +130,7 @@ inside_in-keeps pool table inside is = grind (arith, common_steps, prefixes_in-k
 
 timer_at-keeps : (least seconds : ℕ) (value : Data) → timer_at least value ≡ Ok seconds → IsTimer least seconds
 unfolding timer_at
-timer_at-keeps least seconds value is =
-    reads (number_in value) _ seconds is λ number _ read.
-    reads (ok_or (between 0 1_000_000_000 number) BadNumber) _ seconds read λ found ranged ruled.
-    holds (nat_le least found) TimerTooShort _ seconds ruled λ long last.
-    let same : found ≡ seconds = cc in
-    subst (IsTimer least) same (record {
-      low = leb-true _ _ long;
-      high =
-          (between-range 0 1_000_000_000 found number (ok_or_ok _ _ _ ranged)).1;
-    })
+timer_at-keeps least seconds value is = grind (arith, common_steps, reads, holds, nat_le, leb-true, number_at-range)
 
 timer-keeps : (key : List ℕ) (least default seconds : ℕ) (table : Members) → IsTimer least default →
     optional key default (timer_at least) table ≡ Ok seconds → IsTimer least seconds
@@ -165,68 +138,28 @@ timer-keeps key least default seconds table fine is = optional_reads (IsTimer le
     (timer_at least) table seconds is fine (λ value y read. timer_at-keeps least y value read)
 
 defaults_are_timers : AreTimers default_timers
-defaults_are_timers = record {
-  udp = record { low = omega arith; high = omega arith };
-  established = record { low = omega arith; high = omega arith };
-  transitory = record { low = omega arith; high = omega arith };
-  icmp = record { low = omega arith; high = omega arith };
-  hold = record { low = omega arith; high = omega arith };
-}
+defaults_are_timers = grind (arith, common_steps)
 
 timers_at-keeps : (timers : Timers) (value : Data) → timers_at value ≡ Ok timers → AreTimers timers
 unfolding timers_at
-timers_at-keeps timers value is =
-    reads (table_in value) _ timers is λ keys _ rest.
-    reads (optional (codes "udp") 300 (timer_at 120) keys) _ timers rest λ udp udp_is rest₁.
-    reads (optional (codes "tcp-established") 7440 (timer_at 7440) keys) _ timers rest₁ λ established established_is
-    rest₂.
-    reads (optional (codes "tcp-transitory") 240 (timer_at 240) keys) _ timers rest₂ λ transitory transitory_is rest₃.
-    reads (optional (codes "icmp") 60 (timer_at 60) keys) _ timers rest₃ λ icmp icmp_is last.
-    let made : Timers =
-    record { udp = udp; established = established; transitory = transitory; icmp = icmp; hold = 0 } in
-    let same : made ≡ timers = cc in
-    subst AreTimers same (record {
-      udp = timer-keeps (codes "udp") 120 300 udp keys defaults_are_timers.udp udp_is;
-      established = timer-keeps (codes "tcp-established") 7440 7440 established keys defaults_are_timers.established
-          established_is;
-      transitory = timer-keeps (codes "tcp-transitory") 240 240 transitory keys defaults_are_timers.transitory
-          transitory_is;
-      icmp = timer-keeps (codes "icmp") 60 60 icmp keys defaults_are_timers.icmp icmp_is;
-      hold = defaults_are_timers.hold;
-    })
+timers_at-keeps timers value is = grind (arith, common_steps, reads, timer-keeps, defaults_are_timers)
 
 pub timers_in-keeps : (timers : Timers) (table : Members) → timers_in table ≡ Ok timers → AreTimers timers
 unfolding timers_in idle_timers_in
 timers_in-keeps timers table is =
-    reads (idle_timers_in table) _ timers is λ idle idle_is rest.
-    reads (optional (codes "hold") 0 (timer_at 0) table) _ timers rest λ hold hold_is last.
-    let keeps = optional_reads AreTimers (codes "timers") default_timers timers_at table idle idle_is
-    defaults_are_timers (λ value y read. timers_at-keeps y value read) in
-    let made : Timers = record idle { hold = hold } in
-    let same : made ≡ timers = cc in
-    subst AreTimers same (record {
-      udp = keeps.udp;
-      established = keeps.established;
-      transitory = keeps.transitory;
-      icmp = keeps.icmp;
-      hold = timer-keeps (codes "hold") 0 0 hold table defaults_are_timers.hold hold_is;
-    })
+    grind (arith, common_steps, reads, optional_reads, defaults_are_timers, timers_at-keeps, timer-keeps)
 
 abbrev pub IsRing : ℕ → Type 0
 IsRing slots = (1 ≤ slots) × (slots ≤ 4096)
 
-ring_at-keeps : (slots : ℕ) (value : Data) → ring_at value ≡ Ok slots → IsRing slots
-unfolding ring_at
-ring_at-keeps slots value is = grind (arith, common_steps, between-range, ok_or_ok)
-
 pub ring_in-keeps : (slots : ℕ) (table : Members) → ring_in table ≡ Ok slots → IsRing slots
 unfolding ring_in
-ring_in-keeps slots table is = optional_reads IsRing (codes "ring") 64 ring_at table slots is (omega arith, omega arith)
-    (λ value y read. ring_at-keeps y value read)
+ring_in-keeps slots table is = optional_reads IsRing (codes "ring") 64 (number_at 1 4096) table slots is
+    (omega arith, omega arith) (λ value y read. number_at-range 1 4096 y value read)
 
 quota_at-keeps : (quota : Option ℕ) (value : Data) → quota_at value ≡ Ok quota → IfSome quota IsQuota
 unfolding quota_at
-quota_at-keeps quota value is = grind (arith, common_steps, ok_or, between-range, ok_or_ok)
+quota_at-keeps quota value is = grind (arith, common_steps, number_at-range)
 
 pub quota_in-keeps : (quota : Option ℕ) (table : Members) → quota_in table ≡ Ok quota → IfSome quota IsQuota
 unfolding quota_in
@@ -240,15 +173,7 @@ pub record IsSize (size : ℕ) : Type 0 where
 
 block_size_at-keeps : (size : ℕ) (value : Data) → block_size_at value ≡ Ok size → IsSize size
 unfolding block_size_at
-block_size_at-keeps size value is =
-    reads (number_in value) _ size is λ number _ read.
-    reads (ok_or (between 64 32256 number) BadNumber) _ size read λ found ranged ruled.
-    holds (found % 2 == 0) BadNumber _ size ruled λ even last.
-    let same : found ≡ size = cc in
-    subst IsSize same (record {
-      range = between-range 64 32256 found number (ok_or_ok _ _ _ ranged);
-      even = eqb-true _ _ even;
-    })
+block_size_at-keeps size value is = grind (arith, common_steps, reads, holds, number_at-range, eqb-true)
 
 -- a size of blocks, and what it asks of the rest of the table
 pub record SizeRules (pool : List ℕ) (inside : List Network) (table : Members) (size : ℕ) : Type 0 where
@@ -261,18 +186,7 @@ block_size-keeps : (pool : List ℕ) (inside : List Network) (hold : ℕ) (table
     (value : Data) → block_size pool inside hold table value ≡ Ok block → IfSome block (SizeRules pool inside table)
 unfolding block_size
 block_size-keeps pool inside hold table block value is =
-    reads (block_size_at value) _ block is λ size sized ruled.
-    holds (are_apart inside) PrefixesOverlap _ block ruled λ apart ruled₁.
-    holds (have_room size inside (length pool)) BlockTooLarge _ block ruled₁ λ room ruled₂.
-    holds (not (is_some (get_member (codes "pair") table))) PairWithBlock _ block ruled₂ λ no_pair ruled₃.
-    holds (hold == 0) HoldWithBlock _ block ruled₃ λ none last.
-    let same : Some size ≡ block = cc in
-    subst (λ b. IfSome b (SizeRules pool inside table)) same (record {
-      is_size = block_size_at-keeps size value sized;
-      apart = apart;
-      room = room;
-      no_pair = not-true _ no_pair;
-    })
+    grind (arith, common_steps, reads, holds, is_some, block_size_at-keeps, not-true)
 
 pub block_size_in-keeps : (pool : List ℕ) (inside : List Network) (hold : ℕ) (table : Members) (block : Option ℕ) →
     block_size_in pool inside hold table ≡ Ok block → IfSome block (SizeRules pool inside table)
@@ -292,22 +206,7 @@ record PairStep (pool : List ℕ) (inside : List Network) (now next : Pairs) : T
 pair_step : (pool : List ℕ) (inside : List Network) (now next : Pairs) (entry : Data) → with_pair pool inside now entry
     ≡ Ok next → PairStep pool inside now next
 unfolding with_pair
-pair_step pool inside now next entry is =
-    reads (table_in entry) _ next is λ keys _ rest.
-    reads (address_in (codes "host") keys) _ next rest λ host _ ruled.
-    holds (have_address inside host) NotInside _ next ruled λ host_inside rest₁.
-    reads (address_in (codes "external") keys) _ next rest₁ λ external _ ruled₁.
-    holds (has pool external) NotInPool _ next ruled₁ λ external_in_pool ruled₂.
-    holds (not (is_some (paired_with now host))) DoublePair _ next ruled₂ λ new last.
-    record {
-      host = host;
-      external = external;
-      host_inside = host_inside;
-      external_in_pool = external_in_pool;
-      new =
-          not-true _ new;
-      is = cc;
-    }
+pair_step pool inside now next entry is = grind (arith, common_steps, reads, holds, is_some, not-true)
 
 pub record PairsSoFar (pool : List ℕ) (inside : List Network) (pairs : Pairs) : Type 0 where
   pub ordered : IsStrictlySortedBy nat_cmp (keys_of pairs)
@@ -336,8 +235,8 @@ no_pairs : (pool : List ℕ) (inside : List Network) → PairsSoFar pool inside 
 unfolding IsStrictlySortedBy
 no_pairs pool inside = record { ordered = tt; hosts = All-nil _; externals = All-nil _ }
 
-pairs_at-keeps : (pool : List ℕ) (inside : List Network) (value : Data) (pairs : Pairs) → pairs_at pool inside value
-    ≡ Ok pairs → ArePairs pool inside pairs
+pairs_at-keeps : (pool : List ℕ) (inside : List Network) (value : Data) (pairs : Pairs) →
+    pairs_at each_in_order pool inside value ≡ Ok pairs → ArePairs pool inside pairs
 unfolding pairs_at
 pairs_at-keeps pool inside value pairs is =
     reads (list_up_to 256 value) _ pairs is λ entries counted more.
@@ -356,20 +255,20 @@ none_are_pairs pool inside = let none = no_pairs pool inside in record {
 }
 
 pub pairs_in-keeps : (pool : List ℕ) (inside : List Network) (table : Members) (pairs : Pairs) →
-    pairs_in pool inside table ≡ Ok pairs → ArePairs pool inside pairs
+    pairs_in each_in_order pool inside table ≡ Ok pairs → ArePairs pool inside pairs
 unfolding pairs_in
 pairs_in-keeps pool inside table pairs is =
-    optional_reads (ArePairs pool inside) (codes "pair") [] (pairs_at pool inside) table pairs is
+    optional_reads (ArePairs pool inside) (codes "pair") [] (pairs_at each_in_order pool inside) table pairs is
     (none_are_pairs pool inside) (λ value y read. pairs_at-keeps pool inside value y read)
 
 unpaired : (pool : List ℕ) (inside : List Network) (table : Members) (pairs : Pairs) →
-    is_some (get_member (codes "pair") table) ≡ false → pairs_in pool inside table ≡ Ok pairs → pairs ≡ []
+    is_some (get_member (codes "pair") table) ≡ false → pairs_in each_in_order pool inside table ≡ Ok pairs → pairs ≡ []
 unfolding pairs_in
 unpaired pool inside table pairs none is =
-    optional-absent (codes "pair") [] (pairs_at pool inside) table pairs none is
+    optional-absent (codes "pair") [] (pairs_at each_in_order pool inside) table pairs none is
 
 are_blocks : (pool : List ℕ) (inside : List Network) (table : Members) (block : Option ℕ) (pairs : Pairs) →
-    IfSome block (SizeRules pool inside table) → pairs_in pool inside table ≡ Ok pairs
+    IfSome block (SizeRules pool inside table) → pairs_in each_in_order pool inside table ≡ Ok pairs
     → IfSome block (AreBlocks inside pool pairs)
 are_blocks pool inside table None pairs kept is = tt
 are_blocks pool inside table (Some size) pairs kept is = record {
@@ -408,7 +307,7 @@ pub configured-keeps : (table : Members) (rules : Rules) → configured table �
 unfolding configured
 configured-keeps table rules is =
     holds (knows_all_keys table) UnknownKey _ rules is λ _ rest.
-    reads (pool_in table) _ rules rest λ pool pool_is rest₁.
+    reads (pool_in each_in_order table) _ rules rest λ pool pool_is rest₁.
     reads (inside_in pool table) _ rules rest₁ λ inside inside_is rest₂.
     reads (filter_in table) _ rules rest₂ λ filter _ rest₃.
     reads (refresh_in table) _ rules rest₃ λ refresh _ rest₄.
@@ -417,9 +316,10 @@ configured-keeps table rules is =
     reads (ring_in table) _ rules rest₆ λ ring ring_is rest₇.
     reads (quota_in table) _ rules rest₇ λ quota quota_is rest₈.
     reads (block_size_in pool inside timers.hold table) _ rules rest₈ λ block block_is rest₉.
-    reads (pairs_in pool inside table) _ rules rest₉ λ pairs pairs_is rest₁₀.
-    reads (redirects_in inside (paired block inside pool pairs) (block_in block inside (length pool)) table) _ rules
-    rest₁₀ λ redirects redirects_are last.
+    reads (pairs_in each_in_order pool inside table) _ rules rest₉ λ pairs pairs_is rest₁₀.
+    reads
+    (redirects_in each_in_order inside (paired block inside pool pairs) (block_in block inside (length pool)) table)
+    _ rules rest₁₀ λ redirects redirects_are last.
     let made : Rules = record {
       pool = pool;
       inside = inside;

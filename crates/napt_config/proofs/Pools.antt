@@ -1,4 +1,5 @@
 -- Addresses in a pool, and their places.
+use Rattle.std.proofs.lemmas.Grind.{common_steps}
 use Rattle.std.proofs.Common.{◌≡◌, ℕ, suc, ◌+◌, ◌%◌, ◌<◌, ◌≤◌, ◌||◌, Bool, true, false, cond, not, List, [], ◌∷◌, ◌++◌, length, get_or, IsSome, IfSome, Option, Some, None, nat_cmp, ◌==◌, refl, sym, ◌∙◌, eq-eqb, lt-ltb, arith, inl, inr, length-append, position, unwrap_or, All}
 use Rattle.std.{specs.{BTreeMap.is_at, Map.values_of, List.{list_any, position_or_len}}, proofs.lemmas.{Bool.{cases_lt, false≢true}, List.Folds.list_any_at}}
 use Rattle.std.proofs.{Math.Seq.get_or-append_seam, lemmas.{List.get_or_append_left, Map.Views.IfSome-lookup_from_All}}
@@ -31,26 +32,7 @@ not_again pool address i new lt same = false≢true (sym new ∙ rw (← same) (
 pub AreDistinct-push : (pool : List ℕ) (address : ℕ) → AreDistinct pool → has pool address ≡ false →
     AreDistinct (pool ++ address ∷ [])
 AreDistinct-push pool address distinct new i j i_in j_in same =
-    let long : length (pool ++ address ∷ []) ≡ length pool + 1 = length-append pool (address ∷ []) in
-    let last : get_or (pool ++ address ∷ []) (length pool) 0 ≡ address = get_or-append_seam pool address [] 0 in
-    elim (cases_lt i (length pool)) [
-      | inl i_old ↦
-          let i_is = get_or_append_left pool (address ∷ []) 0 i i_old in
-          elim (cases_lt j (length pool)) [
-            | inl j_old ↦ distinct i j i_old j_old (sym i_is ∙ same ∙ get_or_append_left pool (address ∷ []) 0 j j_old)
-            | inr j_last ↦
-                let j_is : j ≡ length pool = omega arith in
-                absurd (not_again pool address i new i_old (sym i_is ∙ same ∙ rw j_is last))
-          ]
-      | inr i_last ↦
-          let i_is : i ≡ length pool = omega arith in
-          elim (cases_lt j (length pool)) [
-            | inl j_old ↦ absurd
-                (not_again pool address j new j_old (sym (get_or_append_left pool (address ∷ []) 0 j j_old) ∙ sym same
-                ∙ rw i_is last))
-            | inr j_last ↦ omega arith
-          ]
-    ]
+    grind (arith, common_steps, get_or, get_or-append_seam, cases_lt, not_again)
 
 has_either : (pool : List ℕ) (own : Option ℕ) (other : ℕ) → IfSome own (λ external. has pool external ≡ true) →
     has pool other ≡ true → has pool (unwrap_or own other) ≡ true

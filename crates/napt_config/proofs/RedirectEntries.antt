@@ -4,9 +4,9 @@ use Rattle.std.proofs.Common.{◌≡◌, ℕ, ◌+◌, ◌<◌, ◌≤◌, true,
 use Rattle.std.{specs.List.{before_first, after_first}, proofs.lemmas.{Bool.{not-true, or_parts, or_from}, List.Elements.{All-push, All-nil}}}
 use Rattle.std.proofs.lemmas.{List.Folds.list_any-append, Option.option_and_then_some}
 use Rattle.toml.specs.Data.{Data, Members}
-use Rattle.napt_config.specs.Prelude.{NotInside, RedirectInBlock, DoubleRedirect, Redirect, Block, Network, Socket, have_address, address_of, number_of, socket_of, socket_at, is_colon, IsRedirect, may_redirect, is_double, AreSingle, table_in, list_up_to, is_tcp_in, transport_address_in, port_in, redirect_in, have_double, with_redirect, redirects_at, redirects_in}
+use Rattle.napt_config.specs.Prelude.{NotInside, RedirectInBlock, DoubleRedirect, Redirect, Block, Network, Socket, have_address, address_of, number_of, socket_of, socket_at, is_colon, IsRedirect, may_redirect, is_double, AreSingle, table_in, each_in_order, list_up_to, is_tcp_in, transport_address_in, port_in, redirect_in, have_double, with_redirect, redirects_at, redirects_in}
 use Rattle.napt_config.proofs.Chains.{list_up_to-counts, reads, holds, ok_or_ok, optional_reads, each_keeps, each_adds}
-use Rattle.napt_config.proofs.Numbers.{number_of-range, between-range}
+use Rattle.napt_config.proofs.Numbers.{number_of-range, number_at-range}
 
 -- ---- one entry
 
@@ -16,14 +16,7 @@ IsInBlock block redirect = may_redirect (block redirect.address) redirect.extern
 
 socket_of-port : (text : List ℕ) (socket : Socket) → socket_of text ≡ Some socket → 0 < socket.port
 unfolding socket_of
-socket_of-port text socket is =
-    option_and_then_some _ (address_of (before_first is_colon text)) socket is λ address _ more.
-    option_and_then_some _ (number_of 1 65535 (after_first is_colon text)) socket more λ port counted made.
-    let same : socket_at address port ≡ Some socket = made in
-    let P : Socket → Type 0 = λ s. 0 < s.port in
-    let low : 0 < port = omega (arith, (number_of-range 1 65535 port _ counted).0) in
-    let is : record { address = address; port = port } ≡ socket = cc in
-    subst P is low
+socket_of-port text socket is = grind (arith, common_steps, option_and_then_some, number_of-range)
 
 transport_address_in-port : (key : List ℕ) (keys : Members) (socket : Socket) →
     transport_address_in key keys ≡ Ok socket → 0 < socket.port
@@ -32,28 +25,13 @@ transport_address_in-port key keys socket is = grind (arith, common_steps, socke
 
 port_in-some : (key : List ℕ) (keys : Members) (port : ℕ) → port_in key keys ≡ Ok port → 0 < port
 unfolding port_in
-port_in-some key keys port is = grind (arith, common_steps, between-range, ok_or_ok)
+port_in-some key keys port is = grind (arith, common_steps, number_at-range, ok_or_ok)
 
 redirect_in-is : (inside : List Network) (block : ℕ → Option Block) (entry : Data) (redirect : Redirect) →
     redirect_in inside block entry ≡ Ok redirect → IsRedirect inside redirect × IsInBlock block redirect
 unfolding redirect_in
 redirect_in-is inside block entry redirect is =
-    reads (table_in entry) _ redirect is λ keys _ rest.
-    reads (is_tcp_in keys) _ redirect rest λ tcp _ rest₁.
-    reads (transport_address_in (codes "inside") keys) _ redirect rest₁ λ host host_is ruled.
-    holds (have_address inside host.address) NotInside _ redirect ruled λ host_inside rest₂.
-    reads (port_in (codes "external") keys) _ redirect rest₂ λ external external_is ruled₁.
-    holds (may_redirect (block host.address) external) RedirectInBlock _ redirect ruled₁ λ in_block last.
-    let made : Redirect = record { tcp = tcp; address = host.address; port = host.port; external = external } in
-    let same : made ≡ redirect = cc in
-    subst (λ r. IsRedirect inside r × IsInBlock block r) same (
-      record {
-        host = host_inside;
-        port = transport_address_in-port (codes "inside") keys host host_is;
-        external = port_in-some (codes "external") keys external external_is;
-      },
-      in_block,
-    )
+    grind (arith, common_steps, reads, holds, transport_address_in-port, port_in-some)
 
 -- ---- all entries
 
@@ -112,7 +90,7 @@ module _ (inside : List Network) (pair : ℕ → ℕ) (block : ℕ → Option Bl
   no_redirects = record { redirects = All-nil _; in_blocks = All-nil _; single = tt }
 
   redirects_at-keeps : (value : Data) (redirects : List Redirect) →
-      redirects_at inside pair block value ≡ Ok redirects → RedirectRules redirects
+      redirects_at each_in_order inside pair block value ≡ Ok redirects → RedirectRules redirects
   unfolding redirects_at
   redirects_at-keeps value redirects is =
       reads (list_up_to 256 value) _ redirects is λ entries counted more.
@@ -125,9 +103,9 @@ module _ (inside : List Network) (pair : ℕ → ℕ) (block : ℕ → Option Bl
             no_redirects more;
       }
 
-  pub redirects_in-keeps : (table : Members) (redirects : List Redirect) → redirects_in inside pair block table
-      ≡ Ok redirects → RedirectRules redirects
+  pub redirects_in-keeps : (table : Members) (redirects : List Redirect) →
+      redirects_in each_in_order inside pair block table ≡ Ok redirects → RedirectRules redirects
   unfolding redirects_in
   redirects_in-keeps table redirects is =
-      optional_reads RedirectRules (codes "redirect") [] (redirects_at inside pair block) table redirects is
-      (record { few = omega arith; kept = no_redirects }) (λ value y read. redirects_at-keeps value y read)
+      optional_reads RedirectRules (codes "redirect") [] (redirects_at each_in_order inside pair block) table redirects
+      is (record { few = omega arith; kept = no_redirects }) (λ value y read. redirects_at-keeps value y read)

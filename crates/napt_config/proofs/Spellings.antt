@@ -14,18 +14,7 @@ use Rattle.napt_config.proofs.{Addresses.{address_of-dotted, dotted-address_of},
 
 dotted : (address : ℕ) → IsDotted (address_text address) (to_be_bytes w32 address)
 unfolding address_text
-dotted address =
-    let o = to_be_bytes w32 address in
-    record {
-      a = get_or o 0 0;
-      b = get_or o 1 0;
-      c = get_or o 2 0;
-      d = get_or o 3 0;
-      fit =
-          (omega arith, omega arith, omega arith, omega arith);
-      value = refl;
-      spelled = refl;
-    }
+dotted address = grind (arith, common_steps, get_or)
 
 pub address_of-text : (address : ℕ) → address < 2 ^ 32 → address_of (address_text address) ≡ Some address
 address_of-text address small = address_of-dotted _ _ (dotted address)
@@ -140,16 +129,7 @@ no_digit_is_colon c digit = grind (arith, nat_tests)
 -- what is read after a separator is not empty, so the separator is there
 separated : (p : ℕ → Bool) (least most n : ℕ) (text : List ℕ) → number_of least most (after_first p text) ≡ Some n →
     position_or_len p text < length text
-separated p least most n text read =
-    elim (cases_lt (position_or_len p text) (length text)) [
-      | inl lt ↦ lt
-      | inr past ↦
-          let nothing : after_first p text ≡ [] = drop_all (position_or_len p text + 1) text (omega arith) in
-          let none : number_of least most (after_first p text) ≡ None = ap (number_of least most) nothing
-          ∙ number_of-nothing least most in
-          let apart : Some n ≡ None = sym read ∙ none in
-          cc
-    ]
+separated p least most n text read = grind (arith, common_steps, cases_lt, number_of-nothing)
 
 -- ---- prefixes and transport addresses
 

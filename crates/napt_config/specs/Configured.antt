@@ -46,19 +46,15 @@ redirect_keys = codes "protocol" ∷ codes "inside" ∷ codes "external" ∷ []
 abbrev pub only_keys_in_list : List (List ℕ) → Data → Bool
 only_keys_in_list names value = option_map_or (only_keys_in_each names) (as_array value) true
 
-abbrev pub knows_timer_keys : Members → Bool
-knows_timer_keys table = option_map_or (only_keys_in timer_keys) (get_member (codes "timers") table) true
-
-abbrev pub knows_pair_keys : Members → Bool
-knows_pair_keys table = option_map_or (only_keys_in_list pair_keys) (get_member (codes "pair") table) true
-
-abbrev pub knows_redirect_keys : Members → Bool
-knows_redirect_keys table = option_map_or (only_keys_in_list redirect_keys) (get_member (codes "redirect") table) true
+-- the same of the value at a key, if it is there
+abbrev pub knows_at : List ℕ → (Data → Bool) → Members → Bool
+knows_at key knows table = option_map_or knows (get_member key table) true
 
 -- whether each key, in `timers` and in each entry of `pair` and `redirect` too, is one that a configuration knows
 unfoldable pub knows_all_keys : Members → Bool
-knows_all_keys table = ((only_keys top_keys table && knows_timer_keys table) && knows_pair_keys table)
-    && knows_redirect_keys table
+knows_all_keys table = ((only_keys top_keys table && knows_at (codes "timers") (only_keys_in timer_keys) table)
+    && knows_at (codes "pair") (only_keys_in_list pair_keys) table)
+    && knows_at (codes "redirect") (only_keys_in_list redirect_keys) table
 
 -- ---- values
 
@@ -87,18 +83,37 @@ list_in value = ok_or (as_array value) BadShape
 abbrev pub table_in : Data → Result Members ConfigFault
 table_in value = ok_or (as_table value) BadShape
 
+-- what the word in a value says, of those that may be there
+abbrev pub said_by : {A : Type 0} → List (List ℕ × A) → List ℕ → Option A
+said_by [] word = None
+said_by (known ∷ others) word = if bytes_eq word known.0 then Some known.1 else said_by others word
+
+unfoldable pub word_at : {A : Type 0} → List (List ℕ × A) → Data → Result A ConfigFault
+word_at words value = do
+  word ← text_in value
+  ok_or (said_by words word) BadWord
+
 -- the number, where it is from least to most
 abbrev pub between : ℕ → ℕ → ℤ → Option ℕ
 between least most (pos n) = if nat_le least n && nat_le n most then Some n else None
 between least most (negsuc n) = None
 
--- the entries of a list in order, each added to what those before it gave
-abbrev pub each_in_order : {A : Type 0} → (A → Data → Result A ConfigFault) → A → Items → Result A ConfigFault
+unfoldable pub number_at : ℕ → ℕ → Data → Result ℕ ConfigFault
+number_at least most value = do
+  number ← number_in value
+  ok_or (between least most number) BadNumber
+
+-- how the entries of a list are read, each added to what those before it gave
+abbrev pub Walk : Type 0 → Type 0
+Walk A = (A → Data → Result A ConfigFault) → A → Items → Result A ConfigFault
+
+-- all of them, in order
+abbrev pub each_in_order : {A : Type 0} → Walk A
 each_in_order with_entry so_far no_items = Ok so_far
 each_in_order with_entry so_far (item entry rest) = with_entry so_far entry >>= λ now. each_in_order with_entry now rest
 
--- the same of the first entry alone, if there is one: no memory is asked for before it is read
-abbrev pub first_in_order : {A : Type 0} → (A → Data → Result A ConfigFault) → A → Items → Result A ConfigFault
+-- the first alone, if there is one: no memory is asked for before it is read
+abbrev pub first_in_order : {A : Type 0} → Walk A
 first_in_order with_entry so_far no_items = Ok so_far
 first_in_order with_entry so_far (item entry rest) = with_entry so_far entry
 
@@ -126,16 +141,10 @@ with_address pool entry = do
   must (not (has pool address)) DoubleAddress
   Ok (pool ++ address ∷ [])
 
-unfoldable pub pool_in : Members → Result (List ℕ) ConfigFault
-pool_in table = do
+unfoldable pub pool_in : Walk (List ℕ) → Members → Result (List ℕ) ConfigFault
+pool_in walk table = do
   entries ← short_list (codes "pool") table
-  each_in_order with_address [] entries
-
--- what is read of the pool before memory is asked for
-unfoldable pub pool_first : Members → Result (List ℕ) ConfigFault
-pool_first table = do
-  entries ← short_list (codes "pool") table
-  first_in_order with_address [] entries
+  walk with_address [] entries
 
 -- ---- inside
 
@@ -145,80 +154,38 @@ with_prefix inside entry = do
   network ← ok_or (network_of text) BadPrefix
   Ok (inside ++ network ∷ [])
 
-unfoldable pub prefixes_in : Members → Result (List Network) ConfigFault
-prefixes_in table = do
+unfoldable pub prefixes_in : Walk (List Network) → Members → Result (List Network) ConfigFault
+prefixes_in walk table = do
   entries ← short_list (codes "inside") table
-  each_in_order with_prefix [] entries
-
-unfoldable pub prefixes_first : Members → Result (List Network) ConfigFault
-prefixes_first table = do
-  entries ← short_list (codes "inside") table
-  first_in_order with_prefix [] entries
+  walk with_prefix [] entries
 
 unfoldable pub inside_in : List ℕ → Members → Result (List Network) ConfigFault
 inside_in pool table = do
-  inside ← prefixes_in table
+  inside ← prefixes_in each_in_order table
   must (not (list_any (have_address inside) pool)) PoolInside
   Ok inside
 
--- ---- filter
+-- ---- filter, refresh, parity, numbers
 
-abbrev pub filter_of : List ℕ → Option Filter
-filter_of word =
-    if bytes_eq word (codes "independent") then Some Independent
-    else (if bytes_eq word (codes "address") then Some Address
-    else (if bytes_eq word (codes "address-port") then Some AddressPort else None))
-
-unfoldable pub filter_at : Data → Result Filter ConfigFault
-filter_at value = do
-  word ← text_in value
-  ok_or (filter_of word) BadWord
+abbrev pub filters : List (List ℕ × Filter)
+filters = (codes "independent", Independent) ∷ (codes "address", Address) ∷ (codes "address-port", AddressPort) ∷ []
 
 unfoldable pub filter_in : Members → Result Filter ConfigFault
-filter_in table = optional (codes "filter") Independent filter_at table
-
--- ---- refresh
-
-abbrev pub refresh_of : List ℕ → Option Refresh
-refresh_of word =
-    if bytes_eq word (codes "outbound") then Some Outbound
-    else (if bytes_eq word (codes "both") then Some Both else None)
-
-unfoldable pub refresh_at : Data → Result Refresh ConfigFault
-refresh_at value = do
-  word ← text_in value
-  ok_or (refresh_of word) BadWord
+filter_in table = optional (codes "filter") Independent (word_at filters) table
 
 unfoldable pub refresh_in : Members → Result Refresh ConfigFault
-refresh_in table = optional (codes "refresh") Outbound refresh_at table
-
--- ---- parity, numbers and seed
-
-abbrev pub keeps_parity_of : List ℕ → Option Bool
-keeps_parity_of word =
-    if bytes_eq word (codes "kept") then Some true
-    else (if bytes_eq word (codes "free") then Some false else None)
-
-unfoldable pub keeps_parity_at : Data → Result Bool ConfigFault
-keeps_parity_at value = do
-  word ← text_in value
-  ok_or (keeps_parity_of word) BadWord
+refresh_in table =
+    optional (codes "refresh") Outbound (word_at ((codes "outbound", Outbound) ∷ (codes "both", Both) ∷ [])) table
 
 unfoldable pub keeps_parity_in : Members → Result Bool ConfigFault
-keeps_parity_in table = optional (codes "parity") true keeps_parity_at table
-
-abbrev pub is_random_of : List ℕ → Option Bool
-is_random_of word =
-    if bytes_eq word (codes "random") then Some true
-    else (if bytes_eq word (codes "preserved") then Some false else None)
-
-unfoldable pub is_random_at : Data → Result Bool ConfigFault
-is_random_at value = do
-  word ← text_in value
-  ok_or (is_random_of word) BadWord
+keeps_parity_in table =
+    optional (codes "parity") true (word_at ((codes "kept", true) ∷ (codes "free", false) ∷ [])) table
 
 unfoldable pub is_random_in : Members → Result Bool ConfigFault
-is_random_in table = optional (codes "numbers") false is_random_at table
+is_random_in table =
+    optional (codes "numbers") false (word_at ((codes "random", true) ∷ (codes "preserved", false) ∷ [])) table
+
+-- ---- seed
 
 -- the 16 bytes that 32 hexadecimal digits are
 abbrev pub seed_of : List ℕ → Option Seed
@@ -254,8 +221,7 @@ default_choosing = record { keeps_parity = true; seed = None }
 
 unfoldable pub timer_at : ℕ → Data → Result ℕ ConfigFault
 timer_at least value = do
-  number ← number_in value
-  seconds ← ok_or (between 0 1_000_000_000 number) BadNumber
+  seconds ← number_at 0 1_000_000_000 value
   must (nat_le least seconds) TimerTooShort
   Ok seconds
 
@@ -284,20 +250,14 @@ timers_in table = do
 
 -- ---- ring
 
-unfoldable pub ring_at : Data → Result ℕ ConfigFault
-ring_at value = do
-  number ← number_in value
-  ok_or (between 1 4096 number) BadNumber
-
 unfoldable pub ring_in : Members → Result ℕ ConfigFault
-ring_in table = optional (codes "ring") 64 ring_at table
+ring_in table = optional (codes "ring") 64 (number_at 1 4096) table
 
 -- ---- quota
 
 unfoldable pub quota_at : Data → Result (Option ℕ) ConfigFault
 quota_at value = do
-  number ← number_in value
-  bindings ← ok_or (between 1 65535 number) BadNumber
+  bindings ← number_at 1 65535 value
   Ok (Some bindings)
 
 unfoldable pub quota_in : Members → Result (Option ℕ) ConfigFault
@@ -308,8 +268,7 @@ quota_in table = optional (codes "quota") None quota_at table
 -- how many numbers a block has: an even number
 unfoldable pub block_size_at : Data → Result ℕ ConfigFault
 block_size_at value = do
-  number ← number_in value
-  size ← ok_or (between 64 32256 number) BadNumber
+  size ← number_at 64 32256 value
   must (size % 2 == 0) BadNumber
   Ok size
 
@@ -344,32 +303,21 @@ with_pair pool inside pairs entry = do
   must (not (is_some (paired_with pairs host))) DoublePair
   Ok (insert_entry nat_cmp pairs host external)
 
-unfoldable pub pairs_at : List ℕ → List Network → Data → Result (List (ℕ × ℕ)) ConfigFault
-pairs_at pool inside value = do
+unfoldable pub pairs_at : Walk (List (ℕ × ℕ)) → List ℕ → List Network → Data → Result (List (ℕ × ℕ)) ConfigFault
+pairs_at walk pool inside value = do
   entries ← list_up_to 256 value
-  each_in_order (with_pair pool inside) [] entries
+  walk (with_pair pool inside) [] entries
 
-unfoldable pub pairs_first : List ℕ → List Network → Data → Result (List (ℕ × ℕ)) ConfigFault
-pairs_first pool inside value = do
-  entries ← list_up_to 256 value
-  first_in_order (with_pair pool inside) [] entries
-
-unfoldable pub pairs_in : List ℕ → List Network → Members → Result (List (ℕ × ℕ)) ConfigFault
-pairs_in pool inside table = optional (codes "pair") [] (pairs_at pool inside) table
+unfoldable pub pairs_in : Walk (List (ℕ × ℕ)) → List ℕ → List Network → Members → Result (List (ℕ × ℕ)) ConfigFault
+pairs_in walk pool inside table = optional (codes "pair") [] (pairs_at walk pool inside) table
 
 -- ---- redirect
 
--- whether the word is TCP's; else it is UDP's
-abbrev pub is_tcp_of : List ℕ → Option Bool
-is_tcp_of word =
-    if bytes_eq word (codes "tcp") then Some true
-    else (if bytes_eq word (codes "udp") then Some false else None)
-
+-- whether the protocol is TCP; else it is UDP
 unfoldable pub is_tcp_in : Members → Result Bool ConfigFault
 is_tcp_in keys = do
   value ← required (codes "protocol") keys
-  word ← text_in value
-  ok_or (is_tcp_of word) BadWord
+  word_at ((codes "tcp", true) ∷ (codes "udp", false) ∷ []) value
 
 -- the transport address at a required key
 unfoldable pub transport_address_in : List ℕ → Members → Result Socket ConfigFault
@@ -382,8 +330,7 @@ transport_address_in key keys = do
 unfoldable pub port_in : List ℕ → Members → Result ℕ ConfigFault
 port_in key keys = do
   value ← required key keys
-  number ← number_in value
-  ok_or (between 1 65535 number) BadNumber
+  number_at 1 65535 value
 
 unfoldable pub redirect_in : List Network → (ℕ → Option Block) → Data → Result Redirect ConfigFault
 redirect_in inside block entry = do
@@ -406,22 +353,16 @@ with_redirect inside pair block redirects entry = do
   must (not (have_double pair redirects redirect)) DoubleRedirect
   Ok (redirects ++ redirect ∷ [])
 
-unfoldable pub redirects_at : List Network → (ℕ → ℕ) → (ℕ → Option Block) → Data
+unfoldable pub redirects_at : Walk (List Redirect) → List Network → (ℕ → ℕ) → (ℕ → Option Block) → Data
     → Result (List Redirect) ConfigFault
-redirects_at inside pair block value = do
+redirects_at walk inside pair block value = do
   entries ← list_up_to 256 value
-  each_in_order (with_redirect inside pair block) [] entries
-
-unfoldable pub redirects_first : List Network → (ℕ → ℕ) → (ℕ → Option Block) → Data
-    → Result (List Redirect) ConfigFault
-redirects_first inside pair block value = do
-  entries ← list_up_to 256 value
-  first_in_order (with_redirect inside pair block) [] entries
+  walk (with_redirect inside pair block) [] entries
 
 -- the redirects, where hosts have the external addresses of `pair`, and the blocks of `block`
-unfoldable pub redirects_in : List Network → (ℕ → ℕ) → (ℕ → Option Block) → Members
+unfoldable pub redirects_in : Walk (List Redirect) → List Network → (ℕ → ℕ) → (ℕ → Option Block) → Members
     → Result (List Redirect) ConfigFault
-redirects_in inside pair block table = optional (codes "redirect") [] (redirects_at inside pair block) table
+redirects_in walk inside pair block table = optional (codes "redirect") [] (redirects_at walk inside pair block) table
 
 -- ---- the whole
 
@@ -429,7 +370,7 @@ redirects_in inside pair block table = optional (codes "redirect") [] (redirects
 unfoldable pub configured : Members → Result Rules ConfigFault
 configured table = do
   must (knows_all_keys table) UnknownKey
-  pool ← pool_in table
+  pool ← pool_in each_in_order table
   inside ← inside_in pool table
   filter ← filter_in table
   refresh ← refresh_in table
@@ -438,8 +379,9 @@ configured table = do
   ring ← ring_in table
   quota ← quota_in table
   block ← block_size_in pool inside timers.hold table
-  pairs ← pairs_in pool inside table
-  redirects ← redirects_in inside (paired block inside pool pairs) (block_in block inside (length pool)) table
+  pairs ← pairs_in each_in_order pool inside table
+  redirects ← redirects_in each_in_order inside (paired block inside pool pairs) (block_in block inside (length pool))
+      table
   Ok (record {
     pool = pool;
     inside = inside;
@@ -448,8 +390,7 @@ configured table = do
     choosing = choosing;
     timers = timers;
     ring = ring;
-    quota =
-        quota;
+    quota = quota;
     block = block;
     pairs = pairs;
     redirects = redirects;
@@ -459,7 +400,7 @@ configured table = do
 unfoldable pub read_first : Members → Result (List ℕ) ConfigFault
 read_first table = do
   must (knows_all_keys table) UnknownKey
-  pool_first table
+  pool_in first_in_order table
 
 -- the table that a text reads as: it is UTF-8, and TOML
 unfoldable pub document_of : List ℕ → Option Members

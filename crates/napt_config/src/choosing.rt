@@ -2,17 +2,20 @@
 ghost use Rattle.std.specs.Prelude.{◌≡◌};
 ghost use Rattle.toml.specs.View.{view, table_view};
 ghost use Rattle.napt_config.specs.Fault.{Reads};
-ghost use Rattle.napt_config.specs.Configured.{keeps_parity_at, keeps_parity_in, is_random_at, is_random_in, seed_of, seed_at, seed_in, choosing_in};
+ghost use Rattle.napt_config.specs.Configured.{keeps_parity_in, is_random_in, seed_of, seed_at, seed_in, choosing_in};
 
 use crate::values::{required, text_in, value_at};
 use crate::{Choosing, ConfigFault, Seed};
 use hex::FromHex;
 use toml::{Table, Value};
 
-#[tactic(auto, unfolding(crate::specs::Configured::keeps_parity_at))]
-fn keeps_parity_at(value: &Value) -> Result<bool, ConfigFault>
-    ensures { Reads (λ keeps. keeps) result (keeps_parity_at (view value.now)) }
+#[tactic(auto, unfolding(crate::specs::Configured::keeps_parity_in, crate::specs::Configured::word_at))]
+fn keeps_parity(table: &Table) -> Result<bool, ConfigFault>
+    ensures { Reads (λ keeps. keeps) result (keeps_parity_in (table_view table.now)) }
 {
+    let Some(value) = value_at(table, "parity") else {
+        return Ok(true);
+    };
     match text_in(value)? {
         "kept" => Ok(true),
         "free" => Ok(false),
@@ -20,34 +23,17 @@ fn keeps_parity_at(value: &Value) -> Result<bool, ConfigFault>
     }
 }
 
-#[tactic(auto, unfolding(crate::specs::Configured::keeps_parity_in))]
-fn keeps_parity(table: &Table) -> Result<bool, ConfigFault>
-    ensures { Reads (λ keeps. keeps) result (keeps_parity_in (table_view table.now)) }
+#[tactic(auto, unfolding(crate::specs::Configured::is_random_in, crate::specs::Configured::word_at))]
+fn is_random(table: &Table) -> Result<bool, ConfigFault>
+    ensures { Reads (λ random. random) result (is_random_in (table_view table.now)) }
 {
-    match value_at(table, "parity") {
-        Some(value) => keeps_parity_at(value),
-        None => Ok(true),
-    }
-}
-
-#[tactic(auto, unfolding(crate::specs::Configured::is_random_at))]
-fn is_random_at(value: &Value) -> Result<bool, ConfigFault>
-    ensures { Reads (λ random. random) result (is_random_at (view value.now)) }
-{
+    let Some(value) = value_at(table, "numbers") else {
+        return Ok(false);
+    };
     match text_in(value)? {
         "random" => Ok(true),
         "preserved" => Ok(false),
         _ => Err(ConfigFault::BadWord),
-    }
-}
-
-#[tactic(auto, unfolding(crate::specs::Configured::is_random_in))]
-fn is_random(table: &Table) -> Result<bool, ConfigFault>
-    ensures { Reads (λ random. random) result (is_random_in (table_view table.now)) }
-{
-    match value_at(table, "numbers") {
-        Some(value) => is_random_at(value),
-        None => Ok(false),
     }
 }
 

@@ -1,7 +1,7 @@
 //! The keys of a configuration.
-ghost use Rattle.std.specs.{Prelude.{◌≡◌, bytes_eq, map}, List.list_any};
+ghost use Rattle.std.specs.{Prelude.{◌≡◌, bytes_eq, codes, map}, List.list_any};
 ghost use Rattle.toml.specs.View.{view, table_view, items_view};
-ghost use Rattle.napt_config.specs.Configured.{only_keys, only_keys_in, only_keys_in_each, only_keys_in_list, top_keys, knows_timer_keys, knows_pair_keys, knows_redirect_keys, knows_all_keys};
+ghost use Rattle.napt_config.specs.Configured.{only_keys, only_keys_in, only_keys_in_each, only_keys_in_list, top_keys, timer_keys, pair_keys, redirect_keys, knows_at, knows_all_keys};
 
 use crate::values::value_at;
 use toml::{Table, Value};
@@ -56,7 +56,7 @@ fn only_keys_in_list(value: &Value, names: &[&str]) -> bool
 }
 
 fn knows_timer_keys(table: &Table) -> bool
-    ensures { result ≡ knows_timer_keys (table_view table.now) }
+    ensures { result ≡ knows_at (codes "timers") (only_keys_in timer_keys) (table_view table.now) }
 {
     match value_at(table, "timers") {
         Some(value) => only_keys_in(value, &["udp", "tcp-established", "tcp-transitory", "icmp"]),
@@ -65,7 +65,7 @@ fn knows_timer_keys(table: &Table) -> bool
 }
 
 fn knows_pair_keys(table: &Table) -> bool
-    ensures { result ≡ knows_pair_keys (table_view table.now) }
+    ensures { result ≡ knows_at (codes "pair") (only_keys_in_list pair_keys) (table_view table.now) }
 {
     match value_at(table, "pair") {
         Some(value) => only_keys_in_list(value, &["host", "external"]),
@@ -74,7 +74,8 @@ fn knows_pair_keys(table: &Table) -> bool
 }
 
 fn knows_redirect_keys(table: &Table) -> bool
-    ensures { result ≡ knows_redirect_keys (table_view table.now) }
+    ensures { result ≡ knows_at (codes "redirect") (only_keys_in_list redirect_keys)
+        (table_view table.now) }
 {
     match value_at(table, "redirect") {
         Some(value) => only_keys_in_list(value, &["protocol", "inside", "external"]),

@@ -1,10 +1,10 @@
 //! Reading the keys of a configuration's table, each by its own rules.
-ghost use Rattle.std.specs.{Prelude.{◌≡◌, ◌≤◌, [], codes, length}, List.list_any};
+ghost use Rattle.std.specs.{Prelude.{◌≡◌, ◌≤◌, length}, List.list_any};
 ghost use Rattle.toml.specs.View.{view, table_view, items_view};
 ghost use Rattle.napt_config.specs.{Fault.{Reads, Gives, TellsFirst}, Network.have_address};
-ghost use Rattle.napt_config.specs.Configured.{each_in_order, first_in_order, between, list_up_to, short_list, with_address, pool_in, pool_first, with_prefix, prefixes_in, prefixes_first, inside_in, filter_at, filter_in, refresh_at, refresh_in, timer_at, timers_at, idle_timers_in, timers_in, ring_at, ring_in, quota_at, quota_in, block_size_at, block_size, block_size_in, address_in, with_pair, pairs_at, pairs_first, pairs_in, optional};
+ghost use Rattle.napt_config.specs.Configured.{list_up_to, short_list, with_address, each_in_order, first_in_order, pool_in, with_prefix, prefixes_in, inside_in, filter_in, refresh_in, timer_at, timers_at, idle_timers_in, timers_in, ring_in, quota_in, block_size_at, block_size, block_size_in, address_in, with_pair, pairs_at, pairs_in, optional};
 
-use crate::values::{list_in, number_in, required, table_in, text_in, value_at};
+use crate::values::{list_in, number_at, required, table_in, text_in, value_at};
 use crate::{ConfigFault, Filter, Prefix, Refresh, Timers, blocks, text};
 use std::alloc::Global;
 use std::collections::BTreeMap;
@@ -58,16 +58,6 @@ fn short_list<'a>(table: &'a Table, key: &str) -> Result<&'a [Value], ConfigFaul
     Ok(entries)
 }
 
-/// The whole number, if it is from `least` to `most`.
-pub(crate) fn between(least: u64, most: u64, number: i64) -> Option<u64>
-    ensures { result ≡ between least most number }
-{
-    match u64::try_from(number) {
-        Ok(number) if least <= number && number <= most => Some(number),
-        _ => None,
-    }
-}
-
 // ---- pool
 
 #[tactic(auto, unfolding(crate::specs::Configured::with_address))]
@@ -84,26 +74,18 @@ fn add_address(pool: &mut Vec<u32>, entry: &Value) -> Result<(), ConfigFault>
     Ok(())
 }
 
-/// The addresses of some entries.
-fn pool_of(alloc: Global, entries: &[Value]) -> Result<Vec<u32>, ConfigFault>
-    ensures exact { Gives (λ pool. pool.items) result (each_in_order with_address []
-        (items_view entries.now)) }
-    ensures first { TellsFirst (first_in_order with_address [] (items_view entries.now)) result }
+/// The pool of the table: 1 to 16 addresses, none twice.
+#[tactic(auto, unfolding(crate::specs::Configured::pool_in))]
+pub(crate) fn pool(alloc: Global, table: &Table) -> Result<Vec<u32>, ConfigFault>
+    ensures exact { Gives (λ pool. pool.items) result (pool_in each_in_order (table_view table.now)) }
+    ensures first { TellsFirst (pool_in first_in_order (table_view table.now)) result }
 {
+    let entries = short_list(table, "pool")?;
     let mut pool = Vec::new(alloc);
     for entry in entries {
         add_address(&mut pool, entry)?;
     }
     Ok(pool)
-}
-
-/// The pool of the table: 1 to 16 addresses, none twice.
-#[tactic(auto, unfolding(crate::specs::Configured::pool_in, crate::specs::Configured::pool_first))]
-pub(crate) fn pool(alloc: Global, table: &Table) -> Result<Vec<u32>, ConfigFault>
-    ensures exact { Gives (λ pool. pool.items) result (pool_in (table_view table.now)) }
-    ensures first { TellsFirst (pool_first (table_view table.now)) result }
-{
-    pool_of(alloc, short_list(table, "pool")?)
 }
 
 // ---- inside
@@ -119,26 +101,19 @@ fn add_prefix(inside: &mut Vec<Prefix>, entry: &Value) -> Result<(), ConfigFault
     Ok(())
 }
 
-/// The prefixes of some entries.
-fn prefixes_of(alloc: Global, entries: &[Value]) -> Result<Vec<Prefix>, ConfigFault>
-    ensures exact { Gives (λ inside. inside.items) result (each_in_order with_prefix []
-        (items_view entries.now)) }
-    ensures first { TellsFirst (first_in_order with_prefix [] (items_view entries.now)) result }
+/// The prefixes at a key.
+#[tactic(auto, unfolding(crate::specs::Configured::prefixes_in))]
+fn prefixes(alloc: Global, table: &Table) -> Result<Vec<Prefix>, ConfigFault>
+    ensures exact { Gives (λ inside. inside.items) result
+        (prefixes_in each_in_order (table_view table.now)) }
+    ensures first { TellsFirst (prefixes_in first_in_order (table_view table.now)) result }
 {
+    let entries = short_list(table, "inside")?;
     let mut inside = Vec::new(alloc);
     for entry in entries {
         add_prefix(&mut inside, entry)?;
     }
     Ok(inside)
-}
-
-/// The prefixes at a key.
-#[tactic(auto, unfolding(crate::specs::Configured::prefixes_in, crate::specs::Configured::prefixes_first))]
-fn prefixes(alloc: Global, table: &Table) -> Result<Vec<Prefix>, ConfigFault>
-    ensures exact { Gives (λ inside. inside.items) result (prefixes_in (table_view table.now)) }
-    ensures first { TellsFirst (prefixes_first (table_view table.now)) result }
-{
-    prefixes_of(alloc, short_list(table, "inside")?)
 }
 
 /// Whether the address is in one of the prefixes.
@@ -162,7 +137,7 @@ fn have_any(prefixes: &[Prefix], addresses: &[u32]) -> bool
 pub(crate) fn inside(alloc: Global, table: &Table, pool: &[u32]) -> Result<Vec<Prefix>, ConfigFault>
     ensures exact { Gives (λ inside. inside.items) result
         (inside_in pool.now (table_view table.now)) }
-    ensures first { TellsFirst (prefixes_first (table_view table.now)) result }
+    ensures first { TellsFirst (prefixes_in first_in_order (table_view table.now)) result }
 {
     let inside = prefixes(alloc, table)?;
     if have_any(&inside, pool) {
@@ -171,12 +146,16 @@ pub(crate) fn inside(alloc: Global, table: &Table, pool: &[u32]) -> Result<Vec<P
     Ok(inside)
 }
 
-// ---- filter
+// ---- words
 
-#[tactic(auto, unfolding(crate::specs::Configured::filter_at))]
-fn filter_at(value: &Value) -> Result<Filter, ConfigFault>
-    ensures { Reads (λ filter. filter) result (filter_at (view value.now)) }
+/// The filter of the table.
+#[tactic(auto, unfolding(crate::specs::Configured::filter_in, crate::specs::Configured::word_at))]
+pub(crate) fn filter(table: &Table) -> Result<Filter, ConfigFault>
+    ensures { Reads (λ filter. filter) result (filter_in (table_view table.now)) }
 {
+    let Some(value) = value_at(table, "filter") else {
+        return Ok(Filter::Independent);
+    };
     match text_in(value)? {
         "independent" => Ok(Filter::Independent),
         "address" => Ok(Filter::Address),
@@ -185,38 +164,18 @@ fn filter_at(value: &Value) -> Result<Filter, ConfigFault>
     }
 }
 
-/// The filter of the table.
-#[tactic(auto, unfolding(crate::specs::Configured::filter_in))]
-pub(crate) fn filter(table: &Table) -> Result<Filter, ConfigFault>
-    ensures { Reads (λ filter. filter) result (filter_in (table_view table.now)) }
+/// Which UDP packets keep a binding alive.
+#[tactic(auto, unfolding(crate::specs::Configured::refresh_in, crate::specs::Configured::word_at))]
+pub(crate) fn refresh(table: &Table) -> Result<Refresh, ConfigFault>
+    ensures { Reads (λ refresh. refresh) result (refresh_in (table_view table.now)) }
 {
-    match value_at(table, "filter") {
-        Some(value) => filter_at(value),
-        None => Ok(Filter::Independent),
-    }
-}
-
-// ---- refresh
-
-#[tactic(auto, unfolding(crate::specs::Configured::refresh_at))]
-fn refresh_at(value: &Value) -> Result<Refresh, ConfigFault>
-    ensures { Reads (λ refresh. refresh) result (refresh_at (view value.now)) }
-{
+    let Some(value) = value_at(table, "refresh") else {
+        return Ok(Refresh::Outbound);
+    };
     match text_in(value)? {
         "outbound" => Ok(Refresh::Outbound),
         "both" => Ok(Refresh::Both),
         _ => Err(ConfigFault::BadWord),
-    }
-}
-
-/// Which UDP packets keep a binding alive.
-#[tactic(auto, unfolding(crate::specs::Configured::refresh_in))]
-pub(crate) fn refresh(table: &Table) -> Result<Refresh, ConfigFault>
-    ensures { Reads (λ refresh. refresh) result (refresh_in (table_view table.now)) }
-{
-    match value_at(table, "refresh") {
-        Some(value) => refresh_at(value),
-        None => Ok(Refresh::Outbound),
     }
 }
 
@@ -226,7 +185,7 @@ pub(crate) fn refresh(table: &Table) -> Result<Refresh, ConfigFault>
 fn timer_at(value: &Value, least: u64) -> Result<u64, ConfigFault>
     ensures { Reads (λ seconds. seconds) result (timer_at least (view value.now)) }
 {
-    let seconds = between(0, MOST_SECONDS, number_in(value)?).ok_or(ConfigFault::BadNumber)?;
+    let seconds = number_at(value, 0, MOST_SECONDS)?;
     if seconds < least {
         return Err(ConfigFault::TimerTooShort);
     }
@@ -285,42 +244,26 @@ pub(crate) fn timers(table: &Table) -> Result<Timers, ConfigFault>
 
 // ---- ring
 
-#[tactic(auto, unfolding(crate::specs::Configured::ring_at))]
-fn ring_at(value: &Value) -> Result<usize, ConfigFault>
-    ensures { Reads (λ slots. slots) result (ring_at (view value.now)) }
-{
-    let slots = between(1, MOST_SLOTS, number_in(value)?).ok_or(ConfigFault::BadNumber)?;
-    Ok(slots as usize)
-}
-
 /// The number of slots of each ring.
 #[tactic(auto, unfolding(crate::specs::Configured::ring_in))]
 pub(crate) fn ring(table: &Table) -> Result<usize, ConfigFault>
     ensures { Reads (λ slots. slots) result (ring_in (table_view table.now)) }
 {
     match value_at(table, "ring") {
-        Some(value) => ring_at(value),
+        Some(value) => Ok(number_at(value, 1, MOST_SLOTS)? as usize),
         None => Ok(DEFAULT_SLOTS),
     }
 }
 
 // ---- quota
 
-#[tactic(auto, unfolding(crate::specs::Configured::quota_at))]
-fn quota_at(value: &Value) -> Result<Option<u16>, ConfigFault>
-    ensures { Reads (λ quota. quota) result (quota_at (view value.now)) }
-{
-    let bindings = between(1, MOST_BINDINGS, number_in(value)?).ok_or(ConfigFault::BadNumber)?;
-    Ok(Some(bindings as u16))
-}
-
 /// How many bindings a host may have.
-#[tactic(auto, unfolding(crate::specs::Configured::quota_in))]
+#[tactic(auto, unfolding(crate::specs::Configured::quota_in, crate::specs::Configured::quota_at))]
 pub(crate) fn quota(table: &Table) -> Result<Option<u16>, ConfigFault>
     ensures { Reads (λ quota. quota) result (quota_in (table_view table.now)) }
 {
     match value_at(table, "quota") {
-        Some(value) => quota_at(value),
+        Some(value) => Ok(Some(number_at(value, 1, MOST_BINDINGS)? as u16)),
         None => Ok(None),
     }
 }
@@ -332,8 +275,7 @@ pub(crate) fn quota(table: &Table) -> Result<Option<u16>, ConfigFault>
 fn block_size_at(value: &Value) -> Result<u16, ConfigFault>
     ensures { Reads (λ size. size) result (block_size_at (view value.now)) }
 {
-    let number = number_in(value)?;
-    let size = between(LEAST_BLOCK, MOST_BLOCK, number).ok_or(ConfigFault::BadNumber)?;
+    let size = number_at(value, LEAST_BLOCK, MOST_BLOCK)?;
     if size % 2 != 0 {
         return Err(ConfigFault::BadNumber);
     }
@@ -429,26 +371,7 @@ fn add_pair(
     Ok(())
 }
 
-/// The pairs of some entries.
-fn pairs_of(
-    alloc: Global,
-    entries: &[Value],
-    pool: &[u32],
-    inside: &[Prefix],
-) -> Result<BTreeMap<u32, u32>, ConfigFault>
-    ensures exact { Gives (λ pairs. pairs.entries) result
-        (each_in_order (with_pair pool.now inside.now) [] (items_view entries.now)) }
-    ensures first { TellsFirst
-        (first_in_order (with_pair pool.now inside.now) [] (items_view entries.now)) result }
-{
-    let mut pairs = BTreeMap::new(alloc);
-    for entry in entries {
-        add_pair(&mut pairs, entry, pool, inside)?;
-    }
-    Ok(pairs)
-}
-
-#[tactic(auto, unfolding(crate::specs::Configured::pairs_at, crate::specs::Configured::pairs_first))]
+#[tactic(auto, unfolding(crate::specs::Configured::pairs_at))]
 fn pairs_at(
     alloc: Global,
     value: &Value,
@@ -456,11 +379,15 @@ fn pairs_at(
     inside: &[Prefix],
 ) -> Result<BTreeMap<u32, u32>, ConfigFault>
     ensures exact { Gives (λ pairs. pairs.entries) result
-        (pairs_at pool.now inside.now (view value.now)) }
-    ensures first { TellsFirst (pairs_first pool.now inside.now (view value.now)) result }
+        (pairs_at each_in_order pool.now inside.now (view value.now)) }
+    ensures first { TellsFirst (pairs_at first_in_order pool.now inside.now (view value.now)) result }
 {
     let entries = list_up_to(MOST_PAIRS, value)?;
-    pairs_of(alloc, entries, pool, inside)
+    let mut pairs = BTreeMap::new(alloc);
+    for entry in entries {
+        add_pair(&mut pairs, entry, pool, inside)?;
+    }
+    Ok(pairs)
 }
 
 /// The pairs of the table: at most 256 inside hosts, each with a pool address.
@@ -472,9 +399,9 @@ pub(crate) fn pairs(
     inside: &[Prefix],
 ) -> Result<BTreeMap<u32, u32>, ConfigFault>
     ensures exact { Gives (λ pairs. pairs.entries) result
-        (pairs_in pool.now inside.now (table_view table.now)) }
-    ensures first { TellsFirst
-        (optional (codes "pair") [] (pairs_first pool.now inside.now) (table_view table.now)) result }
+        (pairs_in each_in_order pool.now inside.now (table_view table.now)) }
+    ensures first { TellsFirst (pairs_in first_in_order pool.now inside.now (table_view table.now))
+        result }
 {
     match value_at(table, "pair") {
         Some(value) => pairs_at(alloc, value, pool, inside),

@@ -1,11 +1,11 @@
 //! Reading the redirects of a configuration's table.
-ghost use Rattle.std.specs.Prelude.{◌≡◌, ◌≤◌, ℕ, [], length, codes, IfSome};
+ghost use Rattle.std.specs.Prelude.{◌≡◌, ◌≤◌, ℕ, length, IfSome};
 ghost use Rattle.toml.specs.View.{view, table_view, items_view};
 ghost use Rattle.napt_config.specs.{Fault.{Reads, Gives, TellsFirst}, Rules.{paired, block_in, may_redirect, share_inside, share_external, is_double, IsBlock}};
-ghost use Rattle.napt_config.specs.Configured.{each_in_order, first_in_order, list_up_to, optional, is_tcp_in, transport_address_in, port_in, redirect_in, have_double, with_redirect, redirects_at, redirects_first, redirects_in};
+ghost use Rattle.napt_config.specs.Configured.{each_in_order, first_in_order, list_up_to, is_tcp_in, transport_address_in, port_in, redirect_in, have_double, with_redirect, redirects_at, redirects_in};
 
-use crate::reading::{between, have_address, list_up_to};
-use crate::values::{number_in, required, table_in, text_in, value_at};
+use crate::reading::{have_address, list_up_to};
+use crate::values::{number_at, required, table_in, text_in, value_at};
 use crate::{ConfigFault, Prefix, Redirect, TransportAddress, blocks, pairing};
 use std::alloc::Global;
 use std::collections::BTreeMap;
@@ -15,7 +15,7 @@ use toml::{Table, Value};
 const MOST_REDIRECTS: usize = 256;
 
 /// Whether the protocol of an entry is TCP; else it is UDP.
-#[tactic(auto, unfolding(crate::specs::Configured::is_tcp_in))]
+#[tactic(auto, unfolding(crate::specs::Configured::is_tcp_in, crate::specs::Configured::word_at))]
 fn is_tcp_in(keys: &Table) -> Result<bool, ConfigFault>
     ensures { Reads (λ tcp. tcp) result (is_tcp_in (table_view keys.now)) }
 {
@@ -40,9 +40,7 @@ fn transport_address_in(keys: &Table, key: &str) -> Result<TransportAddress, Con
 fn port_in(keys: &Table, key: &str) -> Result<u16, ConfigFault>
     ensures { Reads (λ port. port) result (port_in key.now (table_view keys.now)) }
 {
-    let number = number_in(required(keys, key)?)?;
-    let port = between(1, 65535, number).ok_or(ConfigFault::BadNumber)?;
-    Ok(port as u16)
+    Ok(number_at(required(keys, key)?, 1, 65535)? as u16)
 }
 
 /// Whether a host may have the external port: if hosts have blocks, it is below 1024, or in the host's block.
@@ -189,36 +187,7 @@ fn add_redirect(
     Ok(())
 }
 
-/// The redirects of some entries.
-fn redirects_of(
-    alloc: Global,
-    entries: &[Value],
-    block: Option<u16>,
-    inside: &[Prefix],
-    pool: &[u32],
-    pairs: &BTreeMap<u32, u32>,
-) -> Result<Vec<Redirect>, ConfigFault>
-    requires some { 1 ≤ length pool.now }
-    requires few { length inside.now ≤ 16 }
-    requires blocks { (host : ℕ) → IfSome (block_in block inside.now (length pool.now) host)
-        IsBlock }
-    ensures exact { Gives (λ redirects. redirects.items) result
-        (each_in_order (with_redirect inside.now (paired block inside.now pool.now pairs.now.entries)
-        (block_in block inside.now (length pool.now))) []
-        (items_view entries.now)) }
-    ensures first { TellsFirst
-        (first_in_order (with_redirect inside.now (paired block inside.now pool.now pairs.now.entries)
-        (block_in block inside.now (length pool.now))) []
-        (items_view entries.now)) result }
-{
-    let mut redirects = Vec::new(alloc);
-    for entry in entries {
-        add_redirect(&mut redirects, entry, block, inside, pool, pairs)?;
-    }
-    Ok(redirects)
-}
-
-#[tactic(auto, unfolding(crate::specs::Configured::redirects_at, crate::specs::Configured::redirects_first))]
+#[tactic(auto, unfolding(crate::specs::Configured::redirects_at))]
 fn redirects_at(
     alloc: Global,
     value: &Value,
@@ -232,14 +201,18 @@ fn redirects_at(
     requires blocks { (host : ℕ) → IfSome (block_in block inside.now (length pool.now) host)
         IsBlock }
     ensures exact { Gives (λ redirects. redirects.items) result
-        (redirects_at inside.now (paired block inside.now pool.now pairs.now.entries)
+        (redirects_at each_in_order inside.now (paired block inside.now pool.now pairs.now.entries)
         (block_in block inside.now (length pool.now)) (view value.now)) }
     ensures first { TellsFirst
-        (redirects_first inside.now (paired block inside.now pool.now pairs.now.entries)
+        (redirects_at first_in_order inside.now (paired block inside.now pool.now pairs.now.entries)
         (block_in block inside.now (length pool.now)) (view value.now)) result }
 {
     let entries = list_up_to(MOST_REDIRECTS, value)?;
-    redirects_of(alloc, entries, block, inside, pool, pairs)
+    let mut redirects = Vec::new(alloc);
+    for entry in entries {
+        add_redirect(&mut redirects, entry, block, inside, pool, pairs)?;
+    }
+    Ok(redirects)
 }
 
 /// The redirects of the table: at most 256, each of an inside host; no two of one protocol share an inside or
@@ -258,12 +231,11 @@ pub(crate) fn redirects(
     requires blocks { (host : ℕ) → IfSome (block_in block inside.now (length pool.now) host)
         IsBlock }
     ensures exact { Gives (λ redirects. redirects.items) result
-        (redirects_in inside.now (paired block inside.now pool.now pairs.now.entries)
+        (redirects_in each_in_order inside.now (paired block inside.now pool.now pairs.now.entries)
         (block_in block inside.now (length pool.now)) (table_view table.now)) }
     ensures first { TellsFirst
-        (optional (codes "redirect") [] (redirects_first inside.now
-        (paired block inside.now pool.now pairs.now.entries)
-        (block_in block inside.now (length pool.now))) (table_view table.now)) result }
+        (redirects_in first_in_order inside.now (paired block inside.now pool.now pairs.now.entries)
+        (block_in block inside.now (length pool.now)) (table_view table.now)) result }
 {
     match value_at(table, "redirect") {
         Some(value) => redirects_at(alloc, value, block, inside, pool, pairs),

@@ -1,7 +1,7 @@
 //! The values of a table, each of the kind that its key asks for.
-ghost use Rattle.std.specs.Prelude.{◌≡◌, option_map};
+ghost use Rattle.std.specs.Prelude.{◌≡◌, ◌≤◌, option_map, IfOk};
 ghost use Rattle.toml.specs.{Data.get_member, View.{view, table_view, items_view}};
-ghost use Rattle.napt_config.specs.{Fault.Reads, Configured.{required, text_in, number_in, list_in, table_in}};
+ghost use Rattle.napt_config.specs.{Fault.Reads, Configured.{required, text_in, number_in, number_at, list_in, table_in}};
 
 use crate::ConfigFault;
 use toml::{Table, Value};
@@ -41,6 +41,18 @@ pub(crate) fn number_in(value: &Value) -> Result<i64, ConfigFault>
     match value.as_integer() {
         Some(number) => Ok(number),
         None => Err(ConfigFault::BadShape),
+    }
+}
+
+/// The whole number in a value, if it is from `least` to `most`.
+#[tactic(auto, unfolding(crate::specs::Configured::number_at))]
+pub(crate) fn number_at(value: &Value, least: u64, most: u64) -> Result<u64, ConfigFault>
+    ensures exact { Reads (λ number. number) result (number_at least most (view value.now)) }
+    ensures range { IfOk result (λ number. number ≤ most) }
+{
+    match u64::try_from(number_in(value)?) {
+        Ok(number) if least <= number && number <= most => Ok(number),
+        _ => Err(ConfigFault::BadNumber),
     }
 }
 

@@ -3,7 +3,7 @@ use Rattle.std.proofs.lemmas.{Grind.common_steps, Bool.Decides.nat_tests, Option
 use Rattle.std.proofs.Common.{◌≡◌, ℕ, zero, suc, ◌+◌, ◌<◌, ◌≤◌, max, List, [], ◌∷◌, ◌++◌, length, map, Result, Ok, refl, sym, ◌∙◌, ap, subst, arith, append-nil}
 use Rattle.std.{proofs.lemmas.List.{length-map, Folds.flat_map-map}, specs.Prelude.{slice_index, slice_index_or, flat_map, OnOk}}
 use Rattle.napt_config.specs.Rules.{Rules}
-use Rattle.napt_rules.specs.{declared.Row.Row, Prelude.{left_by as run_left_by, Binding, of, hold_ago, opening, anew, under, Arrival, rows_of, rows, Course, State, course_from, last_clock, legs_at, Ran, ran_from, Kept, kept_after_all}}
+use Rattle.napt_rules.specs.{declared.Row.Row, Prelude.{left_by as run_left_by, Binding, of, hold_ago, opening, anew, under, Takes, Arrival, rows_of, rows, Course, State, course_from, last_clock, legs_at, Ran, ran_from, Kept, kept_after_all}}
 use Rattle.napt_rules.specs.declared.{Leg.Leg, Outcome.Outcome}
 use Rattle.napt_translate.specs.Translators.{TranslatorState, begun, kept_of, with_kept, left_by}
 use Rattle.napt_pool.specs.{declared.closing.Ended.Ended, Pools.zip_with}
@@ -117,7 +117,8 @@ module _ (f : TranslatorState → List Leg → TranslatorState) where
             timers = refl;
             past = (at_once address).past;
             taken_are = (at_once address).agrees.taken
-                ∙ sym (of_purge rules.timers (hold_ago rules.timers (last_clock start.clock inputs)) address course.list);
+                ∙ sym (of_purge rules.timers (hold_ago rules.timers (last_clock start.clock inputs)) address
+                course.list);
           });
     }
 
@@ -125,15 +126,24 @@ pub started_more : (rules : Rules) (start : State) (n : ℕ) → started_from ru
     ≡ started_from rules start n ++ with_kept (begun n rules) (fresh start (slice_index rules.pool n)) ∷ []
 started_more rules start n = let e : n + 1 ≡ suc n = omega arith in ap (started_from rules start) e
 
--- from a state without bindings they begin as the configuration opens
-pub under_nothing : (rules : Rules) → under rules (record { clock = 0; list = [] }) ≡ anew rules
-under_nothing rules = ap (λ (list : List Binding). record { clock = 0; list = list }) (append-nil (opening rules))
+-- A STATE WITHOUT BINDINGS, from which a run goes on as from the redirects alone
 
-pub started_anew : (rules : Rules) (starts : List TranslatorState) →
-    starts ≡ started_from rules (under rules (record { clock = 0; list = [] })) (length rules.pool) →
+nothing : (state : State) → state.clock ≡ 0 → state.list ≡ [] → state ≡ record { clock = 0; list = [] }
+nothing state at none = λ i. record { clock = at i; list = none i }
+
+pub takes_nothing : (rules : Rules) (state : State) → state.clock ≡ 0 → state.list ≡ [] → Takes rules state
+takes_nothing rules state at none = subst (Takes rules) (sym (nothing state at none)) refl
+
+pub under_nothing : (rules : Rules) (state : State) → state.clock ≡ 0 → state.list ≡ [] →
+    under rules state ≡ anew rules
+under_nothing rules state at none = ap (under rules) (nothing state at none)
+    ∙ ap (λ (list : List Binding). record { clock = 0; list = list }) (append-nil (opening rules))
+
+pub started_anew : (rules : Rules) (state : State) (starts : List TranslatorState) → state.clock ≡ 0 →
+    state.list ≡ [] → starts ≡ started_from rules (under rules state) (length rules.pool) →
     starts ≡ started rules (length rules.pool)
-started_anew rules starts is =
-    is ∙ ap (λ (start : State). started_from rules start (length rules.pool)) (under_nothing rules)
+started_anew rules state starts at none is =
+    is ∙ ap (λ (start : State). started_from rules start (length rules.pool)) (under_nothing rules state at none)
 
 -- the rows of the workers as they ended, by their translators
 pub rows_shown : {A : Type 0} (last : ℕ) (bindings : List Row) (ended lent : List (Ended TranslatorState Leg A)) →

@@ -112,4 +112,5 @@ module _ {P : Type 0} (tells : Passage → P) {g : Ghosts TranslatorState Leg (T
       let all : length (zip_with (replies g) starts offered) ≡ length offered = zip_long
       (replies g) starts offered long in
       fronts_both _ _ _ (begin_at taken (zip_with (replies g) starts offered) w (omega (arith, lt, many, all)) begin)
-      (right_since rules start starts offered (zip_with (replies g) starts offered) began refl stepped_is reply_is many w lt)
+      (right_since rules start starts offered (zip_with (replies g) starts offered) began refl stepped_is reply_is many
+      w lt)

@@ -14,13 +14,14 @@ use Rattle.napt_dispatch.{proofs.Standing.{begin_stands, all_taken, dispatched, 
 use Rattle.napt_dispatch.specs.declared.dispatcher.Ending.TheVariants as endings
 
 -- before the first input
-pub begun : {P : Type 0} {tells : Passage → P} {M G : Type 0} (rules : Rules) (start : State) (pool : Pool M G Leg (Told P))
-    (d : Dispatcher P) (workers : ℕ) → workers ≡ length rules.pool → d.queues ≡ replicate workers unused →
-    d.progress.left ≡ [] → d.progress.under_way ≡ [] → accepts pool ≡ replicate (length rules.pool) [] →
-    taken pool ≡ replicate (length rules.pool) [] → (inputs : List Arrival) →
+pub begun : {P : Type 0} {tells : Passage → P} {M G : Type 0} (rules : Rules) (start : State)
+    (pool : Pool M G Leg (Told P)) (d : Dispatcher P) (workers : ℕ) → workers ≡ length rules.pool →
+    d.queues ≡ replicate workers unused → d.progress.left ≡ [] → d.progress.under_way ≡ [] → accepts pool ≡ replicate
+    (length rules.pool) [] → taken pool ≡ replicate (length rules.pool) [] → (inputs : List Arrival) →
     Stands tells rules start [] inputs (state_of pool d)
 begun rules start pool d workers many queues left none unoffered untaken inputs =
-    begin_stands rules start inputs (accepts pool) (taken pool) d (rw many at queues) unoffered untaken (rw (left, none) refl)
+    begin_stands rules start inputs (accepts pool) (taken pool) d (rw many at queues) unoffered untaken
+    (rw (left, none) refl)
 
 module _ {P : Type 0} {tells : Passage → P} {M G : Type 0} {rules : Rules} {start : State}
     {pool later_pool : Pool M G Leg (Told P)} {d later : Dispatcher P} (at : start.clock ≡ d.clock)
@@ -49,7 +50,8 @@ module _ {P : Type 0} {tells : Passage → P} {A F S B M G : Type 0} {rules : Ru
   ends_by done fault ending is e = grind (arith, common_steps, nat_tests)
 
   module _ (pool : Pool M G Leg (Told P)) (d : Dispatcher P) {later : Dispatcher P}
-      (at : start.clock ≡ d.clock) (begun : (inputs : List Arrival) → Stands tells rules start [] inputs (state_of pool d)) where
+      (at : start.clock ≡ d.clock) (begun : (inputs : List Arrival) → Stands tells rules start [] inputs
+      (state_of pool d)) where
     pub ends_with : (end : EndOfInputs F) (done : Dispatched F B) →
         ReadsAll tells rules hands ends takes fails is_settled pool d from before later_pool later left after end →
         done.legs.items ≡ counts_in later.queues → done.clock ≡ end.clock →
@@ -100,10 +102,12 @@ module _ {P : Type 0} {tells : Passage → P} {A F S B M G : Type 0} {rules : Ru
     -- and where there was a fault of dispatching
     pub ends_halted : (open_gate : Bool) (fault : RunFault) →
         ReadsToHalt tells rules hands ends takes fails is_settled pool d from before later_pool later left after
-        open_gate fault → EndsHalted tells rules start hands ends takes fails is_settled from before later_pool left after
+        open_gate fault → EndsHalted tells rules start hands ends takes fails is_settled from before later_pool left
+        after
     ends_halted open_gate fault r =
         let all : List Arrival = r.inputs ++ r.unread in
-        let s : Stands tells rules start r.inputs all (state_of r.last_pool r.last) = r.reads.served start at r.unread (begun all) in
+        let s : Stands tells rules start r.inputs all (state_of r.last_pool r.last) = r.reads.served start at r.unread
+        (begun all) in
         record {
           inputs = all;
           went = r.went;
@@ -112,8 +116,8 @@ module _ {P : Type 0} {tells : Passage → P} {A F S B M G : Type 0} {rules : Ru
           offered_many = length-map _ accepted_of ∙ (sym (length-map _ machine_of)
               ∙ (ap length r.halted.grows.starts_stay ∙ (sym r.reads.sized ∙ s.many)));
           right = λ right.
-              let known = (s.reaches (right_before rules start r.inputs all r.last_pool later_pool r.last s r.halted.grows
-              right)).known in
+              let known = (s.reaches (right_before rules start r.inputs all r.last_pool later_pool r.last s
+              r.halted.grows right)).known in
               subst (λ went. IsFront went (timed all (departed tells rules start all))) r.reads.left_is
               (left_front_of (whole_of tells rules start all) r.last.progress r.inputs r.unread r.reads.times_are known
               (departed_long tells rules start all));

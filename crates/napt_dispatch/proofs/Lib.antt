@@ -2,6 +2,7 @@ pub mod Closed
 pub mod Ended
 pub mod Ending
 pub mod Lanes
+pub mod Left
 pub mod Offering
 pub mod Passing
 pub mod QueueStates

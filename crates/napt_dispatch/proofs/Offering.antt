@@ -56,8 +56,8 @@ readies_first w d later second within goes is queues =
     record {
       journal_stays = on.0;
       keeps = λ offered taken. queues_keep w d later (readied second) offered offered taken taken within queues
-          (λ v n. (refl, refl)) (λ rules start all. readied_keeps rules start all w (offered w) (taken w) (queue_of d.queues w)
-          d.progress later.progress second goes is);
+          (λ v n. (refl, refl)) (λ rules start all. readied_keeps rules start all w (offered w) (taken w)
+          (queue_of d.queues w) d.progress later.progress second goes is);
       others = λ v n. ap (λ qs. queue_of qs v) queues ∙ queue_other d.queues w (readied second) v n;
       forgets = on.1;
     }
@@ -139,9 +139,10 @@ module _ {P M G : Type 0} where
           queues_keep w mid later (with_offers legs) (of_worker (accepts pool)) (of_worker (accepts later_pool))
           (of_worker (takes pool)) (of_worker (takes later_pool)) inside queues
           (λ v n. (offered_other v n, ap (λ lists. of_worker lists v) took))
-          (λ rules start all. rw (offered_own, took, same) (offers_keep rules start all w legs (of_worker (accepts pool) w)
-          (of_worker (takes pool) w) (queue_of mid.queues w) (progress_in mid.progress) parts))
-          rules start done all (r.keeps (of_worker (accepts pool)) (of_worker (takes pool)) rules start done all s)
+          (λ rules start all. rw (offered_own, took, same) (offers_keep rules start all w legs
+          (of_worker (accepts pool) w) (of_worker (takes pool) w) (queue_of mid.queues w)
+          (progress_in mid.progress) parts)) rules start done all
+          (r.keeps (of_worker (accepts pool)) (of_worker (takes pool)) rules start done all s)
 
       pub sent_all : length legs ≡ min (length (queue_of mid.queues w).ready) most →
           capacity_of later_pool ≡ capacity_of pool → HasOffered later_pool later w

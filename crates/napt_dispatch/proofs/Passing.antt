@@ -22,7 +22,8 @@ pub many_read : {P : Type 0} (d : Dispatcher P) (inputs : List Arrival) →
 many_read d inputs times = grind (arith, common_steps, nat_tests, length-map, times_long)
 
 pub clock_on : (from : ℕ) (inputs : List Arrival) (input : Arrival) (clock own now : ℕ) →
-    clock ≡ last_clock from inputs → own ≡ input.clock → now ≡ max clock own → now ≡ last_clock from (inputs ++ input ∷ [])
+    clock ≡ last_clock from inputs → own ≡ input.clock → now ≡ max clock own → now ≡ last_clock from
+    (inputs ++ input ∷ [])
 clock_on from inputs input clock own now was same is = grind (arith, common_steps, nat_tests, clock_more)
 
 -- OVER A POOL
@@ -51,7 +52,8 @@ module _ {P M G : Type 0} {tells : Passage → P} where
     keeps = λ rules start done all s.
         record {
           stands = rw queues (known_stands rules start done all (length d.queues) (state_of pool d).lane
-              (progress_in d.progress) (progress_in later.progress) (over.known (whole_of tells rules start all)) s.stands);
+              (progress_in d.progress) (progress_in later.progress)
+              (over.known (whole_of tells rules start all)) s.stands);
         };
   }
 
@@ -125,7 +127,8 @@ module _ {P M G : Type 0} {tells : Passage → P} where
         (progress_in d.progress ++ Awaited way ∷ [])
         (known_push (whole_of tells rules start all) (progress_in d.progress) way none) s) in
         (goes.keeps rules start (done ++ input ∷ []) all (record {
-          stands = admits start (of_worker (accepts pool)) (of_worker (taken pool)) done rest (long ∙ sym at) clock expected;
+          stands = admits start (of_worker (accepts pool)) (of_worker (taken pool)) done rest
+              (long ∙ sym at) clock expected;
         })).stands;
   }
 
@@ -154,8 +157,21 @@ module _ {P M G : Type 0} {tells : Passage → P} where
         Reads tells rules pool d inputs went mid_pool mid → now ≡ last_clock d.clock (inputs ++ input ∷ []) →
         Serves tells rules now input mid_pool mid later_pool later →
         Reads tells rules pool d (inputs ++ input ∷ []) went later_pool later
-    reads_more a clock b =
-        grind (arith, common_steps, nat_tests, grows_both, map-append, append_assoc, many_read, clock_more)
+    reads_more {went} {now} {input} a clock b = record {
+      starts_stay = b.starts_stay ∙ a.starts_stay;
+      grows = grows_both a.grows b.grows;
+      sized = b.sized;
+      times_are = b.times_are ∙ (ap (λ l. l ++ input.time ∷ []) a.times_are
+          ∙ sym (map-append (λ (i : Arrival). i.time) inputs (input ∷ [])));
+      left_is = b.left_stays ∙ a.left_is;
+      served = λ start at rest s.
+          let whole : (inputs ++ input ∷ []) ++ rest ≡ inputs ++ input ∷ rest = append_assoc inputs (input ∷ []) rest in
+          let before : Stands tells rules start inputs ((inputs ++ input ∷ []) ++ rest) (state_of mid_pool mid) =
+          rw whole (a.served start at (input ∷ rest) (rw whole at s)) in
+          b.served start inputs rest (many_read mid inputs a.times_are)
+          (ap (λ (t : ℕ). max (last_clock t inputs) input.clock) at
+          ∙ (sym (clock_more d.clock inputs input) ∙ sym clock)) before;
+    }
 
 -- where nothing is held and all outcomes left there is room
 pub room_idle : {P : Type 0} (d : Dispatcher P) → IsDone d → d.progress.under_way ≡ [] → HasRoom d

@@ -30,17 +30,18 @@ module _ {P : Type 0} {tells : Passage → P} {A F S B M G : Type 0} {rules : Ru
 
   pub passes_well : (done : Dispatched F B) (passed : Passed)
       (e : EndsWith tells rules start hands ends takes fails is_settled from before pool left after None done) →
+      passed.legs.items ≡ done.legs.items →
       (let r : Ran = record {
         outcomes = map outcome_of e.went;
         bindings = passed.bindings.items;
-        legs = passed.legs.items;
+        legs = done.legs.items;
       } in r ≡ ran_from rules start e.inputs) → LeavesState rules (left_by rules start e.inputs) passed →
       PassesWell tells rules start hands ends takes fails is_settled from before left after passed
   unfolding passes_to
-  passes_well done passed e is leaves = record {
+  passes_well done passed e legs is leaves = record {
     whole = passes_to None done e;
     bindings = ap (λ (r : Ran). r.bindings) is;
-    legs = ap (λ (r : Ran). r.legs) is;
+    legs = legs ∙ ap (λ (r : Ran). r.legs) is;
     leaves = leaves;
   }
 
@@ -99,12 +100,15 @@ module _ {P : Type 0} {tells : Passage → P} {A F S B M G : Type 0} {rules : Ru
 
 -- WHERE THE INPUTS COME OFF A LIST
 
-pub dispatched_whole : {tells : Passage → Untold} {A F B M G : Type 0} (rules : Rules) (start : State) (list : A → List Arrival)
+module _ {tells : Passage → Untold} {A F B M G : Type 0} (rules : Rules) (start : State) (list : A → List Arrival)
     (fails : Collected → List (ℕ × Departed Untold) → B → Collected → Type 0) (is_settled : Collected → Type 0)
     (from : A) (none : Collected) (pool : Pool M G Leg (Told Untold)) (left : A) (some : Collected)
-    (done : Dispatched F B) → EndsWith tells rules start (λ x xs y. list x ≡ xs ++ list y)
-    (λ x end y. list x ≡ []) Collects fails is_settled from none pool left some None done → none.outcomes.items ≡ [] →
-    (length (accepts pool) ≡ length rules.pool → Right tells rules start (accepts pool) (taken pool)) →
-    IsDispatchedFrom rules start (list from) (accepts pool) some.outcomes.items done.legs.items
-dispatched_whole rules start list fails is_settled from none pool left some done e empty right =
-    grind (arith, common_steps, nat_tests, came_whole)
+    (done : Dispatched F B) (e : EndsWith tells rules start (λ x xs y. list x ≡ xs ++ list y) (λ x end y. list x ≡ [])
+    Collects fails is_settled from none pool left some None done) where
+  pub answered_whole : map length (taken pool) ≡ map length (accepts pool)
+  answered_whole = e.answered
+
+  pub dispatched_whole : none.outcomes.items ≡ [] →
+      (length (accepts pool) ≡ length rules.pool → Right tells rules start (accepts pool) (taken pool)) →
+      IsDispatchedFrom rules start (list from) (accepts pool) some.outcomes.items done.legs.items
+  dispatched_whole empty right = grind (arith, common_steps, nat_tests, came_whole)

@@ -54,8 +54,8 @@ replies_more {P} tells rules address (l ∷ legs) more kept =
     (rest.0, ap (λ (xs : List (Told P)). told_by tells rules address l kept ∷ xs) rest.1)
 
 -- answers that are right at last were right before
-pub right_before : {P : Type 0} {tells : Passage → P} {M G : Type 0} (rules : Rules) (start : State) (done all : List Arrival)
-    (pool last_pool : Pool M G Leg (Told P))
+pub right_before : {P : Type 0} {tells : Passage → P} {M G : Type 0} (rules : Rules) (start : State)
+    (done all : List Arrival) (pool last_pool : Pool M G Leg (Told P))
     (d : Dispatcher P) → Stands tells rules start done all (state_of pool d) → Grows pool last_pool →
     Right tells rules start (accepts last_pool) (takes last_pool) → AreRight tells rules start (state_of pool d)
 right_before {P} {tells} rules start done all pool last_pool d s grows right = λ w lt.
@@ -82,9 +82,10 @@ front_less xs ys zs h = (ys ++ h.0, sym (append_assoc xs ys h.0) ∙ h.1)
 -- ONE LANE
 
 -- what was offered to a worker begins its legs of the whole run
-offered_front : {P : Type 0} {tells : Passage → P} (rules : Rules) (start : State) (done all : List Arrival) (state : DispatchState P) →
-    Stands tells rules start done all state → Reaches tells rules start done all state → (w : ℕ) → w < length rules.pool →
-    IsFront (state.lane w).offered (legs_at (slice_index rules.pool w) (course_from rules start all).acts)
+offered_front : {P : Type 0} {tells : Passage → P} (rules : Rules) (start : State) (done all : List Arrival)
+    (state : DispatchState P) → Stands tells rules start done all state → Reaches tells rules start done all state →
+    (w : ℕ) → w < length rules.pool → IsFront (state.lane w).offered
+    (legs_at (slice_index rules.pool w) (course_from rules start all).acts)
 offered_front rules start done all state s r w lt =
     let address : ℕ = slice_index rules.pool w in
     let more : IsFront (course_from rules start done).acts (course_from rules start all).acts =
@@ -101,8 +102,8 @@ offered_front rules start done all state s r w lt =
     )
 
 -- a lane and the progress of the inputs change, so that what stands goes on standing
-pub record LaneKeeps {P : Type 0} (tells : Passage → P) (rules : Rules) (start : State) (all : List Arrival) (w : ℕ) (one two : Lane P)
-    (progress later : List (Progress P)) : Type 0 where
+pub record LaneKeeps {P : Type 0} (tells : Passage → P) (rules : Rules) (start : State) (all : List Arrival) (w : ℕ)
+    (one two : Lane P) (progress later : List (Progress P)) : Type 0 where
   pub stands : LaneStands one → LaneStands two
   pub right : LaneStands one → IsRight tells rules start w two → IsRight tells rules start w one
   pub legs : AllKnown (whole_of tells rules start all) progress →
@@ -114,8 +115,8 @@ pub record LaneKeeps {P : Type 0} (tells : Passage → P) (rules : Rules) (start
 lane_keeps : {P : Type 0} {tells : Passage → P} (w : ℕ) (state later : DispatchState P) (one two : Lane P) →
     w < state.many → later.many ≡ state.many →
     state.lane w ≡ one → later.lane w ≡ two → ((v : ℕ) → v ≢ w → later.lane v ≡ state.lane v) →
-    ((rules : Rules) (start : State) (all : List Arrival) → LaneKeeps tells rules start all w one two state.progress later.progress) →
-    Keeps tells state later
+    ((rules : Rules) (start : State) (all : List Arrival) →
+    LaneKeeps tells rules start all w one two state.progress later.progress) → Keeps tells state later
 lane_keeps {tells = tells} w state later one two lt many was is others step = λ rules start done all s.
     let k : LaneKeeps tells rules start all w one two state.progress later.progress = step rules start all in
     let within : w < length rules.pool = rw s.many at lt in
@@ -171,8 +172,8 @@ queues_keep w d later change offered more taken answers lt is others step =
     step
 
 -- only more is known, or as much, after some inputs
-pub known_stands : {P : Type 0} {tells : Passage → P} (rules : Rules) (start : State) (done all : List Arrival) (many : ℕ)
-    (lane : ℕ → Lane P) (progress later : List (Progress P)) →
+pub known_stands : {P : Type 0} {tells : Passage → P} (rules : Rules) (start : State) (done all : List Arrival)
+    (many : ℕ) (lane : ℕ → Lane P) (progress later : List (Progress P)) →
     (AllKnown (whole_of tells rules start all) progress → AllKnown (whole_of tells rules start all) later) →
     Stands tells rules start done all (record { many = many; lane = lane; progress = progress }) →
     Stands tells rules start done all (record { many = many; lane = lane; progress = later })
@@ -181,8 +182,8 @@ known_stands rules start done all many lane progress later known s = grind (arit
 -- AN OFFER
 
 -- the first legs of the next message are counted as offered
-pub offers_keep : {P : Type 0} {tells : Passage → P} (rules : Rules) (start : State) (all : List Arrival) (w : ℕ) (legs : List Leg)
-    (offered : List Leg)
+pub offers_keep : {P : Type 0} {tells : Passage → P} (rules : Rules) (start : State) (all : List Arrival) (w : ℕ)
+    (legs : List Leg) (offered : List Leg)
     (taken : List (Told P)) (q : QueueState) (progress : List (Progress P)) → q.ready ≡ legs ++ drop
     (length legs) q.ready →
     LaneKeeps tells rules start all w (record { offered = offered; taken = taken; queue = q })
@@ -309,7 +310,8 @@ get_map f (y ∷ xs) zero x h = let same : y ≡ x = cc (h) in ap (λ z. Some (f
 get_map f (y ∷ xs) (suc n) x h = get_map f xs n x h
 
 -- what is told of an act, and what is known of its input then
-module _ {P : Type 0} (tells : Passage → P) (rules : Rules) (start : State) (all : List Arrival) (a : Act) (said : Tells rules start all a)
+module _ {P : Type 0} (tells : Passage → P) (rules : Rules) (start : State) (all : List Arrival) (a : Act)
+    (said : Tells rules start all a)
   where
     abbrev number : ℕ
     number = a.leg.number
@@ -372,11 +374,12 @@ module _ {P : Type 0} (tells : Passage → P) (rules : Rules) (start : State) (a
     told_known was way goes known passages is =
         grind (arith, common_steps, nat_tests, same_Some, first_told, second_told)
 
-act_tells : {P : Type 0} (tells : Passage → P) (rules : Rules) (start : State) (all : List Arrival) (leg : Leg) (told : Told P)
-    (was : Progress P) (passages : P × P) → ActOf tells rules.timers (Tells rules start all) leg told →
+act_tells : {P : Type 0} (tells : Passage → P) (rules : Rules) (start : State) (all : List Arrival) (leg : Leg)
+    (told : Told P) (was : Progress P) (passages : P × P) → ActOf tells rules.timers (Tells rules start all) leg told →
     passages_after (tells Nothing) was leg.way told.passage ≡ Some passages →
     IsKnown (whole_of tells rules start all) told.answer.number was →
-    IsKnown (whole_of tells rules start all) told.answer.number (Answered (owed_of leg) told.answer.end passages.0 passages.1)
+    IsKnown (whole_of tells rules start all) told.answer.number
+    (Answered (owed_of leg) told.answer.end passages.0 passages.1)
 act_tells tells rules start all leg told was passages x is known =
     rw (← x.leg_is, ← x.told_is)
     (told_known tells rules start all x.a x.holds was x.a.leg.way refl (rw (← x.told_is) at known)
@@ -444,8 +447,8 @@ module _ {P : Type 0} (tells : Passage → P) (rules : Rules) (start : State) (a
     right = λ o right.
         front_less taken (told ∷ []) (told_replies tells rules address offered (fresh start address)) right;
     legs = λ known. refl;
-    known = λ o right front known. known_set (whole_of tells rules start all) progress told.answer.number (now_told owed)
-        (answer_known was is o right front (known told.answer.number was there)) known;
+    known = λ o right front known. known_set (whole_of tells rules start all) progress told.answer.number
+        (now_told owed) (answer_known was is o right front (known told.answer.number was there)) known;
   }
 
 -- ONE INPUT MORE
@@ -491,9 +494,10 @@ lane_more acts offered taken q later more h =
     ∙ ap (λ ls. ls ++ flat_map (resolved acts) more) (legs_held acts q))))
     ∙ sym (append_assoc offered (q.ready ++ flat_map (resolved acts) q.held) (flat_map (resolved acts) more))
 
-module _ {P : Type 0} (tells : Passage → P) (rules : Rules) (start : State) (distinct : Distinct rules.pool) (done rest : List Arrival)
-    (input : Arrival) (number now : ℕ) (long : length done ≡ number) (clock : max (last_clock start.clock done) input.clock ≡ now)
-    (offered : ℕ → List Leg) (taken : ℕ → List (Told P)) (d later : Dispatcher P) where
+module _ {P : Type 0} (tells : Passage → P) (rules : Rules) (start : State) (distinct : Distinct rules.pool)
+    (done rest : List Arrival) (input : Arrival) (number now : ℕ) (long : length done ≡ number)
+    (clock : max (last_clock start.clock done) input.clock ≡ now) (offered : ℕ → List Leg) (taken : ℕ → List (Told P))
+    (d later : Dispatcher P) where
   abbrev all_of : List Arrival
   all_of = (done ++ input ∷ []) ++ rest
 
@@ -510,9 +514,9 @@ module _ {P : Type 0} (tells : Passage → P) (rules : Rules) (start : State) (d
   grown_stands : (extra : ℕ → List Held) → length later.queues ≡ length d.queues → AllHold extra d.queues later.queues →
       ((v : ℕ) → v < length rules.pool → legs_at (at_place v) (course_from rules start now_done).acts ≡ legs_at
       (at_place v) (course_from rules start done).acts ++ flat_map (resolved acts_all) (extra v)) →
-      (AllKnown (whole_of tells rules start all_of) (progress_in d.progress) → AllKnown (whole_of tells rules start all_of)
-      (progress_in later.progress)) → Stands tells rules start done all_of (state_with offered taken d) →
-      Stands tells rules start now_done all_of (state_with offered taken later)
+      (AllKnown (whole_of tells rules start all_of) (progress_in d.progress) → AllKnown
+      (whole_of tells rules start all_of) (progress_in later.progress)) → Stands tells rules start done all_of
+      (state_with offered taken d) → Stands tells rules start now_done all_of (state_with offered taken later)
   grown_stands extra many holds legs known s = record {
     rest = rest;
     whole = refl;
@@ -553,8 +557,8 @@ module _ {P : Type 0} (tells : Passage → P) (rules : Rules) (start : State) (d
       (refused (tells Nothing) now cause) (ended_known (whole_of tells rules start all_of) number
       (refused_at (tells Nothing) now cause) (get_map (departed_of tells) (steps_of rules start all_of) number
       (record { outcome = outcomes.Dropped cause; trace = record { now = now; first = Nothing; second = Nothing } })
-      (steps_get rules start all_of number (outcomes.Dropped cause) _ there (refused_trace rules start done rest input number now
-      long clock cause is)))) known))
+      (steps_get rules start all_of number (outcomes.Dropped cause) _ there
+      (refused_trace rules start done rest input number now long clock cause is)))) known))
 
   module _ (packet : List ℕ) (admitted : admission rules input ≡ Ok packet) (foretold : OnwardIsForetold)
       (is : IsPacket packet) (w : ℕ) (within : w < length rules.pool) (served : at_place w
@@ -668,7 +672,8 @@ pub begin_stands : {P : Type 0} {tells : Passage → P} (rules : Rules) (start :
     (offered : List (List Leg)) (taken : List (List (Told P)))
     (d : Dispatcher P) → d.queues ≡ replicate (length rules.pool) unused →
     offered ≡ replicate (length rules.pool) [] → taken ≡ replicate (length rules.pool) [] →
-    progress_in d.progress ≡ [] → Stands tells rules start [] inputs (state_with (of_worker offered) (of_worker taken) d)
+    progress_in d.progress ≡ [] → Stands tells rules start [] inputs
+    (state_with (of_worker offered) (of_worker taken) d)
 begin_stands rules start inputs offered taken d is no_legs no_answers progress =
     grind (arith, common_steps, nat_tests, of_replicate, length-replicate, none_known)
 
@@ -679,8 +684,8 @@ pub all_taken : {P : Type 0} (lane : Lane P) → LaneStands lane → lane.queue.
     ≡ length lane.offered
 all_taken lane o none = grind (arith, common_steps, nat_tests, length-map, length-append)
 
-module _ {P : Type 0} {tells : Passage → P} (rules : Rules) (start : State) (inputs : List Arrival) (offered : List (List Leg))
-    (taken : ℕ → List (Told P)) (d : Dispatcher P)
+module _ {P : Type 0} {tells : Passage → P} (rules : Rules) (start : State) (inputs : List Arrival)
+    (offered : List (List Leg)) (taken : ℕ → List (Told P)) (d : Dispatcher P)
     (s : Stands tells rules start inputs inputs (state_with (of_worker offered) taken d))
     (times : times_in d.progress ≡ map (λ i. i.time) inputs)
     (right : AreRight tells rules start (state_with (of_worker offered) taken d)) where

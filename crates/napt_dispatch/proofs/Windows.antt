@@ -357,8 +357,10 @@ same_outcomes tells (s ∷ all) = ap (λ l. s.outcome ∷ l) (same_outcomes tell
 
 pub departed_outcomes : {P : Type 0} (tells : Passage → P) (rules : Rules) (start : State) (inputs : List Arrival) →
     map (λ d. d.outcome) (departed tells rules start inputs) ≡ (course_from rules start inputs).outcomes
-departed_outcomes tells rules start inputs = same_outcomes tells (steps_of rules start inputs) ∙ steps_outcomes rules start inputs
+departed_outcomes tells rules start inputs = same_outcomes tells (steps_of rules start inputs)
+    ∙ steps_outcomes rules start inputs
 
 pub departed_long : {P : Type 0} (tells : Passage → P) (rules : Rules) (start : State) (inputs : List Arrival) →
     length (departed tells rules start inputs) ≡ length inputs
-departed_long tells rules start inputs = length-map (steps_of rules start inputs) (departed_of tells) ∙ steps_long rules start inputs
+departed_long tells rules start inputs = length-map (steps_of rules start inputs) (departed_of tells)
+    ∙ steps_long rules start inputs

@@ -102,8 +102,8 @@ pub record Stands {P : Type 0} (tells : Passage → P) (rules : Rules) (start : 
 
 -- the invariant still holds, after the same inputs
 abbrev pub Keeps : {P : Type 0} → (Passage → P) → DispatchState P → DispatchState P → Type 0
-Keeps tells state later = (rules : Rules) (start : State) (done all : List Arrival) → Stands tells rules start done all state →
-    Stands tells rules start done all later
+Keeps tells state later = (rules : Rules) (start : State) (done all : List Arrival) →
+    Stands tells rules start done all state → Stands tells rules start done all later
 
 -- OVER A POOL
 

@@ -131,8 +131,8 @@ pub(crate) struct Dispatched<A, D> {
     pub(crate) ending: Ending<A, D>,
 }
 
-/// Dispatches inputs until their end or a fault, from a state of this clock, in ns. Their outcomes leave in the order of the inputs. Before a device is asked
-/// for an input, and at the end, every outcome has left and is settled.
+/// Dispatches inputs until their end or a fault, from a state of this clock, in ns. Their outcomes leave in the order of
+/// the inputs. Before a device is asked for an input, and at the end, every outcome has left and is settled.
 pub(crate) fn dispatch_to<R: Wait, G: Gate, A: Arrivals, D: Departures>(
     rt: &R,
     alloc: Global,

@@ -33,6 +33,13 @@ impl<P: Telling> Worker<P> {
     {
         self.translator.bindings(alloc, now)
     }
+
+    /// Its translator.
+    pub(crate) fn into_translator(self) -> Translator
+        ensures { result ≡ self }
+    {
+        self.translator
+    }
 }
 
 impl<P: Telling> Machine for Worker<P> {

@@ -206,7 +206,7 @@ fn translators<P: Telling>(
 {
     let mut made = Vec::with_capacity(alloc, ended.len())?;
     for worker in ended {
-        made.push(worker.machine.translator)?;
+        made.push(worker.machine.into_translator())?;
     }
     Ok(made)
 }
@@ -222,7 +222,7 @@ fn result_of<P: Telling>(
         ≡ flat_map (λ e. rows_after clock e.machine) ended.items) }
     ensures translators { IfOk result (λ passed. passed.translators.items
         ≡ map (λ e. e.machine) ended.items) }
-    ensures legs { IfOk result (λ passed. passed.legs ≡ legs) }
+    ensures legs { IfOk result (λ passed. passed.legs.items ≡ legs.items) }
     ensures clock { IfOk result (λ passed. passed.clock ≡ clock) }
 {
     let bindings = bindings(alloc, &ended, clock)?;
@@ -234,9 +234,9 @@ fn result_of<P: Telling>(
     })
 }
 
-/// The run of `run_workers`, from a state that the configuration takes, over inputs that come one at a time until their end or
-/// a fault. It begins with the configuration's redirects, and behind them the state's other bindings. The outcomes leave in the order
-/// of the inputs, each as soon as it is known. At most 131,072 inputs and 65,536 legs are kept.
+/// The run of `run_workers` from a state that the configuration takes, over inputs that come one at a time until their end
+/// or a fault. It begins with the configuration's redirects, and then the state's other bindings. The outcomes leave in the
+/// order of the inputs, each as soon as it is known. At most 131,072 inputs and 65,536 legs are kept.
 ///
 /// Before a device is asked for an input, the outcome of every input before it has left and is settled. The same holds at
 /// the end, and if the arrivals fail. The workers are closed and joined before an error is returned. A fault of the run is

@@ -1,11 +1,11 @@
 -- A run that goes on, from what another left: what has gone never counts, and the numbers go on.
-use Rattle.std.proofs.Common.{◌≡◌, ℕ, ◌+◌, ◌≤◌, max, List, [], ◌∷◌, ◌++◌, map, length, flat_map, Bool, Option, None, Result, Ok, Err, refl, sym, ◌∙◌, ap, subst, arith, find}
+use Rattle.std.proofs.Common.{◌≡◌, ℕ, ◌+◌, ◌≤◌, max, List, [], ◌∷◌, ◌++◌, map, length, flat_map, Bool, Option, None, Result, Ok, Err, refl, sym, ◌∙◌, ap, arith, find}
 use Rattle.std.proofs.lemmas.List.{map-append}
 use Rattle.napt_wire.specs.declared.Protocol.TheVariants as protocols
 use Rattle.napt_wire.specs.declared.Kind.TheVariants.{Udp, Tcp, Echo, ErrorOf}
-use Rattle.napt_rules.specs.Prelude.{Binding, of, purge, hold_ago, taken, rows_of, rows, is_of_inside, has_number, granting_of, out_taken, in_taken, inbound_of, Out, In, end_out, end_in, error_out, error_in, no_flags, sent_of, received_of, act_out, act_in, act_by, served_at, Acted, act, Arrival, admission, Act, Course, ahead, once, follow_by, refused, first_leg, step_as, step, run_from, last_clock, legs_at, ran_of, State, course_from, left_by, ran_from, behind, added, and_then, GoesOn, RunsGoOn, GoneChangeNothing, from_clock, EarlierClocksAreTheStates, Protocol, Way, Outgoing, Incoming, Flags, Cause, Kind, kind, destination, Rules}
-use Rattle.napt_rules.specs.declared.{Row.Row, Leg.Leg, End.{End, TheVariants.{ToOutside, ToInside, Onward, Dropped}}}
-use Rattle.napt_laws.proofs.{Grown.{run_append, clock_on}, Purges.of_purge, Living.{taken_later, taken_twice, purge_taken}}
+use Rattle.napt_rules.specs.Prelude.{Binding, of, purge, hold_ago, taken, rows_of, rows, is_of_inside, has_number, granting_of, out_taken, in_taken, inbound_of, Out, In, end_out, end_in, error_out, error_in, no_flags, sent_of, received_of, act_out, act_in, act_by, served_at, Acted, act, Arrival, admission, Act, Course, ahead, follow_by, first_leg, step_as, step, run_from, last_clock, legs_at, ran_of, State, course_from, left_by, ran_from, behind, added, and_then, GoesOn, RunsGoOn, GoneChangeNothing, from_clock, EarlierClocksAreTheStates, Protocol, Way, Outgoing, Incoming, Flags, Cause, Kind, kind, Rules}
+use Rattle.napt_rules.specs.declared.{Row.Row, Leg.Leg, Outcome.Outcome, End.{End, TheVariants.{ToOutside, ToInside, Onward, Dropped}}}
+use Rattle.napt_laws.proofs.{Beside.{AreBeside, run_both}, Grown.{run_append, clock_on}, Purges.of_purge, Living.{taken_later, taken_twice, purge_taken}}
 
 -- THE NUMBERS
 
@@ -119,66 +119,25 @@ module _ (rules : Rules) (address : ℕ) (leg : Leg) (a b : List Binding) (same 
   act_same : acted_taken rules leg.now (act rules address leg a) ≡ acted_taken rules leg.now (act rules address leg b)
   act_same = same_by leg.way (kind leg.packet)
 
--- a step
-module _ (rules : Rules) (now : ℕ) where
-  follow_same : (address : ℕ) (leg : Leg) → leg.now ≡ now → (a b : Acted) →
-      acted_taken rules now a ≡ acted_taken rules now b → (end : End) →
-      course_taken rules now (follow_by rules address leg a end)
-      ≡ course_taken rules now (follow_by rules address leg b end)
-  follow_same address leg is a b same (ToOutside packet) =
-      ap (λ (x : Acted). once address leg x) same
-  follow_same address leg is a b same (ToInside packet) =
-      ap (λ (x : Acted). once address leg x) same
-  follow_same address leg is a b same (Dropped cause) =
-      ap (λ (x : Acted). once address leg x) same
-  follow_same address leg is a b same (Onward place packet) =
-      let next : Leg = record leg { way = Incoming; packet = packet } in
-      let to : ℕ = (destination packet).address in
-      let second : acted_taken rules now (act rules to next a.list)
-      ≡ acted_taken rules now (act rules to next b.list) =
-      subst (λ (t : ℕ). acted_taken rules t (act rules to next a.list)
-      ≡ acted_taken rules t (act rules to next b.list))
-      is (act_same rules to next a.list b.list
-      (subst (λ (t : ℕ). AreAsOne rules t a.list b.list) (sym is) (ap (λ (x : Acted). x.list) same))) in
-      ap (λ (x : Acted). ahead (record (once address leg x) { outcomes = [] })
-      (once to next (acted_taken rules now (act rules to next a.list)))) same
-      ∙ ap (λ (y : Acted). ahead (record (once address leg b) { outcomes = [] }) (once to next y)) second
-
-  step_same : (number : ℕ) (input : Arrival) (a b : List Binding) → AreAsOne rules now a b →
-      (comes_to : Result (List ℕ) Cause) →
-      course_taken rules now (step_as rules (first_leg number now input.side) comes_to a)
-      ≡ course_taken rules now (step_as rules (first_leg number now input.side) comes_to b)
-  step_same number input a b same (Err cause) = ap (refused cause) same
-  step_same number input a b same (Ok packet) =
-      let leg : Leg = first_leg number now input.side packet in
-      let address : ℕ = served_at rules leg.way packet in
-      let acted : acted_taken rules now (act rules address leg a) ≡ acted_taken rules now (act rules address leg b) =
-      act_same rules address leg a b same in
-      follow_same address leg refl (act rules address leg a) (act rules address leg b) acted
-      (act rules address leg a).end
-      ∙ ap (λ (end : End). course_taken rules now (follow_by rules address leg (act rules address leg b) end))
-      (ap (λ (x : Acted). x.end) acted)
-
 -- runs of lists that are one at their clock are one
 pub run_same : (rules : Rules) (number clock : ℕ) (inputs : List Arrival) (a b : List Binding) →
-    AreAsOne rules clock a b → (last : ℕ) → last_clock clock inputs ≡ last →
+    AreAsOne rules clock a b → (let last : ℕ = last_clock clock inputs in
     course_taken rules last (run_from rules number clock inputs a)
-    ≡ course_taken rules last (run_from rules number clock inputs b)
-run_same rules number clock [] a b same last is =
-    ap (λ (l : List Binding). record { outcomes = []; acts = []; list = l })
-    (subst (λ (t : ℕ). AreAsOne rules t a b) is same)
-run_same rules number clock (input ∷ inputs) a b same last is =
-    let now : ℕ = max clock input.clock in
-    let first : Course = step rules number now input a in
-    let other : Course = step rules number now input b in
-    let steps : course_taken rules now first ≡ course_taken rules now other =
-    step_same rules now number input a b (as_one_later rules clock now (omega arith) a b same)
-    (admission rules input) in
-    let rest : course_taken rules last (run_from rules (number + 1) now inputs first.list)
-    ≡ course_taken rules last (run_from rules (number + 1) now inputs other.list) =
-    run_same rules (number + 1) now inputs first.list other.list (ap (λ (s : Course). s.list) steps) last is in
-    ap (λ (s : Course). ahead s (course_taken rules last (run_from rules (number + 1) now inputs first.list))) steps
-    ∙ ap (ahead other) rest
+    ≡ course_taken rules last (run_from rules number clock inputs b))
+run_same rules number clock inputs a b same =
+    let last : ℕ = last_clock clock inputs in
+    let x : Course = run_from rules number clock inputs a in
+    let y : Course = run_from rules number clock inputs b in
+    let beside : AreBeside (AreAsOne rules) last x y = run_both rules (AreAsOne rules) (as_one_later rules)
+    (λ address leg a b served so. let acted = act_same rules address leg a b so in record {
+      end = ap (λ (x : Acted). x.end) acted;
+      through = ap (λ (x : Acted). x.through) acted;
+      list = ap (λ (x : Acted). x.list) acted;
+    }) number clock inputs a b same in
+    ap (λ (os : List Outcome). record { outcomes = os; acts = x.acts; list = taken rules.timers last x.list })
+    beside.outcomes
+    ∙ (ap (λ (acts : List Act). record { outcomes = y.outcomes; acts = acts; list = taken rules.timers last x.list })
+    beside.acts ∙ ap (λ (l : List Binding). record { outcomes = y.outcomes; acts = y.acts; list = l }) beside.list)
 
 -- WHAT A RUN GIVES
 
@@ -227,7 +186,7 @@ gone_change_nothing rules state inputs =
     let same : course_taken rules last (run_from rules 0 state.clock inputs here)
     ≡ course_taken rules last (run_from rules 0 state.clock inputs state.list) =
     run_same rules 0 state.clock inputs here state.list
-    (taken_twice rules.timers state.clock state.list) last refl in
+    (taken_twice rules.timers state.clock state.list) in
     record {
       ran = sym (ran_taken rules last (run_from rules 0 state.clock inputs here))
           ∙ (ap (ran_of rules last) same ∙ ran_taken rules last (run_from rules 0 state.clock inputs state.list));
@@ -257,7 +216,7 @@ module _ (rules : Rules) (state : State) (first rest : List Arrival) where
       (run_behind rules (length first) 0 (length first) clock rest begins.list (omega arith))
       ∙ ap (λ (r : Course). ahead begins (renumbered (length first) r))
       (run_same rules 0 clock rest begins.list (taken rules.timers clock begins.list)
-      (sym (taken_twice rules.timers clock begins.list)) last refl))
+      (sym (taken_twice rules.timers clock begins.list))))
 
   ran_on : ran_of rules last (ahead begins (renumbered (length first) goes))
       ≡ and_then (ran_from rules state first) (ran_from rules (left_by rules state first) rest)

@@ -14,12 +14,15 @@ pub mod Endpoints
 
 pub mod Held
 pub mod Passes
+pub mod Shuffles
+pub mod Alike
 pub mod StepRows
 pub mod Quotas
 pub mod StepsLocal
 pub mod StepsLive
 pub mod StepsSound
 pub mod StepsQuota
+pub mod StepsAlike
 pub mod Accounts
 pub mod Named
 pub mod Opened
@@ -37,6 +40,7 @@ pub mod Through
 
 pub mod AnyStep
 pub mod Turns
+pub mod Beside
 pub mod Routes
 pub mod RunsLocal
 pub mod Alone
@@ -49,6 +53,8 @@ pub mod OwnStates
 pub mod Rows
 pub mod Grown
 pub mod GoingOn
+pub mod RunsAlike
+pub mod Saved
 pub mod EachLeg
 pub mod Dispatched
 pub mod OneInput

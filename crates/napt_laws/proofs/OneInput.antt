@@ -24,7 +24,8 @@ get_at [] o rest (suc n) e = absurd (omega arith)
 get_at (x ∷ xs) o rest zero e = absurd (omega arith)
 get_at (x ∷ xs) o rest (suc n) e = get_at xs o rest n (omega arith)
 
-module _ (rules : Rules) (state : State) (done rest : List Arrival) (input : Arrival) (number now : ℕ) (long : length done ≡ number)
+module _ (rules : Rules) (state : State) (done rest : List Arrival) (input : Arrival) (number now : ℕ)
+    (long : length done ≡ number)
     (clock : max (last_clock state.clock done) input.clock ≡ now) where
   -- the run of one input more
   pub grown : (admitted_as : Result (List ℕ) Cause) → admission rules input ≡ admitted_as →

@@ -214,7 +214,7 @@ module _ (rules : Rules) (clock : ℕ) where
       (open_by _ _ _ (clash_nowhere b.row (opening rules) redirects)
       (open_by _ _ None (clash_nowhere b.row rest others) refl))))))
 
-  all_fit : (list : List Binding) → Each (λ b. not b.row.fixed ≡ true) list → AreAllOwn rules clock list →
+  pub all_fit : (list : List Binding) → Each (λ b. not b.row.fixed ≡ true) list → AreAllOwn rules clock list →
       Each (IsPaired (pair_of rules)) (map row list) → Each (IsInItsBlock rules) (map row list) →
       Apart (map row (opening rules) ++ map row list) → misfit_in rules clock list ≡ None
   all_fit [] loose own paired blocks apart = refl

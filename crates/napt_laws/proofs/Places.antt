@@ -91,7 +91,8 @@ answers_fill rules state inputs =
     let course : Course = course_from rules state inputs in
     each_weaker (SecondsFrom 0 course.acts) (IsSeconded course.acts) (λ a h. h.1) course.acts
     (each_leg rules (λ number course. SecondsHere number course.acts) (λ number course. SecondsFrom number course.acts)
-    (follow_seconds rules) (λ number first rest one. seconds_more number first.acts rest.acts) 0 state.clock inputs state.list)
+    (follow_seconds rules) (λ number first rest one. seconds_more number first.acts rest.acts) 0 state.clock inputs
+    state.list)
 
 -- ONE INPUT MORE
 
@@ -143,7 +144,8 @@ head_by rules address leg first (ToInside packet) = ([], refl)
 head_by rules address leg first (Dropped cause) = ([], refl)
 head_by rules address leg first (Onward place packet) = (_, refl)
 
-module _ (rules : Rules) (state : State) (done rest : List Arrival) (input : Arrival) (number now : ℕ) (long : length done ≡ number)
+module _ (rules : Rules) (state : State) (done rest : List Arrival) (input : Arrival) (number now : ℕ)
+    (long : length done ≡ number)
     (clock : max (last_clock state.clock done) input.clock ≡ now)
     (packet : List ℕ) (admitted : admission rules input ≡ Ok packet) where
   abbrev whole : List Act

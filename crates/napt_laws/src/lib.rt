@@ -17,7 +17,7 @@ pub use legs::{legs_are_local, legs_keep_to_their_way, legs_say_their_binding};
 pub use numbers::candidates_are_the_class;
 pub use runs::{
     own_states_stay, runs_are_sound, runs_go_on, runs_keep_the_quota, runs_keep_to_blocks,
-    taken_states_are_kept, translators_are_local,
+    saved_runs_go_on, taken_states_are_kept, translators_are_local,
 };
 pub use steps::{
     no_host_exceeds_its_quota, opening_is_sound, rows_are_in_order, steps_are_local,

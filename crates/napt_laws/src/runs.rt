@@ -1,17 +1,22 @@
 //! Laws of runs.
 
-ghost use Rattle.napt_rules.specs.Prelude.{RunsGoOn, GoneChangeNothing, EarlierClocksAreTheStates, RunsAreSound, RunsStayApart, RunsKeepQuota, RunsKeepToBlocks};
+ghost use Rattle.napt_rules.specs.Prelude.{RunsGoOn, GoneChangeNothing, EarlierClocksAreTheStates, AlikeStatesGoOn, RunsAreSound, RunsStayApart, RunsKeepQuota, RunsKeepToBlocks};
+ghost use Rattle.napt_rules.specs.Prelude.{OrderedAreAlike, OrderedAreTaken, SavedRunsGoOn};
 ghost use Rattle.napt_rules.specs.Prelude.{TakenAreSound, TakenKeepToBlocks, TakenKeepQuota, TakenAreOwn, OwnStatesStay, OwnStatesAreTaken, TranslatorsAnswerFrom, TranslatorsKeepFrom, TranslatorsHoldFrom};
 
 use crate::steps::{no_host_exceeds_its_quota, opening_is_sound, steps_stay_sound};
 use napt_wire::packets_carry_numbers;
 
-/// A run over inputs and then others is a run over the first, and then one over the others from the state that it leaves.
+/// A run over inputs and then others is a run over the first, and then one over the others from the state that it leaves, or
+/// from one of which packets see the same.
 pub fn runs_go_on()
     ensures go_on { RunsGoOn }
     ensures gone { GoneChangeNothing }
     ensures clocks { EarlierClocksAreTheStates }
-{}
+    ensures alike { AlikeStatesGoOn }
+{
+    packets_carry_numbers();
+}
 
 /// After any inputs no two bindings share an endpoint (RFC 4787, REQ-1 and REQ-3).
 pub fn runs_are_sound()
@@ -52,6 +57,16 @@ pub fn taken_states_are_kept()
 pub fn own_states_stay()
     ensures stay { OwnStatesStay }
     ensures taken { OwnStatesAreTaken }
+{
+    packets_carry_numbers();
+}
+
+/// What a run leaves, saved one address after another, is a state of which packets see the same: the configuration of the run
+/// takes it, and the run that goes on from it is the rest of the run over all inputs.
+pub fn saved_runs_go_on()
+    ensures alike { OrderedAreAlike }
+    ensures taken { OrderedAreTaken }
+    ensures go_on { SavedRunsGoOn }
 {
     packets_carry_numbers();
 }

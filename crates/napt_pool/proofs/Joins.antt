@@ -1,7 +1,8 @@
 -- The workers that were joined so far.
+use Rattle.std.proofs.lemmas.Grind.{common_steps}
 use Rattle.std.proofs.Common.{rules, ◌≡◌, ℕ, zero, suc, ◌+◌, ◌<◌, add-one, refl, sym, ap, ◌∙◌, arith, Bool, true, false, List, map, length, [], ◌∷◌, ◌++◌, append_assoc, length-append, ◌⊎◌, inl, inr, ⊎_elim, get_or}
 use Rattle.std.{specs.Prelude.{Result, Ok, Err, OnOk, IfOk, IfErr, MatchResult, Contains, replicate}, proofs.lemmas.List.{length-map, nil_from_length}}
-use Rattle.std.{proofs.lemmas.Result.IfOk-weaker, specs.Vec.Iter.{into_iter_items, into_iter_len}}
+use Rattle.std.{specs.Vec.Iter.{into_iter_items, into_iter_len}}
 use Rattle.napt_pool.specs.declared.{fault.{PoolFault.PoolFault, Stop.{Stop, TheVariants.{Memory, GateShut, Ring}}}, machine.Machine.Ghosts}
 use Rattle.napt_pool.{specs.declared.{closing.{Closing.Closing, Ended.Ended}, message.Reply.TheVariants.Stopped, pool.Pool.Pool}, proofs.Steps.map-snoc}
 use Rattle.napt_pool.specs.{declared.thread_state.ThreadState.ThreadState, Faults.{is_shut, is_gate_shut, fault_of, IsFaultOf, IsFaultUpTo, IsLeastFault}}
@@ -16,11 +17,7 @@ no_rest (x ∷ t) rest e = let shorter : length (t ++ rest) ≡ length t = cc in
 
 first_below : {X : Type 0} (es : List (Result X Stop)) (before : List X) (stop : Stop) (rest : List (Result X Stop))
     → es ≡ map Ok before ++ Err stop ∷ rest → length before < length es
-first_below {X} es before stop rest e =
-    let count = ap length e in
-    let parts = length-append (map Ok before) (Err stop ∷ rest) in
-    let front : length (map {B = Result X Stop} Ok before) ≡ length before = length-map before Ok in
-    omega arith
+first_below {X} es before stop rest e = grind (arith, common_steps, length-append, length-map)
 
 fault_of_is : (stop : Stop) (w n : ℕ) → w < n → IsFaultOf (λ v. v < n) (fault_of stop w)
 fault_of_is Memory w n below = tt
@@ -113,16 +110,12 @@ module _ {M G I A : Type 0} (g : Ghosts M I A) (open_gate : Bool) where
       (accepted : map closing_accepted ws ≡ xs) where
     pub machines_if_ok : IfOk r (λ v. map Ok (items v) ≡ es) →
         IfOk r (λ v. map (λ e. e.machine) (items v) ≡ zip_with (after g) ms xs)
-    machines_if_ok h = IfOk-weaker r (λ v. map Ok (items v) ≡ es) (λ v. map (λ e. e.machine) (items v)
-        ≡ zip_with (after g) ms xs)
-        (λ v k. let here = rw (← k) at ends in rw (← began, ← accepted) (machines_are ws (items v) here)) h
+    machines_if_ok h = grind (arith, common_steps, machines_are)
 
     pub answers_if_ok : (ts : List (List A)) → map closing_taken ws ≡ ts → IfOk r (λ v. map Ok (items v) ≡ es)
         → IfOk r (λ v. zip_with (λ t rest. t ++ rest) ts (map (λ e. e.answers.items) (items v))
         ≡ zip_with (replies g) ms xs)
-    answers_if_ok ts taken h = IfOk-weaker r (λ v. map Ok (items v) ≡ es) (λ v.
-        zip_with (λ t rest. t ++ rest) ts (map (λ e. e.answers.items) (items v)) ≡ zip_with (replies g) ms xs)
-        (λ v k. let here = rw (← k) at ends in rw (← began, ← accepted, ← taken) (answers_are ws (items v) here)) h
+    answers_if_ok ts taken h = grind (arith, common_steps, answers_are)
 
   pub settled_at : {T : Type 0} (items : T → List (Ended M I A)) (ws : List (Closing M G I A))
       (es : List (Result (Ended M I A) Stop)) (ms : List M) (xs : List (List I))
@@ -232,15 +225,11 @@ replicate-next n d = rw add-one (replicate-suc n d)
 -- one element more, in a list of which every f is d
 pub all-push : {X Y : Type 0} (f : X → Y) (xs xs' : List X) (n n' : ℕ) (x : X) (d : Y)
     → xs' ≡ xs ++ x ∷ [] → n' ≡ n + 1 → f x ≡ d → map f xs ≡ replicate n d → map f xs' ≡ replicate n' d
-all-push f xs xs' n n' x d e k fx was =
-    ap (map f) e ∙ map-snoc f xs x ∙ ap (λ r. r ++ f x ∷ []) was ∙ ap (λ z. replicate n d ++ z ∷ []) fx
-    ∙ sym (replicate-next n d) ∙ ap (λ m. replicate m d) (sym k)
+all-push f xs xs' n n' x d e k fx was = grind (arith, common_steps, map-snoc, replicate-next)
 
 pub map-split-step : {X Y : Type 0} (f : X → Y) (xs xs' : List X) (rest more all : List Y) (x : X) (y : Y)
     → xs' ≡ xs ++ x ∷ [] → f x ≡ y → rest ≡ y ∷ more → map f xs ++ rest ≡ all → map f xs' ++ more ≡ all
-map-split-step f xs xs' rest more all x y e fx step was =
-    ap (λ r. map f r ++ more) e ∙ ap (λ r. r ++ more) (map-snoc f xs x) ∙ ap (λ z. (map f xs ++ z ∷ []) ++ more) fx
-    ∙ split-step (map f xs) rest more all y was step
+map-split-step f xs xs' rest more all x y e fx step was = grind (arith, common_steps, map-snoc, split-step)
 
 -- an iterator of which nothing is left to count has no elements left
 pub drained : {X Z : Type 0} (it : _) → into_iter_len {X = X} {Z = Z} it ≡ 0 → into_iter_items it ≡ []

@@ -3,3 +3,5 @@ pub mod LineLemmas
 pub mod LogLemmas
 pub mod OneKind
 pub mod OptionLemmas
+pub mod PlaceLemmas
+pub mod StateLemmas

@@ -4,7 +4,7 @@ use Rattle.std.proofs.Common.{◌≡◌, ◌≤◌, Bool, true, false, List, [],
 use Rattle.clap.specs.Words.{App, HasKind, HasMatchesOf, IsAmong, Kinds, Row, Text, fault_of, first_value, found_of, is_simple, is_simple_and_free, kind_of, rows_of}
 use Rattle.clap.{proofs.WalkLemmas.first_value-rows, specs.declared.{error.{kind.ErrorKind.ErrorKind, Error.Error}, parser.matches.ArgMatches.ArgMatches}}
 use Rattle.clap.specs.declared.error.kind.ErrorKind.TheVariants as kind
-use Rattle.napt_program.specs.CommandLine.{Files, app_for, files, files_in, files_of, files_with_log, help, line_by, line_for, log_in, mistake, version}
+use Rattle.napt_program.specs.CommandLine.{Files, app_for, files, files_in, files_of, files_with_log, help, line_by, line_for, log_in, misuses_state, mistake, version}
 use Rattle.napt_program.{specs.declared.options_with_log.OptionsWithLog.OptionsWithLog, proofs.OneKind.one_fault}
 
 line_is_simple : (takes_log : Bool) → is_simple (app_for takes_log) ≡ true
@@ -16,12 +16,19 @@ line_is_free takes_log = grind (arith, common_steps, nat_tests)
 one_line_fault : (takes_log : Bool) (words : List Text) → length (fault_of (app_for takes_log) words) ≤ 1
 one_line_fault takes_log words = grind (arith, common_steps, nat_tests, one_fault)
 
--- a line of which clap finds no fault gives its files
+-- a line of which clap finds no fault gives its files, if they are not misused
 pub taken_line : (takes_log : Bool) (app : App) (words : List Text) (m : ArgMatches) → app ≡ app_for takes_log
     → HasMatchesOf app words m → (is_simple_and_free app ≡ true → fault_of app words ≡ [])
-    → line_for takes_log words ≡ files (files_in takes_log (rows_of (found_of m)))
+    → line_for takes_log words ≡ line_by [] (files_in takes_log (rows_of (found_of m)))
 unfolding line_for
 taken_line takes_log app words m is matches none = grind (arith, common_steps, nat_tests, line_is_free, line_is_simple)
+
+-- files that are misused are a mistake
+pub misused_line : (named : Files) → misuses_state named ≡ true → line_by [] named ≡ mistake
+misused_line named misused = rw misused refl
+
+pub used_line : (named : Files) → misuses_state named ≡ false → line_by [] named ≡ files named
+used_line named used = rw used refl
 
 -- a list of one kind at most, with this kind among them, is this kind alone
 only_kind : (k : ErrorKind) (kinds : Kinds) → length kinds ≤ 1 → IsAmong k kinds → kinds ≡ k ∷ []
@@ -67,21 +74,25 @@ mistaken_line takes_log app words e is fails no_help no_version memory =
     rw (fault_is takes_log app words e is fails memory) (mistake_by (kind_of e) _ no_help no_version)
 
 -- the files of the matches, as `get_str` reads them
-pub files_read : (m : ArgMatches) (config inside outside to_outside to_inside report : Option Text)
-    → config ≡ first_value (found_of m) (codes "config") → inside ≡ first_value (found_of m) (codes "inside")
+pub files_read : (m : ArgMatches) (config resume inside outside to_outside to_inside report save : Option Text)
+    → config ≡ first_value (found_of m) (codes "config") → resume ≡ first_value (found_of m) (codes "resume")
+    → inside ≡ first_value (found_of m) (codes "inside")
     → outside ≡ first_value (found_of m) (codes "outside") → to_outside ≡ first_value (found_of m) (codes "to-outside")
     → to_inside ≡ first_value (found_of m) (codes "to-inside") → report ≡ first_value (found_of m) (codes "report")
+    → save ≡ first_value (found_of m) (codes "save")
     → files_in false (rows_of (found_of m))
     ≡ record {
       config = config;
+      resume = resume;
       inside = inside;
       outside = outside;
       to_outside = to_outside;
       to_inside = to_inside;
       report = report;
+      save = save;
       log = None;
     }
-files_read m config inside outside to_outside to_inside report a b c d e f =
+files_read m config resume inside outside to_outside to_inside report save a b c d e f g h =
     grind (arith, common_steps, nat_tests, first_value-rows)
 
 -- with the log, they are the files of the options

@@ -10,11 +10,13 @@ use Rattle.napt_wire.specs.declared.Side.TheVariants.{Outside}
 -- what may fail as a file: one that is named, or a closed standard stream
 abbrev pub can_fail : Streams → Files → Role → Bool
 can_fail streams named role.Config = is_some named.config
+can_fail streams named role.Resume = is_some named.resume
 can_fail streams named role.Inside = is_some named.inside || not streams.input
 can_fail streams named role.Outside = is_some named.outside
 can_fail streams named role.ToOutside = is_some named.to_outside || not streams.output
 can_fail streams named role.ToInside = is_some named.to_inside
 can_fail streams named role.Report = is_some named.report
+can_fail streams named role.Save = is_some named.save
 can_fail streams named role.Log = is_some named.log
 
 -- a fault of the outside capture comes of one that is named
@@ -35,6 +37,8 @@ IsRunStop streams named stop.LineMemory = Unit {0}
 IsRunStop streams named (stop.Config fault) = Unit {0}
 IsRunStop streams named (stop.File role) = can_fail streams named role ≡ true
 IsRunStop streams named stop.Log = is_some named.log ≡ true
+IsRunStop streams named (stop.State refusal) = is_some named.resume ≡ true
+IsRunStop streams named stop.Save = is_some named.save ≡ true
 IsRunStop streams named (stop.Run fault) = (tells_shut_gate fault ≡ false) × IsOfGiven named fault
 IsRunStop streams named other = ⊥
 

@@ -1,5 +1,5 @@
 -- What a command line means, by clap's own specification.
-use Rattle.std.specs.Prelude.{List, [], ◌∷◌, Bool, true, false, Option, Some, None, codes, option_map, string_bytes}
+use Rattle.std.specs.Prelude.{◌&&◌, ◌||◌, List, [], ◌∷◌, Bool, true, false, Option, Some, None, bytes_eq, codes, is_some, option_map, string_bytes, if◌then◌else◌}
 use Rattle.clap.specs.Words.{App, Kinds, Row, Rule, Text, fault_of, first_of, matches_of, new_app, new_rule, with_rule}
 use Rattle.clap.specs.declared.{builder.action.ArgAction.TheVariants.Set, error.kind.ErrorKind.TheVariants.{DisplayHelp, DisplayVersion}}
 use Rattle.napt_program.specs.declared.{options.{Options.Options, LineFault.LineFault}, options_with_log.OptionsWithLog.OptionsWithLog}
@@ -17,8 +17,8 @@ with_options a [] = a
 with_options a (name ∷ more) = with_options (with_rule a (file_option name)) more
 
 abbrev pub option_names : List Text
-option_names = codes "config" ∷ codes "inside" ∷ codes "outside" ∷ codes "to-outside" ∷ codes "to-inside"
-    ∷ codes "report" ∷ []
+option_names = codes "config" ∷ codes "resume" ∷ codes "inside" ∷ codes "outside" ∷ codes "to-outside"
+    ∷ codes "to-inside" ∷ codes "report" ∷ codes "save" ∷ []
 
 -- the command with a version
 abbrev pub with_version : App → App
@@ -36,21 +36,25 @@ app_for true = with_options napt_app (codes "log" ∷ [])
 -- the file that each option names
 pub record Files : Type 0 where
   pub config : Option Text
+  pub resume : Option Text
   pub inside : Option Text
   pub outside : Option Text
   pub to_outside : Option Text
   pub to_inside : Option Text
   pub report : Option Text
+  pub save : Option Text
   pub log : Option Text
 
 abbrev pub files_of : Options → Files
 files_of o = record {
   config = option_map string_bytes o.config;
+  resume = option_map string_bytes o.resume;
   inside = option_map string_bytes o.inside;
   outside = option_map string_bytes o.outside;
   to_outside = option_map string_bytes o.to_outside;
   to_inside = option_map string_bytes o.to_inside;
   report = option_map string_bytes o.report;
+  save = option_map string_bytes o.save;
   log = None;
 }
 
@@ -66,11 +70,13 @@ log_in true rows = first_of (codes "log") rows
 abbrev pub files_in : Bool → List Row → Files
 files_in takes_log rows = record {
   config = first_of (codes "config") rows;
+  resume = first_of (codes "resume") rows;
   inside = first_of (codes "inside") rows;
   outside = first_of (codes "outside") rows;
   to_outside = first_of (codes "to-outside") rows;
   to_inside = first_of (codes "to-inside") rows;
   report = first_of (codes "report") rows;
+  save = first_of (codes "save") rows;
   log = log_in takes_log rows;
 }
 
@@ -81,9 +87,23 @@ pub data Line : Type 0 where
   version : Line
   mistake : Line
 
+-- `-` is no file, but a standard stream
+abbrev pub is_dash : Text → Bool
+is_dash path = bytes_eq path (codes "-")
+
+abbrev pub is_dash_given : Option Text → Bool
+is_dash_given None = false
+is_dash_given (Some path) = is_dash path
+
+-- a state is given as `-`, or beside a log
+abbrev pub misuses_state : Files → Bool
+misuses_state named =
+    is_dash_given named.resume || is_dash_given named.save
+    || (is_some named.log && (is_some named.resume || is_some named.save))
+
 -- clap finds no fault in arguments that it accepts, and reports help and the version as faults of those kinds
 abbrev pub line_by : Kinds → Files → Line
-line_by [] named = files named
+line_by [] named = if misuses_state named then mistake else files named
 line_by (DisplayHelp ∷ more) named = help
 line_by (DisplayVersion ∷ more) named = version
 line_by (other ∷ more) named = mistake
@@ -102,11 +122,13 @@ line_with_log words = line_for true words
 -- the name of the file's option
 abbrev pub role_name : Role → Text
 role_name role.Config = codes "config"
+role_name role.Resume = codes "resume"
 role_name role.Inside = codes "inside"
 role_name role.Outside = codes "outside"
 role_name role.ToOutside = codes "to-outside"
 role_name role.ToInside = codes "to-inside"
 role_name role.Report = codes "report"
+role_name role.Save = codes "save"
 role_name role.Log = codes "log"
 
 abbrev pub IsHelp : LineFault → Type 0

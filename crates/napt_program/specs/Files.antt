@@ -29,7 +29,9 @@ abbrev pub IsFileStop : Files → Stop → Type 0
 IsFileStop named (stop.File role) = is_named named role ≡ true
 IsFileStop named other = ⊥
 
--- the same, or memory was refused to the reader of standard input, which a capture comes from
+-- the same, or memory was refused to the reader of standard input, which a capture comes from, or to the path of the
+-- new file of a state
 abbrev pub IsOpenStop : Files → Stop → Type 0
-IsOpenStop named s =
-    ((s ≡ MEMORY) × ((is_standard named role.Inside || is_stream named role.Outside) ≡ true)) ⊎ IsFileStop named s
+IsOpenStop named s = ((s ≡ MEMORY)
+    × ((is_standard named role.Inside || is_stream named role.Outside || is_named named role.Save) ≡ true))
+    ⊎ IsFileStop named s

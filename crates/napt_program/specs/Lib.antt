@@ -6,5 +6,6 @@ pub mod Files
 pub mod Place
 pub mod Places
 pub mod Standard
+pub mod State
 pub mod Stop
 pub mod Streams

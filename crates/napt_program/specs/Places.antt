@@ -1,6 +1,6 @@
 -- Which output is a file that an option before it names.
-use Rattle.std.specs.Prelude.{◌≡◌, ◌||◌, Bool, false, not, Option, Some, None, is_some, if◌then◌else◌}
-use Rattle.napt_program.specs.{Place.is_same, declared.{place.Place.Place, options.Options.Options, places.Places.Places, role.Role.Role}}
+use Rattle.std.specs.Prelude.{◌≡◌, ◌||◌, Bool, true, false, not, Option, Some, None, is_some, if◌then◌else◌}
+use Rattle.napt_program.specs.{Place.is_same, declared.{place.Place.Place, options.Options.Options, places.{Places.Places, SavePlaces.SavePlaces}, role.Role.Role}}
 use Rattle.napt_program.specs.declared.role.Role.TheVariants as role
 
 -- the place, if there is one, is this file
@@ -8,7 +8,7 @@ abbrev pub is_there : Place → Option Place → Bool
 is_there file None = false
 is_there file (Some place) = is_same file place
 
--- it is an input or a standard stream
+-- it is an input, but for the state, or a standard stream
 abbrev pub is_input : Places → Place → Bool
 is_input p file =
     is_there file p.standard_input || is_there file p.standard_output
@@ -17,7 +17,18 @@ is_input p file =
 -- there is a file, and it is an input, a standard stream or one of two other outputs
 abbrev pub is_again : Places → Option Place → Option Place → Option Place → Bool
 is_again p None first second = false
-is_again p (Some file) first second = is_input p file || is_there file first || is_there file second
+is_again p (Some file) first second =
+    is_input p file || is_there file p.resume || is_there file first || is_there file second
+
+-- it is a file that is read or written, but for the states
+abbrev pub is_taken : Places → Place → Bool
+is_taken p file =
+    is_input p file || is_there file p.to_outside || is_there file p.to_inside || is_there file p.report
+
+-- a state is saved to such a file, or its new file is one or the state from which the run goes on
+abbrev pub is_save_named_again : Places → Option SavePlaces → Bool
+is_save_named_again p None = false
+is_save_named_again p (Some save) = is_taken p save.file || is_taken p save.new || is_there save.new p.resume
 
 -- the first output that is a file of an earlier option
 abbrev pub output_named_again : Places → Option Role
@@ -25,7 +36,8 @@ output_named_again p =
     if is_again p p.to_outside None None then Some role.ToOutside
     else (if is_again p p.to_inside p.to_outside None then Some role.ToInside
     else (if is_again p p.report p.to_outside p.to_inside then Some role.Report
-    else None))
+    else (if is_save_named_again p p.save then Some role.Save
+    else None)))
 
 -- the log is a file of another option, or a standard stream
 abbrev pub is_log_named_again : Places → Option Place → Bool
@@ -37,12 +49,14 @@ abbrev pub is_placed : Places → Role → Bool
 is_placed p role.ToOutside = is_some p.to_outside
 is_placed p role.ToInside = is_some p.to_inside
 is_placed p role.Report = is_some p.report
+is_placed p role.Save = is_some p.save
 is_placed p other = false
 
 -- the files that have places are those that the words name, and a standard stream has one where it stands for a capture
 -- that is not named
 pub record ArePlacesOf (options : Options) (places : Places) : Type 0 where
   pub config : is_some places.config ≡ is_some options.config
+  pub resume : is_some places.resume ≡ is_some options.resume
   pub standard_input : is_some places.standard_input ≡ not (is_some options.inside)
   pub inside : is_some places.inside ≡ is_some options.inside
   pub outside : is_some places.outside ≡ is_some options.outside
@@ -50,3 +64,4 @@ pub record ArePlacesOf (options : Options) (places : Places) : Type 0 where
   pub to_outside : is_some places.to_outside ≡ is_some options.to_outside
   pub to_inside : is_some places.to_inside ≡ is_some options.to_inside
   pub report : is_some places.report ≡ is_some options.report
+  pub save : is_some places.save ≡ true → is_some options.save ≡ true

@@ -1,29 +1,24 @@
 -- Which options are standard input or standard output, and which wants one that another has.
-use Rattle.std.specs.Prelude.{◌&&◌, ◌||◌, Bool, false, not, Option, Some, None, bytes_eq, codes, is_some, if◌then◌else◌}
+use Rattle.std.specs.Prelude.{◌&&◌, ◌||◌, Bool, not, Option, Some, None, is_some, if◌then◌else◌}
 use Rattle.clap.specs.Words.{Text}
-use Rattle.napt_program.specs.{CommandLine.Files, declared.role.Role.Role}
+use Rattle.napt_program.specs.{CommandLine.{Files, is_dash_given}, declared.role.Role.Role}
+pub use Rattle.napt_program.specs.CommandLine.{is_dash}
 use Rattle.napt_program.specs.declared.role.Role.TheVariants as role
 
 -- the file that the option of a role names
 abbrev pub file_for : Files → Role → Option Text
 file_for named role.Config = named.config
+file_for named role.Resume = named.resume
 file_for named role.Inside = named.inside
 file_for named role.Outside = named.outside
 file_for named role.ToOutside = named.to_outside
 file_for named role.ToInside = named.to_inside
 file_for named role.Report = named.report
+file_for named role.Save = named.save
 file_for named role.Log = named.log
 
 abbrev pub is_named : Files → Role → Bool
 is_named named r = is_some (file_for named r)
-
--- `-` is no file, but a standard stream
-abbrev pub is_dash : Text → Bool
-is_dash path = bytes_eq path (codes "-")
-
-abbrev pub is_dash_given : Option Text → Bool
-is_dash_given None = false
-is_dash_given (Some path) = is_dash path
 
 abbrev pub is_stream : Files → Role → Bool
 is_stream named r = is_dash_given (file_for named r)

@@ -1,8 +1,11 @@
 -- The fault line and the exit status of a program that stops early.
 use Rattle.std.specs.Prelude.{ℕ, List, ◌++◌, Bool, true, false, Option, Some, None, Result, Ok, Err, codes, decimal}
-use Rattle.napt_program.specs.{CommandLine.role_name, declared.{role.Role.Role, stop.Stop.Stop}}
+use Rattle.napt_program.specs.{CommandLine.role_name, declared.{role.Role.Role, stop.{Stop.Stop, StateRefusal.StateRefusal}}}
 use Rattle.napt_program.specs.declared.role.Role.TheVariants as role
 use Rattle.napt_program.specs.declared.stop.Stop.TheVariants as stop
+use Rattle.napt_program.specs.declared.stop.StateRefusal.TheVariants as state
+use Rattle.napt_rules.specs.declared.Misfit.{Misfit}
+use Rattle.napt_rules.specs.declared.Misfit.TheVariants as misfit
 use Rattle.napt_wire.specs.declared.Side.{Side}
 use Rattle.napt_wire.specs.declared.Side.TheVariants as side
 use Rattle.napt_records.specs.declared.{Fault.Fault, Which.Which}
@@ -19,7 +22,7 @@ use Rattle.napt_config.specs.declared.ConfigFault.TheVariants as config
 abbrev pub Text : Type 0
 Text = List ℕ
 
--- 2 for the command line, 3 for the configuration, 4 for a capture, 5 for the run, 6 for a file
+-- 2 for the command line, 3 for the configuration, 4 for a capture, 5 for the run, 6 for a file, 8 for a state
 abbrev pub status_of_fault : Fault → ℕ
 status_of_fault (run.Capture side fault) = 4
 status_of_fault (run.Run fault) = 5
@@ -33,6 +36,8 @@ status_of (stop.Config fault) = 3
 status_of (stop.File role) = 6
 status_of (stop.Run fault) = status_of_fault fault
 status_of stop.Log = 6
+status_of (stop.State refusal) = 8
+status_of stop.Save = 6
 
 -- a fault's name, in lower case with hyphens between its words
 abbrev pub config_name : ConfigFault → Text
@@ -96,6 +101,20 @@ fault_text (run.Capture side fault) = codes "capture " ++ side_name side ++ code
 fault_text (run.Run fault) = codes "run " ++ run_name fault
 fault_text (run.Write which fault) = codes "write " ++ role_name (output_role which)
 
+abbrev pub misfit_name : Misfit → Text
+misfit_name misfit.NotInside = codes "not-inside"
+misfit_name misfit.NotPaired = codes "not-paired"
+misfit_name misfit.NotItsNumber = codes "not-its-number"
+misfit_name misfit.UsedLater = codes "used-later"
+misfit_name misfit.FlowsShare = codes "flows-share"
+misfit_name misfit.Redirected = codes "redirected"
+misfit_name misfit.Shared = codes "shared"
+
+abbrev pub state_name : StateRefusal → Text
+state_name (state.Line line_number) = codes "bad-line " ++ decimal line_number
+state_name (state.NotUtf8 line_number) = codes "not-utf-8 " ++ decimal line_number
+state_name (state.Binding why) = misfit_name why
+
 -- the fault line after the program's name
 abbrev pub stop_text : Stop → Text
 stop_text stop.Usage = codes "usage"
@@ -105,6 +124,8 @@ stop_text (stop.Config fault) = codes "config " ++ config_name fault
 stop_text (stop.File role) = codes "file " ++ role_name role
 stop_text (stop.Run fault) = fault_text fault
 stop_text stop.Log = codes "write " ++ role_name role.Log
+stop_text (stop.State refusal) = codes "state " ++ state_name refusal
+stop_text stop.Save = codes "write " ++ role_name role.Save
 
 -- the fault line, without its line feed
 abbrev pub line_of : Stop → Text

@@ -112,6 +112,7 @@ impl fmt::Display for Advice {
             | Stop::LineMemory
             | Stop::Help
             | Stop::Log
+            | Stop::Save
             | Stop::Run(Fault::Run(_) | Fault::Write(..)) => {
                 let name = self.name;
                 write!(
@@ -119,7 +120,10 @@ impl fmt::Display for Advice {
                     "  {name} --help tells what it takes, and what each line means"
                 )
             }
-            Stop::Config(_) | Stop::File(_) | Stop::Run(Fault::Capture(..)) => f.write_str(
+            Stop::Config(_)
+            | Stop::State(_)
+            | Stop::File(_)
+            | Stop::Run(Fault::Capture(..)) => f.write_str(
                 "  explain (installed: napt-explain) with the same words tells why, and what to do",
             ),
         }

@@ -6,18 +6,22 @@ ghost use Rattle.napt_program.specs.{CommandLine.{files_of, files_with_log}, Com
 ghost use Rattle.napt_program.specs.{Standard.standard_again, Streams.closed_stream};
 ghost use Rattle.napt_records.specs.Faults.{tells_shut_gate};
 ghost use Rattle.either.specs.Either.{is_left};
+ghost use Rattle.napt_rules.specs.Prelude.{Takes};
 
 use crate::config_file::configuration;
 use crate::devices::{BUFFERED, Devices, HELD, buffered, sink_over};
 use crate::files::{FilesWithLog, open_files, open_files_with_log};
 use crate::options::Options;
 use crate::options_with_log::OptionsWithLog;
+use crate::resuming::state_at;
+use crate::saving::{StateFile, state_file};
 use crate::stop::{MEMORY, Stop};
 use crate::streams::{Streams, closed_stream, closed_stream_with_log};
 use either::Either;
 use napt_capture::{Nowhere, Watched};
 use napt_config::Config;
 use napt_records::Fault;
+use napt_rules::State;
 use napt_wire::Side;
 use std::env::Env;
 use std::io::{BufWriter, ErrorKind, Printer, Write};
@@ -50,21 +54,27 @@ fn unread_words(error: &io::Error) -> Stop
 #[derive(Drop)]
 pub struct Opened<S, T: Write + Drop, F: Write + Drop> {
     pub config: Config,
+    /// The state from which the run goes on.
+    pub state: State,
     pub devices: Devices<S, T, F>,
+    /// The file of the state that the run leaves, if it is saved.
+    pub save: Option<StateFile<F>>,
 }
 
-/// Opens the files of the options, or the standard streams in their place: first the configuration, then the captures and the
-/// outputs, each behind a buffer.
+/// Opens the files of the options, or the standard streams in their place: first the configuration and the state, then the
+/// captures and the outputs, each behind a buffer, and the new file of a state last.
 ///
 /// Before anything is opened, fails with the role of a needed standard stream that is closed, and then with that of an option
-/// that wants a standard stream which another has; then if the configuration is refused, or with the role of a file that
-/// cannot be opened or created.
+/// that wants a standard stream which another has; then if the configuration or the state is refused, or with the role of
+/// a file that cannot be opened or created.
 pub fn open<'r, R: Files + Input + Print + AllocGlobal>(
     rt: &'r R,
     streams: Streams,
     options: &Options,
 ) -> Result<Opened<Box<R::Reader>, Printer<'r, R>, R::File>, Stop>
     ensures fresh { IfOk result (λ opened. AreFresh opened.devices) }
+    ensures taken { IfOk result (λ opened. Takes opened.config opened.state) }
+    ensures save { IfOk result (λ opened. is_some opened.save ≡ is_some options.now.save) }
     ensures stop { IfErr result (IsRunStop streams (files_of options.now)) }
     ensures closed { IfSome (closed_stream streams (files_of options.now)) (λ role.
         result ≡ Err (Stop.File role)) }
@@ -78,8 +88,15 @@ pub fn open<'r, R: Files + Input + Print + AllocGlobal>(
         return Err(Stop::File(role));
     }
     let config = configuration(rt, options.config.as_ref())?;
+    let state = state_at(rt, &config, options.resume.as_ref())?;
     let devices = buffered(rt.alloc(), open_files(rt, options)?, BUFFERED)?;
-    Ok(Opened { config, devices })
+    let save = state_file(rt, options)?;
+    Ok(Opened {
+        config,
+        state,
+        devices,
+        save,
+    })
 }
 
 /// Everything that a run with a log needs; without a log `Nowhere` stands for it.
@@ -97,6 +114,8 @@ pub fn open_with_log<'r, R: Files + Input + Print + AllocGlobal>(
     options: &OptionsWithLog,
 ) -> Result<OpenedWithLog<Box<R::Reader>, Printer<'r, R>, R::File>, Stop>
     ensures fresh { IfOk result (λ o. AreFresh o.opened.devices × (failed_in o.log ≡ 0)) }
+    ensures taken { IfOk result (λ o. Takes o.opened.config o.opened.state) }
+    ensures save { IfOk result (λ o. is_some o.opened.save ≡ is_some options.now.files.save) }
     ensures log { IfOk result (λ o. is_left o.log ≡ is_some options.now.log) }
     ensures stop { IfErr result (IsRunStop streams (files_with_log options.now)) }
     ensures closed { IfSome (closed_stream streams (files_with_log options.now)) (λ role.
@@ -112,11 +131,18 @@ pub fn open_with_log<'r, R: Files + Input + Print + AllocGlobal>(
         return Err(Stop::File(role));
     }
     let config = configuration(rt, options.files.config.as_ref())?;
+    let state = state_at(rt, &config, options.files.resume.as_ref())?;
     let FilesWithLog { files, log } = open_files_with_log(rt, options)?;
     let held = if log.is_some() { HELD } else { BUFFERED };
     let devices = buffered(rt.alloc(), files, held)?;
     let log = sink_over(rt.alloc(), log, BUFFERED)?;
-    let opened = Opened { config, devices };
+    let save = state_file(rt, &options.files)?;
+    let opened = Opened {
+        config,
+        state,
+        devices,
+        save,
+    };
     Ok(OpenedWithLog { opened, log })
 }
 

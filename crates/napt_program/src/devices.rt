@@ -1,6 +1,6 @@
 //! The devices of a run: its files behind buffers, with failed calls counted.
 
-ghost use Rattle.std.specs.Prelude.{◌≡◌, IfErr, IfOk, is_some, option_map};
+ghost use Rattle.std.specs.{Prelude.{◌≡◌, IfErr, IfOk, is_some, option_map}, Io.Buffered.reader_remaining};
 ghost use Rattle.either.specs.Either.{is_left, left};
 ghost use Rattle.napt_capture.specs.Watched.{failed_of};
 ghost use Rattle.napt_program.specs.Devices.{AreFresh, AreOver, bytes_left, bytes_written, failed_in};
@@ -57,10 +57,15 @@ fn source<D: Read + Drop>(alloc: Global, device: D) -> Result<Watched<BufReader<
     ensures tells { IfOk result (λ made. bytes_left D.remaining made ≡ D.remaining device) }
     ensures refused { IfErr result (λ stop. stop ≡ MEMORY) }
 {
-    match BufReader::with_capacity(alloc, BUFFERED, device) {
-        Ok(reader) => Ok(Watched::new(reader)),
-        Err(_) => Err(MEMORY),
-    }
+    Ok(Watched::new(reader(alloc, device)?))
+}
+
+/// The reader behind a buffer. Fails, as a run does, if memory runs out.
+pub(crate) fn reader<D: Read + Drop>(alloc: Global, device: D) -> Result<BufReader<D>, Stop>
+    ensures tells { IfOk result (λ made. reader_remaining D.remaining made ≡ D.remaining device) }
+    ensures refused { IfErr result (λ stop. stop ≡ MEMORY) }
+{
+    BufReader::with_capacity(alloc, BUFFERED, device).map_err(|_| MEMORY)
 }
 
 /// The same, or without a reader a capture without packets.

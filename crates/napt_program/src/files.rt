@@ -131,13 +131,14 @@ pub fn open_inputs<R: Files + Input + AllocGlobal>(
     Ok(InputFiles { inside, outside })
 }
 
-/// Fails with the role of the first output that an earlier option also names.
-fn refuse_lost_file<R: Files>(rt: &R, options: &Options) -> Result<(), Stop>
-    ensures { IfErr result (IsFileStop (files_of options.now)) }
+/// Fails with the role of the first output that an earlier option also names; and, as a run does, if memory runs out.
+fn refuse_lost_file<R: Files + AllocGlobal>(rt: &R, options: &Options) -> Result<(), Stop>
+    ensures { IfErr result (IsOpenStop (files_of options.now)) }
 {
-    match lost_file(rt, options) {
-        Some(role) => Err(Stop::File(role)),
-        None => Ok(()),
+    match lost_file(rt, rt.alloc(), options) {
+        Ok(Some(role)) => Err(Stop::File(role)),
+        Ok(None) => Ok(()),
+        Err(_) => Err(MEMORY),
     }
 }
 

@@ -12,7 +12,9 @@ mod options_with_log;
 mod outputs;
 mod place;
 mod places;
+mod resuming;
 mod role;
+mod saving;
 mod stop;
 mod streams;
 mod tally;
@@ -31,9 +33,11 @@ pub use crate::options_with_log::{OptionsWithLog, parse_words_with_log};
 pub use crate::outputs::{refuse_unmade, unmade};
 pub use crate::place::{Node, Place, is_same, place_of};
 pub use crate::places::{is_log_lost, lost_file};
+pub use crate::resuming::{state_at, state_from, stop_of_state};
 pub use crate::role::Role;
+pub use crate::saving::StateFile;
 pub use crate::stop::{
-    CaptureFaultName, MEMORY, Stop, StopLine, line_at_end, name_of_config_fault, status_at_end,
+    CaptureFaultName, MEMORY, StateRefusal, StateRefusalName, Stop, StopLine, line_at_end, name_of_config_fault, status_at_end,
     stop_line, stop_status,
 };
 pub use crate::streams::{Streams, closed_stream, closed_stream_with_log};

@@ -38,6 +38,7 @@ that inside hosts and the outside send, and writes the captures of what leaves f
 with addresses and ports translated.";
 
 const NOTES: &str = "FILE may be -, standard input or standard output; a file of that name is ./-
+(the FILE of a state may not be -)
 
 Examples:
   napt < inside.pcap > to-outside.pcap
@@ -95,13 +96,27 @@ words tells where in a file, and what to do):
        than 64 MiB; or an output, or a standard stream, that another option has too
      napt: write OPTION
        writing failed; help goes where to-outside goes by default, so that help
-       which could not be written to standard output is write to-outside";
+       which could not be written to standard output is write to-outside
+  8  napt: state WORD
+       bad-line N       line N is none of a state there, or it is missing
+       not-utf-8 N      line N is not UTF-8
+       not-inside       the host of a binding is in no prefix of inside
+       not-paired       its external address is not the one of its host
+       not-its-number   a number of it is 0, or is not of its host's block
+       used-later       it was used after the time of the state
+       flows-share      two of its flows are of one remote endpoint
+       redirected       a redirect has its inside or its external endpoint
+       shared           another binding has one of them";
 
 // The options, each with its meaning, in the order of the help text.
-const OPTIONS: [(&str, &str); 6] = [
+const OPTIONS: [(&str, &str); 8] = [
     (
         "config",
         "Configuration in TOML [default: the built-in configuration]",
+    ),
+    (
+        "resume",
+        "State from which the run goes on, as --save wrote it [default: the run begins anew]",
     ),
     (
         "inside",
@@ -123,12 +138,16 @@ const OPTIONS: [(&str, &str); 6] = [
         "report",
         "Counts of what became of the packets, and the live bindings [default: not written]",
     ),
+    (
+        "save",
+        "State that the run leaves, written last [default: not written]",
+    ),
 ];
 
 // The option of a program that takes a log too.
 const LOG: (&str, &str) = (
     "log",
-    "Log of the bindings as CSV, written as they begin and end [default: not written]",
+    "Log of the bindings as CSV, written as they begin and end; with no state [default: not written]",
 );
 
 /// The file that each option names, `None` where the option is absent.
@@ -136,6 +155,8 @@ const LOG: (&str, &str) = (
 pub struct Options {
     /// The configuration; absent, the built-in one.
     pub config: Option<String>,
+    /// The state from which the run goes on; absent, the run begins anew.
+    pub resume: Option<String>,
     /// The capture of what inside hosts send; absent, standard input.
     pub inside: Option<String>,
     /// The capture of what comes from the outside; absent, no packets.
@@ -146,6 +167,8 @@ pub struct Options {
     pub to_inside: Option<String>,
     /// The report; absent, it is not written.
     pub report: Option<String>,
+    /// The state that the run leaves; absent, it is not written.
+    pub save: Option<String>,
 }
 
 impl Options {
@@ -156,11 +179,13 @@ impl Options {
     {
         match role {
             Role::Config => self.config.as_ref(),
+            Role::Resume => self.resume.as_ref(),
             Role::Inside => self.inside.as_ref(),
             Role::Outside => self.outside.as_ref(),
             Role::ToOutside => self.to_outside.as_ref(),
             Role::ToInside => self.to_inside.as_ref(),
             Role::Report => self.report.as_ref(),
+            Role::Save => self.save.as_ref(),
             Role::Log => None,
         }
     }
@@ -252,7 +277,7 @@ impl From<AllocError> for LineFault {
 /// Parses the arguments of `napt`, the program's name first, as `clap` does.
 ///
 /// Each option is a long one with one value, in the next argument or after `=`, and may be given once. A value begins with
-/// `-` only if it is `-` itself, or follows `=`. `-h` and `--help` ask for help, `-V` and `--version` for the version. `Memory`
+/// `-` only if it is `-` itself, or follows `=`. The file of a state is not `-`, and no log goes with one. `-h` and `--help` ask for help, `-V` and `--version` for the version. `Memory`
 /// may be returned in place of any other result.
 pub fn parse_words(alloc: Global, words: Vec<String>) -> Result<Options, LineFault>
     ensures ok { IfOk result (λ o. line_of_words (map string_bytes words.items)
@@ -304,10 +329,15 @@ pub(crate) fn parse_words_for(
 {
     let command = command_for(alloc, manual, takes_log)?;
     match command.try_get_matches_from(words.as_slice()) {
-        Ok(matches) => Ok(OptionsWithLog {
-            files: options_in(alloc, &matches)?,
-            log: log_in(alloc, &matches, takes_log)?,
-        }),
+        Ok(matches) => {
+            let files = options_in(alloc, &matches)?;
+            let log = log_in(alloc, &matches, takes_log)?;
+            let options = OptionsWithLog { files, log };
+            if options.misuses_state() {
+                return Err(LineFault::Usage);
+            }
+            Ok(options)
+        }
         Err(error) => Err(fault_of(alloc, &error)?),
     }
 }
@@ -319,11 +349,13 @@ fn options_in(alloc: Global, matches: &ArgMatches<'_>) -> Result<Options, AllocE
 {
     Ok(Options {
         config: value_of(alloc, matches, "config")?,
+        resume: value_of(alloc, matches, "resume")?,
         inside: value_of(alloc, matches, "inside")?,
         outside: value_of(alloc, matches, "outside")?,
         to_outside: value_of(alloc, matches, "to-outside")?,
         to_inside: value_of(alloc, matches, "to-inside")?,
         report: value_of(alloc, matches, "report")?,
+        save: value_of(alloc, matches, "save")?,
     })
 }
 

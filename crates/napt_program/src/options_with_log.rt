@@ -1,7 +1,7 @@
 //! The command line of a program that takes a log too.
 
 ghost use Rattle.std.specs.Prelude.{◌≡◌, IfErr, IfOk, IfSome, is_some, map, string_bytes, true};
-ghost use Rattle.napt_program.specs.CommandLine.{IsHelp, IsVersion, files, files_with_log, help, line_with_log, mistake, version};
+ghost use Rattle.napt_program.specs.CommandLine.{IsHelp, IsVersion, files, files_with_log, help, line_with_log, misuses_state, mistake, version};
 ghost use Rattle.napt_program.specs.Standard.{is_log_again, is_named, is_stream, standard_again};
 
 use crate::options::{LineFault, Manual, Options, is_dash, parse_words_for};
@@ -40,6 +40,16 @@ impl OptionsWithLog {
             None if self.is_log_again() => Some(Role::Log),
             None => None,
         }
+    }
+
+    /// Whether a state is given as `-`, or beside a log.
+    pub(crate) fn misuses_state(&self) -> bool
+        ensures { result ≡ misuses_state (files_with_log self.now) }
+    {
+        let Options { resume, save, .. } = &self.files;
+        self.files.is_stream(Role::Resume)
+            || self.files.is_stream(Role::Save)
+            || (self.log.is_some() && (resume.is_some() || save.is_some()))
     }
 
     /// Whether the log wants standard output, which an output has.

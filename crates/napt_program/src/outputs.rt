@@ -21,7 +21,8 @@ pub fn refuse_unmade<R: Files>(rt: &R, options: &Options) -> Result<(), Stop>
 {
     refuse_unmade_file(rt, options.to_outside.as_ref(), Role::ToOutside)?;
     refuse_unmade_file(rt, options.to_inside.as_ref(), Role::ToInside)?;
-    refuse_unmade_file(rt, options.report.as_ref(), Role::Report)
+    refuse_unmade_file(rt, options.report.as_ref(), Role::Report)?;
+    refuse_unmade_file(rt, options.save.as_ref(), Role::Save)
 }
 
 /// Fails, with its role, on a file that cannot be created or emptied.

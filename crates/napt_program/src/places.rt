@@ -1,12 +1,14 @@
 //! Finds an output that would overwrite another file of the run.
-ghost use Rattle.std.specs.Prelude.{◌≡◌, IfSome, is_some, not, true};
+ghost use Rattle.std.specs.Prelude.{◌≡◌, IfErr, IfOk, IfSome, is_some, not, true};
 ghost use Rattle.napt_program.specs.CommandLine.{files_of};
-ghost use Rattle.napt_program.specs.{Places.{ArePlacesOf, is_again, is_input, is_placed, is_log_named_again, is_there, output_named_again}, Standard.is_named};
+ghost use Rattle.napt_program.specs.{Places.{ArePlacesOf, is_again, is_input, is_log_named_again, is_placed, is_save_named_again, is_taken, is_there, output_named_again}, Standard.is_named};
 
 use crate::options::{Options, is_dash};
 use crate::options_with_log::OptionsWithLog;
 use crate::place::{Place, is_same, place_of};
 use crate::role::Role;
+use crate::saving::new_path;
+use std::alloc::{AllocError, Global};
 use std::rt::Files;
 
 /// The paths of the standard streams.
@@ -18,6 +20,7 @@ const OUTPUT: &str = "/dev/stdout";
 #[derive(Clone, Copy, Debug)]
 struct Places<'a> {
     config: Option<Place<'a>>,
+    resume: Option<Place<'a>>,
     standard_input: Option<Place<'a>>,
     inside: Option<Place<'a>>,
     outside: Option<Place<'a>>,
@@ -25,13 +28,42 @@ struct Places<'a> {
     to_outside: Option<Place<'a>>,
     to_inside: Option<Place<'a>>,
     report: Option<Place<'a>>,
+    save: Option<SavePlaces<'a>>,
 }
 
-/// The role of the first output, in the order of the options, that is a file which an earlier option also names.
-pub fn lost_file<R: Files>(rt: &R, options: &Options) -> Option<Role>
+/// Where a state is saved.
+#[derive(Clone, Copy, Debug)]
+struct SavePlaces<'a> {
+    file: Place<'a>,
+    /// That of the new file beside it.
+    new: Place<'a>,
+}
+
+/// The role of the first output, in the order of the options, that is a file which an earlier option also names. A state may
+/// be saved to the file from which the run goes on. Fails if memory runs out, which is only taken for a state that is saved.
+pub fn lost_file<R: Files>(
+    rt: &R,
+    alloc: Global,
+    options: &Options,
+) -> Result<Option<Role>, AllocError>
+    ensures lost { IfOk result (λ lost. IfSome lost (λ role.
+        is_named (files_of options.now) role ≡ true)) }
+    ensures memory { IfErr result (λ _. is_named (files_of options.now) Role.Save ≡ true) }
+{
+    match &options.save {
+        None => Ok(lost_beside(rt, options, None)),
+        Some(save) => {
+            let new = new_path(alloc, save)?;
+            Ok(lost_beside(rt, options, Some(&new)))
+        }
+    }
+}
+
+/// The same, given the path of the new file if a state is saved.
+fn lost_beside<R: Files>(rt: &R, options: &Options, new: Option<&String>) -> Option<Role>
     ensures { IfSome result (λ role. is_named (files_of options.now) role ≡ true) }
 {
-    output_named_again(&places_of(rt, options))
+    output_named_again(&places_of(rt, options, new))
 }
 
 /// Whether the log is a file that another option also names, or a standard stream.
@@ -39,16 +71,18 @@ pub fn is_log_lost<R: Files>(rt: &R, options: &OptionsWithLog) -> bool
     ensures { result ≡ true → is_some options.now.log ≡ true }
 {
     match place_at(rt, options.log.as_ref(), OUTPUT) {
-        Some(log) => is_log_named_again(&places_of(rt, &options.files), Some(log)),
+        Some(log) => is_log_named_again(&places_of(rt, &options.files, None), Some(log)),
         None => false,
     }
 }
 
-fn places_of<'a, R: Files>(rt: &R, options: &'a Options) -> Places<'a>
+/// The places of the files of the options; that of a saved state is left out without the path of its new file.
+fn places_of<'a, R: Files>(rt: &R, options: &'a Options, new: Option<&'a String>) -> Places<'a>
     ensures { ArePlacesOf options.now result }
 {
     Places {
         config: place_at(rt, options.config.as_ref(), INPUT),
+        resume: place_at(rt, options.resume.as_ref(), INPUT),
         standard_input: place_of_stream(rt, options.inside.as_ref(), INPUT),
         inside: place_at(rt, options.inside.as_ref(), INPUT),
         outside: place_at(rt, options.outside.as_ref(), INPUT),
@@ -56,6 +90,13 @@ fn places_of<'a, R: Files>(rt: &R, options: &'a Options) -> Places<'a>
         to_outside: place_at(rt, options.to_outside.as_ref(), OUTPUT),
         to_inside: place_at(rt, options.to_inside.as_ref(), OUTPUT),
         report: place_at(rt, options.report.as_ref(), OUTPUT),
+        save: match (&options.save, new) {
+            (Some(save), Some(new)) => Some(SavePlaces {
+                file: place_of(rt, save),
+                new: place_of(rt, new),
+            }),
+            _ => None,
+        },
     }
 }
 
@@ -96,9 +137,36 @@ fn output_named_again(places: &Places<'_>) -> Option<Role>
         Some(Role::ToInside)
     } else if is_again(places, places.report, to_outside, to_inside) {
         Some(Role::Report)
+    } else if is_save_named_again(places) {
+        Some(Role::Save)
     } else {
         None
     }
+}
+
+/// Whether a state is saved to a file of another option but `resume`, or its new file is one.
+fn is_save_named_again(places: &Places<'_>) -> bool
+    ensures again { result ≡ is_save_named_again places.now places.now.save }
+    ensures placed { result ≡ true → is_some places.now.save ≡ true }
+{
+    match places.save {
+        Some(save) => {
+            is_taken(places, save.file)
+                || is_taken(places, save.new)
+                || is_there(save.new, places.resume)
+        }
+        None => false,
+    }
+}
+
+/// Whether a file is one that is read, but for the state, or written, but for the state.
+fn is_taken(places: &Places<'_>, file: Place<'_>) -> bool
+    ensures { result ≡ is_taken places.now file.entry }
+{
+    is_input(places, file)
+        || is_there(file, places.to_outside)
+        || is_there(file, places.to_inside)
+        || is_there(file, places.report)
 }
 
 /// Whether the log is a file of another option, or a standard stream.
@@ -114,7 +182,7 @@ fn is_log_named_again(places: &Places<'_>, log: Option<Place<'_>>) -> bool
     }
 }
 
-/// Whether a file is an input, a standard stream or one of two other outputs.
+/// Whether a file is an input, a state, a standard stream or one of two other outputs.
 fn is_again(
     places: &Places<'_>,
     file: Option<Place<'_>>,
@@ -124,7 +192,12 @@ fn is_again(
     ensures { result ≡ is_again places.now file.entry first.entry second.entry }
 {
     match file {
-        Some(file) => is_input(places, file) || is_there(file, first) || is_there(file, second),
+        Some(file) => {
+            is_input(places, file)
+                || is_there(file, places.resume)
+                || is_there(file, first)
+                || is_there(file, second)
+        }
         None => false,
     }
 }

@@ -8,6 +8,8 @@ ghost use Rattle.napt_program.specs.CommandLine.{role_name};
 pub enum Role {
     /// The configuration.
     Config,
+    /// The state from which the run goes on.
+    Resume,
     /// The capture of what inside hosts send.
     Inside,
     /// The capture of what comes from the outside.
@@ -18,6 +20,8 @@ pub enum Role {
     ToInside,
     /// The text that counts what became of the packets.
     Report,
+    /// The state that the run leaves.
+    Save,
     /// The log of the bindings, which a program may take beside these.
     Log,
 }
@@ -29,11 +33,13 @@ impl Role {
     {
         match self {
             Role::Config => "config",
+            Role::Resume => "resume",
             Role::Inside => "inside",
             Role::Outside => "outside",
             Role::ToOutside => "to-outside",
             Role::ToInside => "to-inside",
             Role::Report => "report",
+            Role::Save => "save",
             Role::Log => "log",
         }
     }

@@ -1,12 +1,13 @@
 //! Why a program stops early: the fault line for standard error, and the exit status.
 ghost use Rattle.std.specs.Prelude.{◌≡◌, IfOk, Some, option_map, string_bytes};
-ghost use Rattle.napt_program.specs.Stop.{capture_name, config_name, fault_text, line_at_end, line_of, output_role, run_name, side_name, status_at_end, status_of, status_of_fault, stop_text};
+ghost use Rattle.napt_program.specs.Stop.{capture_name, config_name, fault_text, line_at_end, line_of, misfit_name, output_role, run_name, side_name, state_name, status_at_end, status_of, status_of_fault, stop_text};
 
 use crate::role::Role;
 use napt_capture::CaptureFault;
 use napt_config::ConfigFault;
 use napt_pool::PoolFault;
 use napt_records::{Fault, Which};
+use napt_rules::Misfit;
 use napt_sequential::RunFault;
 use napt_wire::Side;
 use std::alloc::{AllocError, Global};
@@ -29,6 +30,21 @@ pub enum Stop {
     Run(Fault),
     /// The log could not be written.
     Log,
+    /// The state from which the run should go on is refused.
+    State(StateRefusal),
+    /// The state that the run leaves could not be written. The file of its option is as it was.
+    Save,
+}
+
+/// Why a state is refused.
+#[derive(Clone, Copy, Debug, PartialEq, Eq)]
+pub enum StateRefusal {
+    /// The line of this number, from 1, is none of a state there, or the text ends before it.
+    Line(u64),
+    /// The line of this number, from 1, is not UTF-8.
+    NotUtf8(u64),
+    /// The configuration does not take a binding of it.
+    Binding(Misfit),
 }
 
 /// Memory ran out before the run.
@@ -45,7 +61,7 @@ impl From<ConfigFault> for Stop {
 }
 
 /// The exit status: 2 for the command line, 3 for the configuration, 4 for a capture, 5 for a run
-/// that fails, and 6 for a file.
+/// that fails, 6 for a file, and 8 for a state.
 pub fn stop_status(stop: &Stop) -> u8
     ensures { result ≡ status_of stop.now }
 {
@@ -56,7 +72,8 @@ pub fn stop_status(stop: &Stop) -> u8
         Stop::Config(_) => 3,
         Stop::File(_) => 6,
         Stop::Run(fault) => status_of_run(*fault),
-        Stop::Log => 6,
+        Stop::Log | Stop::Save => 6,
+        Stop::State(_) => 8,
     }
 }
 
@@ -134,6 +151,14 @@ impl fmt::Display for Stop {
             Stop::Log => {
                 f.write_str("write ")?;
                 f.write_str(Role::Log.name())
+            }
+            Stop::State(refusal) => {
+                let name = StateRefusalName(*refusal);
+                write!(f, "state {name}")
+            }
+            Stop::Save => {
+                f.write_str("write ")?;
+                f.write_str(Role::Save.name())
             }
         }
     }
@@ -222,6 +247,36 @@ impl fmt::Display for CaptureFaultName {
             CaptureFault::Read => f.write_str("read"),
             CaptureFault::Memory => f.write_str("memory"),
         }
+    }
+}
+
+/// Why a state is refused, printed as its name, with the line's number if it has one.
+#[derive(Clone, Copy, Debug)]
+pub struct StateRefusalName(pub StateRefusal);
+
+impl fmt::Display for StateRefusalName {
+    ghost output = { λ name. Some (state_name name.0) };
+
+    fn fmt<W: fmt::Write>(&self, f: &mut fmt::Formatter<W>) -> fmt::Result {
+        match self.0 {
+            StateRefusal::Line(line) => write!(f, "bad-line {line}"),
+            StateRefusal::NotUtf8(line) => write!(f, "not-utf-8 {line}"),
+            StateRefusal::Binding(misfit) => f.write_str(name_of_misfit(misfit)),
+        }
+    }
+}
+
+fn name_of_misfit(misfit: Misfit) -> &'static str
+    ensures { result.now ≡ misfit_name misfit }
+{
+    match misfit {
+        Misfit::NotInside => "not-inside",
+        Misfit::NotPaired => "not-paired",
+        Misfit::NotItsNumber => "not-its-number",
+        Misfit::UsedLater => "used-later",
+        Misfit::FlowsShare => "flows-share",
+        Misfit::Redirected => "redirected",
+        Misfit::Shared => "shared",
     }
 }
 

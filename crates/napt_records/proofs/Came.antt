@@ -4,9 +4,8 @@ use Rattle.std.{proofs.lemmas.{Grind.common_steps, Bool.Decides.nat_tests, List.
 use Rattle.std.proofs.Common.{◌≡◌, ℕ, ◌+◌, All, List, [], ◌++◌, take, drop, Option, Some, None, Ok, Err, sym, ap, ◌∙◌, append-nil}
 use Rattle.napt_capture.specs.{declared.{device.Source.Ghosts, records.Records.Records}, Capture.{captured, captured_by, spelling_in}, Reading.{Gives, StopsBy}}
 use Rattle.napt_capture.specs.Records.{left_of}
-use Rattle.napt_rules.specs.Prelude.{Arrival}
+use Rattle.napt_rules.specs.Prelude.{Arrival, Inside, Outside}
 use Rattle.napt_sequential.specs.Inputs.{Came}
-use Rattle.napt_wire.specs.declared.Side.TheVariants.{Inside, Outside}
 use Rattle.napt_records.specs.{declared.{stream.Stream.Stream, merged_streams.{MergedStreams.MergedStreams, SideFault.SideFault}}, Begun.{AreBegun, IsBegun}}
 use Rattle.napt_records.specs.{Merged.{AreLive, AreSame, Counts, EndsWith, HandsOut, NoneFailed, cut_of, failed_by}, Output.IsTimely}
 use Rattle.napt_records.{specs.{Rests.{Follows, held_in, holds_by, inputs_of, stream_holds}, Taking.{Inputs, at_end, inputs_until}}, proofs.Left.StopsBy-then}

@@ -2,7 +2,6 @@
 use native.Mathlib.Omega.{arith}
 use Rattle.std.{proofs.lemmas.{Grind.common_steps, Bool.Decides.nat_tests}, specs.Option.option_map}
 use Rattle.std.proofs.Common.{◌≡◌, ℕ, Bool, true, false, All, List, [], ◌∷◌, ◌++◌, Option, None, Some, IfSome, IsSome, option_to_list, unwrap_or, Result, Ok, Err, refl, sym, subst, subst₂, append-nil}
-use Rattle.napt_wire.specs.declared.Side.{Side, TheVariants.{Inside, Outside}}
 use Rattle.napt_capture.specs.{declared.{device.Source.Ghosts, records.Records.Records, fault.CaptureFault.CaptureFault}, Contents.Entry, Capture.Held}
 use Rattle.napt_capture.specs.Reading.{StopsBy}
 use Rattle.napt_records.{specs.declared.{stream.Stream.Stream, merged_streams.MergedStreams.MergedStreams}, proofs.Left.StopsBy-then}
@@ -11,7 +10,7 @@ use Rattle.napt_records.specs.Merged.{AreLive, AreSame, EndsWith, HandsOut, Look
 use Rattle.napt_records.specs.Rests.{Follows, Stays, both_hold, held_in, holds_by, inputs_of, stream_holds}
 use Rattle.napt_records.specs.Taking.{Inputs, Takes, at_fault, inputs_from, is_outside_next}
 use Rattle.napt_sequential.specs.Inputs.{Hands}
-use Rattle.napt_rules.specs.Prelude.{Arrival}
+use Rattle.napt_rules.specs.Prelude.{Arrival, Side, Inside, Outside}
 
 -- ---- more records behind those that were read
 

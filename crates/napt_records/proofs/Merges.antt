@@ -2,9 +2,8 @@
 use Rattle.std.proofs.lemmas.{Grind.common_steps, Bool.Decides.nat_tests, List.Elements.{All-nil, All-cons, All-head, All-tail}}
 use Rattle.std.proofs.Common.{◌≡◌, ℕ, zero, suc, ◌+◌, ◌<◌, ◌≤◌, max, Bool, true, false, ◌↔◌, List, [], ◌∷◌, ◌++◌, append-nil, length, map, take, All, Option, Some, None, Result, Ok, Err, refl, sym, ◌∙◌, ap, subst, arith}
 use Rattle.std.{specs.Prelude.{filter, slice_get}, proofs.lemmas.{Bool.{ltb-false, ltb-true, cases_Bool}, List.length-map}}
-use Rattle.napt_wire.specs.declared.Side.{Side, TheVariants.{Inside, Outside}}
 use Rattle.napt_capture.specs.{Contents.Entry, Text.IsWritable, Capture.Held, declared.fault.CaptureFault.CaptureFault}
-use Rattle.napt_rules.specs.Prelude.{Arrival}
+use Rattle.napt_rules.specs.Prelude.{Arrival, Side, Inside, Outside}
 use Rattle.napt_sequential.specs.Inputs.{IsTaken}
 use Rattle.napt_records.specs.{Output.IsTimely, MergeLaws.{HaveAll, MergeEnds, MergeMeets, MergesBefore, MergesFront, MergesWhole, TellsInsideFirst, held_of}}
 use Rattle.napt_records.specs.Taking.{Inputs, Takes, alone, alone_by, at_end, at_fault, before, input_of, inputs_from, inputs_until, is_outside_next, merged, merged_from, unless_fault, until}

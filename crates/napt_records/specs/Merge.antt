@@ -1,9 +1,8 @@
 -- The inputs of a run: the records of both captures, merged by arrival time (this product's profile). Captures need not
 -- be sorted.
 use Rattle.std.specs.Prelude.{◌≡◌, ℕ, ◌+◌, ◌≤◌, ◌<◌, ◌↔◌, max, Bool, true, false, List, [], ◌∷◌, map, filter, take, slice_get, Some}
-use Rattle.napt_wire.specs.declared.Side.{Side, TheVariants.{Inside, Outside}}
 use Rattle.napt_capture.specs.Contents.{Entry}
-use Rattle.napt_rules.specs.Prelude.{Arrival}
+use Rattle.napt_rules.specs.Prelude.{Arrival, Side, Inside, Outside}
 
 -- what a record and its input have in common
 pub record Timed : Type 0 where

@@ -1,8 +1,7 @@
 -- What merging two captures makes of their records.
 use Rattle.std.specs.Prelude.{◌≡◌, ℕ, ◌<◌, List, ◌++◌, length, map, filter, take, Ok, Err}
-use Rattle.napt_wire.specs.declared.Side.{Side, TheVariants.{Inside, Outside}}
 use Rattle.napt_capture.specs.{declared.fault.CaptureFault.CaptureFault, Contents.Entry, Capture.Held}
-use Rattle.napt_rules.specs.Prelude.{Arrival}
+use Rattle.napt_rules.specs.Prelude.{Arrival, Side, Inside, Outside}
 use Rattle.napt_records.specs.{declared.merged_streams.{Cuts.Cuts, SideFault.SideFault}, Merge.{IsMerged, is_from, of_input, of_record}}
 use Rattle.napt_records.specs.Taking.{inputs_until, merged}
 

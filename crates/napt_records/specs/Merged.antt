@@ -1,11 +1,10 @@
 -- What two captures hand out as they arrive.
 use Rattle.std.specs.Prelude.{◌≡◌, ◌⊎◌, ℕ, ◌+◌, max, Bool, false, All, List, Option, option_to_list, None, Some, IfSome, IsSome, unwrap_or, Result, Ok, Err}
-use Rattle.napt_wire.specs.declared.Side.{Side, TheVariants.{Inside, Outside}}
 use Rattle.napt_capture.specs.{declared.{device.Source.Ghosts, fault.CaptureFault.CaptureFault}, Contents.Entry, Text.IsWritable, Capture.failed_reads}
 use Rattle.napt_capture.specs.{Reading.StopsBy, Records.Asks}
 use Rattle.napt_records.specs.{declared.{stream.Stream.Stream, merged_streams.{MergedStreams.MergedStreams, SideFault.SideFault}}, Output.IsTimely}
 use Rattle.napt_records.specs.{Rests.{Follows, Stays, inputs_of, stream_holds}, Taking.{Takes, at_end, at_fault, input_of}}
-use Rattle.napt_rules.specs.Prelude.{Arrival}
+use Rattle.napt_rules.specs.Prelude.{Arrival, Side, Inside, Outside}
 
 -- ONE STREAM
 
@@ -40,14 +39,10 @@ AsksDevice both = AsksSource both.inside both.inside_first ⊎ AsksSource both.o
 
 -- BOTH
 
--- the records that were read but not handed out can be written
-abbrev pub AreWritable : {R Q : Type 0} {G : Ghosts R} {H : Ghosts Q} → MergedStreams R Q G H → Type 0
-AreWritable both = All IsWritable (option_to_list both.inside_first)
-    × All IsWritable (option_to_list both.outside_first)
-
--- and no read failed
+-- no read failed, and the records that were read but not handed out can be written
 abbrev pub AreLive : {R Q : Type 0} {G : Ghosts R} {H : Ghosts Q} → MergedStreams R Q G H → Type 0
-AreLive both = (IsLive both.inside × IsLive both.outside) × AreWritable both
+AreLive both = (IsLive both.inside × IsLive both.outside)
+    × (All IsWritable (option_to_list both.inside_first) × All IsWritable (option_to_list both.outside_first))
 
 abbrev pub AreSame : {R Q : Type 0} {G : Ghosts R} {H : Ghosts Q} → MergedStreams R Q G H → MergedStreams R Q G H →
     Type 0

@@ -3,9 +3,7 @@
 use Rattle.std.specs.Prelude.{ℕ, Bool, true, false, List, [], ◌∷◌, ◌++◌, length, codes, count_by, decimal, flat_map}
 use denote.Enum.Bare.{sameb}
 use Rattle.napt_wire.specs.{contracts.Cause.the_type, declared.Cause.Cause}
-use Rattle.napt_wire.specs.declared.Cause.TheVariants.{Truncated, NotIpv4, BadHeader, BadChecksum, Fragment, Unsupported, BadInner, BadPort, Spoofed, NotOurs, NoBinding, Filtered, OverQuota, NoPort}
-use Rattle.napt_wire.specs.declared.{Endpoint.Endpoint, Protocol.{Protocol, TheVariants.{Icmp, Tcp, Udp}}}
-use Rattle.napt_config.specs.Text.{address_text}
+use Rattle.napt_rules.specs.Prelude.{Truncated, NotIpv4, BadHeader, BadChecksum, Fragment, Unsupported, BadInner, BadPort, Spoofed, NotOurs, NoBinding, Filtered, OverQuota, NoPort, Endpoint, Protocol, Icmp, Tcp, Udp, address_text}
 use Rattle.napt_rules.specs.{declared.{Row.Row, Outcome.{Outcome, TheVariants.{ToOutside, ToInside, Dropped}}}, Prelude.Ran}
 
 abbrev pub Text : Type 0

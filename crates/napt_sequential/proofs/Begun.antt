@@ -17,10 +17,11 @@ fresh rules state place = record {
 
 -- each is as it begins
 abbrev pub AreFresh : Rules → State → List CountedTranslator → Type 0
-AreFresh rules state translators = (place : ℕ) (counted : CountedTranslator) → slice_get translators place ≡ Some counted →
-    counted ≡ fresh rules state place
+AreFresh rules state translators = (place : ℕ) (counted : CountedTranslator) →
+    slice_get translators place ≡ Some counted → counted ≡ fresh rules state place
 
-pub fresh_more : (rules : Rules) (state : State) (translators : List CountedTranslator) (place : ℕ) → length translators ≡ place →
+pub fresh_more : (rules : Rules) (state : State) (translators : List CountedTranslator) (place : ℕ) →
+    length translators ≡ place →
     AreFresh rules state translators → (counted : CountedTranslator) → counted ≡ fresh rules state place →
     AreFresh rules state (translators ++ counted ∷ [])
 fresh_more rules state translators place many are counted is = λ i s is_there.

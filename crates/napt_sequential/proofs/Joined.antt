@@ -54,7 +54,8 @@ traces_begin rules number clock (x ∷ xs) ys list =
     let more = traces_begin rules (number + 1) now xs ys first.list in
     (more.0, ap (λ (l : List Trace). trace_of rules.timers now first ∷ l) more.1)
 
-pub steps_long : (rules : Rules) (state : State) (inputs : List Arrival) → length (steps_of rules state inputs) ≡ length inputs
+pub steps_long : (rules : Rules) (state : State) (inputs : List Arrival) → length
+    (steps_of rules state inputs) ≡ length inputs
 steps_long rules state inputs = grind (arith, common_steps, nat_tests, joined_long, outcomes_long, traces_long)
 
 pub steps_outcomes : (rules : Rules) (state : State) (inputs : List Arrival) →
@@ -62,9 +63,11 @@ pub steps_outcomes : (rules : Rules) (state : State) (inputs : List Arrival) →
 steps_outcomes rules state inputs = grind (arith, common_steps, nat_tests, joined_outcomes, outcomes_long, traces_long)
 
 pub steps_get : (rules : Rules) (state : State) (inputs : List Arrival) (n : ℕ) (o : Outcome) (t : Trace) →
-    slice_get (course_from rules state inputs).outcomes n ≡ Some o → slice_get (traces_of rules state inputs) n ≡ Some t →
-    slice_get (steps_of rules state inputs) n ≡ Some (record { outcome = o; trace = t })
-steps_get rules state inputs n o t = joined_get (course_from rules state inputs).outcomes (traces_of rules state inputs) n o t
+    slice_get (course_from rules state inputs).outcomes n ≡ Some o → slice_get
+    (traces_of rules state inputs) n ≡ Some t → slice_get (steps_of rules state inputs) n ≡ Some
+    (record { outcome = o; trace = t })
+steps_get rules state inputs n o t = joined_get (course_from rules state inputs).outcomes
+    (traces_of rules state inputs) n o t
 
 -- the trace of an input that is refused
 pub refused_trace : (rules : Rules) (state : State) (done rest : List Arrival) (input : Arrival) (number now : ℕ) →
@@ -77,8 +80,8 @@ refused_trace rules state done rest input number now long clock cause is =
     let grown : traces_of rules state (done ++ input ∷ []) ≡ traces_of rules state done ++ none ∷ [] =
     traces_grow rules 0 state.clock done input state.list number (omega arith)
     ∙ (ap (λ (t : ℕ). traces_of rules state done ++ trace_of rules.timers t (step rules number t input list) ∷ []) clock
-    ∙ ap (λ a. traces_of rules state done ++ trace_of rules.timers now (step_as rules (first_leg number now input.side) a list)
-    ∷ []) is) in
+    ∙ ap (λ a. traces_of rules state done ++ trace_of rules.timers now
+    (step_as rules (first_leg number now input.side) a list) ∷ []) is) in
     let front = traces_begin rules 0 state.clock (done ++ input ∷ []) rest state.list in
     ap (λ (ts : List Trace). slice_get ts number) (sym front.1 ∙ ap (λ (ts : List Trace). ts ++ front.0) grown)
     ∙ get_at (traces_of rules state done) none front.0 number (traces_long rules 0 state.clock done state.list ∙ long)

@@ -19,8 +19,8 @@ module _ (rules : Rules) (state : State) (before : List Arrival) (input : Arriva
   has_room few = grind (arith, common_steps, nat_tests, acts_few, is_later)
 
   module _ (translators : List CountedTranslator) (told : Stepped)
-      (steps : Steps rules now (step rules it.many now input (state_from rules state before).list) (state_from rules state before)
-      translators told) where
+      (steps : Steps rules now (step rules it.many now input (state_from rules state before).list)
+      (state_from rules state before) translators told) where
     at : now ≡ max (last_clock state.clock before) input.clock
     at = clock ∙ ap (λ (t : ℕ). max t input.clock) stands.clock
 
@@ -34,7 +34,8 @@ module _ (rules : Rules) (state : State) (before : List Arrival) (input : Arriva
 
 -- AFTER ALL
 
-module _ (rules : Rules) (state : State) (inputs : List Arrival) (it : SequentialRun) (stands : StandsFrom rules state inputs it) where
+module _ (rules : Rules) (state : State) (inputs : List Arrival) (it : SequentialRun)
+    (stands : StandsFrom rules state inputs it) where
   pub bindings_shown : (bindings : List Row) → bindings ≡ flat_map (rows_at it.clock) it.translators.items →
       bindings ≡ (ran_from rules state inputs).bindings
   bindings_shown bindings shown = grind (arith, common_steps, nat_tests, run_shown)
@@ -43,7 +44,8 @@ module _ (rules : Rules) (state : State) (inputs : List Arrival) (it : Sequentia
       legs ≡ (ran_from rules state inputs).legs
   legs_shown legs shown = grind (arith, common_steps, nat_tests, run_shown)
 
-pub is_ran : (rules : Rules) (state : State) (inputs : List Arrival) (outcomes : List Outcome) (bindings : List Row) (legs : List ℕ) →
+pub is_ran : (rules : Rules) (state : State) (inputs : List Arrival) (outcomes : List Outcome) (bindings : List Row)
+    (legs : List ℕ) →
     outcomes ≡ (course_from rules state inputs).outcomes → bindings ≡ (ran_from rules state inputs).bindings →
     legs ≡ (ran_from rules state inputs).legs →
     (let r : Ran = record { outcomes = outcomes; bindings = bindings; legs = legs } in r ≡ ran_from rules state inputs)

@@ -19,10 +19,10 @@ pub run_shown : (rules : Rules) (state : State) (inputs : List Arrival) (outcome
     (let r : Ran = record { outcomes = outcomes; bindings = bindings; legs = legs } in r ≡ ran_from rules state inputs)
 run_shown rules state inputs outcomes last translators bindings legs told clock are shown legs_are =
     let after : RunState = state_from rules state inputs in
-    let all : flat_map (rows_at last) translators ≡ flat_map (λ (address : ℕ). rows rules.timers (last_clock state.clock inputs)
-    (of address after.list)) rules.pool =
-    flat_alike (rows_at last) (λ (address : ℕ). rows rules.timers (last_clock state.clock inputs) (of address after.list))
-    translators rules.pool are.many
+    let all : flat_map (rows_at last) translators ≡ flat_map (λ (address : ℕ). rows rules.timers
+    (last_clock state.clock inputs) (of address after.list)) rules.pool =
+    flat_alike (rows_at last) (λ (address : ℕ). rows rules.timers (last_clock state.clock inputs)
+    (of address after.list)) translators rules.pool are.many
     (λ place counted address is_there at. counted_rows rules place address after counted
     (are.each place address counted at is_there) last clock
     ∙ ap (λ (t : ℕ). rows rules.timers t (of address after.list)) clock) in

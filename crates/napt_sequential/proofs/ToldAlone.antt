@@ -54,8 +54,10 @@ module _ {P : Type 0} (tells : Passage → P) (rules : Rules) (address : ℕ) wh
       told_replies tells rules address (legs_at address (course_from rules state inputs).acts) (fresh_of state)
       ≡ map (told_of tells rules.timers) (acts_at address (course_from rules state inputs).acts)
   told_alone state inputs =
-      alone state.clock (fresh_of state) state.list (course_from rules state inputs).acts (last_clock state.clock inputs) (course_from rules state inputs).list
-      (record { agrees = record { same = refl; taken = refl }; past = omega arith }) (run_turn rules 0 state.clock inputs state.list)
+      alone state.clock (fresh_of state) state.list (course_from rules state inputs).acts
+      (last_clock state.clock inputs) (course_from rules state inputs).list
+      (record { agrees = record { same = refl; taken = refl }; past = omega arith })
+      (run_turn rules 0 state.clock inputs state.list)
 
   -- what is told of a front of the legs begins what is told of all
   told_front : (xs rest : List Leg) (own : Kept) →

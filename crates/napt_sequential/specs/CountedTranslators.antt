@@ -3,7 +3,7 @@
 use Rattle.std.specs.{Prelude.{◌≡◌, ℕ, ◌+◌, ◌<◌, ◌≤◌, ◌^◌, max, length, List, [], ◌∷◌, ◌++◌, flat_map, Option, Some, None}, Option.option_map, List.slice_get}
 use Rattle.napt_wire.specs.{declared.{Protocol.Protocol, Way.{Way, TheVariants.{Outgoing, Incoming}}}, Fields.{source, destination, kind}}
 use Rattle.napt_config.specs.{declared.settings.Timers.Timers, Rules.Rules}
-use Rattle.napt_rules.specs.Prelude.{Binding, by_inside, by_number, Acted, act, Arrival, rows, taken, Act, Course, State, anew, course_from, last_clock, legs_at, Kept, kept_act, answer_of, AreOrdered}
+use Rattle.napt_rules.specs.Prelude.{Binding, by_inside, by_number, Acted, act, Arrival, rows, taken, Act, Course, State, anew, course_from, last_clock, legs_at, Kept, kept_act, answer_of, AreLeft}
 use Rattle.napt_rules.specs.declared.{Row.Row, Leg.Leg, End.End, Outcome.Outcome}
 use Rattle.napt_rules.specs.declared.End.TheVariants as ends
 use Rattle.napt_table.specs.{declared.TimedRow.TimedRow, TimedRows.timed}
@@ -86,14 +86,14 @@ abbrev pub left_at : ℕ → CountedTranslator → List Binding
 left_at now counted = taken counted.translator.rules.timers (max now counted.translator.table.at)
     counted.translator.table.list
 
--- those of all translators, one after another, each in order
-pub record AreLeft (now : ℕ) (translators : List CountedTranslator) (made : List Binding) : Type 0 where
+-- those of all translators, one after another
+pub record AreAllLeft (now : ℕ) (translators : List CountedTranslator) (made : List Binding) : Type 0 where
   pub parts : List (List Binding)
   pub list : made ≡ flat_map (λ part. part) parts
   pub many : length parts ≡ length translators
   pub each : (place : ℕ) (counted : CountedTranslator) (part : List Binding) →
       slice_get translators place ≡ Some counted → slice_get parts place ≡ Some part →
-      AreOrdered (left_at now counted) part
+      AreLeft counted.translator.rules.timers (max now counted.translator.table.at) (left_at now counted) part
 
 -- LOOK-UPS after a leg, by its packet before it and by how it ended
 

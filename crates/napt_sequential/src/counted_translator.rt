@@ -1,6 +1,6 @@
 //! The translators of a run, each with a count of its legs.
 
-ghost use Rattle.std.specs.Prelude.{◌≡◌, ◌-◌, ◌^◌, ◌<◌, IfOk, OnOk};
+ghost use Rattle.std.specs.Prelude.{◌≡◌, ◌-◌, ◌^◌, ◌<◌, max, IfOk, OnOk};
 
 use crate::passage::Passage;
 use crate::telling::{Telling, Told};
@@ -17,7 +17,7 @@ pub(crate) struct CountedTranslator {
 
 impl CountedTranslator {
     ghost use Rattle.napt_sequential.specs.CountedTranslators.{told_at, counted_after, left_at, rows_at};
-    ghost use Rattle.napt_rules.specs.Prelude.{AreOrdered};
+    ghost use Rattle.napt_rules.specs.Prelude.{AreLeft};
 
     /// Translates and counts a leg; returns its answer and what it did.
     pub(crate) fn take(&mut self, alloc: Global, leg: Leg) -> Result<Told<Passage>, AllocError>
@@ -40,7 +40,8 @@ impl CountedTranslator {
 
     /// The bindings that are live or held at a time, in ns, in the order of their rows.
     pub(crate) fn left(&self, alloc: Global, now: u64) -> Result<Vec<StateBinding>, AllocError>
-        ensures { IfOk result (λ made. AreOrdered (left_at now self.now) made.items) }
+        ensures { IfOk result (λ made. AreLeft self.now.translator.rules.timers
+            (max now self.now.translator.table.at) (left_at now self.now) made.items) }
     {
         self.translator.left(alloc, now)
     }

@@ -141,11 +141,14 @@ impl SequentialRun {
     /// The state that it leaves, from which a run goes on: the bindings that are live or held at the latest clock, in
     /// the order of `bindings`.
     pub fn left(&self, alloc: Global) -> Result<State, AllocError>
-        ensures { (rules : Rules) (state : State) (inputs : List Arrival) → KeepsRules rules →
+        ensures { (rules : Rules) (state : State) (inputs : List Arrival) →
             StandsFrom rules state inputs self.now →
             IfOk result (IsInOrder rules (model.left_by rules state inputs)) }
     {
-        let _ = left(alloc, &self.translators, self.clock)?;
-        Err(AllocError)
+        let list = left(alloc, &self.translators, self.clock)?;
+        Ok(State {
+            clock: self.clock,
+            list,
+        })
     }
 }

@@ -1,5 +1,5 @@
 -- Which line begins with which word.
-use Rattle.std.proofs.Common.{◌≡◌, ℕ, ◌<◌, ◌^◌, ◌∙◌, Bool, true, false, List, [], ◌∷◌, codes, decimal, Option, Some, refl, sym, ap, get_or, arith}
+use Rattle.std.proofs.Common.{◌≡◌, ℕ, ◌<◌, ◌^◌, Bool, true, false, [], codes, decimal, Option, Some, refl, sym, ap, get_or, arith}
 use Rattle.napt_rules.specs.declared.{Flow.Flow, Row.Row}
 use Rattle.napt_state.specs.declared.line.StateLine.{StateLine}
 use Rattle.napt_state.specs.declared.line.StateLine.TheVariants as lines

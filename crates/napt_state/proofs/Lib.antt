@@ -1,3 +1,4 @@
 pub mod Arms
 pub mod Lines
-pub mod States
+pub mod Lists
+pub mod Taken

@@ -1,10 +1,10 @@
 -- The text of a state: a line for its clock, one for each binding and behind it one for each of its flows, and one that
 -- says how many there are. A line has words, with a space between them.
-use Rattle.std.specs.{Prelude.{◌≡◌, ℕ, ◌+◌, ◌^◌, ◌<◌, ◌==◌, ◌&&◌, Bool, true, false, cond, List, [], ◌∷◌, ◌++◌, map, length, flat_map, take, codes, decimal, Option, Some, None, option_map, option_and_then}, List.{slice_split, sum_by}}
+use Rattle.std.specs.{Prelude.{ℕ, ◌^◌, ◌<◌, ◌==◌, Bool, true, false, List, [], ◌∷◌, ◌++◌, map, length, flat_map, codes, decimal}, List.{slice_split, sum_by}}
 use Rattle.napt_wire.specs.declared.{Endpoint.Endpoint, Protocol.{Protocol, TheVariants.{Icmp, Tcp, Udp}}}
 use Rattle.napt_config.specs.Text.{address_text}
 use Rattle.napt_rules.specs.declared.{Flow.Flow, Marks.Marks, Row.Row}
-use Rattle.napt_rules.specs.Prelude.{Binding, State}
+use Rattle.napt_rules.specs.Prelude.{Binding, Each, State}
 use Rattle.napt_state.specs.declared.line.StateLine.{StateLine}
 use Rattle.napt_state.specs.declared.line.StateLine.TheVariants as lines
 
@@ -98,58 +98,15 @@ binding_lines b = binding b.row b.last ∷ map flow b.flows
 abbrev pub flow_count : List Binding → ℕ
 flow_count list = sum_by (λ b. length b.flows) list
 
+-- with the counts behind them
+abbrev pub list_lines : List Binding → List StateLine
+list_lines list = flat_map binding_lines list ++ end (length list) (flow_count list) ∷ []
+
 abbrev pub state_lines : State → List StateLine
-state_lines state = lines.Clock state.clock
-    ∷ (flat_map binding_lines state.list ++ end (length state.list) (flow_count state.list) ∷ [])
+state_lines state = lines.Clock state.clock ∷ list_lines state.list
 
 abbrev pub state_text : State → Text
 state_text state = flat_map line_text (state_lines state)
 
--- WHAT ENTRIES SAY
-
--- what entries behind a clock say: flows of the binding before them, the bindings behind these, and the counts
-pub record Said : Type 0 where
-  pub flows : List Flow
-  pub list : List Binding
-  pub counts : ℕ × ℕ
-
-abbrev pub with_flow : Flow → Said → Said
-with_flow flow said = record said { flows = flow ∷ said.flows }
-
-abbrev pub with_binding : Row → ℕ → Said → Said
-with_binding row last said = record said {
-  flows = [];
-  list =
-      record { row = row; last = last; flows = said.flows } ∷ said.list;
-}
-
-abbrev pub said_by : List StateLine → Option Said
-said_by [] = None
-said_by (lines.Clock clock ∷ rest) = None
-said_by (lines.Binding row last ∷ rest) = option_map (with_binding row last) (said_by rest)
-said_by (lines.Flow flow ∷ rest) = option_map (with_flow flow) (said_by rest)
-said_by (lines.End bindings flows ∷ []) =
-    Some (record { flows = []; list = []; counts = (bindings, flows) })
-said_by (lines.End bindings flows ∷ (next ∷ rest)) = None
-
--- no flow comes before the bindings, and the counts are right
-abbrev pub whole : ℕ → Said → Option State
-whole clock said =
-    cond ((length said.flows == 0) && ((said.counts.0 == length said.list) && (said.counts.1 == flow_count said.list)))
-    (Some (record { clock = clock; list = said.list })) None
-
--- the state that entries say, if they are those of one
-abbrev pub state_of : List StateLine → Option State
-state_of [] = None
-state_of (lines.Clock clock ∷ rest) = option_and_then (whole clock) (said_by rest)
-state_of (lines.Binding row last ∷ rest) = None
-state_of (lines.Flow flow ∷ rest) = None
-state_of (lines.End bindings flows ∷ rest) = None
-
-abbrev pub StatesReadBack : Type 0
-StatesReadBack = (state : State) → state_of (state_lines state) ≡ Some state
-
--- of a text that was cut behind a line, and not at its end
-abbrev pub CutIsRefused : Type 0
-CutIsRefused = (state : State) (lines : ℕ) → lines < length (state_lines state) →
-    state_of (take lines (state_lines state)) ≡ None
+abbrev pub IsState : State → Type 0
+IsState state = Each IsStateLine (state_lines state)

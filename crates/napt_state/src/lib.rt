@@ -3,11 +3,18 @@
 //! `specs/StateText` defines the text to its last character and what entries say together, `napt_rules` what a state is.
 #![tactic(auto)]
 
+mod endpoints;
+mod fault;
 mod fields;
+mod fitting;
 mod line;
 mod saved_state;
+mod taking;
 #[cfg(test)]
 mod tests;
+mod text;
+mod wrong;
 
-pub use line::{StateLine, states_are_read_back};
-pub use saved_state::{SavedState, StateFault};
+pub use fault::{StateFault, StateReason, StateWord};
+pub use taking::take_up;
+pub use text::{read_state, write_state};

@@ -10,7 +10,7 @@ use std::alloc::AllocError;
 
 /// A line of the text of a state.
 #[derive(Clone, Copy, Debug, PartialEq, Eq)]
-pub enum StateLine {
+pub(crate) enum StateLine {
     /// The clock of the state, in ns: the first line.
     Clock(u64),
     /// A binding, and when it was last used, in ns. Its flows come behind it.
@@ -24,7 +24,7 @@ pub enum StateLine {
 impl StateLine {
     /// Appends the line. Fails only if memory runs out.
     #[tactic(auto, unfolding(crate::specs::StateText::line_text))]
-    pub fn add_to(&self, text: &mut String) -> Result<(), AllocError>
+    pub(crate) fn add_to(&self, text: &mut String) -> Result<(), AllocError>
         ensures { OnOk result (string_bytes text.new
             ≡ string_bytes text.old ++ texts.line_text self.now) }
     {
@@ -37,7 +37,7 @@ impl StateLine {
     }
 
     /// Reads a line without the line feed at its end; `None` if it is none of a state.
-    pub fn read(line: &str) -> Option<StateLine>
+    pub(crate) fn read(line: &str) -> Option<StateLine>
         ensures { (entry : Told) → texts.IsStateLine entry →
             texts.line_text entry ≡ line.now ++ codes "\n" → result ≡ Some entry }
     {
@@ -137,10 +137,3 @@ fn read_end(line: &str) -> Option<StateLine>
 {
     Some(StateLine::End(fields::number(line, 1)?, fields::number(line, 2)?))
 }
-
-/// The entries of a state say it, and nothing less than all of them says any.
-#[tactic(auto, using(crate::proofs::States::read_back, crate::proofs::States::cut_refused))]
-pub fn states_are_read_back()
-    ensures back { texts.StatesReadBack }
-    ensures cut { texts.CutIsRefused }
-{}

@@ -1,8 +1,11 @@
-//! A text with a line of each kind is written and read back; damaged lines are refused, with their number.
+//! A state with a line of each kind is written and read back; damaged texts are refused, with a line that says why.
 
-use crate::{SavedState, StateFault, StateLine};
-use napt_rules::{Flow, Marks, Row};
-use napt_wire::{Endpoint, Protocol};
+use crate::{read_state, take_up, write_state};
+use napt_config::Config;
+use napt_rules::Misfit;
+use std::alloc::{AllocError, Global};
+use std::io;
+use std::io::Write;
 use std::test::Fail;
 
 const TEXT: &str = "clock 1800000000000000000\n\
@@ -12,83 +15,156 @@ const TEXT: &str = "clock 1800000000000000000\n\
     binding icmp 10.0.0.2 7 203.0.113.1 7 18446744073709551615\n\
     end 3 1\n";
 
-fn endpoint(address: u32, number: u16) -> Endpoint {
-    Endpoint { address, number }
-}
+const TWO_LINES: &str = "binding udp 10.0.0.2 5001 203.0.113.1 1025 1000000000\n\
+    binding udp 10.0.0.2 5002 203.0.113.1 1027 0\n\
+    end 2 0\n";
 
-fn row(protocol: Protocol, inside: Endpoint, external: u16, fixed: bool) -> Row {
-    Row {
-        protocol,
-        inside,
-        external: endpoint(0xCB00_7101, external),
-        fixed,
+/// What is written of the state that a text says, or why the text is refused.
+fn written(alloc: Global, text: &str) -> io::Result<Vec<u8>> {
+    let mut written = Vec::new(alloc);
+    match read_state(alloc, text.as_bytes()) {
+        Ok(state) => write_state(alloc, &mut written, &state)?,
+        Err(fault) => write!(&mut written, "{fault}")?,
     }
-}
-
-fn entries() -> [StateLine; 6] {
-    let server = row(Protocol::Tcp, endpoint(0x0A00_0009, 80), 8080, true);
-    let client = row(Protocol::Tcp, endpoint(0x0A00_0002, 5001), 1025, false);
-    let echo = row(Protocol::Icmp, endpoint(0x0A00_0002, 7), 7, false);
-    let flow = Flow {
-        remote: endpoint(0xC633_6407, 443),
-        marks: Marks {
-            syn_out: true,
-            syn_in: true,
-            fin_out: false,
-            fin_in: false,
-            reset: false,
-        },
-        last: 1_799_999_999_000_000_001,
-    };
-    [
-        StateLine::Clock(1_800_000_000_000_000_000),
-        StateLine::Binding(server, 0),
-        StateLine::Binding(client, 1_799_999_999_000_000_001),
-        StateLine::Flow(flow),
-        StateLine::Binding(echo, u64::MAX),
-        StateLine::End(3, 1),
-    ]
+    Ok(written)
 }
 
 #[test]
-fn entries_are_written_and_read_back(rt: HostRuntime) -> Result<(), Fail> {
-    let mut text = String::new(rt.alloc());
-    let mut saved = SavedState::new(rt.alloc(), TEXT.as_bytes());
-    for entry in &entries() {
-        entry.add_to(&mut text)?;
-        assert!(rt; matches!(saved.next(), Ok(Some(read)) if read == *entry));
+fn a_state_is_read_and_written_again(rt: HostRuntime) -> Result<(), Fail> {
+    for text in [TEXT, "clock 0\nend 0 0\n"] {
+        assert_eq!(rt; written(rt.alloc(), text)?.as_slice(), text.as_bytes());
     }
-    assert_eq!(rt; text.as_str(), TEXT);
-    assert!(rt; matches!(saved.next(), Ok(None)));
     Ok(())
 }
 
 #[test]
-fn what_is_none_of_a_state_is_refused(rt: HostRuntime) -> Result<(), Fail> {
-    for line in [
-        "\n",
-        "clock\n",
-        "clock 01\n",
-        "clock +1\n",
-        "clock 1 \n",
-        "clock 18446744073709551616\n",
-        "binding udp 10.0.0.2 5000 203.0.113.1 65536 1\n",
-        "binding udp 10.0.0.2 5000 203.0.113 1 1\n",
-        "binding sctp 10.0.0.2 5000 203.0.113.1 1 1\n",
-        "flow 10.0.0.2 5000 1 0 0 0 0 2\n",
-        "flow 10.0.0.2 5000 1 0 0 0 0\n",
-        "end 1\n",
-        "end 1 1 1\n",
-        "start 1\n",
-        "end 1 1\r\n",
-    ] {
-        let mut saved = SavedState::new(rt.alloc(), line.as_bytes());
-        assert!(rt; matches!(saved.next(), Err(StateFault::Wrong)));
-        assert_eq!(rt; saved.line(), 1);
+fn what_is_no_state_is_refused(rt: HostRuntime) -> Result<(), Fail> {
+    let cases = [
+        ("", "line 1: the text breaks off"),
+        ("clock 1", "line 1: the text breaks off"),
+        ("clock 1\nend 0 0", "line 2: the text breaks off"),
+        ("clock 1\n", "line 2: the text breaks off"),
+        ("\n", "line 1: first word ''"),
+        ("end 0 0\n", "line 1: first word 'end'"),
+        ("clock 1\nclock 1\n", "line 2: first word 'clock'"),
+        ("clock 1\nstart\x1b 1\n", "line 2: first word 'start'"),
+        ("clock 1\nend 0 0\r\n", "line 2: number '0'"),
+        ("clock\n", "line 1: too many words, or too few"),
+        ("clock 1 \n", "line 1: too many words, or too few"),
+        ("clock 01\n", "line 1: number '01'"),
+        ("clock +1\n", "line 1: number '+1'"),
+        (
+            "clock 18446744073709551616\n",
+            "line 1: number '18446744073709551616'",
+        ),
+        (
+            "clock 1000000000000000000000000000000000000000000000000000\n",
+            "line 1: number '1000000000000000000000000000000000000000'",
+        ),
+        (
+            "clock 1\nbinding udp 10.0.0.2 5000 203.0.113.1 65536 1\n",
+            "line 2: number '65536'",
+        ),
+        (
+            "clock 1\nbinding udp 10.0.0.2 5000 203.0.113 1 1\n",
+            "line 2: address '203.0.113'",
+        ),
+        (
+            "clock 1\nbinding udp 10.0.0.256 5000 203.0.113.1 1 1\n",
+            "line 2: address '10.0.0.256'",
+        ),
+        (
+            "clock 1\nredirect sctp 10.0.0.2 5000 203.0.113.1 1 1\n",
+            "line 2: protocol 'sctp'",
+        ),
+        (
+            "clock 1\nbinding udp 10.0.0.2 5000 203.0.113.1 1 1\nflow 10.0.0.2 5000 1 0 0 0 0 2\n",
+            "line 3: mark '2'",
+        ),
+        (
+            "clock 1\nflow 10.0.0.2 5000 1 0 0 0 0 0\n",
+            "line 2: a flow before each binding",
+        ),
+        ("clock 1\nend 1 0\n", "line 2: counts of other lines"),
+        ("clock 1\nend 0 1\n", "line 2: counts of other lines"),
+        ("clock 1\nend 0 0\nend 0 0\n", "line 3: behind the end"),
+    ];
+    for (text, fault) in cases {
+        assert_eq!(rt; written(rt.alloc(), text)?.as_slice(), fault.as_bytes());
     }
-    let mut saved = SavedState::new(rt.alloc(), "clock 1\nend 0".as_bytes());
-    assert!(rt; matches!(saved.next(), Ok(Some(StateLine::Clock(1)))));
-    assert!(rt; matches!(saved.next(), Err(StateFault::Torn)));
-    assert_eq!(rt; saved.line(), 2);
+    let bytes: &[u8] = &[99, 108, 255, 10];
+    let Err(fault) = read_state(rt.alloc(), bytes) else {
+        assert!(rt; false);
+        return Ok(());
+    };
+    assert_eq!(rt;
+        format!(in rt.alloc(); "{fault}")?.as_str(),
+        "line 1: not UTF-8"
+    );
+    Ok(())
+}
+
+const CONFIG: &str = "pool = [\"203.0.113.1\"]\n\
+    inside = [\"10.0.0.0/8\"]\n\
+    [[redirect]]\n\
+    protocol = \"tcp\"\n\
+    inside = \"10.0.0.9:80\"\n\
+    external = 8080\n";
+
+/// The first reason against a state with these lines behind its clock.
+fn misfit(alloc: Global, lines: &str) -> Result<Option<Misfit>, AllocError> {
+    let text = format!(in alloc; "clock 1000000000\n{lines}")?;
+    let Ok(mut state) = read_state(alloc, text.as_bytes()) else {
+        return Err(AllocError);
+    };
+    let Ok(config) = Config::read(alloc, CONFIG.as_bytes()) else {
+        return Err(AllocError);
+    };
+    match take_up(alloc, &config, &mut state)? {
+        Some((_, misfit)) => Ok(Some(misfit)),
+        None => Ok(None),
+    }
+}
+
+#[test]
+fn what_fits_is_taken_up(rt: HostRuntime) -> Result<(), Fail> {
+    let cases = [
+        (TWO_LINES, None),
+        (
+            "redirect udp 11.0.0.2 1 203.0.113.1 1 0\nbinding tcp 11.0.0.2 1 203.0.113.1 1 9\nend 2 0\n",
+            None,
+        ),
+        (
+            "binding udp 11.0.0.2 1 203.0.113.1 1 9\nend 1 0\n",
+            Some(Misfit::NotInside),
+        ),
+        (
+            "binding udp 10.0.0.2 1 203.0.113.2 1 9\nend 1 0\n",
+            Some(Misfit::NotPaired),
+        ),
+        (
+            "binding udp 10.0.0.2 0 203.0.113.1 1 9\nend 1 0\n",
+            Some(Misfit::NotItsNumber),
+        ),
+        (
+            "binding udp 10.0.0.2 1 203.0.113.1 1 1000000001\nend 1 0\n",
+            Some(Misfit::UsedLater),
+        ),
+        (
+            "binding udp 10.0.0.2 1 203.0.113.1 1 9\nflow 198.51.100.7 4 1 0 0 0 0 0\nflow 198.51.100.7 4 2 0 0 0 0 0\nend 1 2\n",
+            Some(Misfit::FlowsShare),
+        ),
+        (
+            "binding tcp 10.0.0.2 1 203.0.113.1 8080 9\nflow 198.51.100.7 4 9 1 1 0 0 0\nend 1 1\n",
+            Some(Misfit::Redirected),
+        ),
+        (
+            "binding udp 10.0.0.2 1 203.0.113.1 1 9\nbinding udp 10.0.0.3 1 203.0.113.1 1 9\nend 2 0\n",
+            Some(Misfit::Shared),
+        ),
+    ];
+    for (lines, wanted) in cases {
+        assert_eq!(rt; misfit(rt.alloc(), lines)?, wanted);
+    }
     Ok(())
 }

@@ -1,15 +1,15 @@
 -- What is held and the list, through time and steps: what lives at the time, and what lived the hold before.
-use Rattle.std.proofs.Common.{◌≡◌, ◌≢◌, ℕ, ◌<◌, ◌≤◌, nat_le, Bool, true, false, not, ◌&&◌, cond, List, [], ◌∷◌, ◌++◌, map, filter, find, Option, Some, None, ◌⊎◌, inl, inr, Ok, refl, sym, ◌∙◌, ap, subst, arith, eqb, true≢false}
+use Rattle.std.proofs.Common.{◌≡◌, ℕ, ◌<◌, ◌≤◌, nat_le, Bool, true, false, not, ◌&&◌, cond, List, [], ◌∷◌, ◌++◌, map, filter, find, Option, Some, None, ◌⊎◌, inl, inr, Ok, refl, sym, ◌∙◌, ap, subst, arith, eqb, true≢false}
 use Rattle.std.{specs.Option.{option_map, is_some}, proofs.lemmas.Bool.{leb-true, leb-false, and_parts}}
 use Rattle.napt_wire.specs.declared.Protocol.{Protocol}
 use Rattle.napt_config.specs.{Rules.AreTimers, declared.settings.Timers.Timers}
-use Rattle.napt_rules.specs.declared.{Granting.Granting, Inbound.Inbound, Sent.Sent, Received.Received, Row.Row}
+use Rattle.napt_rules.specs.declared.{Granting.Granting, Inbound.Inbound, Sent.Sent, Received.Received}
 use Rattle.napt_rules.specs.Prelude.{Binding, Each, change_first, same_protocol, has_number, is_live, with_live_flows, purge, hold_ago, taken, of_source, of_live_source, sent_by, sent_live, of_others, fresh, granted_again, out_taken, of_live_destination, received_live, in_taken, row, Apart}
 use Rattle.napt_rules.proofs.Life.{lived}
 use Rattle.napt_laws.proofs.{Lists.{find_passes, find_none, any_none, each_weaker, each_true}, Finds.{Once, find_pushed, find_passed_over}}
 use Rattle.napt_laws.proofs.{Purges.purge_purge, Living.{ago_before, ago_later, purge_taken}, Passes.{of_out, of_in}, StepRows.{purge_keeps, rows_change}}
 use Rattle.napt_laws.proofs.{StepsLive.{sent_is_fresh, made_is_fresh, received_is_fresh}, StepsSound.apart_kept, Endpoints.{inside_parts, once_number, once_inside}}
-use Rattle.napt_table.specs.{declared.bindings.keys.ExternalKey.ExternalKey, Keys.external_key, Held.{seen, Shows, Holds}, Holdings.{Holdings, held, held_at}, Bindings.{AllShow, AllKeep, KeepsUnseen}}
+use Rattle.napt_table.specs.{declared.bindings.keys.ExternalKey.ExternalKey, Keys.external_key, Held.{seen, Holds}, Holdings.{Holdings, held, held_at}, Bindings.{AllShow, AllKeep, KeepsUnseen}}
 use Rattle.napt_table.proofs.{Seen.{seen_is, find_purged, seen_seen, shows_later}, Enters.fresh_seen, Opening.none_earlier}
 
 -- no two of what lives at a time share an endpoint
@@ -145,7 +145,7 @@ module _ {X : Type 0} (s p : X → Bool) (f : X → X) (same : (x : X) → s (f 
       ] refl
 
 module _ {X : Type 0} (s t : X → Bool) where
-  find_without : (xs : List X) → Each (λ x. t x ≡ true → s x ≡ false) xs → find s (filter (λ x. not (t x)) xs)
+  pub find_without : (xs : List X) → Each (λ x. t x ≡ true → s x ≡ false) xs → find s (filter (λ x. not (t x)) xs)
       ≡ find s xs
   find_without [] h = refl
   find_without (x ∷ xs) h = elim (t x) as (λ v. t x ≡ v →

@@ -19,5 +19,8 @@ pub mod LiveNumbers
 pub mod TableSteps
 pub mod Listed
 pub mod Opening
+pub mod Resuming
+pub mod Alike
+pub mod Left
 pub mod Keeps
 pub mod Granted

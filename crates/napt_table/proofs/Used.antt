@@ -4,7 +4,7 @@ use Rattle.std.{specs.List.list_any, proofs.lemmas.{Bool.{true≢false, cases_lt
 use Rattle.napt_wire.specs.declared.{Endpoint.Endpoint, Flags.Flags, Protocol.{Protocol, TheVariants.{Icmp, Tcp, Udp}}, Way.TheVariants.{Outgoing, Incoming}}
 use Rattle.napt_config.specs.{Rules.AreTimers, declared.settings.Timers.Timers}
 use Rattle.napt_rules.specs.declared.{Flow.Flow, Inbound.Inbound, Received.Received}
-use Rattle.napt_rules.specs.Prelude.{Binding, change_first, is_live_flow, is_tcp, live_flows, no_marks, permits, is_flow_of, used, with_flow, sent, received_by}
+use Rattle.napt_rules.specs.Prelude.{Binding, change_first, is_live_flow, is_tcp, live_flows, no_marks, permits, is_flow_of, used, with_flow, sent, refreshes, received_by}
 use Rattle.napt_rules.proofs.Life.{used_live, lived_flow}
 use Rattle.napt_binding.specs.{Entering.left_by, Slots.NoneUsedAfter}
 
@@ -39,6 +39,10 @@ module _ (now : ℕ) where
       (is_flow_of remote) (used b.row.protocol Outgoing flags now) (with_flow remote now b.flows))) now)
       [ true ↦ h | false ↦ out_used b.row.protocol remote flags b.flows h ]
 
+  pub sent_last : (remote : Endpoint) (flags : Flags) (b : Binding) → b.last ≤ now →
+      (sent remote flags now b).last ≤ now
+  sent_last remote flags b h = elim b.row.fixed as (λ v. cond v b.last now ≤ now) [ true ↦ h | false ↦ omega arith ]
+
   module _ (timers : Timers) where
     -- what is dead was used before
     dead_used : AreTimers timers → (x : Flow) → is_live_flow timers now x ≡ false → UpTo x
@@ -65,6 +69,15 @@ module _ (now : ℕ) where
     all_used good Icmp flows h = h
     all_used good Udp flows h = h
     all_used good Tcp flows h = kept_used good flows h
+
+pub left_last : (inbound : Inbound) (packet : Received) (b : Binding) → b.last ≤ packet.now →
+    (left_by inbound packet b).last ≤ packet.now
+left_last inbound packet b h = elim (permits inbound b packet.remote) as (λ v.
+    (cond v (received_by inbound packet b) b).last ≤ packet.now) [
+      | true ↦ elim (refreshes inbound.refresh b.row) as (λ v. cond v packet.now b.last ≤ packet.now)
+          [ true ↦ omega arith | false ↦ h ]
+      | false ↦ h
+    ]
 
 pub left_used : (inbound : Inbound) (packet : Received) (b : Binding) → NoneUsedAfter b.flows packet.now →
     NoneUsedAfter (left_by inbound packet b).flows packet.now

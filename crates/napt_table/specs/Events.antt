@@ -1,12 +1,10 @@
 -- What happened to a table, and the list that it leaves.
-use Rattle.std.specs.Prelude.{ℕ, List, [], ◌∷◌, ◌++◌}
+use Rattle.std.specs.Prelude.{ℕ, List, [], ◌∷◌}
 use Rattle.napt_rules.specs.{declared.{Granting.Granting, Inbound.Inbound}, Prelude.{Binding, taken, step_out, step_in}}
 use Rattle.napt_config.specs.declared.settings.Timers.{Timers}
-use Rattle.napt_table.specs.{declared.event.Event.{Event, TheVariants.{Redirected, Sent, Received, Purged}}, Held.redirect_of}
+use Rattle.napt_table.specs.{declared.event.Event.{Event, TheVariants.{Sent, Received, Purged}}}
 
 abbrev pub played : Timers → Granting → Inbound → ℕ → Event → List Binding → List Binding
-played timers granting inbound address (Redirected protocol inside number) list =
-    list ++ redirect_of protocol address inside number ∷ []
 played timers granting inbound address (Sent packet) list = (step_out timers granting address packet list).list
 played timers granting inbound address (Received packet) list = (step_in timers inbound address packet list).list
 played timers granting inbound address (Purged now) list = taken timers now list

@@ -9,6 +9,7 @@ pub mod Bindings
 pub mod Events
 pub mod QuotaKept
 pub mod Shown
+pub mod Beginnings
 pub mod Listing
 pub mod Counts
 pub mod TimedRows

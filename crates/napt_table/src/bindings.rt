@@ -14,7 +14,7 @@ use crate::bindings::held::Held;
 use crate::bindings::keys::ExternalKey;
 use napt_binding::{IdleTimers, end_of, is_live, until};
 use napt_collections::Due;
-use napt_rules::{Granting, Inbound, Received, Row};
+use napt_rules::{Granting, Inbound, Received, Row, StateBinding};
 use napt_wire::{Cause, Endpoint, Protocol};
 use std::alloc::{AllocError, Global};
 use std::marker::Model;
@@ -30,7 +30,7 @@ mod sending;
 #[derive(Drop)]
 pub(crate) struct Bindings {
     timers: IdleTimers,
-    /// The time of the last packet, in ns; 0 before the first.
+    /// The time of the last packet, in ns; before the first that at which it begins.
     at: u64,
     held: Held,
     /// One entry for each binding that is not fixed, with a time until which it is sure to live.
@@ -94,22 +94,23 @@ impl Bindings {
     ghost use Rattle.napt_table.specs.Holdings.{held, held_at, IsSamePlace, IsNamed};
     ghost use Rattle.napt_table.specs.Bindings.{HasRoom, IsPurged, IsLiveNumberOf, Receives};
 
-    /// Nothing is held. It takes memory for the numbers in use.
+    /// Nothing is held at a time, in ns. It takes memory for the numbers in use.
     pub(crate) fn new(
         alloc: Global,
         address: u32,
         timers: IdleTimers,
         granting: Granting,
+        at: u64,
     ) -> Result<Bindings, AllocError>
         ensures timers { IfOk result (λ bindings. bindings.timers ≡ timers) }
-        ensures at { IfOk result (λ bindings. bindings.at ≡ 0) }
+        ensures at { IfOk result (λ bindings. bindings.at ≡ at) }
         ensures address { IfOk result (λ bindings. bindings.held.address ≡ address) }
         ensures granting { IfOk result (λ bindings. bindings.held.granting ≡ granting) }
         ensures none { IfOk result (λ bindings. (key : Key) → held bindings.held key ≡ None) }
     {
         Ok(Bindings {
             timers,
-            at: 0,
+            at,
             held: Held::new(alloc, address, granting)?,
             due: Due::new(alloc),
         })
@@ -122,11 +123,24 @@ impl Bindings {
         self.held.keep_names();
     }
 
-    /// The time of the last packet, in ns; 0 before the first.
+    /// The time of the last packet, in ns.
     pub(crate) fn at(&self) -> u64
         ensures { result ≡ self.now.at }
     {
         self.at
+    }
+
+    pub(crate) fn timers(&self) -> IdleTimers
+        ensures { result ≡ self.now.timers }
+    {
+        self.timers
+    }
+
+    /// The external address.
+    pub(crate) fn address(&self) -> u32
+        ensures { result ≡ self.now.held.address }
+    {
+        self.held.address()
     }
 
     /// How many bindings it holds.
@@ -255,7 +269,10 @@ impl Bindings {
 }
 
 impl Bindings {
-    ghost use Rattle.napt_table.specs.Listing.{held_rows, AreRead};
+    ghost use Rattle.std.specs.{List.IsDistinct, Map.{keys_of, values_of}};
+    ghost use Rattle.napt_rules.specs.Prelude.{taken};
+    ghost use Rattle.napt_binding.specs.Slots.{AreDistinct};
+    ghost use Rattle.napt_table.specs.{Holdings.AreUsedUpTo, Keys.key_eq, Listing.{held_rows, AreRead}};
 
     /// The rows of the bindings that are live at `now` (ns), in no order.
     pub(crate) fn rows(&self, alloc: Global, now: u64) -> Result<Vec<Row>, AllocError>
@@ -264,6 +281,18 @@ impl Bindings {
         ensures read { OnOk result (AreRead self.now.timers now self.now.held) }
     {
         self.held.rows(alloc, self.timers, now)
+    }
+
+    /// The bindings that are live or held at `now` (ns), as a state has them, in no order.
+    pub(crate) fn left(&self, alloc: Global, now: u64) -> Result<Vec<StateBinding>, AllocError>
+        ensures bindings { IfOk result (λ made. made.items
+            ≡ taken self.now.timers now (values_of self.now.held.entries)) }
+        ensures distinct { IfOk result (λ made. All (λ b. AreDistinct b.flows) made.items) }
+        ensures unique { OnOk result (IsDistinct key_eq (keys_of self.now.held.entries)) }
+        ensures used { AreUsedUpTo self.now.at self.now.held }
+    {
+        let ago = self.timers.hold_ago(now);
+        self.held.left(alloc, self.timers, ago)
     }
 }
 

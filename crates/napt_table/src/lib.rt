@@ -6,6 +6,7 @@
 ghost use Rattle.std.specs.Prelude.{◌≡◌, ℕ, List};
 ghost use Rattle.napt_table.specs.{QuotaKept.PlayedKeepsQuota, Tables.{TablesShareNothing, TablesAreNumbered}};
 
+mod beginning;
 mod bindings;
 mod class;
 mod event;
@@ -34,7 +35,7 @@ pub struct TimedRow {
     pub end: Option<u128>,
 }
 
-/// Whatever happened to a table, no inside host has more bindings than its quota (RFC 6888, REQ-4).
+/// Whatever happened to a table, no inside host has more bindings than its quota, or than it began with (RFC 6888, REQ-4).
 pub fn tables_keep_the_quota()
     ensures { PlayedKeepsQuota }
 {}

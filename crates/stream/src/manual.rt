@@ -14,6 +14,7 @@ macro_rules! manual {
             about: ABOUT,
             notes: concat!(
                 "FILE may be -, standard input or standard output; a file of that name is ./-
+(the FILE of a state may not be -)
 
 Examples:
   ", $name, " < inside.pcap > to-outside.pcap
@@ -40,7 +41,8 @@ with a log alone, at packet 4611686018427387904.
   4  ", $name, ": capture SIDE WORD
   5  ", $name, ": run WORD
   6  ", $name, ": file OPTION
-     ", $name, ": write OPTION"
+     ", $name, ": write OPTION
+  8  ", $name, ": state WORD"
             ),
         }
     };

@@ -14,7 +14,10 @@ use napt_program::{
     Call, Devices, LineFault, MEMORY, Opened, OpenedWithLog, OptionsWithLog, Stop, Streams,
     open_with_log, parse_words_with_log, stop_of_run, words,
 };
-use napt_run::{Fault, LoggedFault, run_streams, run_streams_with_log};
+use napt_rules::State;
+use napt_run::{
+    Fault, LoggedFault, Passed, Start, resume_streams, run_streams_with_log,
+};
 use std::alloc::Global;
 use std::env::Env;
 use std::rt::Files;
@@ -93,7 +96,12 @@ fn run<
 {
     let alloc = rt.alloc();
     let OpenedWithLog { opened, log } = open_with_log(rt, streams, options)?;
-    let Opened { config, devices } = opened;
+    let Opened {
+        config,
+        state,
+        devices,
+        save,
+    } = opened;
     let Devices {
         inside,
         outside,
@@ -108,10 +116,13 @@ fn run<
     let answer = match log {
         Right(_) => ended(
             options,
-            run_streams(
+            resume_streams(
                 rt,
                 alloc,
-                &config,
+                Start {
+                    config: &config,
+                    state: &state,
+                },
                 &mut inside,
                 &mut outside,
                 &mut to_outside,
@@ -137,33 +148,45 @@ fn run<
         ),
     };
     progress.tell_end();
-    if answer.is_ok() {
-        call.tell_cuts(rt, inside.tallied(), outside.tallied());
+    let passed = answer?;
+    call.tell_cuts(rt, inside.tallied(), outside.tallied());
+    match (save, passed) {
+        (Some(save), Some(passed)) => save.finish(rt, alloc, &left(alloc, &passed)?),
+        _ => Ok(()),
     }
-    answer
+}
+
+/// The state that a run leaves. Fails, as a run does, if memory runs out.
+fn left(alloc: Global, passed: &Passed) -> Result<State, Stop>
+    ensures { IfErr result (λ stop. stop ≡ MEMORY) }
+{
+    passed.left(alloc).map_err(|_| MEMORY)
 }
 
 /// How the program ends after a run without a log.
-fn ended(options: &OptionsWithLog, answer: Result<(), Fault>) -> Result<(), Stop>
+fn ended(options: &OptionsWithLog, answer: Result<Passed, Fault>) -> Result<Option<Passed>, Stop>
     requires { IfErr answer (λ fault. IsUnderOpenGate (Stop.Run fault)) }
     ensures { (streams : Streams) → IfErr result
         (IsRunStop streams (files_with_log options.now)) }
 {
     match answer {
-        Ok(()) => Ok(()),
+        Ok(passed) => Ok(Some(passed)),
         Err(fault) => Err(stop_of_run(&options.files, fault)),
     }
 }
 
-/// How the program ends after a run with a log.
-fn ended_with_log(options: &OptionsWithLog, answer: Result<(), LoggedFault>) -> Result<(), Stop>
+/// How the program ends after a run with a log, beside which no state is saved.
+fn ended_with_log(
+    options: &OptionsWithLog,
+    answer: Result<(), LoggedFault>,
+) -> Result<Option<Passed>, Stop>
     requires run { IfErr answer IsLoggedUnderOpenGate }
     requires log { is_some options.now.log ≡ true }
     ensures { (streams : Streams) → IfErr result
         (IsRunStop streams (files_with_log options.now)) }
 {
     match answer {
-        Ok(()) => Ok(()),
+        Ok(()) => Ok(None),
         Err(LoggedFault::Run(fault)) => Err(stop_of_run(&options.files, fault)),
         Err(LoggedFault::Log(_)) => Err(Stop::Log),
     }

@@ -76,7 +76,7 @@ pub(super) fn keep_live(flows: &mut Vec<Flow>, timers: IdleTimers, now: u64)
 }
 
 /// Removes the dead flows if they are TCP.
-fn keep_standing(flows: &mut Vec<Flow>, timers: IdleTimers, now: u64, protocol: Protocol)
+pub(super) fn keep_standing(flows: &mut Vec<Flow>, timers: IdleTimers, now: u64, protocol: Protocol)
     ensures flows { flows.new.items ≡ life.live_flows timers now protocol flows.old.items }
     ensures capacity { vec_capacity flows.new ≡ vec_capacity flows.old }
     ensures bound { vec_len flows.new ≤ vec_len flows.old }

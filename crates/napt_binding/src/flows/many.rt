@@ -248,6 +248,21 @@ impl Many {
         Ok(many)
     }
 
+    /// A copy of the flows, oldest first.
+    pub(super) fn flows(&self, alloc: Global) -> Result<Vec<Flow>, AllocError>
+        requires { IsMany self.now }
+        ensures flows { IfOk result (λ made. made.items ≡ somes self.now.slots.slots) }
+        ensures distinct { IfOk result (λ made. AreDistinct made.items) }
+    {
+        let mut flows = Vec::new(alloc);
+        for place in 0..self.slots.len() {
+            if let Some(flow) = self.slots.get(place) {
+                flows.push(flow)?;
+            }
+        }
+        Ok(flows)
+    }
+
     /// The same flows, without empty slots.
     fn compacted(&self, alloc: Global) -> Result<Many, AllocError>
         requires { IsMany self.now }
@@ -256,12 +271,7 @@ impl Many {
         ensures none_empty { IfOk result (λ many. length many.slots.slots
             ≡ length (somes self.now.slots.slots)) }
     {
-        let mut flows = Vec::new(alloc);
-        for place in 0..self.slots.len() {
-            if let Some(flow) = self.slots.get(place) {
-                flows.push(flow)?;
-            }
-        }
+        let flows = self.flows(alloc)?;
         Many::of(alloc, &flows)
     }
 

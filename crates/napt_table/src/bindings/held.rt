@@ -1,7 +1,7 @@
 //! What is held of the bindings of one external address: those that live, and those that have ended and are not removed
 //! yet.
 
-ghost use Rattle.std.specs.Prelude.{◌≡◌, ◌<◌, ◌^◌, not, Some, None, Ok, Err, OnOk, OnErr, IfOk, IfSome, cond, find, slice_get};
+ghost use Rattle.std.specs.Prelude.{◌≡◌, ◌<◌, ◌^◌, not, Some, None, Ok, Err, OnOk, OnErr, IfOk, IfSome, All, cond, find, slice_get};
 ghost use Rattle.std.specs.Option.{option_copied, option_map, is_some};
 ghost use Rattle.napt_config.specs.Rules.{IsBlock};
 ghost use Rattle.napt_wire.specs.declared.Cause.TheVariants.{NoBinding};
@@ -12,9 +12,9 @@ use crate::bindings::numbers_in_use::NumbersInUse;
 use crate::bindings::places::Places;
 use crate::host_counts::HostCounts;
 use indexmap::IndexMap;
-use napt_binding::{Binding, Flows, IdleTimers, is_live, send, take_in};
+use napt_binding::{Binding, Flows, IdleTimers, is_live, send, take_in, to_state};
 use napt_config::Block;
-use napt_rules::{Granting, Inbound, Received, Row, Sent};
+use napt_rules::{Granting, Inbound, Received, Row, Sent, StateBinding};
 use napt_wire::{Cause, Endpoint, Protocol};
 use std::alloc::{AllocError, Global};
 use std::collections::HashMap;
@@ -314,7 +314,10 @@ impl Held {
 }
 
 impl Held {
-    ghost use Rattle.napt_table.specs.Listing.{held_rows, AreRead};
+    ghost use Rattle.std.specs.{List.IsDistinct, Map.{keys_of, values_of}};
+    ghost use Rattle.napt_rules.specs.Prelude.{purge};
+    ghost use Rattle.napt_binding.specs.Slots.{AreDistinct};
+    ghost use Rattle.napt_table.specs.{Keys.key_eq, Listing.{held_rows, AreRead}};
 
     /// The rows of the bindings that are live at `now` (ns), in no order.
     pub(crate) fn rows(
@@ -331,6 +334,28 @@ impl Held {
         for binding in held.values() {
             if is_live(binding, timers, now) {
                 made.push(binding.row.row())?;
+            }
+        }
+        Ok(made)
+    }
+
+    /// The bindings that are live at `ago` (ns), as a state has them, in no order.
+    pub(crate) fn left(
+        &self,
+        alloc: Global,
+        timers: IdleTimers,
+        ago: u64,
+    ) -> Result<Vec<StateBinding>, AllocError>
+        ensures bindings { IfOk result (λ made. made.items
+            ≡ purge timers ago (values_of self.now.entries)) }
+        ensures distinct { IfOk result (λ made. All (λ b. AreDistinct b.flows) made.items) }
+        ensures unique { OnOk result (IsDistinct key_eq (keys_of self.now.entries)) }
+    {
+        let mut made = Vec::new(alloc);
+        let held = self.by_number.as_slice();
+        for binding in held.values() {
+            if is_live(binding, timers, ago) {
+                made.push(to_state(alloc, binding, timers, ago)?)?;
             }
         }
         Ok(made)

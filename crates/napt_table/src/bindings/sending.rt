@@ -2,7 +2,6 @@
 
 ghost use Rattle.std.specs.{Prelude.{◌≡◌, ◌≤◌, true, false, Some, None, Ok, OnOk, OnErr, IfOk, IfSome, cond}, Option.is_some};
 ghost use Rattle.napt_config.specs.Rules.{IsBlock};
-ghost use Rattle.napt_binding.specs.Slots.{NoneUsedAfter};
 
 use crate::bindings::Bindings;
 use crate::bindings::keys::{ExternalKey, key_of};
@@ -15,7 +14,7 @@ impl Bindings {
     ghost use Rattle.napt_rules.specs.Prelude.{is_live};
     ghost use Rattle.napt_table.specs.Keys.{key_eq, key_of};
     ghost use Rattle.napt_table.specs.declared.bindings.keys.ExternalKey.{ExternalKey as Key};
-    ghost use Rattle.napt_table.specs.Holdings.{held, IsSamePlace, IsAbsent};
+    ghost use Rattle.napt_table.specs.Holdings.{held, IsSamePlace, IsAbsent, IsUsedBy};
     ghost use Rattle.napt_table.specs.Bindings.{HasRoom, Stands};
 
     /// Makes room for one more binding of the protocol.
@@ -29,15 +28,16 @@ impl Bindings {
         due.reserve()
     }
 
-    /// Adds a binding, for which there is room and whose ends are free.
-    fn insert(&mut self, binding: Binding)
+    /// Adds a binding that lives at a time not before the hold, for which there is room and whose ends are free.
+    fn insert(&mut self, binding: Binding, from: u64)
         requires room { HasRoom self.old }
-        requires live { is_live self.old.timers self.old.at binding ≡ true }
+        requires from { from ≤ self.old.at }
+        requires live { is_live self.old.timers from binding ≡ true }
         requires loose { binding.row.fixed ≡ false }
         requires at { binding.row.external.address ≡ self.old.held.address }
         requires free { held self.old.held (key_of binding) ≡ None }
         requires absent { IsAbsent self.old.held binding.row.protocol binding.row.inside }
-        requires used { NoneUsedAfter binding.flows self.old.at }
+        requires used { IsUsedBy self.old.at binding }
         ensures timers { self.new.timers ≡ self.old.timers }
         ensures at { self.new.at ≡ self.old.at }
         ensures place { IsSamePlace self.old.held self.new.held }
@@ -45,7 +45,7 @@ impl Bindings {
             (Some binding) (held self.old.held key) }
     {
         let key = key_of(&binding);
-        let end = until(&binding, self.timers, self.at);
+        let end = until(&binding, self.timers, from);
         let held = &mut self.held;
         held.insert(binding);
         let due = &mut self.due;
@@ -57,47 +57,36 @@ impl Bindings {
     ghost use Rattle.std.specs.Prelude.{[]};
     ghost use Rattle.napt_wire.specs.declared.Way.TheVariants.{Outgoing as WayOut};
     ghost use Rattle.napt_rules.specs.Prelude.{Binding, change_first, is_live, hold_ago, live_flows, is_flow_of, used, with_flow};
-    ghost use Rattle.napt_table.specs.Held.{redirect_of, seen};
-    ghost use Rattle.napt_table.specs.Keys.{external_key, key_eq};
+    ghost use Rattle.napt_table.specs.Held.{seen};
+    ghost use Rattle.napt_table.specs.Keys.{key_eq, key_of};
     ghost use Rattle.napt_table.specs.declared.bindings.keys.ExternalKey.{ExternalKey as Key};
-    ghost use Rattle.napt_table.specs.Holdings.{held, held_at, HasInside, IsSamePlace, IsAbsent, WentOut};
+    ghost use Rattle.napt_table.specs.Holdings.{held, held_at, HasInside, IsSamePlace, IsAbsent, HoldsSame, IsUsedBy, WentOut};
     ghost use Rattle.napt_table.specs.Bindings.{HasRoom, Stands, Begins, Renews, Sends, SendsKnown};
 
-    /// Adds a redirect whose ends are free. It never expires, so it has no queue entry. If memory is refused nothing
-    /// that is held changes.
-    pub(crate) fn open(
-        &mut self,
-        alloc: Global,
-        protocol: Protocol,
-        inside: Endpoint,
-        number: u16,
-    ) -> Result<(), AllocError>
-        requires free { held self.old.held (external_key protocol number) ≡ None }
-        requires absent { IsAbsent self.old.held protocol inside }
+    /// Adds a binding that lives or is held, and whose ends are free. A redirect never expires, so it has no queue entry.
+    /// If memory is refused nothing that is held changes.
+    pub(crate) fn add(&mut self, binding: Binding) -> Result<(), AllocError>
+        requires live { is_live self.old.timers (hold_ago self.old.timers self.old.at) binding
+            ≡ true }
+        requires at { binding.row.external.address ≡ self.old.held.address }
+        requires free { held self.old.held (key_of binding) ≡ None }
+        requires absent { IsAbsent self.old.held binding.row.protocol binding.row.inside }
+        requires used { IsUsedBy self.old.at binding }
         ensures timers { self.new.timers ≡ self.old.timers }
         ensures at { self.new.at ≡ self.old.at }
         ensures place { IsSamePlace self.old.held self.new.held }
         ensures held { OnOk result ((key : Key) → held self.new.held key
-            ≡ cond (key_eq (external_key protocol number) key)
-            (Some (redirect_of protocol self.old.held.address inside number))
-            (held self.old.held key)) }
+            ≡ cond (key_eq (key_of binding) key) (Some binding) (held self.old.held key)) }
+        ensures refused { OnErr result (HoldsSame self.old.held self.new.held) }
     {
-        self.make_room(protocol)?;
-        let binding = Binding {
-            row: KeptRow::new(Row {
-                protocol,
-                inside,
-                external: Endpoint {
-                    address: self.held.address(),
-                    number,
-                },
-                fixed: true,
-            }),
-            last: 0,
-            flows: Flows::new(alloc),
-        };
-        let held = &mut self.held;
-        held.insert(binding);
+        self.make_room(binding.row.protocol())?;
+        if binding.row.is_fixed() {
+            let held = &mut self.held;
+            held.insert(binding);
+            return Ok(());
+        }
+        let ago = self.timers.hold_ago(self.at);
+        self.insert(binding, ago);
         Ok(())
     }
 
@@ -190,7 +179,7 @@ impl Bindings {
             last: packet.now,
             flows,
         };
-        self.insert(binding);
+        self.insert(binding, packet.now);
         Ok(number)
     }
 

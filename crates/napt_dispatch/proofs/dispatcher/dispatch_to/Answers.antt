@@ -25,16 +25,16 @@ pub returns-in-Ok-clause-ends : goal.returns-in-Ok-clause-ends
 returns-in-Ok-clause-ends g c = λ start at.
     let first = c.in_ok-dispatcher.ensures in
     ends_by _ c.in-Ok.field-0.fault c.of.result c.of.ensures
-    (ends_with c.args.pool.now c.in_ok-dispatcher.dispatcher (at ∙ sym first.clock) (begun c.args.config.now start c.args.pool.now
-    c.in_ok-dispatcher.dispatcher _
+    (ends_with c.args.pool.now c.in_ok-dispatcher.dispatcher (at ∙ sym first.clock)
+    (begun c.args.config.now start c.args.pool.now c.in_ok-dispatcher.dispatcher _
     (ap length c.pool.ensures.addresses) first.queues first.left first.under_way c.requires.unoffered
     c.requires.untaken) c.in-Ok.field-0 _ c.in-Ok.ensures c.in_ok-counts-in-Ok.ensures refl)
 
 pub returns-in-Err-Departure-clause-ends : goal.returns-in-Err-Departure-clause-ends
 returns-in-Err-Departure-clause-ends g c = λ start at.
     let first = c.in_ok-dispatcher.ensures in
-    ends_early c.args.pool.now c.in_ok-dispatcher.dispatcher (at ∙ sym first.clock) (begun c.args.config.now start c.args.pool.now
-    c.in_ok-dispatcher.dispatcher _
+    ends_early c.args.pool.now c.in_ok-dispatcher.dispatcher (at ∙ sym first.clock)
+    (begun c.args.config.now start c.args.pool.now c.in_ok-dispatcher.dispatcher _
     (ap length c.pool.ensures.addresses) first.queues first.left first.under_way c.requires.unoffered
     c.requires.untaken) c.in-Err-Departure.fault (rw c.in-Err-Departure.field-0-is at c.in-Err-Departure.ensures)
 
@@ -57,15 +57,15 @@ returns-in_err-counts-in-Ok-clause-halts g c =
     c.from_residual-in_err-counts-in-Ok.ensures.1 in
     let first = c.in_ok-dispatcher.ensures in
     rw p.1
-    (λ start at. ends_after c.args.pool.now c.in_ok-dispatcher.dispatcher (at ∙ sym first.clock) (begun c.args.config.now start c.args.pool.now
-    c.in_ok-dispatcher.dispatcher _
+    (λ start at. ends_after c.args.pool.now c.in_ok-dispatcher.dispatcher (at ∙ sym first.clock)
+    (begun c.args.config.now start c.args.pool.now c.in_ok-dispatcher.dispatcher _
     (ap length c.pool.ensures.addresses) first.queues first.left first.under_way c.requires.unoffered
     c.requires.untaken) c.in-Ok.field-0 c.in-Ok.ensures)
 
 pub returns-clause-halts : goal.returns-clause-halts
 returns-clause-halts g c = λ start at.
     let first = c.in_ok-dispatcher.ensures in
-    ends_halted c.args.pool.now c.in_ok-dispatcher.dispatcher (at ∙ sym first.clock) (begun c.args.config.now start c.args.pool.now
-    c.in_ok-dispatcher.dispatcher _
+    ends_halted c.args.pool.now c.in_ok-dispatcher.dispatcher (at ∙ sym first.clock)
+    (begun c.args.config.now start c.args.pool.now c.in_ok-dispatcher.dispatcher _
     (ap length c.pool.ensures.addresses) first.queues first.left first.under_way c.requires.unoffered
     c.requires.untaken) g.G.Gate.is_open c.in-Err-Run.fault (rw c.in-Err-Run.field-0-is at c.in-Err-Run.ensures)

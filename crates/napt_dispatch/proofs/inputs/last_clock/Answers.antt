@@ -8,7 +8,7 @@ loop-input-preserved c =
     let n : ℕ = c.loop-input.input-index in
     let inputs : List Arrival = c.args.inputs.now in
     let input : Arrival = c.input-item.result in
-    let before : ℕ = last_clock start.clock (take n inputs) in
+    let before : ℕ = last_clock 0 (take n inputs) in
     let clock : c.input.inside.clock ≡ input.clock = ap (λ (a : Arrival). a.clock) c.input.view_is in
     let now : c.max-clock.result ≡ max before input.clock = c.max-clock.ensures
     ∙ (ap (λ (t : ℕ). max t c.input.inside.clock) c.loop-input.invariant ∙ ap (max before) clock) in

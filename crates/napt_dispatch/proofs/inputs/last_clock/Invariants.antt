@@ -3,4 +3,4 @@ use Rattle.napt_rules.specs.Prelude.{last_clock}
 use Rattle.napt_dispatch.proofs.inputs.last_clock.Given as goal
 
 abbrev pub invariant-loop-input : goal.invariant-loop-input
-invariant-loop-input l = l.clock ≡ last_clock start.clock (take l.input-index l.inputs)
+invariant-loop-input l = l.clock ≡ last_clock 0 (take l.input-index l.inputs)

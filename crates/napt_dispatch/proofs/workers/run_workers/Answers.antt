@@ -6,6 +6,10 @@ use Rattle.napt_laws.proofs.{Rows.rows_apart, Grown.ran_long}
 use Rattle.napt_dispatch.{specs.Dispatch.started, proofs.Closed.{on_ok_at, rows_shown, started_anew, workers_shown}}
 use Rattle.napt_dispatch.proofs.workers.run_workers.Goals as goal
 
+pub dispatch-dispatched-requires-clause-started : goal.dispatch-dispatched-requires-clause-started
+dispatch-dispatched-requires-clause-started g c =
+    started_anew c.args.config.now _ _ refl c.new.ensures.items c.in_ok-pool.ensures.started
+
 pub returns-clause-run : goal.returns-clause-run
 unfolding ran
 returns-clause-run g c =
@@ -13,7 +17,8 @@ returns-clause-run g c =
     let given = c.in_ok-outcomes.ensures.given in
     let pool = c.dispatch-dispatched.new.pool in
     let began : starts pool ≡ started rules (length rules.pool) =
-    c.dispatch-dispatched.ensures.starts ∙ started_anew rules _ c.in_ok-pool.ensures.started in
+    c.dispatch-dispatched.ensures.starts ∙ started_anew rules _ _ refl c.new.ensures.items c.in_ok-pool.ensures.started
+    in
     let settled = on_ok_at _ _ given c.dispatch-dispatched.ensures.settled in
     let answered = c.in_ok-outcomes.ensures.settled settled in
     workers_shown _ rules (anew rules) c.args.inputs.now (starts pool) (accepts pool)

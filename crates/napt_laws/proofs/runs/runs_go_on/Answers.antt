@@ -1,4 +1,5 @@
 use Rattle.napt_laws.proofs.GoingOn.{runs_go_on, gone_change_nothing, earlier_clocks}
+use Rattle.napt_laws.proofs.RunsAlike.{alike_go_on}
 use Rattle.napt_laws.proofs.runs.runs_go_on.Goals as goal
 
 pub returns-clause-go_on : goal.returns-clause-go_on
@@ -9,3 +10,6 @@ returns-clause-gone c = gone_change_nothing
 
 pub returns-clause-clocks : goal.returns-clause-clocks
 returns-clause-clocks c = earlier_clocks
+
+pub returns-clause-alike : goal.returns-clause-alike
+returns-clause-alike c = alike_go_on c.packets_carry_numbers.ensures

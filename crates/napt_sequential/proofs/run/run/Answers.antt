@@ -6,7 +6,7 @@ pub returns-clause-run : goal.returns-clause-run
 unfolding ran
 returns-clause-run c =
     let stands = c.in_ok-outcomes.ensures.stands in
-    is_ran c.args.config.now (anew c.args.config.now) c.args.inputs.now c.in_ok-outcomes.outcomes.items c.in_ok-bindings.bindings.items
-    c.in_ok-legs.legs.items c.in_ok-outcomes.ensures.outcomes
+    is_ran c.args.config.now (anew c.args.config.now) c.args.inputs.now c.in_ok-outcomes.outcomes.items
+    c.in_ok-bindings.bindings.items c.in_ok-legs.legs.items c.in_ok-outcomes.ensures.outcomes
     (c.in_ok-bindings.ensures c.args.config.now (anew c.args.config.now) c.args.inputs.now stands)
     (c.in_ok-legs.ensures c.args.config.now (anew c.args.config.now) c.args.inputs.now stands)

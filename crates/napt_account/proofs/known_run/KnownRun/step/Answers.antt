@@ -1,13 +1,12 @@
 use Rattle.std.proofs.lemmas.{Grind.common_steps, Bool.Decides.nat_tests}
 use Rattle.std.proofs.Common.{◌≡◌, ◌↔◌, ◌+◌, ◌^◌, ◌<◌, ◌≤◌, inl, inr, List, [], ◌∷◌, ◌++◌, length, Result, Err, sym, ◌∙◌, ap, subst, arith}
 use Rattle.std.proofs.lemmas.{Bool.cases_lt, Result.err_from_is_err_and}
-use Rattle.napt_config.specs.Rules.{Rules}
-use Rattle.napt_rules.specs.Prelude.{Arrival}
+use Rattle.napt_rules.specs.Prelude.{Arrival, Rules, anew}
 use Rattle.napt_sequential.specs.{SequentialRuns.StandsAfter, Traces.traces, declared.fault.RunFault.{RunFault, TheVariants.{TooMany, Memory}}}
 use Rattle.napt_sequential.{specs.declared.passage.Trace.Trace, proofs.Joined.traces_long}
 use Rattle.napt_sequential.specs.SequentialRuns as sequential
 use Rattle.napt_account.specs.{declared.{account.Use.Use, known_run.LoggedStep.LoggedStep}, Book.use_by_trace, KnownLogs.KnownTraces}
-use Rattle.napt_account.specs.{KnownLogs.taken_in, KnownRuns.{KnownState, IsOfInputs, TellsLast}, TraceLogs.{IsNext, IsOfTraces, entries_after, told_with}, Uses.uses_of}
+use Rattle.napt_account.specs.{KnownLogs.taken_in, KnownRuns.{KnownState, IsLogged, IsOfInputs, TellsLast}, TraceLogs.{IsNext, IsOfTraces, entries_after, told_with}, Uses.uses_of}
 use Rattle.napt_account.proofs.{LoggedRuns.uses_next, TraceLogs.taken_more}
 use Rattle.napt_account.proofs.known_run.KnownRun.step.Goals as goal
 
@@ -34,10 +33,11 @@ returns-in_err-told c =
     let is = c.self.invariant c.if-self.false in
     let stands = subst (λ (r : Rules). StandsAfter r before it.run) (sym c.config-config.ensures) is.stands in
     let tells = subst (λ (r : Rules). sequential.TellsLast r before input c.in_ok-stepped.stepped)
-    c.config-config.ensures (c.in_ok-stepped.ensures.tells before stands) in
+    c.config-config.ensures (c.in_ok-stepped.ensures.tells (anew c.config-config.result.now) before stands) in
     let few : length before + 1 < 2 ^ 32 = elim (cases_lt (length before + 1) (2 ^ 32)) [
       | inl lt ↦ lt
-      | inr ge ↦ let never = (c.in_ok-stepped.ensures.too_many before stands).1 ge in cc
+      | inr ge ↦ let never = (c.in_ok-stepped.ensures.too_many
+          (anew c.config-config.result.now) before stands).1 ge in cc
     ] in
     let p = err_from_is_err_and c.from_residual-in_err-told.result c.from_residual-in_err-told.ensures.1 in
     let memory = log_fault rules before it.log is.taken trace
@@ -61,7 +61,7 @@ returns-clause-tells c = λ going.
     let is = c.self.invariant (ap (λ (v : KnownState). v.is_stopped) c.self.view_is ∙ going) in
     let stands = subst (λ (r : Rules). StandsAfter r before it.run) (sym c.config-config.ensures) is.stands in
     let tells = subst (λ (r : Rules). sequential.TellsLast r before input c.in_ok-stepped.stepped)
-    c.config-config.ensures (c.in_ok-stepped.ensures.tells before stands) in
+    c.config-config.ensures (c.in_ok-stepped.ensures.tells (anew c.config-config.result.now) before stands) in
     let told = c.in_ok-told.ensures in
     let step : LoggedStep = record {
       outcome = c.in_ok-stepped.stepped.outcome;
@@ -79,5 +79,38 @@ returns-clause-tells c = λ going.
           ∙ c.traces_tell_the_log.ensures.tell rules is.keeps before input trace tells.trace);
     })
 
+pub returns-in_err-stepped-clause-err : goal.returns-in_err-stepped-clause-err
+returns-in_err-stepped-clause-err c =
+    let many = c.in_err-stepped.ensures.too_many (anew c.config-config.result.now) in
+    grind (arith, common_steps, nat_tests)
+
+pub returns-in_err-stepped-clause-too_many : goal.returns-in_err-stepped-clause-too_many
+returns-in_err-stepped-clause-too_many c =
+    let many = c.in_err-stepped.ensures.too_many (anew c.config-config.result.now) in
+    grind (arith, common_steps, nat_tests)
+
+pub returns-clause-too_many : goal.returns-clause-too_many
+returns-clause-too_many c =
+    let many = c.in_ok-stepped.ensures.too_many (anew c.config-config.result.now) in
+    grind (arith, common_steps, nat_tests)
+
 pub invariant_of-self-2 : goal.invariant_of-self-2
-invariant_of-self-2 c = grind (arith, common_steps, nat_tests, taken_more)
+invariant_of-self-2 c = λ going.
+    let it = c.self.inside in
+    let before : List Arrival = taken_in it.past.items in
+    let input : Arrival = c.args.input.now in
+    let trace : Trace = c.in_ok-stepped.stepped.trace in
+    let is = c.self.invariant c.if-self.false in
+    let r : Rules = c.config-config.result.now in
+    let stands = subst (λ (r : Rules). StandsAfter r before it.run) (sym c.config-config.ensures) is.stands in
+    let tells = subst (λ (r : Rules). sequential.TellsLast r before input c.in_ok-stepped.stepped)
+    c.config-config.ensures (c.in_ok-stepped.ensures.tells (anew r) before stands) in
+    subst (λ (xs : List Arrival). IsLogged xs c.step.new.self c.enter.new.self)
+    (sym (ap taken_in c.and-self-inside.ensures ∙ taken_more it.past.items 0 input))
+    (subst (IsLogged (before ++ input ∷ []) c.step.new.self) (sym (c.in_ok-told.ensures.goes is.goes_on)) (record {
+      keeps = is.keeps;
+      stands = subst (λ (r : Rules). StandsAfter r (before ++ input ∷ []) c.step.new.self) c.config-config.ensures
+          (c.in_ok-stepped.ensures.stands (anew r) before stands);
+      taken = ap (λ (ts : List Trace). ts ++ trace ∷ []) is.taken ∙ sym tells.trace;
+      goes_on = is.goes_on;
+    }))

@@ -1,8 +1,7 @@
 use Rattle.std.proofs.lemmas.{Grind.common_steps, Bool.Decides.nat_tests}
 use Rattle.std.proofs.Common.{◌≡◌, ℕ, ◌<◌, false, List, [], ◌∷◌, ◌++◌, length, map, take, get_or, sym, ◌∙◌, ap, subst, arith}
-use Rattle.napt_config.specs.{Rules.{Rules, pair_of}, declared.settings.Redirect.Redirect}
 use Rattle.napt_binding.specs.Ends.{is_before}
-use Rattle.napt_rules.specs.Prelude.{Binding, redirected, opening, row}
+use Rattle.napt_rules.specs.Prelude.{Binding, redirected, opening, row, Rules, pair_of, Redirect}
 use Rattle.napt_account.specs.{declared.log.Entry.Entry, Book.of_redirect, Log.begun, OpenEntries.{external_key, open_at, Shows}}
 use Rattle.napt_account.proofs.{Begun.{begin_next, begin_free, begun_few}, EndOrder.none_shows, Lists.map_joined, OpenEntries.row_free}
 use Rattle.napt_account.proofs.open_entries.OpenEntries.begin.Goals as goal

@@ -1,5 +1,6 @@
 use Rattle.std.proofs.Common.{◌≡◌, List, [], ◌∷◌, ◌++◌, length, sym, ◌∙◌, ap, arith}
 use Rattle.napt_config.specs.Rules.{Rules}
+use Rattle.napt_rules.specs.Prelude.{anew}
 use Rattle.napt_translate.specs.Translators.{TranslatorState, begun}
 use Rattle.napt_dispatch.{specs.Dispatch.started, proofs.{Ended.length_started, Closed.started_more}}
 use Rattle.napt_calls.proofs.refused.dispatching.workers.Goals as goal
@@ -15,7 +16,7 @@ loop-index-preserved c =
       made = c.in_ok-push.ensures.items
           ∙ (ap (λ (l : List TranslatorState). l ++ worker ∷ []) c.loop-index.invariant.made
           ∙ (ap (λ (s : TranslatorState). started config c.loop-index.index ++ s ∷ []) is
-          ∙ sym (started_more config c.loop-index.index)));
+          ∙ sym (started_more config (anew config) c.loop-index.index)));
     }
 
 pub returns-clause-made : goal.returns-clause-made
@@ -35,6 +36,6 @@ returns-clause-many c =
     let end = c.loop-index.auto.index-end in
     let test = c.loop-index-test.false in
     let made = ap length c.loop-index.invariant.made in
-    let started_long = length_started c.args.config.now c.loop-index.index in
+    let started_long = length_started c.args.config.now (anew c.args.config.now) c.loop-index.index in
     let own = c.loop-index.made.ok.0 in
     omega arith

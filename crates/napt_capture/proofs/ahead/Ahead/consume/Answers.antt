@@ -1,4 +1,4 @@
-use Rattle.std.proofs.{lemmas.{Grind.common_steps, Bool.Decides.nat_tests}, Common.{◌-◌, arith, length-take}}
+use Rattle.std.proofs.{lemmas.{Grind.common_steps, Bool.Decides.nat_tests}, Common.{arith, length-take}}
 use Rattle.napt_capture.proofs.Buffer.{slice_range-from}
 use Rattle.napt_capture.proofs.ahead.Ahead.consume.Goals as goal
 

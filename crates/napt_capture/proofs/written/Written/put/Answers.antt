@@ -1,5 +1,5 @@
 -- What the first write took, and then the rest.
-use Rattle.std.proofs.{Common.{arith, ◌-◌}, lemmas.{Grind.common_steps, Bool.Decides.nat_tests, List.take_rest}}
+use Rattle.std.proofs.{Common.{arith}, lemmas.{Grind.common_steps, Bool.Decides.nat_tests, List.take_rest}}
 use Rattle.napt_capture.proofs.Puts.{puts_more, takes_first}
 use Rattle.napt_capture.proofs.written.Written.put.Goals as goal
 

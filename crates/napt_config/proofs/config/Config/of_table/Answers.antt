@@ -1,13 +1,13 @@
 use Rattle.std.proofs.Common.{◌≡◌, Ok, rules}
 use Rattle.toml.specs.View.{table_view}
-use Rattle.napt_config.specs.Configured.{configured, pool_in, inside_in, block_size_in}
+use Rattle.napt_config.specs.Configured.{configured, each_in_order, pool_in, inside_in, block_size_in}
 use Rattle.napt_config.proofs.Laws.{configured-keeps, pool_in-keeps, inside_in-keeps, blocks-keep}
 use Rattle.napt_config.proofs.config.Config.of_table.Goals as goal
 
 pub block-requires : goal.block-requires
 block-requires c =
     let table = table_view c.args.table.now in
-    let pool_is : pool_in table ≡ Ok c.in_ok-pool.pool.items = search rules in
+    let pool_is : pool_in each_in_order table ≡ Ok c.in_ok-pool.pool.items = search rules in
     let inside_is : inside_in c.in_ok-pool.pool.items table ≡ Ok c.in_ok-inside.inside.items = search rules in
     let of_pool = pool_in-keeps table _ pool_is in
     record {
@@ -19,7 +19,7 @@ block-requires c =
 pub redirects-requires : goal.redirects-requires
 redirects-requires c =
     let table = table_view c.args.table.now in
-    let pool_is : pool_in table ≡ Ok c.in_ok-pool.pool.items = search rules in
+    let pool_is : pool_in each_in_order table ≡ Ok c.in_ok-pool.pool.items = search rules in
     let inside_is : inside_in c.in_ok-pool.pool.items table ≡ Ok c.in_ok-inside.inside.items = search rules in
     let block_is : block_size_in c.in_ok-pool.pool.items c.in_ok-inside.inside.items c.in_ok-timers.timers.hold table
     ≡ Ok c.in_ok-block.block = search rules in

@@ -29,8 +29,8 @@ loop-preserved g c =
     let inputs : List Arrival = was.inputs in
     let input : Arrival = c.in-Ok-Some.input in
     let ready = c.in_ok-make_ready.ensures.state in
-    let now : c.max-clock.result ≡ last_clock start.clock (inputs ++ input ∷ []) =
-    clock_on inputs input c.loop.clock c.input.inside.clock c.max-clock.result was.clock
+    let now : c.max-clock.result ≡ last_clock c.args.self.now.clock (inputs ++ input ∷ []) =
+    clock_on c.args.self.now.clock inputs input c.loop.clock c.input.inside.clock c.max-clock.result was.clock
     (ap (λ (a : Arrival). a.clock) c.input.view_is) c.max-clock.ensures in
     record {
       inputs = inputs ++ input ∷ [];

@@ -8,7 +8,7 @@ invariant-loop g l = record {
   inputs : List Arrival;
   went : List (ℕ × Departed g.row.P.Denot);
   handed : g.A.Arrivals.hands l.initial.arrivals inputs l.arrivals;
-  clock : l.clock ≡ last_clock start.clock inputs;
+  clock : l.clock ≡ last_clock l.initial.self.clock inputs;
   reads : Reads g.P.Telling.tells l.config l.initial.pool l.initial.self inputs went l.pool l.self;
   took : g.D.Departures.takes l.initial.departures went l.departures;
 }

@@ -24,7 +24,8 @@ returns-clause-tells c = λ state before stands.
     ∙ ap (λ (a : Arrival). max c.args.self.now.clock a.clock) c.input.view_is in
     tells_last rules state before input c.args.self.now stands now clock c.step.new.translators c.in_ok-stepped.stepped
     (c.in_ok-stepped.ensures (state_from rules state before)
-    (subst (AreCountedTranslators rules (state_from rules state before)) (sym c.deref_mut.ensures.value) stands.translators)
+    (subst (AreCountedTranslators rules (state_from rules state before))
+    (sym c.deref_mut.ensures.value) stands.translators)
     (is_later rules state before input c.args.self.now stands now clock))
 
 pub returns-clause-stands : goal.returns-clause-stands
@@ -37,7 +38,8 @@ returns-clause-stands c = λ state before stands.
     let left : List CountedTranslator = c.step.new.translators in
     let after = goes_on rules state before input c.args.self.now stands now clock left c.in_ok-stepped.stepped
     (c.in_ok-stepped.ensures (state_from rules state before)
-    (subst (AreCountedTranslators rules (state_from rules state before)) (sym c.deref_mut.ensures.value) stands.translators)
+    (subst (AreCountedTranslators rules (state_from rules state before))
+    (sym c.deref_mut.ensures.value) stands.translators)
     (is_later rules state before input c.args.self.now stands now clock)) in
     let own = c.args.self.now.translators.ok.0 in
     let pool = after.translators.many in

@@ -1,8 +1,8 @@
-use Rattle.std.proofs.Common.{◌≡◌, ℕ, ◌∙◌, List, [], ◌∷◌, ◌++◌, codes, Some, sym, ap, get_or}
+use Rattle.std.proofs.Common.{◌≡◌, ℕ, ◌∙◌, [], ◌++◌, codes, Some, sym, ap, get_or}
 use Rattle.std.proofs.lemmas.Option.{none-some}
 use Rattle.napt_state.specs.declared.line.StateLine.{StateLine}
 use Rattle.napt_state.specs.declared.line.StateLine.TheVariants as lines
-use Rattle.napt_state.specs.StateText.{Text, line_text, words_in, words}
+use Rattle.napt_state.specs.StateText.{Text, line_text, words_in}
 use Rattle.napt_state.proofs.{Arms.{head, first, binding_arm, flow_arm, end_arm, clock_arm, no_arm}, Lines.words_read}
 use Rattle.napt_state.proofs.line.StateLine.read.Goals as goal
 

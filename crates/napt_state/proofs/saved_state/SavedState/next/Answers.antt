@@ -1,4 +1,4 @@
-use Rattle.std.proofs.Common.{ℕ, ◌≡◌, ◌≢◌, ◌∙◌, Bool, true, false, List, [], ◌∷◌, ◌++◌, Option, Some, MatchOption, Result, Ok, Err, OnOk, is_err, Bor, refl, sym, ap, subst, lit<}
+use Rattle.std.proofs.Common.{ℕ, ◌≡◌, ◌≢◌, ◌∙◌, Bool, true, false, List, [], ◌∷◌, ◌++◌, Option, Some, MatchOption, Result, Ok, Err, OnOk, is_err, Bor, sym, ap, subst, lit<}
 use Rattle.std.specs.Prelude.{bytes_eq}
 use Rattle.std.proofs.lemmas.{Str.Pattern.strip_suffix_char, Option.none-some, Bool.true≢false, Slice.Eq.bytes_eq-Decides}
 use Rattle.napt_state.specs.StateText.{line_text}
@@ -14,11 +14,12 @@ returns-then-length-eq0-clause-entry g c entry rest fits left =
     absurd (line_left _ (g.R.Read.remaining c.read_line.new.self) _ _ _ _ c.clear.ensures.bytes c.in-Ok.ensures.bytes
     left (c.in-Ok.ensures.end c.if-length-eq0.true) (line_text-ended entry))
 
-pub returns-in_default-clause-entry : goal.returns-in_default-clause-entry
-returns-in_default-clause-entry g c entry rest fits left =
+pub returns-in_default-strip_suffix-clause-entry : goal.returns-in_default-strip_suffix-clause-entry
+returns-in_default-strip_suffix-clause-entry g c entry rest fits left =
     let row = line_text-ended entry in
     let read = line_read _ _ _ _ _ _ c.clear.ensures.bytes c.in-Ok.ensures.bytes left c.in-Ok.ensures.rest row in
-    let none = subst (IsCut _) c.in_default.is (strip_suffix_char 10 _ _ c.strip_suffix.ensures.cases (lit< tt)) in
+    let none = subst (IsCut _) c.in_default-strip_suffix.is
+    (strip_suffix_char 10 _ _ c.strip_suffix.ensures.cases (lit< tt)) in
     absurd (none row.0 (c.as_str.ensures.value ∙ read.0 ∙ row.1))
 
 pub returns-in_default-read-clause-entry : goal.returns-in_default-read-clause-entry

@@ -37,7 +37,7 @@ pub insert-requires-clause-live : goal.insert-requires-clause-live
 insert-requires-clause-live c =
     let limits : AreTimers c.args.self.now.timers =
     subst (λ (x : BindingsState). AreTimers x.timers) c.self.view_is c.keep_limits.ensures in
-    rw (c.requires.at, c.new.ensures) (made_live c.args.self.now.timers limits c.address.result c.args.packet
+    rw c.new.ensures (made_live c.args.self.now.timers limits c.address.result c.args.packet
     c.in-Some.number c.args.flows c.requires.flows)
 
 pub insert-requires-clause-at : goal.insert-requires-clause-at
@@ -48,8 +48,11 @@ pub insert-requires-clause-used : goal.insert-requires-clause-used
 insert-requires-clause-used c =
     let limits : AreTimers c.args.self.now.timers =
     subst (λ (x : BindingsState). AreTimers x.timers) c.self.view_is c.keep_limits.ensures in
-    rw c.requires.at (made_used c.args.self.now.timers limits c.address.result c.args.packet c.in-Some.number
-    c.args.flows c.requires.flows)
+    rw c.requires.at (
+      made_used c.args.self.now.timers limits c.address.result c.args.packet c.in-Some.number c.args.flows
+          c.requires.flows,
+      omega arith,
+    )
 
 pub insert-requires-clause-free : goal.insert-requires-clause-free
 insert-requires-clause-free c =

@@ -1,8 +1,8 @@
-use Rattle.std.proofs.Common.{◌≡◌, ℕ, [], None, Some, sym, ap, subst, ◌∙◌}
+use Rattle.std.proofs.Common.{◌≡◌, ℕ, [], None, sym, ap, subst, ◌∙◌}
 use Rattle.napt_wire.specs.declared.Way.TheVariants.{Outgoing}
-use Rattle.napt_rules.specs.{Prelude.{purge, change_first, live_flows, is_flow_of, used, with_flow, fresh}, declared.Row.Row}
-use Rattle.napt_table.specs.{Keys.external_key, Held.seen, Holdings.{held_at, HasInside}, Bindings.{BindingsState, AreDue, Renews}}
-use Rattle.napt_table.proofs.{Granted.{made_all, made_unseen}, Sends.{again, again_seen, again_holds, again_due, row_again}}
+use Rattle.napt_rules.specs.{Prelude.{purge, change_first, live_flows, is_flow_of, used, with_flow}}
+use Rattle.napt_table.specs.{Held.seen, Holdings.{held_at, HasInside}, Bindings.{BindingsState, AreDue}}
+use Rattle.napt_table.proofs.{Granted.{made_all, made_unseen}, Sends.{again_seen, again_holds, again_due, row_again}}
 use Rattle.napt_table.proofs.bindings.Bindings.renew.Goals as goal
 
 pub invariant_of-self : goal.invariant_of-self

@@ -1,4 +1,4 @@
-use Rattle.std.{proofs.Common.{◌≡◌, ℕ, true, false, cond, Option, None, sym, subst, ◌∙◌}, specs.Option.is_some}
+use Rattle.std.{proofs.Common.{◌≡◌, ℕ, true, false, cond, Option, sym, subst, ◌∙◌}, specs.Option.is_some}
 use Rattle.napt_config.specs.Rules.{AreTimers}
 use Rattle.napt_rules.specs.Prelude.{reaches}
 use Rattle.napt_table.specs.{Holdings.{count_all, IsAbsent, IsNumberOf, HasInside, WentThrough, HasNone, WentOut}, Bindings.{BindingsState, Stands}}

@@ -7,7 +7,7 @@ use Rattle.napt_laws.proofs.Named.{out_named}
 use Rattle.napt_table.proofs.table.Table.outbound_known.Goals as goal
 
 pub invariant_of-self : goal.invariant_of-self
-invariant_of-self c = keeps_same c.self.inside _ refl c.in_err-number.ensures.refused refl c.self.invariant
+invariant_of-self c = keeps_same c.self.inside _ refl refl c.in_err-number.ensures.refused refl c.self.invariant
 
 pub invariant_of-self-in-Some : goal.invariant_of-self-in-Some
 invariant_of-self-in-Some c =
@@ -18,7 +18,8 @@ invariant_of-self-in-Some c =
     let k : SendsKnown packet t.bindings c.send_known.new.self c.in-Some.number =
     subst (λ (found : Option ℕ). IfSome found (λ number.
     SendsKnown packet t.bindings c.send_known.new.self number)) c.in-Some.is c.in_ok-number.ensures.known in
-    keeps_after t _ packet.now (Sent packet) refl c.in_ok-number.ensures.timers k.place k.at c.and-self-inside.ensures
+    keeps_after t _ packet.now (Sent packet) refl refl c.in_ok-number.ensures.timers k.place k.at
+    c.and-self-inside.ensures
     (table_out (shown t) c.self.invariant.state packet c.requires.number c.requires.block)
     (k.sends (all t c.self.invariant packet.now le) (all_sound t c.self.invariant packet.now le).apart
     (all_taken t c.self.invariant packet.now le) (keep_now t c.self.invariant packet.now le)
@@ -42,7 +43,7 @@ returns-in-Some-clause-known c block =
           (table_out (shown t) c.self.invariant.state packet c.requires.number c.requires.block).sound.apart).0 ∙ ap
           (λ (o : Out). o.number) same;
       left = shown_after t (record t { past = c.and-self-inside.result; bindings = c.send_known.new.self }) packet.now
-          (Sent packet) refl c.in_ok-number.ensures.timers k.place k.at c.and-self-inside.ensures
+          (Sent packet) refl refl c.in_ok-number.ensures.timers k.place k.at c.and-self-inside.ensures
           ∙ ap (λ (o : Out). let s : TableState = record (shown t) { list = o.list; at = packet.now } in s) same;
     })
 

@@ -5,7 +5,7 @@ use Rattle.napt_laws.proofs.Named.{out_named}
 use Rattle.napt_table.proofs.table.Table.outbound_of.Goals as goal
 
 pub invariant_of-self : goal.invariant_of-self
-invariant_of-self c = keeps_same c.self.inside _ refl c.in_err-answer.ensures.refused refl c.self.invariant
+invariant_of-self c = keeps_same c.self.inside _ refl refl c.in_err-answer.ensures.refused refl c.self.invariant
 
 pub invariant_of-self-2 : goal.invariant_of-self-2
 invariant_of-self-2 c =
@@ -14,7 +14,8 @@ invariant_of-self-2 c =
     let le : t.bindings.at ≤ packet.now =
     subst (λ (s : TableState). s.at ≤ packet.now) (sym c.self.view_is) c.requires.later in
     let k = c.in_ok-answer.ensures in
-    keeps_after t _ packet.now (Sent packet) refl k.timers k.place k.at c.and-self-inside.ensures
+    keeps_after t _ packet.now (Sent packet) refl
+    refl k.timers k.place k.at c.and-self-inside.ensures
     (table_out (shown t) c.self.invariant.state packet c.requires.number c.requires.block)
     (k.sends (all t c.self.invariant packet.now le) (all_sound t c.self.invariant packet.now le).apart
     (all_taken t c.self.invariant packet.now le) (keep_now t c.self.invariant packet.now le)
@@ -36,8 +37,8 @@ returns-clause-left c =
     let packet = c.args.packet in
     let k = c.in_ok-answer.ensures in
     rw (← c.self.view_is) (shown_after c.self.inside
-    (record c.self.inside { past = c.and-self-inside.result; bindings = c.send.new.self }) packet.now (Sent packet) refl
-    k.timers k.place k.at c.and-self-inside.ensures)
+    (record c.self.inside { past = c.and-self-inside.result; bindings = c.send.new.self }) packet.now
+    (Sent packet) refl refl k.timers k.place k.at c.and-self-inside.ensures)
 
 pub returns-clause-named : goal.returns-clause-named
 returns-clause-named c =

@@ -1,6 +1,6 @@
-use Rattle.std.{proofs.Common.{◌≤◌, ◌∙◌, ap, refl, sym, subst}, specs.Option.is_some}
+use Rattle.std.{proofs.Common.{◌≤◌, refl, sym, subst}, specs.Option.is_some}
 use Rattle.napt_rules.specs.Prelude.{by_number, hold_ago}
-use Rattle.napt_table.specs.{declared.event.Event.TheVariants.Purged, Held.seen, Holdings.held_at, Keys.external_key, Shown.{shown, list_of}, Tables.TableState}
+use Rattle.napt_table.specs.{declared.event.Event.TheVariants.Purged, Held.seen, Holdings.held_at, Shown.{shown, list_of}, Tables.TableState}
 use Rattle.napt_table.proofs.{LeastFree.first_agrees, TableSteps.{all, keep_now, shown_after, keeps_after}, Tables.table_purged}
 use Rattle.napt_table.proofs.Keeps.{purged_keeps, some_agree}
 use Rattle.napt_laws.proofs.Living.{ago_later}
@@ -12,7 +12,7 @@ invariant_of-self c =
     let now = c.args.now in
     let le : t.bindings.at ≤ now = subst (λ (s : TableState). s.at ≤ now) (sym c.self.view_is) c.requires.later in
     let k = c.spare-number.ensures.purged in
-    keeps_after t _ now (Purged now) refl k.timers_is k.keeps.place k.at_is c.and-self-inside.ensures
+    keeps_after t _ now (Purged now) refl refl k.timers_is k.keeps.place k.at_is c.and-self-inside.ensures
     (table_purged (shown t) c.self.invariant.state now)
     (purged_keeps t.bindings.timers now t.bindings.held.address t.bindings.held c.spare-number.new.self.held
     (all t c.self.invariant now le) (keep_now t c.self.invariant now le) (λ key. k.keeps.seen_same key))
@@ -37,4 +37,4 @@ returns-clause-left c =
     let k = c.spare-number.ensures.purged in
     rw (← c.self.view_is) (shown_after c.self.inside
     (record c.self.inside { past = c.and-self-inside.result; bindings = c.spare-number.new.self }) c.args.now
-    (Purged c.args.now) refl k.timers_is k.keeps.place k.at_is c.and-self-inside.ensures)
+    (Purged c.args.now) refl refl k.timers_is k.keeps.place k.at_is c.and-self-inside.ensures)

@@ -16,9 +16,9 @@ pub take_in-requires : goal.take_in-requires
 take_in-requires c =
     let f = c.in-Some.ensures in
     let l = c.in-Some-get_index_mut.ensures in
-    subst (AreUsedUpTo c.args.packet.now) (sym c.self.view_is) c.requires
+    (subst (AreUsedUpTo c.args.packet.now) (sym c.self.view_is) c.requires
     (external_key c.args.packet.protocol c.args.packet.number) c.in-Some-get_index_mut.binding.now
-    (lent_there c.self.inside _ c.self.view_is _ c.in-Some.place _ f.value f.entry _ l.value)
+    (lent_there c.self.inside _ c.self.view_is _ c.in-Some.place _ f.value f.entry _ l.value)).0
 
 pub invariant_of-self-2 : goal.invariant_of-self-2
 invariant_of-self-2 c =

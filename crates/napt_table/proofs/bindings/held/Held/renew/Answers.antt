@@ -1,6 +1,6 @@
-use Rattle.std.{proofs.Common.{◌≡◌, None, Some, refl, sym, ◌∙◌, ap}, proofs.lemmas.Option.same_Some}
+use Rattle.std.{proofs.Common.{Some, refl, sym, ◌∙◌, ap}, proofs.lemmas.Option.same_Some}
 use Rattle.napt_rules.specs.Prelude.{Binding}
-use Rattle.napt_table.proofs.Ends.{lent_at, lent_there, held_at_place, one_at_place, left_at_place}
+use Rattle.napt_table.proofs.Ends.{lent_there, held_at_place, one_at_place, left_at_place}
 use Rattle.napt_table.proofs.bindings.held.Held.renew.Goals as goal
 
 pub invariant_of-self-2 : goal.invariant_of-self-2

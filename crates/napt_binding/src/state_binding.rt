@@ -1,0 +1,76 @@
+//! A binding of a state, and the same as a table keeps it.
+
+ghost use Rattle.std.specs.{Prelude.{◌≡◌, true, cond, Some, None, IfOk}, List.list_any};
+ghost use Rattle.napt_rules.specs.Life as life;
+ghost use Rattle.napt_binding.specs.Slots.{AreDistinct};
+
+use crate::Binding;
+use crate::flows::{Flows, live_flows};
+use crate::idle_timers::IdleTimers;
+use crate::kept_row::KeptRow;
+use crate::life::{is_live_flow, is_recent};
+use napt_rules::{Flow, StateBinding};
+use napt_wire::Protocol;
+use std::alloc::{AllocError, Global};
+
+/// Whether one of these TCP flows is live.
+fn has_live(flows: &[Flow], timers: IdleTimers, now: u64) -> bool
+    ensures { result ≡ list_any (life.is_live_flow timers now) flows.now }
+{
+    flows.iter().any(|flow| is_live_flow(flow, timers, now))
+}
+
+/// Whether a binding of a state is live at `now` (ns).
+fn is_live(binding: &StateBinding, timers: IdleTimers, now: u64) -> bool
+    ensures { result ≡ life.is_live timers now binding.now }
+{
+    if binding.row.fixed {
+        return true;
+    }
+    match binding.row.protocol {
+        Protocol::Icmp => is_recent(now, binding.last, timers.seconds.icmp),
+        Protocol::Udp => is_recent(now, binding.last, timers.seconds.udp),
+        Protocol::Tcp => has_live(&binding.flows, timers, now),
+    }
+}
+
+/// The binding of a state, without its dead flows, if it is live at `now` (ns).
+pub fn from_state(
+    alloc: Global,
+    binding: &StateBinding,
+    timers: IdleTimers,
+    now: u64,
+) -> Result<Option<Binding>, AllocError>
+    requires { life.is_live timers now binding.now ≡ true →
+        AreDistinct (life.with_live_flows timers now binding.now).flows }
+    ensures { IfOk result (λ found. found ≡ cond (life.is_live timers now binding.now)
+        (Some (life.with_live_flows timers now binding.now)) None) }
+{
+    if !is_live(binding, timers, now) {
+        return Ok(None);
+    }
+    let flows = live_flows(alloc, &binding.flows, timers, now, binding.row.protocol)?;
+    Ok(Some(Binding {
+        row: KeptRow::new(binding.row),
+        last: binding.last,
+        flows: Flows::of(alloc, &flows)?,
+    }))
+}
+
+/// The binding without the flows that are dead at `now` (ns), as a state has it.
+pub fn to_state(
+    alloc: Global,
+    binding: &Binding,
+    timers: IdleTimers,
+    now: u64,
+) -> Result<StateBinding, AllocError>
+    ensures binding { IfOk result (λ made. made ≡ life.with_live_flows timers now binding.now) }
+    ensures distinct { IfOk result (λ made. AreDistinct made.flows) }
+{
+    let row = binding.row.row();
+    Ok(StateBinding {
+        row,
+        last: binding.last,
+        flows: binding.flows.live(alloc, timers, now, row.protocol)?,
+    })
+}

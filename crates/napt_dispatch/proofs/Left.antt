@@ -1,0 +1,46 @@
+-- The state that the translators of a run are left with.
+use Rattle.std.proofs.{lemmas.{List.length-map, Option.{slice_get-map, slice_get_within, slice_get_cases}}, Common.{◌≡◌, ℕ, max, List, length, map, sym, ◌∙◌, ap, subst, arith, inl, inr}}
+use Rattle.std.specs.{List.slice_get, Option.option_map}
+use Rattle.napt_config.specs.{Rules.Rules, declared.settings.Timers.Timers}
+use Rattle.napt_rules.specs.Prelude.{Binding, of, taken, State, AreLeft, IsInOrder}
+use Rattle.napt_translate.specs.Translators.{TranslatorState}
+use Rattle.napt_sequential.specs.{declared.counted_translator.CountedTranslator.CountedTranslator, CountedTranslators.AreAllLeft}
+use Rattle.napt_laws.proofs.RunsLocal.{latest}
+use Rattle.napt_dispatch.specs.{declared.workers.Passed.Passed, Dispatch.IsLeftWith, Passing.LeavesState}
+
+-- a translator as one of a run on one thread, where its legs are not counted
+abbrev pub uncounted : TranslatorState → CountedTranslator
+uncounted translator = record { translator = translator; legs = 0 }
+
+left_there : (rules : Rules) (state : State) (address now : ℕ) (translator : TranslatorState) (part : List Binding) →
+    now ≡ state.clock → IsLeftWith rules state address translator →
+    (let at : ℕ = max now translator.table.at in let timers : Timers = translator.rules.timers in
+    AreLeft timers at (taken timers at translator.table.list) part) →
+    AreLeft rules.timers state.clock (of address state.list) part
+left_there rules state address now translator part is with left =
+    let at : max now translator.table.at ≡ state.clock =
+    ap (λ (t : ℕ). max t translator.table.at) is ∙ latest state.clock translator.table.at with.past in
+    rw (with.timers, at, with.taken_are) at left
+
+pub left_in_order : (rules : Rules) (state : State) (passed : Passed) → LeavesState rules state passed →
+    (list : List Binding) → AreAllLeft passed.clock (map uncounted passed.translators.items) list →
+    IsInOrder rules state (record { clock = passed.clock; list = list })
+left_in_order rules state passed leaves list left =
+    let translators : List TranslatorState = passed.translators.items in
+    let many : length left.parts ≡ length translators = left.many ∙ length-map translators uncounted in
+    record {
+      clock = leaves.clock;
+      parts = left.parts;
+      list = left.list;
+      many = many ∙ leaves.many;
+      each = λ place address part at is_there.
+          let within = slice_get_within left.parts place part is_there in
+          elim (slice_get_cases translators place).1 [
+            | inl (translator, lt, here, same) ↦
+                left_there rules state address passed.clock translator part leaves.clock
+                (leaves.each place address translator at here)
+                (left.each place (uncounted translator) part
+                (slice_get-map uncounted translators place ∙ ap (option_map uncounted) here) is_there)
+            | inr (le, none) ↦ absurd (omega arith)
+          ];
+    }

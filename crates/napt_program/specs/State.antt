@@ -1,0 +1,41 @@
+-- The states of a run's files.
+use Rattle.std.specs.Prelude.{◌≡◌, ℕ, List, [], Bool, true, false}
+use Rattle.napt_config.specs.Rules.{Rules}
+use Rattle.napt_rules.specs.Prelude.{State, under}
+use Rattle.napt_state.specs.StateText.{state_text}
+use Rattle.napt_program.specs.declared.stop.{Stop.Stop, TheConstants.MEMORY}
+use Rattle.napt_program.specs.declared.role.Role.TheVariants as role
+use Rattle.napt_program.specs.declared.stop.Stop.TheVariants as stop
+use Rattle.napt_program.specs.declared.stop.StateRefusal.TheVariants as refusal
+
+-- without bindings, at the time 0
+abbrev pub IsAnew : State → Type 0
+IsAnew state = state ≡ record { clock = 0; list = [] }
+
+-- what goes on under the rules is what the text's state does
+abbrev pub IsStateOf : Rules → List ℕ → State → Type 0
+IsStateOf rules text state = (saved : State) × (text ≡ state_text saved) × (under rules state ≡ under rules saved)
+
+-- a line is refused
+abbrev pub is_bad_line : Stop → Bool
+is_bad_line (stop.State (refusal.Line number)) = true
+is_bad_line other = false
+
+-- the state is refused, or its file if one is named, or memory ran out
+abbrev pub IsStateStop : Bool → Stop → Type 0
+IsStateStop named (stop.State why) = named ≡ true
+IsStateStop named (stop.File role.Resume) = named ≡ true
+IsStateStop named (stop.Run fault) = stop.Run fault ≡ MEMORY
+IsStateStop named other = ⊥
+
+-- the new file could not be created, if there is to be one, or memory ran out
+abbrev pub IsNewStop : Bool → Stop → Type 0
+IsNewStop named (stop.File role.Save) = named ≡ true
+IsNewStop named (stop.Run fault) = stop.Run fault ≡ MEMORY
+IsNewStop named other = ⊥
+
+-- the state that is left could not be written, or memory ran out
+abbrev pub IsSaveStop : Stop → Type 0
+IsSaveStop stop.Save = Unit {0}
+IsSaveStop (stop.Run fault) = stop.Run fault ≡ MEMORY
+IsSaveStop other = ⊥

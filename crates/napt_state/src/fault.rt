@@ -1,0 +1,106 @@
+//! Why the text of a state is refused.
+
+use std::alloc::{AllocError, AllocFailed};
+use std::error::Error;
+use std::{fmt, io};
+
+/// Why the text of a state is refused, and at which line.
+#[derive(Debug, Drop)]
+pub struct StateFault {
+    /// The number of the line, from 1.
+    pub line: u64,
+    pub reason: StateReason,
+}
+
+/// What is wrong with a line of the text of a state.
+#[derive(Debug, Drop)]
+pub enum StateReason {
+    /// A read failed.
+    Unread(io::Error),
+    /// Memory ran out.
+    Memory,
+    /// The bytes are not UTF-8.
+    NotUtf8,
+    /// The text ends before its last line does.
+    Torn,
+    /// A word is none that may stand there; with it, of its first 40 characters those that can be shown.
+    Word(StateWord, String),
+    /// A line has more or fewer words than its first one tells.
+    WordCount,
+    /// A flow comes before each binding.
+    NoBinding,
+    /// The last line counts other bindings or other flows.
+    Counts,
+    /// Something comes behind the last line.
+    BehindEnd,
+}
+
+/// What a word of a line has to be.
+#[derive(Clone, Copy, Debug, PartialEq, Eq)]
+pub enum StateWord {
+    /// The first word of a line: what the line is.
+    Kind,
+    Protocol,
+    /// An IPv4 address, such as `10.0.0.2`.
+    Address,
+    /// A number of an endpoint, below 2^16.
+    Number,
+    /// A time in ns or a count, below 2^64.
+    Count,
+    /// 0 or 1.
+    Mark,
+}
+
+impl From<AllocError> for StateReason {
+    ghost use Rattle.std.specs.Prelude.{◌≡◌};
+    ghost use Rattle.napt_state.specs.declared.fault.StateReason.TheVariants.{Memory};
+
+    ghost from_gives = { λ _ e. e ≡ Memory };
+
+    fn from(_e: AllocError) -> StateReason {
+        StateReason::Memory
+    }
+}
+
+impl<T: Drop> From<AllocFailed<T>> for StateReason {
+    ghost use Rattle.std.specs.Prelude.{◌≡◌};
+    ghost use Rattle.napt_state.specs.declared.fault.StateReason.TheVariants.{Memory};
+
+    ghost from_gives = { λ _ e. e ≡ Memory };
+
+    fn from(_e: AllocFailed<T>) -> StateReason {
+        StateReason::Memory
+    }
+}
+
+impl fmt::Display for StateWord {
+    fn fmt<W: fmt::Write>(&self, f: &mut fmt::Formatter<W>) -> fmt::Result {
+        f.write_str(match self {
+            StateWord::Kind => "first word",
+            StateWord::Protocol => "protocol",
+            StateWord::Address => "address",
+            StateWord::Number | StateWord::Count => "number",
+            StateWord::Mark => "mark",
+        })
+    }
+}
+
+impl fmt::Display for StateFault {
+    fn fmt<W: fmt::Write>(&self, f: &mut fmt::Formatter<W>) -> fmt::Result {
+        let line = self.line;
+        write!(f, "line {line}: ")?;
+        match &self.reason {
+            StateReason::Unread(error) => write!(f, "not read: {error}"),
+            StateReason::Memory => f.write_str("not enough memory"),
+            StateReason::NotUtf8 => f.write_str("not UTF-8"),
+            StateReason::Torn => f.write_str("the text breaks off"),
+            StateReason::Word(kind, word) => write!(f, "{kind} '{word}'"),
+            StateReason::WordCount => f.write_str("too many words, or too few"),
+            StateReason::NoBinding => f.write_str("a flow before each binding"),
+            StateReason::Counts => f.write_str("counts of other lines"),
+            StateReason::BehindEnd => f.write_str("behind the end"),
+        }
+    }
+}
+
+impl Error for StateFault {}

@@ -1,0 +1,27 @@
+-- A table to which nothing has happened yet, and what it takes of a state.
+use Rattle.std.specs.Prelude.{◌≡◌, ℕ, not, List, map, filter, find}
+use Rattle.napt_wire.specs.declared.Protocol.{Protocol}
+use Rattle.napt_config.specs.declared.settings.Timers.{Timers}
+use Rattle.napt_rules.specs.Prelude.{Binding, has_number, of, taken}
+use Rattle.napt_table.specs.{declared.beginning.Beginning.TheInside.Inside, Holdings.{Holdings, held_at}, Tables.TableState}
+
+-- at each number of each protocol what the list has is held
+abbrev pub AreHeld : ℕ → Holdings → List Binding → Type 0
+AreHeld address all list = (q : Protocol) (n : ℕ) → held_at all q n ≡ find (λ b. has_number address q n b.row) list
+
+abbrev pub list_of : Inside → List Binding
+list_of it = map (λ e. e.1) it.list.items
+
+abbrev pub shown : Inside → TableState
+shown it = record {
+  address = it.bindings.held.address;
+  timers = it.bindings.timers;
+  granting = it.bindings.held.granting;
+  inbound = it.inbound;
+  list = list_of it;
+  at = it.bindings.at;
+}
+
+-- those of bindings that are at the address, no redirects, and live or are held at the time
+abbrev pub taken_up : Timers → ℕ → ℕ → List Binding → List Binding
+taken_up timers at address list = of address (filter (λ b. not b.row.fixed) (taken timers at list))
