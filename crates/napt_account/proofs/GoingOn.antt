@@ -1,15 +1,15 @@
 -- A log that goes on from what was kept of it.
 use Rattle.std.proofs.lemmas.{Grind.common_steps, Bool.{Decides.nat_tests, eq-eqb, true≢false}}
-use Rattle.std.proofs.Common.{◌≡◌, ℕ, zero, suc, ◌+◌, ◌≤◌, ◌⊎◌, inl, inr, max, false, true, not, ◌&&◌, cond, List, [], ◌∷◌, ◌++◌, length, map, drop, Option, Some, None, refl, sym, ◌∙◌, ap, subst, arith, append_assoc, append-nil, eqb-true, Bool}
-use Rattle.std.{specs.{Prelude.{filter, ◌==◌, flat_map}, List.{fold, slice_get}}, proofs.lemmas.{List.length-map, Option.same_Some, Grind.flat_map-append}}
-use Rattle.napt_config.specs.{Rules.{Rules, KeepsRules}, declared.settings.Timers.Timers}
+use Rattle.std.proofs.Common.{◌≡◌, ℕ, suc, ◌+◌, ◌≤◌, ◌⊎◌, inl, inr, max, false, true, not, ◌&&◌, cond, List, [], ◌∷◌, ◌++◌, length, map, drop, Option, Some, None, refl, sym, ◌∙◌, ap, subst, arith, append_assoc, append-nil, eqb-true, Bool}
+use Rattle.std.{specs.{Prelude.{filter, ◌==◌}, List.{fold, slice_get}}, proofs.lemmas.{List.length-map, Option.same_Some, Grind.flat_map-append}}
+use Rattle.napt_config.specs.{Rules.{Rules}, declared.settings.Timers.Timers}
 use Rattle.napt_binding.specs.Ends.{end_of, is_before}
-use Rattle.napt_rules.specs.{declared.Leg.Leg, Prelude.{Through, Binding, row, act, Act, Arrival, Course, run_from, last_clock, State, anew, opening, course_from, left_by, under, behind, Takes, IsInOrder, RunsGoOn, SavedRunsGoOn}}
+use Rattle.napt_rules.specs.{declared.Leg.Leg, Prelude.{Through, Binding, row, act, Act, Arrival, Course, run_from, last_clock, State, anew, opening, course_from, left_by, under, behind, RunsGoOn, SavedRunsGoOn}}
 use Rattle.napt_rules.specs.declared.End.{End, TheVariants.{ToOutside, ToInside, Onward, Dropped}}
 use Rattle.napt_laws.proofs.{Grown.{run_append, clock_on}, Turns.{InTurn, run_turn}}
-use Rattle.napt_account.specs.{declared.log.{Entry.Entry, Listed.Listed, Shortage.Shortage}, Log.{begun, counted, is_of, through, logged_by, logged, shortages, shortage_at, shortage_by, Logged, log_of}}
+use Rattle.napt_account.specs.{declared.log.{Entry.Entry, Listed.Listed, Shortage.Shortage}, Log.{begun, counted, through, logged_by, logged, shortages, shortage_at, shortage_by, Logged, log_of}}
 use Rattle.napt_account.specs.Telling.{numbered_from, numbered, is_open, ends_within, in_order_of_end, Told, told_by}
-use Rattle.napt_account.specs.GoingOn.{LogState, kept_at, log_begun, gone, entry_by, entries_by, filled, log_on, told_between, told_on, told_from, log_left, LogsBegin, LogGoesOn, LogsGoOn, SavedLogsGoOn}
+use Rattle.napt_account.specs.GoingOn.{LogState, kept_at, gone, entry_by, entries_by, filled, log_on, told_between, told_on, log_left, LogsBegin, LogGoesOn, LogsGoOn, SavedLogsGoOn}
 use Rattle.napt_account.proofs.{Books.fold_joined, Ended.ended_later, Lists.map_joined, InOrder.{Has, has_filter, filter_has, order_has, has_order, has_number, number_has}}
 
 -- ENTRIES THAT ARE ONE AS LONG AS THEY HAVE NOT ENDED
