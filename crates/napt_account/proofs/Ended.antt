@@ -24,7 +24,8 @@ get_joined (y ∷ xs) ys (suc i) x at = get_joined xs ys i x at
 
 -- ACTS
 
-ended_later : (now later : ℕ) → now ≤ later → (end : Option ℕ) → is_before now end ≡ false → is_before later end ≡ false
+pub ended_later : (now later : ℕ) → now ≤ later → (end : Option ℕ) → is_before now end ≡ false →
+    is_before later end ≡ false
 ended_later now later le end ended = grind (arith, common_steps, nat_tests, before_sooner)
 
 leg_leaves : (timers : Timers) (leg : Leg) (went : Option Through) (now : ℕ) → now ≤ leg.now → (entries : List Entry)

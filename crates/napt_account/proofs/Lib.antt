@@ -9,6 +9,7 @@ pub mod Queue
 pub mod Begun
 pub mod Lists
 pub mod Ended
+pub mod GoingOn
 pub mod EndOrder
 pub mod InOrder
 pub mod Leaves

@@ -5,6 +5,7 @@ pub mod Ended
 pub mod HeldNumbers
 pub mod Log
 pub mod OpenEntries
+pub mod GoingOn
 pub mod KnownRuns
 pub mod Questions
 pub mod Telling

@@ -16,6 +16,6 @@ pub use crate::known_log::{KnownLog, LoggedTrace, traces_tell_the_log};
 pub use crate::known_run::{KnownRun, LoggedStep};
 pub use crate::log::{
     Entry, Listed, Shortage, ended_entries_stay, held_numbers_have_one_holder, in_order_of_making,
-    log_attributes, what_is_told_is_the_log,
+    log_attributes, logs_go_on, what_is_told_is_the_log,
 };
 pub use crate::question::Party;

@@ -3,11 +3,12 @@
 ghost use Rattle.std.specs.{Prelude.{◌≡◌, ◌+◌, ◌<◌, ◌^◌, List, map, IfOk}, List.Sorted.IsPermutation};
 ghost use Rattle.napt_config.specs.Rules.{pair_of};
 ghost use Rattle.napt_rules.specs.Prelude.{redirected, row};
-ghost use Rattle.napt_account.specs.{Log.is_shortage, Attribution.{LogNamesTheHolders, LogListsTheLiving}, HeldNumbers.HeldNumbersHaveOneHolder, Ended.EndedEntriesStay, AllTold.ToldIsTheLog};
+ghost use Rattle.napt_account.specs.{Log.is_shortage, Attribution.{LogNamesTheHolders, LogListsTheLiving}, HeldNumbers.HeldNumbersHaveOneHolder, Ended.EndedEntriesStay, AllTold.ToldIsTheLog, GoingOn.{LogsBegin, LogsGoOn, SavedLogsGoOn}};
 ghost use Rattle.napt_account.specs.{Telling.numbered, declared.log.Entry.Entry as Logged};
 ghost use Rattle.napt_binding.specs.Ends.{EndsAreFirst, is_before};
 
 use napt_config::{Config, Redirect};
+use napt_laws::{runs_go_on, saved_runs_go_on};
 use napt_table::{Row, TimedRow, opening_is_sound};
 use napt_wire::{Cause, Endpoint, Protocol, Way, packets_carry_numbers};
 use std::alloc::{AllocError, Global};
@@ -188,6 +189,17 @@ pub fn held_numbers_have_one_holder()
 pub fn ended_entries_stay()
     ensures { EndedEntriesStay }
 {}
+
+/// A run that goes on from a state, with what is left of the log there, tells with each input what the run over all inputs
+/// tells, and leaves the same of the log; also where the state was saved and taken up.
+pub fn logs_go_on()
+    ensures begin { LogsBegin }
+    ensures go_on { LogsGoOn }
+    ensures saved { SavedLogsGoOn }
+{
+    runs_go_on();
+    saved_runs_go_on();
+}
 
 /// What a run tells with its inputs is its log: the entries told as ended, with those that are left, are the entries of
 /// the log, each once and with its number; the bindings told as made, behind the redirects, are those of the log in its

@@ -1,0 +1,11 @@
+use Rattle.napt_account.proofs.GoingOn as lemmas
+use Rattle.napt_account.proofs.log.logs_go_on.Goals as goal
+
+pub returns-clause-begin : goal.returns-clause-begin
+returns-clause-begin c = lemmas.logs_begin
+
+pub returns-clause-go_on : goal.returns-clause-go_on
+returns-clause-go_on c = lemmas.logs_go_on c.runs_go_on.ensures.go_on
+
+pub returns-clause-saved : goal.returns-clause-saved
+returns-clause-saved c = lemmas.saved_logs_go_on c.saved_runs_go_on.ensures.go_on
