@@ -65,7 +65,8 @@ fn knows_timer_keys(table: &Table) -> bool
 }
 
 fn knows_pair_keys(table: &Table) -> bool
-    ensures { result ≡ knows_at (codes "pair") (only_keys_in_list pair_keys) (table_view table.now) }
+    ensures { result
+        ≡ knows_at (codes "pair") (only_keys_in_list pair_keys) (table_view table.now) }
 {
     match value_at(table, "pair") {
         Some(value) => only_keys_in_list(value, &["host", "external"]),

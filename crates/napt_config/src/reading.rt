@@ -77,7 +77,8 @@ fn add_address(pool: &mut Vec<u32>, entry: &Value) -> Result<(), ConfigFault>
 /// The pool of the table: 1 to 16 addresses, none twice.
 #[tactic(auto, unfolding(crate::specs::Configured::pool_in))]
 pub(crate) fn pool(alloc: Global, table: &Table) -> Result<Vec<u32>, ConfigFault>
-    ensures exact { Gives (λ pool. pool.items) result (pool_in each_in_order (table_view table.now)) }
+    ensures exact { Gives (λ pool. pool.items) result
+        (pool_in each_in_order (table_view table.now)) }
     ensures first { TellsFirst (pool_in first_in_order (table_view table.now)) result }
 {
     let entries = short_list(table, "pool")?;
@@ -380,7 +381,8 @@ fn pairs_at(
 ) -> Result<BTreeMap<u32, u32>, ConfigFault>
     ensures exact { Gives (λ pairs. pairs.entries) result
         (pairs_at each_in_order pool.now inside.now (view value.now)) }
-    ensures first { TellsFirst (pairs_at first_in_order pool.now inside.now (view value.now)) result }
+    ensures first { TellsFirst
+        (pairs_at first_in_order pool.now inside.now (view value.now)) result }
 {
     let entries = list_up_to(MOST_PAIRS, value)?;
     let mut pairs = BTreeMap::new(alloc);
