@@ -99,6 +99,8 @@ fn takes_a_line_without_a_name(rt: HostRuntime) -> Result<(), Fail> {
         to_outside: None,
         to_inside: None,
         report: None,
+        resume: None,
+        save: None,
     };
     assert!(rt; parse_words(rt.alloc(), Vec::new(rt.alloc())) == Ok(wanted));
     Ok(())

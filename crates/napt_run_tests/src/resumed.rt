@@ -1,6 +1,6 @@
 //! A run that goes on from the state that another left.
 
-use crate::captures::{ALL_TIMES, HEADER, replies_in, sent_in};
+use crate::captures::{ALL_TIMES, replies_in, sent_in};
 use crate::gates::{Hold, Way};
 use crate::sample_inputs::THREE_ADDRESSES;
 use napt_capture::Watched;
@@ -72,12 +72,12 @@ fn nothing(alloc: Global) -> State {
     }
 }
 
-/// Whether the second text goes on behind the first, but for its header, as the whole does.
+/// Whether the second text goes on behind the first, but for its header of 24 bytes, as the whole does.
 fn goes_on(first: &[u8], second: &[u8], whole: &[u8]) -> bool {
-    let Some(rest) = whole.strip_prefix(first) else {
+    let (Some(rest), Some(header)) = (whole.strip_prefix(first), first.get(..24)) else {
         return false;
     };
-    second.strip_prefix(HEADER.as_slice()) == Some(rest)
+    second.strip_prefix(header) == Some(rest)
 }
 
 #[test]

@@ -7,7 +7,7 @@ use crate::sample_inputs::input;
 use napt_config::Config;
 use napt_dispatch::{Departed, Departures, Passed, Stopped, run_through};
 use napt_pool::Gate;
-use napt_run::Input;
+use napt_run::{Input, State};
 use napt_samples::hosts::{CLIENT, RESOLVER, SECOND};
 use napt_samples::settings::TWO_ADDRESSES;
 use napt_sequential::{Arrivals, Untold};
@@ -164,7 +164,12 @@ fn answers_are_taken_while_inputs_are_read(rt: HostRuntime) -> Result<(), Fail> 
         left_then: 0,
     };
     let mut count = Count { left };
-    let passed = whole(run_through(&rt, alloc, &config, &mut packets, &mut count, turns))?;
+    let state = State {
+        clock: 0,
+        list: Vec::new(alloc),
+    };
+    let run = run_through(&rt, alloc, &config, &state, &mut packets, &mut count, turns);
+    let passed = whole(run)?;
     assert_eq!(rt; passed.legs.as_slice(), [LOOKED_AFTER + 1, 0].as_slice());
     assert!(rt;
         packets.left_then >= ANSWERED,
