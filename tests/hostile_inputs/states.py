@@ -116,7 +116,7 @@ def read(data):
 
 def loose(rules, state):
     """The bindings that are no redirects and live or are held at the state's clock, each with the flows that are left then."""
-    ago = state.clock - SECOND * rules.hold
+    ago = max(0, state.clock - SECOND * rules.hold)
     kept = [it for it in state.bindings if not it.is_fixed and it.is_live(ago, rules.timers)]
     for it in kept:
         it.flows = it.live_flows(ago, rules.timers)

@@ -191,7 +191,7 @@ class Translator:
             self.bindings.append(Binding(PROTOCOLS[protocol], inside, external, is_fixed=True))
 
     def purge(self, now):
-        timers, ago = self.rules.timers, now - SECOND * self.rules.hold
+        timers, ago = self.rules.timers, max(0, now - SECOND * self.rules.hold)
         kept = [it for it in self.bindings + self.held if it.is_live(ago, timers)]
         for it in kept:
             it.flows = it.live_flows(ago, timers)

@@ -1,6 +1,6 @@
 -- Which output is a file that an option before it names.
 use Rattle.std.specs.Prelude.{◌≡◌, ◌||◌, Bool, true, false, not, Option, Some, None, is_some, if◌then◌else◌}
-use Rattle.napt_program.specs.{Place.is_same, declared.{place.Place.Place, options.Options.Options, places.{Places.Places, SavePlaces.SavePlaces}, role.Role.Role}}
+use Rattle.napt_program.specs.{Place.is_same, declared.{place.Place.{Place, TheVariants.Aside}, options.Options.Options, places.{Places.Places, SavePlaces.SavePlaces}, role.Role.Role}}
 use Rattle.napt_program.specs.declared.role.Role.TheVariants as role
 
 -- the place, if there is one, is this file
@@ -25,10 +25,17 @@ abbrev pub is_taken : Places → Place → Bool
 is_taken p file =
     is_input p file || is_there file p.to_outside || is_there file p.to_inside || is_there file p.report
 
--- a state is saved to such a file, or its new file is one or the state from which the run goes on
-abbrev pub is_save_named_again : Places → Option SavePlaces → Bool
-is_save_named_again p None = false
-is_save_named_again p (Some save) = is_taken p save.file || is_taken p save.new || is_there save.new p.resume
+-- a device, a pipe or a folder
+abbrev pub is_aside : Place → Bool
+is_aside Aside = true
+is_aside _ = false
+
+-- a state is saved to no file, or to such a one, or its new file is so or is the state from which the run goes on
+abbrev pub is_save_lost : Places → Option SavePlaces → Bool
+is_save_lost p None = false
+is_save_lost p (Some save) =
+    is_aside save.file || is_aside save.new || is_taken p save.file || is_taken p save.new
+    || is_there save.new p.resume
 
 -- the first output that is a file of an earlier option
 abbrev pub output_named_again : Places → Option Role
@@ -36,7 +43,7 @@ output_named_again p =
     if is_again p p.to_outside None None then Some role.ToOutside
     else (if is_again p p.to_inside p.to_outside None then Some role.ToInside
     else (if is_again p p.report p.to_outside p.to_inside then Some role.Report
-    else (if is_save_named_again p p.save then Some role.Save
+    else (if is_save_lost p p.save then Some role.Save
     else None)))
 
 -- the log is a file of another option, or a standard stream

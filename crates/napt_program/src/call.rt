@@ -120,12 +120,10 @@ impl fmt::Display for Advice {
                     "  {name} --help tells what it takes, and what each line means"
                 )
             }
-            Stop::Config(_)
-            | Stop::State(_)
-            | Stop::File(_)
-            | Stop::Run(Fault::Capture(..)) => f.write_str(
-                "  explain (installed: napt-explain) with the same words tells why, and what to do",
-            ),
+            Stop::Config(_) | Stop::State(_) | Stop::File(_) | Stop::Run(Fault::Capture(..)) =>
+                f.write_str(
+                    "  explain (installed: napt-explain) with the same words tells why, and what to do",
+                ),
         }
     }
 }

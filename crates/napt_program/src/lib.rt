@@ -37,8 +37,8 @@ pub use crate::resuming::{state_at, state_from, stop_of_state};
 pub use crate::role::Role;
 pub use crate::saving::StateFile;
 pub use crate::stop::{
-    CaptureFaultName, MEMORY, StateRefusal, StateRefusalName, Stop, StopLine, line_at_end, name_of_config_fault, status_at_end,
-    stop_line, stop_status,
+    CaptureFaultName, MEMORY, StateRefusal, StateRefusalName, Stop, StopLine, line_at_end,
+    name_of_config_fault, status_at_end, stop_line, stop_status,
 };
 pub use crate::streams::{Streams, closed_stream, closed_stream_with_log};
 pub use crate::tally::Tallied;

@@ -1,7 +1,7 @@
 //! Finds an output that would overwrite another file of the run.
 ghost use Rattle.std.specs.Prelude.{◌≡◌, IfErr, IfOk, IfSome, is_some, not, true};
 ghost use Rattle.napt_program.specs.CommandLine.{files_of};
-ghost use Rattle.napt_program.specs.{Places.{ArePlacesOf, is_again, is_input, is_log_named_again, is_placed, is_save_named_again, is_taken, is_there, output_named_again}, Standard.is_named};
+ghost use Rattle.napt_program.specs.{Places.{ArePlacesOf, is_again, is_aside, is_input, is_log_named_again, is_placed, is_save_lost, is_taken, is_there, output_named_again}, Standard.is_named};
 
 use crate::options::{Options, is_dash};
 use crate::options_with_log::OptionsWithLog;
@@ -137,26 +137,35 @@ fn output_named_again(places: &Places<'_>) -> Option<Role>
         Some(Role::ToInside)
     } else if is_again(places, places.report, to_outside, to_inside) {
         Some(Role::Report)
-    } else if is_save_named_again(places) {
+    } else if is_save_lost(places) {
         Some(Role::Save)
     } else {
         None
     }
 }
 
-/// Whether a state is saved to a file of another option but `resume`, or its new file is one.
-fn is_save_named_again(places: &Places<'_>) -> bool
-    ensures again { result ≡ is_save_named_again places.now places.now.save }
+/// Whether a state is saved to what is no file, or to a file of another option but `resume`, or its new file is either.
+fn is_save_lost(places: &Places<'_>) -> bool
+    ensures again { result ≡ is_save_lost places.now places.now.save }
     ensures placed { result ≡ true → is_some places.now.save ≡ true }
 {
     match places.save {
         Some(save) => {
-            is_taken(places, save.file)
+            is_aside(save.file)
+                || is_aside(save.new)
+                || is_taken(places, save.file)
                 || is_taken(places, save.new)
                 || is_there(save.new, places.resume)
         }
         None => false,
     }
+}
+
+/// Whether it is a device, a pipe or a folder, which no new file may replace.
+fn is_aside(place: Place<'_>) -> bool
+    ensures { result ≡ is_aside place.entry }
+{
+    matches!(place, Place::Aside)
 }
 
 /// Whether a file is one that is read, but for the state, or written, but for the state.

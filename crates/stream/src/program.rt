@@ -15,9 +15,7 @@ use napt_program::{
     open_with_log, parse_words_with_log, stop_of_run, words,
 };
 use napt_rules::State;
-use napt_run::{
-    Fault, LoggedFault, Passed, Start, resume_streams, run_streams_with_log,
-};
+use napt_run::{Fault, LoggedFault, Passed, Start, resume_streams, run_streams_with_log};
 use std::alloc::Global;
 use std::env::Env;
 use std::rt::Files;
