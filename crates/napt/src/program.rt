@@ -1,14 +1,13 @@
 //! What the program does: it reads its words and its configuration, opens the files in a fixed order, and runs over them.
 
-ghost use Rattle.std.specs.Prelude.{◌≡◌, IfErr, OnOk, map, string_bytes};
+ghost use Rattle.std.specs.Prelude.{◌≡◌, IfErr, OnOk, is_some, map, string_bytes};
 ghost use Rattle.napt_program.specs.{CommandLine.{files_of, line_of_words}, Command.{IsLineStop, IsRunStop, IsTaken, IsUnderOpenGate}};
 
 use napt_pool::OpenGate;
 use napt_program::{
-    Call, Devices, LineFault, MEMORY, Opened, Options, Stop, Streams, Tallied, open, parse_words,
-    stop_of_run, words,
+    Call, Devices, LineFault, MEMORY, Opened, Options, StateFile, Stop, Streams, Tallied, open,
+    parse_words, stop_of_run, words,
 };
-use napt_rules::State;
 use napt_run::{Passed, Start, resume_captures};
 use std::alloc::Global;
 use std::env::Env;
@@ -94,17 +93,26 @@ fn run<R: Files + Input + Print + Eprint + AllocGlobal + Threads + Wait + Copy +
         Err(fault) => return Err(stop_of_run(options, fault)),
     };
     call.tell_cuts(rt, &inside, &outside);
-    match save {
-        Some(save) => save.finish(rt, alloc, &left(alloc, &passed)?),
-        None => Ok(()),
-    }
+    saved(rt, options, save, &passed)
 }
 
-/// The state that a run leaves. Fails, as a run does, if memory runs out.
-fn left(alloc: Global, passed: &Passed) -> Result<State, Stop>
-    ensures { IfErr result (λ stop. stop ≡ MEMORY) }
+/// How the program ends once the state that a run leaves is saved, if it is to be.
+fn saved<R: Files + AllocGlobal>(
+    rt: &R,
+    options: &Options,
+    save: Option<StateFile<R::File>>,
+    passed: &Passed,
+) -> Result<(), Stop>
+    requires { is_some save ≡ is_some options.now.save }
+    ensures { (streams : Streams) → IfErr result (IsRunStop streams (files_of options.now)) }
 {
-    passed.left(alloc).map_err(|_| MEMORY)
+    let Some(save) = save else {
+        return Ok(());
+    };
+    match passed.left(rt.alloc()) {
+        Ok(state) => save.finish(rt, rt.alloc(), &state),
+        Err(_) => Err(MEMORY),
+    }
 }
 
 /// The gate of a run, which always opens. Fails, as a run does, if memory runs out.
