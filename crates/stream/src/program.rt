@@ -11,10 +11,9 @@ use crate::progress::Progress;
 use crate::watched::Watched;
 use either::{Left, Right};
 use napt_program::{
-    Call, Devices, LineFault, MEMORY, Opened, OpenedWithLog, OptionsWithLog, Stop, Streams,
-    open_with_log, parse_words_with_log, stop_of_run, words,
+    Call, Devices, LineFault, MEMORY, Opened, OpenedWithLog, OptionsWithLog, StateFile, Stop,
+    Streams, open_with_log, parse_words_with_log, stop_of_run, words,
 };
-use napt_rules::State;
 use napt_run::{Fault, LoggedFault, Passed, Start, resume_streams, run_streams_with_log};
 use std::alloc::Global;
 use std::env::Env;
@@ -146,19 +145,34 @@ fn run<
         ),
     };
     progress.tell_end();
-    let passed = answer?;
-    call.tell_cuts(rt, inside.tallied(), outside.tallied());
-    match (save, passed) {
-        (Some(save), Some(passed)) => save.finish(rt, alloc, &left(alloc, &passed)?),
-        _ => Ok(()),
+    if answer.is_ok() {
+        call.tell_cuts(rt, inside.tallied(), outside.tallied());
+    }
+    match answer {
+        Ok(Some(passed)) => saved(rt, options, save, &passed),
+        Ok(None) => Ok(()),
+        Err(stop) => Err(stop),
     }
 }
 
-/// The state that a run leaves. Fails, as a run does, if memory runs out.
-fn left(alloc: Global, passed: &Passed) -> Result<State, Stop>
-    ensures { IfErr result (λ stop. stop ≡ MEMORY) }
+/// How the program ends once the state that a run leaves is saved, if it is to be.
+fn saved<R: Files + AllocGlobal>(
+    rt: &R,
+    options: &OptionsWithLog,
+    save: Option<StateFile<R::File>>,
+    passed: &Passed,
+) -> Result<(), Stop>
+    requires { is_some save ≡ is_some options.now.files.save }
+    ensures { (streams : Streams) → IfErr result
+        (IsRunStop streams (files_with_log options.now)) }
 {
-    passed.left(alloc).map_err(|_| MEMORY)
+    let Some(save) = save else {
+        return Ok(());
+    };
+    match passed.left(rt.alloc()) {
+        Ok(state) => save.finish(rt, rt.alloc(), &state),
+        Err(_) => Err(MEMORY),
+    }
 }
 
 /// How the program ends after a run without a log.
