@@ -48,8 +48,8 @@ def shown_option(wanted, shown):
     return "None" if wanted == "none" else f"Some({shown(wanted)})"
 
 
-def shown_bytes(data):
-    return f"[{', '.join(map(str, data))}]"
+def shown_list(items):
+    return f"[{', '.join(map(str, items))}]"
 
 
 def told_bytes(data):
@@ -85,10 +85,6 @@ def shown_row(text):
     protocol, inside, external, *fixed = text.split()
     ends = f"inside: {shown_endpoint(inside)}, external: {shown_endpoint(external)}"
     return f"Row {{ protocol: {protocol.capitalize()}, {ends}, fixed: {str(bool(fixed)).lower()} }}"
-
-
-def shown_list(items):
-    return f"[{', '.join(map(str, items))}]"
 
 
 def shown_rows(rows):
@@ -221,7 +217,7 @@ class Run:
         return texts.packet(words, self.names)
 
     def shown_data(self, words):
-        return shown_bytes(self.data(words))
+        return shown_list(self.data(words))
 
     def read(self, side, words):
         """Makes the bytes that words say the current packet."""
@@ -272,17 +268,12 @@ class Run:
         self.read("inside", words)
         return "onward", shown_option(wanted, self.place)
 
-    def shown_record(self, text):
-        _, time, *words = text.split()
-        data = self.data(words)
-        return f"Record {{ time: {nanoseconds(time)}, bytes: {shown_bytes(data)}, original: {len(data)} }}"
-
     def on_read_capture(self, words, wanted):
-        parts = wanted.split(", ")
-        cut = str(parts[-1] == "cut").lower()
-        records = ", ".join(self.shown_record(part) for part in parts if part.startswith("record "))
-        if parts[0] == "none" or records:
-            shown = f"Ok(Capture {{ records: [{records}], cut: {cut} }})"
+        parts = [part.split() for part in wanted.split(", ")]
+        told = [(nanoseconds(part[1]), self.data(part[2:])) for part in parts if part[0] == "record"]
+        if parts[0] == ["none"] or told:
+            records = shown_list(f"Record {{ time: {time}, bytes: {shown_list(data)}, original: {len(data)} }}" for time, data in told)
+            shown = f"Ok(Capture {{ records: {records}, cut: {str(parts[-1] == ['cut']).lower()} }})"
         else:
             fault, *number = wanted.split()
             shown = f"Err({shown_name(fault)}{''.join(f'({it})' for it in number)})"
@@ -332,11 +323,6 @@ class Run:
         return f"streams 65535 0 {told_captures(words)}", re.compile(f"{asks}(false [^;]*; )*")
 
 
-def shown_choosing(wanted):
-    parity, numbers = wanted.split()
-    return f"Choosing {{ keeps_parity: {str(parity == 'kept').lower()}, seed: {'Some(Seed)' if numbers == 'random' else 'None'} }}"
-
-
 def number_in(address):
     return str(texts.endpoint(address)[0])
 
@@ -345,12 +331,13 @@ def option_of(shown):
     return lambda wanted: shown_option(wanted, shown)
 
 
+CHOSEN = {"kept": "true", "free": "false", "preserved": "None", "random": "Some(Seed)"}
 # how settings are shown that are no names
 SETTINGS = {
     "pool": lambda wanted: shown_list(map(number_in, items_of(wanted))),
     "redirects": wanted_redirects,
     "timers": lambda wanted: "Timers {{ udp: {}, established: {}, transitory: {}, icmp: {}, hold: {} }}".format(*wanted.split()),
-    "choosing": shown_choosing,
+    "choosing": lambda wanted: "Choosing {{ keeps_parity: {}, seed: {} }}".format(*map(CHOSEN.get, wanted.split())),
     **dict.fromkeys(("quota", "block"), option_of(str)),
 }
 # what a field of a line for the player is of the word behind the call at the place that the field ends with
@@ -358,25 +345,20 @@ FIELDS = {
     "word": str, "end": endpoint, "address": number_in, "number": lambda it: texts.endpoint(it)[1], "protocol": protocol_of,
     "check": lambda it: int(it, 16),
 }
-CHECKS = ("{check0} {check1} {check2}", lambda wanted: str(int(wanted, 16)))
 # of the calls that need no method what stands behind their names in a line for the player, and the answer: a text, what shows it,
 # or None where it is bytes
 PLAIN = {
-    "local_end": ("{word0}", shown_endpoint),
-    "remote_end": ("{word0}", shown_endpoint),
+    **dict.fromkeys(("local_end", "remote_end"), ("{word0}", shown_endpoint)),
     "bytes": ("", None),
-    "set_source": ("{end0}", None),
-    "set_destination": ("{end0}", None),
+    **dict.fromkeys(("set_source", "set_destination"), ("{end0}", None)),
     "revert_inner": ("{word0} {end1}", None),
-    "fix_check": CHECKS,
-    "fix_check_udp": CHECKS,
+    **dict.fromkeys(("fix_check", "fix_check_udp"), ("{check0} {check1} {check2}", lambda wanted: str(int(wanted, 16)))),
     "table": ("{address0} {config}", "begun"),
     "by_external": ("{time} {protocol0} {number1}", option_of(shown_endpoint)),
     "by_inside": ("{time} {protocol0} {end1}", option_of(str)),
     "bindings": ("{time}", wanted_rows),
     "translators": ("{config}", "begun"),
-    "built_in": ("", "made"),
-    "copy": ("", "made"),
+    **dict.fromkeys(("built_in", "copy"), ("", "made")),
     "is_inside": ("{address0}", {"yes": "true", "no": "false"}.get),
     "pair": ("{address0}", number_in),
     "pool_index": ("{address0}", option_of(str)),

@@ -1,9 +1,9 @@
 /* Stands before the C library, and refuses what the environment says.
    Growths of memory, with ENOMEM: the one whose number, from 1, is REFUSED_GROWTH; where REFUSED_ON is set too, each later one as well.
    The growths of all threads are counted together, in one atomic count.
-   A read or a write, with EIO: of the calls that REFUSED_NAME names, that whose number, from 1, is REFUSED_CALL. Calls on standard error
-   are not counted. When the process ends, the file that REFUSED_LEFT names gets a byte for each thread that is left.
-   Where something is refused, the file that REFUSED_MARK names is made; it has what a call was to read or to write.
+   A read, a write or an fsync, with EIO: of the calls that REFUSED_NAME names, that whose number, from 1, is REFUSED_CALL. Calls on
+   standard error are not counted. When the process ends, the file that REFUSED_LEFT names gets a byte for each thread that is left.
+   Where something is refused, the file that REFUSED_MARK names is made; it has what a call was to read, to write or to keep.
    It is built by the toolchain's clang alone, so it declares what it uses of the C library itself. */
 typedef unsigned long size;
 
@@ -43,6 +43,7 @@ extern int *__errno_location(void);
 static unsigned long growths, calls;
 static long (*next_read)(int, void *, size);
 static long (*next_write)(int, const void *, size);
+static int (*next_fsync)(int);
 static void look_up(void);
 
 /* Counts one more, and whether it is the one whose number a variable has, or one behind it where REFUSED_ON is set. */
@@ -82,7 +83,7 @@ __attribute__((constructor)) static void look_up(void) {
     }
     is_looked_up = 1;
     LOOK_UP(malloc), LOOK_UP(realloc), LOOK_UP(calloc), LOOK_UP(posix_memalign), LOOK_UP(aligned_alloc);
-    LOOK_UP(read), LOOK_UP(write);
+    LOOK_UP(read), LOOK_UP(write), LOOK_UP(fsync);
 }
 
 static int is_call_refused(const char *name, int file) {
@@ -106,6 +107,10 @@ long read(int file, void *to, size bytes) {
 
 long write(int file, const void *from, size bytes) {
     return is_call_refused("write", file) ? -1 : next_write(file, from, bytes);
+}
+
+int fsync(int file) {
+    return is_call_refused("fsync", file) ? -1 : next_fsync(file);
 }
 
 /* A thread that is joined may stand there for a moment yet. */

@@ -1,4 +1,4 @@
-"""Growths of memory, reads and writes of napt or stream that are refused, each in turn."""
+"""Growths of memory, reads, writes and fsyncs of napt or stream that are refused, each in turn."""
 import os
 import re
 import subprocess
@@ -8,7 +8,9 @@ from shared import GATEWAY, INPUTS, OUTPUTS, TESTS, called, content, ran, want, 
 
 MOST_TRIES = 10_000
 MEMORY = {3: "config memory", 4: "capture (inside|outside) memory", 5: "run (memory|no-thread)"}
-CALLS = {"read": ("config", "inside", "outside"), "write": (*OUTPUTS, "log")}
+# where a growth is refused to the next piece of a log
+OF_PIECES = {6: "write log"}
+CALLS = {"read": ("config", "inside", "outside"), "write": (*OUTPUTS, "log"), "fsync": ("log",)}
 
 
 EVERY = ("config", "inside", "outside", *OUTPUTS)
@@ -26,12 +28,13 @@ def built(folder):
 
 class Sweep:
     """Runs of a program over files, of which each is refused something. Of the options that are not named the standard
-    streams are used, and nothing is written."""
+    streams are used, and nothing is written. The log may have pieces, by further words."""
 
-    def __init__(self, program, folder, named, inputs=EXAMPLE):
+    def __init__(self, program, folder, named, inputs=EXAMPLE, logs=("log",), more=()):
         self.program, self.name, self.folder = program, os.path.basename(program), folder
-        self.refuser, self.named, self.inputs = built(folder), named, inputs
-        self.outputs = (*OUTPUTS, "log") if "log" in named else OUTPUTS
+        self.refuser, self.named, self.inputs, self.more = built(folder), named, inputs, more
+        self.logs = logs if "log" in named else ()
+        self.outputs = (*OUTPUTS, *self.logs)
         self.whole = self.run({})[2]
 
     def run(self, refusal):
@@ -39,7 +42,7 @@ class Sweep:
         for name in ("mark", "left", *self.outputs):
             self.at(name).unlink(missing_ok=True)
         given = {"LD_PRELOAD": self.refuser, "REFUSED_MARK": self.at("mark"), **refusal}
-        words = words_of({name: self.inputs.get(name, self.at(name)) for name in self.named})
+        words = [*words_of({name: self.inputs.get(name, self.at(name)) for name in self.named}), *self.more]
         with open(self.inputs["inside"], "rb") as source, open(self.at("standard"), "wb") as target:
             how = {"stdin": source, "stdout": target, "stderr": subprocess.PIPE, "capture_output": False}
             answer = called([self.program, *words], env=given, **how)
@@ -55,6 +58,8 @@ class Sweep:
         want(status != 0 or outputs == self.whole, f"{what}: status 0, and not the whole outputs")
         for name, data in outputs.items():
             want(self.whole[name].startswith(data), f"{what}: {name} is no front of the whole one")
+        log, whole = (b"".join(it[name] for name in self.logs) for it in (outputs, self.whole))
+        want(whole.startswith(log), f"{what}: a piece is left out of the log")
 
 
 class Growths(Sweep):
@@ -77,8 +82,9 @@ class Growths(Sweep):
         status, line, outputs, _ = self.run(refusal)
         self.judge(what, status, outputs)
         if status != 0:
+            told = MEMORY | (OF_PIECES if self.more else {})
             want(self.at("mark").exists(), f"{what}: status {status} without a refusal")
-            want(status in MEMORY and re.fullmatch(f"{self.name}: {MEMORY[status]}\n", line), f"{what}: status {status}, {line!r}")
+            want(status in told and re.fullmatch(f"{self.name}: {told[status]}\n", line), f"{what}: status {status}, {line!r}")
             self.judge_refused(what, outputs)
         return line
 
@@ -121,15 +127,18 @@ class Calls(Sweep):
         wanted, told = lines.get(role, (6, f"write {role}"))
         want((status, line) == (wanted, f"{self.name}: {told}\n"), f"{what} of {role}: status {status}, {line!r}")
         want(role == "report" or outputs["report"] == b"", f"{what} of {role}: a report is begun")
+        if name == "fsync":
+            there = {it: outputs[it] for it in self.logs if self.at(it).exists()}
+            want(there == {it: self.whole[it] for it in self.logs[:call]}, f"{what}: a piece is not whole, or the next one is there")
         roles.add(role)
         return True
 
 
-def swept(program, room, *choices):
+def swept(program, room, *choices, **more):
     """Sweeps over growths with each choice of options, and over calls with the last one. Returns how many were refused."""
     folder = room / "refused"
     folder.mkdir()
     growths = 0
     for options in choices:
-        growths += sum(Growths(program, folder, options).sweep(is_each_later) for is_each_later in (False, True))
-    return growths, sum(Calls(program, folder, choices[-1]).sweep(name) for name in CALLS)
+        growths += sum(Growths(program, folder, options, **more).sweep(is_each_later) for is_each_later in (False, True))
+    return growths, sum(Calls(program, folder, choices[-1], **more).sweep(name) for name in ("read", "write"))

@@ -123,14 +123,14 @@ def write_files(folder, named):
         (pathlib.Path(folder) / name).write_bytes(data)
 
 
-def run_over(program, given, folder, outputs=OUTPUTS):
+def run_over(program, given, folder, outputs=OUTPUTS, *more):
     """Runs a program over what is given of its configuration and captures, in files of a folder that are named as the
-    options: its status, its line on standard error, and its outputs."""
+    options, with more words: its status, its line on standard error, and its outputs."""
     given = {name: data for name, data in given.items() if data is not None}
     write_files(folder, given)
     for name in outputs:
         (folder / name).unlink(missing_ok=True)
-    answer = called([program, *files(given, folder), *files(outputs, folder)])
+    answer = called([program, *files(given, folder), *files(outputs, folder), *more])
     return answer.returncode, answer.stderr.decode(), {name: content(folder / name) for name in outputs}
 
 

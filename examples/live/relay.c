@@ -1,5 +1,6 @@
 // Puts a translator between two TUN devices; the text of --help, below, says how.
 #define _GNU_SOURCE
+#include <dirent.h>
 #include <errno.h>
 #include <fcntl.h>
 #include <linux/if_tun.h>
@@ -35,11 +36,11 @@ static const char HELP[] =
     "--to-outside and --to-inside, each with a pipe. Once it has opened its files and the devices carry packets, the relay\n"
     "says that it is ready.\n"
     "\n"
-    "  --keep DIR      keeps the captures that went to PROGRAM and came from it in DIR, under the names of its options, with\n"
-    "                  .pcap behind them. Where one of an earlier run is there the relay ends at once, but where the words\n"
-    "                  have --resume: then the names have the next number, as inside-2.pcap. Where it ends before it is ready\n"
-    "                  it leaves none. Where one cannot be written any more, as on a full disk, a line says so, and the\n"
-    "                  captures end as after SIGTERM\n"
+    "  --keep DIR      keeps the captures that went to PROGRAM and came from it in DIR, named after its options, as\n"
+    "                  inside.pcap. If one of an earlier run is there, the relay ends at once; with --resume among the words\n"
+    "                  it takes the next number instead, as inside-2.pcap. If it ends before it is ready, it leaves none. If\n"
+    "                  one cannot be written any more, as on a full disk, a line says so, and the captures end as after\n"
+    "                  SIGTERM\n"
     "  --ready-fd N    writes the line 'ready' to the open file N too, and closes it; it is closed without the line where the\n"
     "                  relay ends before\n"
     "\n"
@@ -53,8 +54,11 @@ static const char HELP[] =
     "truncated.\n"
     "\n"
     "SIGTERM, SIGINT and SIGHUP end the captures: what came is translated and leaves, and PROGRAM writes the report, the log\n"
-    "(--log FILE of the words) and the state (--save FILE) to their ends. Where PROGRAM ends by itself the relay ends too. The status is that of PROGRAM; it\n"
-    "is 1 where a device, a folder or PROGRAM cannot be opened or a capture cannot be kept, and 2 for a mistake in the words.\n";
+    "(--log FILE of the words) and the state (--save FILE) to their ends. PROGRAM itself is started so that it ignores these\n"
+    "signals. Started again with --resume FILE it goes on with the bindings and the log, also under another configuration or\n"
+    "as another version. Where a device is deleted a line says so, and the captures end too. Where PROGRAM ends by itself the\n"
+    "relay ends too. The status is that of PROGRAM; it is 1 where a device, a folder or PROGRAM cannot be opened, a device is\n"
+    "deleted or a capture cannot be kept, and 2 for a mistake in the words.\n";
 
 enum {
     HEADER_BYTES = 24,
@@ -222,6 +226,9 @@ static void wait_for_carrier(const Device *device) {
 
 // set where the captures are to end
 static volatile sig_atomic_t is_over;
+// the signals that set it
+static const int ENDING[] = {SIGTERM, SIGINT, SIGHUP};
+enum { ENDINGS = sizeof ENDING / sizeof *ENDING };
 
 // A capture that is kept; no file where none is.
 typedef struct {
@@ -229,10 +236,11 @@ typedef struct {
     char *path;
 } Kept;
 
-// the paths of those that were made, whether the relay was ready, and whether all could be written so far
+// the paths of those that were made, whether the relay was ready, whether all could be written so far, and whether both devices
+// are there
 static char *made[KEPT];
 static int many_made;
-static bool is_ready, are_whole = true;
+static bool is_ready, are_whole = true, are_there = true;
 
 // Leaves no capture of a run that was never ready.
 static void take_back(void) {
@@ -254,14 +262,29 @@ static char *path_in(const Folder *folder, const char *option) {
     return path;
 }
 
-// Takes the first number of which no capture is there.
-static void number_on(Folder *folder) {
+// The number of a capture by its name, or 0 where it is none that was kept.
+static int number_of(const char *file) {
     for (int at = 0; at < KEPT; at++) {
-        char *path = path_in(folder, OPTIONS[at]);
-        bool is_there = access(path, F_OK) == 0;
-        free(path);
-        if (is_there) folder->number++, at = -1;
+        size_t many = strlen(OPTIONS[at]);
+        if (strncmp(file, OPTIONS[at], many) != 0) continue;
+        int number = 0, end = 0;
+        if (strcmp(file + many, ".pcap") == 0) return 1;
+        if (sscanf(file + many, "-%9d.pcap%n", &number, &end) == 1 && end > 0 && !file[many + (size_t)end]) return number;
     }
+    return 0;
+}
+
+// Takes the number behind the greatest of the captures that are there.
+static void number_on(Folder *folder) {
+    int greatest = 0;
+    DIR *there = opendir(folder->path);
+    if (!there) fail(1, "%s: %s", folder->path, strerror(errno));
+    for (struct dirent *entry; (entry = readdir(there));) {
+        int number = number_of(entry->d_name);
+        if (number > greatest) greatest = number;
+    }
+    closedir(there);
+    folder->number = greatest + 1;
 }
 
 static Kept kept_file(const Folder *folder, const char *option) {
@@ -286,6 +309,11 @@ static void note_fault(const Kept *kept) {
 
 static void keep(const Kept *kept, const void *data, size_t many) {
     if (kept->file && are_whole && fwrite(data, 1, many, kept->file) < many) note_fault(kept);
+}
+
+// Hands what was kept so far to the system, so that it is there where the relay is killed.
+static void flush_kept(const Kept *kept) {
+    if (kept->file && are_whole && fflush(kept->file)) note_fault(kept);
 }
 
 static void close_kept(const Kept *kept) {
@@ -520,6 +548,8 @@ static void start(Relay *relay, char **given, int many) {
     if (relay->program == 0) {
         signal(SIGPIPE, SIG_DFL);
         signal(SIGXFSZ, SIG_DFL);
+        // these are the relay's to see, also where a whole service gets them: it ends the captures, and so the program
+        for (int at = 0; at < ENDINGS; at++) signal(ENDING[at], SIG_IGN);
         sigprocmask(SIG_SETMASK, &relay->mask, NULL);
         if (relay->ready_fd >= 0) close(relay->ready_fd);
         add_option(words, &many, "--inside", relay->sides[0].far);
@@ -527,7 +557,7 @@ static void start(Relay *relay, char **given, int many) {
         add_option(words, &many, "--to-inside", relay->exits[0].far);
         add_option(words, &many, "--to-outside", relay->exits[1].far);
         if (relay->report.path) add_option(words, &many, "--report", relay->report.far);
-        // a Ctrl-C is the relay's to see: it ends the captures, and so the program
+        // nor does another key of a terminal end or stop it
         setpgid(0, 0);
         execvp(words[0], words);
         fprintf(stderr, "%s: %s: %s\n", name, words[0], strerror(errno));
@@ -577,10 +607,22 @@ static void take_packets(Relay *relay, const struct pollfd *files) {
     if (last >= 0 && relay->sides[1 - last].is_open) tick(&relay->sides[1 - last]);
 }
 
+// Ends the captures where a device is gone, and says so.
+static void watch_devices(const Relay *relay, const struct pollfd *files) {
+    for (int at = 0; at < 2; at++) {
+        if (!(files[at].revents & (POLLERR | POLLNVAL))) continue;
+        fprintf(stderr, "%s: %s: the device is gone: the captures end\n", name, relay->sides[at].device->word);
+        are_there = false;
+        is_over = 1;
+    }
+}
+
+// A packet is in the capture that is kept before the program knows of it, and so before its rows are in the log.
 static void hand_on(Relay *relay) {
     for (int at = 0; at < 2; at++) {
         Side *side = &relay->sides[at];
         if (!side->is_open) continue;
+        flush_kept(&side->kept);
         // the program's end shows at what it writes
         bool is_read = write_on(side);
         if (!is_read || (is_over && length(&side->waiting) == 0)) close_side(side);
@@ -599,6 +641,7 @@ static void run(Relay *relay) {
         watch(relay, files);
         if (ppoll(files, 7, NULL, &relay->mask) < 0) continue;
         watch_clock();
+        watch_devices(relay, files);
         take_packets(relay, files);
         for (int at = 0; at < 2; at++)
             if (files[4 + at].revents) read_on(&relay->exits[at]);
@@ -608,11 +651,10 @@ static void run(Relay *relay) {
 }
 
 static void note_signals(Relay *relay) {
-    static const int ENDING[] = {SIGTERM, SIGINT, SIGHUP};
     struct sigaction ends = {.sa_handler = note_end};
     sigset_t blocked;
     sigemptyset(&blocked);
-    for (size_t at = 0; at < 3; at++) {
+    for (int at = 0; at < ENDINGS; at++) {
         sigaddset(&blocked, ENDING[at]);
         sigaction(ENDING[at], &ends, NULL);
     }
@@ -634,7 +676,7 @@ static int end_of(Relay *relay) {
     if (WIFSIGNALED(status)) fail(128 + WTERMSIG(status), "the program was ended by signal %d", WTERMSIG(status));
     int told = WEXITSTATUS(status);
     if (told == 0 && !is_written) fail(1, "%s: the report cannot be written", relay->report.path);
-    return told || are_whole ? told : 1;
+    return told || (are_whole && are_there) ? told : 1;
 }
 
 // WORDS

@@ -1,8 +1,10 @@
 """The log of a run, worked out over the run of translating.py: when each binding is made, its end by the timers of the configuration, its
 packets, and the packets that got none (RFC 6888, section 4; RFC 8158). Rows come in the order of packets: of each the bindings that ended
-since the packet before, the one that it made, and whether it got none."""
+since the packet before, the one that it made, and whether it got none. A log may come in pieces, each of which begins as a new log."""
 
 import datetime
+from collections import Counter
+from dataclasses import dataclass, field
 
 from . import translating
 from .translating import SECOND, Dropped, shown
@@ -26,25 +28,37 @@ class Entry:
     def __init__(self, number, binding, made):
         self.number = number
         self.binding = binding
-        self.made = made
+        self.made = self.last = self.last_sent = made
         self.end = None
-        self.is_told = False
         self.sent = self.received = 0
-        self.last = None
-
-    def is_redirect(self):
-        return self.binding.is_fixed
-
-    def external(self):
-        address, number = self.binding.external
-        return shown(address), number
 
     def row(self, at, event):
         """Its row of the log as it is now; the event is empty at the end of the run, and the time too of what never ends."""
         ends = [part for address, number in (self.binding.inside, self.binding.external) for part in (shown(address), number)]
-        times = [part for time in (at, self.last) for part in (("", "") if time is None else (time, dated(time)))]
+        last = self.last if self.sent or self.received else None
+        times = [part for time in (at, last) for part in (("", "") if time is None else (time, dated(time)))]
         counts = [self.number, int(self.binding.is_fixed), self.sent, self.received]
         return [*times[:2], event, self.binding.protocol, *ends, "", *counts, *times[2:]]
+
+
+@dataclass
+class Kept:
+    """What is kept of a log beside a state: how many entries it has, those that have not ended, and the bytes of its file."""
+
+    made: int = 0
+    living: list = field(default_factory=list)
+    length: int = 0
+
+    def is_of(self, bindings, now, timers):
+        """Whether its entries are those of the bindings that live at a time, each with its end, and can be of a log then."""
+        numbers = [0, *(it.number for it in self.living), self.made + 1]
+        are_open = all(it.made <= now and (it.end is None or now < it.end) for it in self.living)
+        found, wanted = Counter((it.binding.row(), it.end) for it in self.living), Counter((it.row(), end_of(it, timers)) for it in bindings)
+        return numbers == sorted({*numbers}) and are_open and found == wanted
+
+
+def end_of(binding, timers):
+    return None if binding.is_fixed else binding.end(timers)
 
 
 def refusal(at, event, protocol, host, address):
@@ -54,18 +68,42 @@ def refusal(at, event, protocol, host, address):
 
 
 class Logger(translating.Translator):
-    """A translator that keeps what its bindings were."""
+    """A translator that keeps what its bindings were, from where its log is opened on, in pieces of so many seconds, if they are given."""
 
-    def __init__(self, configured):
+    def __init__(self, configured, each=None):
         super().__init__(configured)
-        self.entries, self.refused, self.now = [], [], 0
+        self.many, self.living, self.told, self.refused, self.now = 0, [], [], [], 0
+        # the pieces before, and when the packet before came
+        self.each, self.pieces, self.last = each, [], None
+
+    def open(self, now, kept, is_new):
+        """Goes on from a time with what is kept of a log, whose file may be new: if that is not of the bindings here, all of it ends
+        then, and each of them is another one. Returns whether it is."""
+        self.now, self.many, self.living = now, kept.made, kept.living
+        self.purge(now)
+        is_of = kept.is_of(self.bindings, now, self.rules.timers)
+        if not is_of:
+            self.told = [it.row(now, ENDED) for it in self.living]
+            self.living = []
+        known = {it.binding.row(): it for it in self.living}
         for binding in self.bindings:
-            self.begin(binding)
-        self.rows = [it.row(0, MADE) for it in self.entries]
+            if is_of:
+                binding.entry = known[binding.row()]
+            else:
+                self.begin(binding)
+        self.keep_ends()
+        if is_new or not is_of:
+            self.told = self.opening() if is_new else [*self.told, *self.opening()[1:]]
+        return is_of
+
+    def opening(self):
+        """How a new log begins."""
+        return [FIELDS, *(it.row(it.made, MADE) for it in self.living)]
 
     def begin(self, binding):
-        binding.entry = Entry(len(self.entries) + 1, binding, self.now)
-        self.entries.append(binding.entry)
+        self.many += 1
+        binding.entry = Entry(self.many, binding, self.now)
+        self.living.append(binding.entry)
 
     def made(self, protocol, address, inside):
         try:
@@ -76,54 +114,72 @@ class Logger(translating.Translator):
         self.begin(binding)
         return binding
 
-    def use(self, binding, name):
+    def use(self, binding, *names):
         entry = binding.entry
-        setattr(entry, name, getattr(entry, name) + 1)
-        entry.last = self.now
+        for name in names[1:]:
+            setattr(entry, name, self.now)
+        setattr(entry, names[0], getattr(entry, names[0]) + 1)
 
     def go_out(self, now, packet):
         inside = packet.end(True)
         super().go_out(now, packet)
         if not packet.is_error():
-            self.use(self.found(packet.protocol, self.rules.pair(inside[0]), inside=inside), "sent")
+            self.use(self.found(packet.protocol, self.rules.pair(inside[0]), inside=inside), "sent", "last", "last_sent")
 
     def come_in(self, now, packet):
         address, number = packet.end(False)
         super().come_in(now, packet)
         if not packet.is_error():
-            self.use(self.found(packet.protocol, address, number=number), "received")
+            self.use(self.found(packet.protocol, address, number=number), "received", "last")
 
     def in_order(self):
-        """The entries without a row of their end, in the order in which they end; redirects, which never do, last."""
-        return sorted((it for it in self.entries if not it.is_told), key=lambda it: (it.end is None, it.end or 0, it.number))
+        """What lives, in the order in which it ends; redirects, which never do, last."""
+        return sorted(self.living, key=lambda it: (it.end is None, it.end or 0, it.number))
 
     def tell_ends(self):
         """Adds the rows of the bindings that ended by now."""
-        for entry in self.in_order():
-            if entry.end is not None and entry.end <= self.now:
-                entry.is_told = True
-                self.rows.append(entry.row(entry.end, ENDED))
+        self.told += [it.row(it.end, ENDED) for it in self.in_order() if it.end is not None and it.end <= self.now]
+        self.living = [it for it in self.living if it.end is None or it.end > self.now]
 
-    def log(self, now, is_outside, data):
-        """Takes a packet, adds the rows that it brings, and keeps the ends as they are after it."""
-        self.now = now
-        self.tell_ends()
-        before, self.refused = len(self.entries), []
-        try:
-            self.take(now, is_outside, data)
-        except Dropped:
-            pass
-        self.rows += [it.row(now, MADE) for it in self.entries[before:]] + self.refused
+    def keep_ends(self):
         for binding in self.bindings:
-            binding.entry.end = None if binding.is_fixed else binding.end(self.rules.timers)
+            binding.entry.end = end_of(binding, self.rules.timers)
+
+    def take(self, now, is_outside, data):
+        """Takes a packet, adds the rows that it brings, perhaps to a new piece, and keeps the ends as they are after it."""
+        if self.each and self.last is not None and self.last // (self.each * SECOND) < now // (self.each * SECOND):
+            self.pieces.append(csv(self.told))
+            self.told = self.opening()
+        self.now = self.last = now
+        self.tell_ends()
+        before, self.refused = self.many, []
+        try:
+            return super().take(now, is_outside, data)
+        finally:
+            self.told += [it.row(now, MADE) for it in self.living if it.number > before] + self.refused
+            self.keep_ends()
+
+    def text(self):
+        """What it wrote from where it was opened on, or in its last piece, without what lives at the end, and the rows of that."""
+        return csv(self.told), csv([it.row(it.end, "") for it in self.in_order()])
+
+
+def csv(rows):
+    return "".join(",".join(map(str, row)) + "\n" for row in rows)
+
+
+def joined(pieces):
+    """The text of a log in pieces, without the openings of those behind the first: its fields and a row for each binding that is open."""
+    rows = []
+    for piece in pieces:
+        events = [row.split(",")[2] for row in rows]
+        rows += piece.splitlines(True)[1 + events.count(str(MADE)) - events.count(str(ENDED)) if rows else 0 :]
+    return "".join(rows)
 
 
 def logged(configured, inside, outside):
-    """The log of the run over two captures: its entries, its text, and the time of the last packet."""
-    logger, clock = Logger(configured), 0
-    for is_outside, time, data in translating.merged(inside.packets, outside.packets):
-        clock = max(clock, time)
-        logger.log(clock, is_outside, data)
-    rows = [FIELDS, *logger.rows, *(it.row(it.end, "") for it in logger.in_order())]
-    text = "".join(",".join(map(str, row)) + "\n" for row in rows)
-    return logger.entries, text, clock
+    """The log of the run over two captures: its text, and the time of the last packet."""
+    logger = Logger(configured)
+    logger.open(0, Kept(), is_new=True)
+    clock = translating.ran(logger, 0, inside, outside)[-1]
+    return "".join(logger.text()), clock

@@ -1,19 +1,28 @@
-"""The text of a state, which configurations take it, and a run that goes on from it, worked out in the plainest way (docs/FORMATS.md)."""
+"""The text of a state, which configurations take it, and a run that goes on from it and its log, worked out in the plainest way
+(docs/FORMATS.md)."""
 
+import functools
 import re
 from dataclasses import dataclass, field
 
 from . import translating
+from .logged import Entry, Kept, Logger, dated
 from .packets import ICMP
 from .translating import NAMES, PROTOCOLS, SECOND, Binding, Flow, Translator, shown
 
 NUMBER = "(?:0|[1-9][0-9]{0,19})"
 END = rf"({NUMBER}\.{NUMBER}\.{NUMBER}\.{NUMBER}) ({NUMBER})"
 CLOCK = re.compile(f"clock ({NUMBER})")
-BINDING = re.compile(f"(binding|redirect) (icmp|tcp|udp) {END} {END} ({NUMBER})")
+ROW = f"(binding|redirect) (icmp|tcp|udp) {END} {END}"
+BINDING = re.compile(f"{ROW} ({NUMBER})")
 FLOW = re.compile(f"flow {END} ({NUMBER}) ([01]) ([01]) ([01]) ([01]) ([01])")
-LAST = re.compile(f"end ({NUMBER}) ({NUMBER})")
-MOST = 2**64 - 1
+LOG = re.compile(f"log ({NUMBER}) ({NUMBER})")
+# the end of an entry has up to 128 bits
+ENTRY = re.compile(rf"entry ({NUMBER}) {ROW} ({NUMBER}) (0|[1-9][0-9]{{0,38}}|never)" + f" ({NUMBER})" * 4)
+LAST = re.compile(f"end ({NUMBER}) ({NUMBER})(?: ({NUMBER}))?")
+MOST, MOST_COUNT, MOST_END = 2**64 - 1, 2**61, 2**128 - 1
+# of a state whose log is not of its bindings
+BEGUN = "{}: the log begins a new entry for each binding of the state, at {}\n"
 
 
 class Refused(Exception):
@@ -24,19 +33,31 @@ class Refused(Exception):
 class State:
     clock: int = 0
     bindings: list = field(default_factory=list)
+    log: Kept = None
 
 
 def text_of(state):
     """The bytes of a state's text."""
     lines = [f"clock {state.clock}"]
     for it in state.bindings:
-        kind = "redirect" if it.is_fixed else "binding"
-        lines.append(f"{kind} {NAMES[it.protocol]} {words_of(it.inside)} {words_of(it.external)} {it.last}")
+        lines.append(f"{row_of(it)} {it.last}")
         for flow in it.flows:
             marks = ["out" in flow.syns, "in" in flow.syns, "out" in flow.fins, "in" in flow.fins, flow.is_reset]
             lines.append(" ".join(["flow", words_of(flow.remote), str(flow.last), *(str(int(mark)) for mark in marks)]))
-    lines.append(f"end {len(state.bindings)} {sum(len(it.flows) for it in state.bindings)}")
+    if state.log:
+        lines += [f"log {state.log.made} {state.log.length}", *map(line_of, state.log.living)]
+    lines.append(" ".join(map(str, ["end", *counts_of(state)])))
     return "".join(f"{line}\n" for line in lines).encode()
+
+
+def row_of(binding):
+    kind = "redirect" if binding.is_fixed else "binding"
+    return f"{kind} {NAMES[binding.protocol]} {words_of(binding.inside)} {words_of(binding.external)}"
+
+
+def line_of(entry):
+    end, counts = "never" if entry.end is None else entry.end, f"{entry.sent} {entry.received} {entry.last} {entry.last_sent}"
+    return f"entry {entry.number} {row_of(entry.binding)} {entry.made} {end} {counts}"
 
 
 def words_of(end):
@@ -56,22 +77,35 @@ def end_in(address, number):
 
 def take_line(state, line):
     """Takes the next line; returns whether it is the last."""
-    if binding := BINDING.fullmatch(line):
-        kind, protocol, inside, number, external, other, last = binding.groups()
-        made = Binding(PROTOCOLS[protocol], end_in(inside, number), end_in(external, other), kind == "redirect")
-        made.last = number_in(last)
-        state.bindings.append(made)
-    elif flow := FLOW.fullmatch(line):
-        if not state.bindings:
-            raise ValueError
-        state.bindings[-1].flows.append(flow_in(*flow.groups()))
-    elif last := LAST.fullmatch(line):
-        if [int(part) for part in last.groups()] != counts_of(state):
+    if last := LAST.fullmatch(line):
+        if [int(part) for part in last.groups() if part] != counts_of(state):
             raise ValueError
         return True
+    if state.log:
+        state.log.living.append(entry_in(*ENTRY.fullmatch(line).groups()))
+    elif log := LOG.fullmatch(line):
+        state.log = Kept(number_in(log[1], MOST_COUNT), [], number_in(log[2]))
+    elif flow := FLOW.fullmatch(line):
+        state.bindings[-1].flows.append(flow_in(*flow.groups()))
     else:
-        raise ValueError
+        *row, last = BINDING.fullmatch(line).groups()
+        state.bindings.append(binding_in(*row))
+        state.bindings[-1].last = number_in(last)
     return False
+
+
+def binding_in(kind, protocol, inside, number, external, other):
+    return Binding(PROTOCOLS[protocol], end_in(inside, number), end_in(external, other), kind == "redirect")
+
+
+def entry_in(number, *words):
+    """The entry of a line's words."""
+    *row, made, end, sent, received, last, last_sent = words
+    entry = Entry(number_in(number), binding_in(*row), number_in(made))
+    entry.end = None if end == "never" else number_in(end, MOST_END)
+    entry.sent, entry.received = (number_in(count, MOST_COUNT) for count in (sent, received))
+    entry.last, entry.last_sent = number_in(last), number_in(last_sent)
+    return entry
 
 
 def flow_in(address, number, last, *marks):
@@ -84,7 +118,8 @@ def flow_in(address, number, last, *marks):
 
 
 def counts_of(state):
-    return [len(state.bindings), sum(len(it.flows) for it in state.bindings)]
+    entries = [len(state.log.living)] if state.log else []
+    return [len(state.bindings), sum(len(it.flows) for it in state.bindings), *entries]
 
 
 def read(data):
@@ -104,7 +139,7 @@ def read(data):
                 is_last = take_line(state, line)
     except UnicodeDecodeError:
         raise Refused(f"not-utf-8 {number}") from None
-    except (ValueError, TypeError):
+    except (ValueError, TypeError, AttributeError, IndexError):
         raise Refused(f"bad-line {number}") from None
     if lines[number:] != [b""]:
         raise Refused(f"bad-line {number + 1}")
@@ -153,12 +188,12 @@ def misfit(rules, state, kept):
 # A RUN THAT GOES ON
 
 
-def taken_up(rules, state):
-    """The translator that goes on from a state. Raises `Refused` where the configuration does not take it."""
+def taken_up(rules, state, kind=Translator):
+    """The translator of a kind that goes on from a state. Raises `Refused` where the configuration does not take it."""
     kept = loose(rules, state)
     if word := misfit(rules, state, kept):
         raise Refused(word)
-    translator = Translator(rules)
+    translator = kind(rules)
     translator.bindings += kept
     return translator
 
@@ -173,7 +208,8 @@ def left_by(translator, clock):
 
 def seen(rules, data):
     """What counts of the text of a state that a run left: its clock, what lives then, and until when a number is held. Of flows that
-    have ended the program may forget those within the hold. Raises `ValueError` where the text is not that of its state."""
+    have ended the program may forget those within the hold. Of its log all counts but the length of the file. Raises `ValueError` where
+    the text is not that of its state."""
     state = read(data)
     if text_of(state) != data:
         raise ValueError("another text of this state")
@@ -182,12 +218,29 @@ def seen(rules, data):
         is_live = it.is_live(state.clock, timers)
         flows = [(flow.remote, flow.last, flow.syns, flow.fins, flow.is_reset) for flow in it.live_flows(state.clock, timers)]
         lines.append((it.row(), (it.last, flows) if is_live else it.end(timers)))
-    return lines
+    return lines + ([state.log.made, *map(line_of, state.log.living)] if state.log else [])
 
 
-def run(rules, data, inside, outside):
-    """What a run from a state's text, or None, leaves over two captures: the captures, the report, and the text of the state."""
+def run(rules, data, inside, outside, log=None, each=None):
+    """What a run from a state's text, or None, leaves over two captures, by the names of outputs: the captures, the report and the text
+    of the state; of a run beside a log, of whose file this is the text, that of the file, the rows of what lives behind it, and whether
+    all entries are begun anew, of bindings that are there. A log in pieces of so many seconds leaves those before its last one too."""
     state = read(data) if data is not None else State()
-    translator = taken_up(rules, state)
+    translator = taken_up(rules, state, Translator if log is None else functools.partial(Logger, each=each))
+    if log is not None:
+        # a row that was torn is written again
+        log = log[: state.log.length] if state.log else log
+        is_of = translator.open(state.clock, state.log or Kept(), is_new=not log)
+        is_anew = not is_of and any(not it.is_fixed for it in translator.bindings + translator.held)
     *written, clock = translating.ran(translator, state.clock, inside, outside)
-    return *written, text_of(left_by(translator, clock))
+    left, named = left_by(translator, clock), dict(zip(("to-outside", "to-inside", "report"), written))
+    if log is not None:
+        rows, living = (text.encode() for text in translator.text())
+        left.log = Kept(translator.many, translator.living, len(log + rows))
+        named |= {"before": [it.encode() for it in translator.pieces], "log": log + rows, "living": living, "is_anew": is_anew}
+    return named | {"saved": text_of(left)}
+
+
+def begun_line(name, data):
+    """What a program says where it begins the entries of a state's text anew."""
+    return BEGUN.format(name, dated(read(data).clock))

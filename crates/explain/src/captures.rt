@@ -140,10 +140,11 @@ pub struct Captures<'r, 'i, 'o, A: Source, B: Source> {
 }
 
 impl<'r, 'i, 'o, A: Source, B: Source> Captures<'r, 'i, 'o, A, B> {
-    /// Those of captures past their headers.
+    /// Those of captures past their headers, of a run that starts at this time, in ns.
     pub fn of(
         alloc: Global,
         refusing: Refusing<'r>,
+        clock: u64,
         inside: Opened<'i, A>,
         outside: Opened<'o, B>,
     ) -> Captures<'r, 'i, 'o, A, B> {
@@ -153,7 +154,7 @@ impl<'r, 'i, 'o, A: Source, B: Source> Captures<'r, 'i, 'o, A, B> {
             inside_head,
             outside_head,
             packets: MergedStreams::new(alloc, inside.stream, outside.stream),
-            back: StepBack::default(),
+            back: StepBack::from_state(clock),
         }
     }
 

@@ -12,7 +12,6 @@ const EARLIER: &[(&str, &str)] = &[
     ("saved-log", "who ADDRESS[:PORT] --from-log FILE"),
     ("requests", "who --requests FILE"),
     ("who", "who ADDRESS[:PORT]"),
-    ("log", "log --to FILE"),
     ("svg", "draw FILE"),
     ("against", "compare FILE"),
     ("plan", "plan FILE"),
@@ -29,8 +28,8 @@ const WHO: &str =
 the times from and until when; the status is 1 if nobody had it";
 
 const LOG: &str =
-    "Writes the log of the run in CSV to standard output: each binding when it is made and when it expires, each packet \
-refused one by the quota or for lack of a free port, and then each binding that lives at the end (docs/FORMATS.md)";
+    "Writes the log of the run in CSV to standard output (docs/FORMATS.md). It has each binding when it is made and when it \
+expires, each packet refused one by the quota or for lack of a free port, and then each binding that lives at the end";
 
 const PLAN: &str =
     "Prints a table with a line for the run under each of these configurations: what is dropped, and how much there is at \
@@ -81,16 +80,16 @@ const HOST: &str =
 const WRITTEN: &str = "File to write, which nothing else may name";
 
 const NOT_WRITTEN: &str =
-    "Never written: accepted as an option of napt, and refused if napt would refuse it";
+    "Never written: accepted as an option of napt or stream, and refused if that would refuse it";
 
 const RESUMED: &str =
-    "Only checked: accepted as an option of napt, and refused, with the reason, if napt would refuse it";
+    "State from which the run goes on, as napt and stream save it [default: the run begins anew]";
 
 /// The words of a call, the program's name first, and then always a command.
 #[derive(Drop)]
 pub struct Words {
     pub list: Vec<String>,
-    /// Whether they named it: else it is `show`, and the outputs of `napt` are options too.
+    /// Whether they named it: else it is `show`, and the outputs of `napt` and the log of `stream` are options too.
     is_named: bool,
 }
 
@@ -144,7 +143,8 @@ impl Words {
             .subcommand(
                 Command::new(alloc, "blocks")
                     .about(BLOCKS)
-                    .arg(config(alloc))?,
+                    .arg(config(alloc))?
+                    .arg(resume(alloc).hide(true))?,
             )?
             .subcommand(draw(alloc)?)?
             .subcommand(compare(alloc)?)?
@@ -179,7 +179,8 @@ fn show<'a>(alloc: Global, is_named: bool) -> Result<Command<'a>, AllocError> {
         .arg(value(alloc, "to-inside", "FILE", NOT_WRITTEN).hide(true))?
         .arg(value(alloc, "report", "FILE", NOT_WRITTEN).hide(true))?
         .arg(value(alloc, "save", "FILE", NOT_WRITTEN).hide(true))?
-        .arg(value(alloc, "resume", "FILE", RESUMED).hide(true))
+        .arg(value(alloc, "log", "FILE", NOT_WRITTEN).hide(true))?
+        .arg(value(alloc, "log-each", "SECONDS", NOT_WRITTEN).hide(true))
 }
 
 fn who<'a>(alloc: Global) -> Result<Command<'a>, AllocError> {
@@ -210,6 +211,7 @@ fn who<'a>(alloc: Global) -> Result<Command<'a>, AllocError> {
             value(alloc, "from-log", "FILE", FROM_LOG)
                 .num_args(1..)
                 .conflicts_with("captures")?
+                .conflicts_with("resume")?
                 .conflicts_with("as-napt")?,
         )?
         .arg(flag(alloc, "as-napt", AS_NAPT))
@@ -223,6 +225,7 @@ fn log<'a>(alloc: Global) -> Result<Command<'a>, AllocError> {
 
 fn plan<'a>(alloc: Global) -> Result<Command<'a>, AllocError> {
     captured(alloc, Command::new(alloc, "plan").about(PLAN))?
+        .arg(resume(alloc).hide(true))?
         .arg(word(alloc, "other", "FILE", "Configurations in TOML").num_args(1..))?
         .arg(flag(alloc, "csv", "Prints the table in CSV"))
 }
@@ -263,6 +266,7 @@ fn follow<'a>(alloc: Global) -> Result<Command<'a>, AllocError> {
     Command::new(alloc, "follow")
         .about(FOLLOW)
         .arg(config(alloc))?
+        .arg(resume(alloc).hide(true))?
         .arg(inside(alloc))?
         .arg(value(alloc, "replies", "FILE", REPLIES).required(true))?
         .arg(word(alloc, "file", "FILE", WRITTEN))
@@ -270,10 +274,8 @@ fn follow<'a>(alloc: Global) -> Result<Command<'a>, AllocError> {
 
 /// A command over captures under a configuration.
 fn configured<'a>(alloc: Global, name: &'a str, about: &'a str) -> Result<Command<'a>, AllocError> {
-    captured(
-        alloc,
-        Command::new(alloc, name).about(about).arg(config(alloc))?,
-    )
+    let command = Command::new(alloc, name).about(about).arg(config(alloc))?;
+    captured(alloc, command.arg(resume(alloc).hide(name == "sizes"))?)
 }
 
 /// The same with the options that name captures.
@@ -304,6 +306,11 @@ fn chosen<'a>(alloc: Global, command: Command<'a>) -> Result<Command<'a>, AllocE
 
 fn config<'a>(alloc: Global) -> Arg<'a> {
     value(alloc, "config", "FILE", CONFIG)
+}
+
+/// Where it is refused, it is hidden.
+fn resume<'a>(alloc: Global) -> Arg<'a> {
+    value(alloc, "resume", "FILE", RESUMED)
 }
 
 fn inside<'a>(alloc: Global) -> Arg<'a> {

@@ -3,11 +3,12 @@
 use crate::flaws::Flaws;
 use crate::options::{Form, Options};
 use crate::progress::Progress;
-use napt_account::{KnownRun, Listed};
+use napt_account::{KnownRun, Listed, ResumedRun};
 use napt_attribution::{Asked, Holders, LogFile, begin_log};
-use napt_commands::{Consumer, Ending, Exit, Page, Passing, tell_warning};
+use napt_commands::{Consumer, Ending, Exit, Page, Passing, RunStart, tell_warning};
 use napt_config::Config;
 use napt_lines::{Choice, FromOutside, Line, Lines, Only, Replies, Unmatched};
+use napt_log_text::Moment;
 use napt_rules::Row;
 use napt_sequential::Input;
 use napt_sizing::{Sizes, tell_sizes};
@@ -17,7 +18,7 @@ use std::rt::Files;
 
 /// What is told of a run. `W` is a file.
 #[derive(Drop)]
-enum Told<'a, W> {
+enum View<'a, W> {
     /// The lines of packets, and the summary.
     Lines(Lines),
     /// The line of one packet, and its bindings.
@@ -35,39 +36,53 @@ enum Told<'a, W> {
 pub struct Explanation<'a, 'b, W> {
     options: &'a Options<'a>,
     running: KnownRun<'a>,
-    told: Told<'a, W>,
+    told: View<'a, W>,
     outside: FromOutside<'b>,
     unmatched: Unmatched,
     progress: Progress,
     page: Page,
-    /// How many packets there were, and the latest time so far, in ns.
+    /// How many packets there were, the time from which the run goes on, and the latest time so far, in ns.
     packets: u64,
+    first: u64,
     last: u64,
 }
 
-/// What is told of a run before the first packet, with the redirects.
+/// What the log of a run has before the first packet.
+#[derive(Clone, Copy)]
+struct Before<'a> {
+    /// The entries that ended where the run goes on.
+    ended: &'a [Listed],
+    /// The entries of its bindings, in the order of their numbers.
+    living: &'a [Listed],
+}
+
+/// What is told of a run before the first packet.
 fn begin_told<'a, R: Files + Print + Eprint + AllocGlobal>(
     rt: &R,
     options: &'a Options<'a>,
     asked: &'a [Asked],
     config: &Config,
-    opening: &[Listed],
-) -> Result<Told<'a, R::File>, Exit> {
+    before: Before<'_>,
+) -> Result<View<'a, R::File>, Exit> {
     let alloc = rt.alloc();
     Ok(match (options.form, options.choice.only) {
-        (Form::Objects, _) => Told::Objects,
+        (Form::Objects, _) => View::Objects,
         (Form::Log(path), _) => {
             let is_held = options.is_of_gateway();
-            Told::Log(begin_log(rt, path, is_held, config, opening)?)
+            View::Log(begin_log(rt, path, is_held, config, before.living)?)
         }
-        (Form::Holders(_) | Form::Requests(_), _) => Told::Holders(Holders::of(alloc, asked)?),
-        (Form::Sizes, _) => Told::Sizes(Sizes::of(alloc, config, opening)?),
-        (_, Some(number)) => Told::Only(Only::new(number)),
-        (_, None) => Told::Lines(Lines::new(options.choice)),
+        (Form::Holders(_) | Form::Requests(_), _) => {
+            let mut holders = Holders::of(alloc, asked)?;
+            holders.take(before.ended)?;
+            View::Holders(holders)
+        }
+        (Form::Sizes, _) => View::Sizes(Sizes::of(alloc, config, before.living)?),
+        (_, Some(number)) => View::Only(Only::new(number)),
+        (_, None) => View::Lines(Lines::new(options.choice)),
     })
 }
 
-impl<'a, W: Write + Drop> Told<'a, W> {
+impl<'a, W: Write + Drop> View<'a, W> {
     /// Takes the next packet, and appends what it adds.
     fn take<R: Files + Print + Eprint + AllocGlobal>(
         &mut self,
@@ -79,16 +94,16 @@ impl<'a, W: Write + Drop> Told<'a, W> {
     ) -> Result<(), Exit> {
         let alloc = rt.alloc();
         match self {
-            Told::Lines(lines) => lines.take(alloc, text, line)?,
-            Told::Only(only) => only.take(alloc, text, choice, line)?,
-            Told::Objects => {
+            View::Lines(lines) => lines.take(alloc, text, line)?,
+            View::Only(only) => only.take(alloc, text, choice, line)?,
+            View::Objects => {
                 if line.is_chosen(alloc, choice)? {
                     line.object().add_to(alloc, text)?;
                 }
             }
-            Told::Holders(holders) => holders.take(&line.passing.step.ended)?,
-            Told::Sizes(sizes) => sizes.take(config, line.passing)?,
-            Told::Log(log) => log.take(rt, config, line.passing)?,
+            View::Holders(holders) => holders.take(&line.passing.step.ended)?,
+            View::Sizes(sizes) => sizes.take(config, line.passing)?,
+            View::Log(log) => log.take(rt, config, line.passing)?,
         }
         Ok(())
     }
@@ -96,7 +111,7 @@ impl<'a, W: Write + Drop> Told<'a, W> {
     /// The live bindings, if they are to be printed in the order of the report.
     fn rows(&self, alloc: Global, running: &KnownRun<'_>) -> Result<Vec<Row>, AllocError> {
         match self {
-            Told::Lines(_) => running.bindings(alloc),
+            View::Lines(_) => running.bindings(alloc),
             _ => Ok(Vec::new(alloc)),
         }
     }
@@ -110,12 +125,12 @@ impl<'a, W: Write + Drop> Told<'a, W> {
         outside: &FromOutside<'_>,
     ) -> Result<(), Exit> {
         match self {
-            Told::Lines(lines) => lines.tell(rt, page, ending, outside),
-            Told::Only(only) => only.tell(rt, page, ending),
-            Told::Objects => Ok(()),
-            Told::Holders(holders) => holders.tell(rt, ending),
-            Told::Sizes(sizes) => tell_sizes(rt, &sizes, ending),
-            Told::Log(log) => log.finish(rt, ending.config, &ending.living),
+            View::Lines(lines) => lines.tell(rt, page, ending, outside),
+            View::Only(only) => only.tell(rt, page, ending),
+            View::Objects => Ok(()),
+            View::Holders(holders) => holders.tell(rt, ending),
+            View::Sizes(sizes) => tell_sizes(rt, &sizes, ending),
+            View::Log(log) => log.finish(rt, ending.config, &ending.living),
         }
     }
 }
@@ -124,24 +139,48 @@ impl<'a, W: Write + Drop> Told<'a, W> {
 pub fn begin_explanation<'a, 'b, R: Files + Print + Eprint + AllocGlobal>(
     rt: &R,
     options: &'a Options<'a>,
-    config: &'a Config,
+    start: &RunStart<'a>,
     asked: &'a [Asked],
     replies: Option<Replies<'b>>,
 ) -> Result<Explanation<'a, 'b, R::File>, Exit> {
-    let alloc = rt.alloc();
-    let running = KnownRun::begin(alloc, config)?;
-    let opening = running.living(alloc)?;
+    let (alloc, config) = (rt.alloc(), start.config());
+    let ResumedRun { run, ended, made } = start.known_run(alloc)?;
+    // what was kept goes on where nothing of it ends and nothing is made in its place
+    let goes_on = ended.is_empty() && made.is_empty();
+    let before = Before {
+        ended: &ended,
+        living: if goes_on { &start.log().living } else { &made },
+    };
+    if let Form::Log(_) = options.form {
+        tell_new_entries(rt, start)?;
+    }
     Ok(Explanation {
         options,
-        told: begin_told(rt, options, asked, config, &opening)?,
+        told: begin_told(rt, options, asked, config, before)?,
         outside: FromOutside::new(alloc, config, replies)?,
-        unmatched: Unmatched::of(options.choice, &opening),
+        unmatched: Unmatched::of(options.choice, before.living),
         progress: Progress::of(rt),
         page: Page::new(alloc),
         packets: 0,
-        last: 0,
-        running,
+        first: start.clock(),
+        last: start.clock(),
+        running: run,
     })
+}
+
+/// Tells where the log begins new entries for the bindings of the state, if what was kept of it has not theirs.
+fn tell_new_entries<R: Eprint + AllocGlobal>(
+    rt: &R,
+    start: &RunStart<'_>,
+) -> Result<(), AllocError> {
+    if start.begins_entries(rt.alloc())? {
+        let mut date = String::new(rt.alloc());
+        Moment(u128::from(start.clock())).add_date(&mut date)?;
+        let _ = eprintln!(rt;
+            "explain: the log begins a new entry for each binding of the state, at {date}"
+        );
+    }
+    Ok(())
 }
 
 impl<'a, 'b, W: Write + Drop> Explanation<'a, 'b, W> {
@@ -160,6 +199,7 @@ impl<'a, 'b, W: Write + Drop> Explanation<'a, 'b, W> {
             progress,
             mut page,
             packets,
+            first,
             last,
         } = self;
         page.end(rt)?;
@@ -172,6 +212,7 @@ impl<'a, 'b, W: Write + Drop> Explanation<'a, 'b, W> {
         let ending = Ending {
             config: running.config(),
             packets,
+            first,
             last,
             later: flaws.back.far(),
             rows: told.rows(rt.alloc(), &running)?,
@@ -213,7 +254,7 @@ impl<R: Files + Print + Eprint + AllocGlobal, W: Write + Drop> Consumer<R>
     }
 
     fn settle(&mut self, rt: &R) -> Result<(), Exit> {
-        if let Told::Log(log) = &mut self.told {
+        if let View::Log(log) = &mut self.told {
             log.settle(rt)?;
         }
         self.page.end(rt)

@@ -38,26 +38,36 @@ impl Flaws {
     }
 }
 
-/// The longest step back in time among the packets so far.
-#[derive(Clone, Copy, Default)]
+/// The longest step back in time among the packets so far, behind the state that their run goes on from.
+#[derive(Clone, Copy)]
 pub struct StepBack {
     latest: Stamp,
     /// How far it goes back, in ns; 0 before the first.
     far: u64,
-    /// The number of the latest packet before it.
+    /// The number of the latest packet before it, 0 if that is the state.
     from: u64,
     /// The number of the packet behind it.
     to: u64,
 }
 
-/// The number of a packet, from 1, and its time in ns.
-#[derive(Clone, Copy, Default)]
+/// The number of a packet, from 1, or 0 of the state, and its time in ns.
+#[derive(Clone, Copy)]
 struct Stamp {
     number: u64,
     time: u64,
 }
 
 impl StepBack {
+    /// None so far, behind a state of this time, in ns; a run that begins anew has one of 0.
+    pub fn from_state(time: u64) -> StepBack {
+        StepBack {
+            latest: Stamp { number: 0, time },
+            far: 0,
+            from: 0,
+            to: 0,
+        }
+    }
+
     /// Takes the next packet.
     pub fn take(&mut self, number: u64, input: &Input) {
         let time = input.time;
@@ -82,11 +92,7 @@ impl StepBack {
         if self.far == 0 || (self.far <= SECOND && !form.has_times()) {
             return;
         }
-        let (from, to) = (self.from, self.to);
-        let (seconds, rest) = (self.far / SECOND, self.far % SECOND);
-        let _ = eprintln!(rt;
-            "explain: packet {to} is {seconds}.{rest:09} s earlier than packet {from} before it"
-        );
+        self.tell_step(rt);
         if form.asks_times() {
             let _ = eprintln!(rt;
                 "  answers are for that much longer than the time asked, with all who had it then"
@@ -95,8 +101,26 @@ impl StepBack {
         if self.far <= SECOND {
             return;
         }
+        let cause = match self.from {
+            0 => "is it the state of a later run",
+            _ => "were files joined in the wrong order",
+        };
         let _ = eprintln!(rt;
-            "  until that time comes again no binding ends: were files joined in the wrong order, or was a clock set?"
+            "  until that time comes again no binding ends: {cause}, or was a clock set?"
         );
+    }
+
+    /// Prints how far it goes back, and between which packets.
+    fn tell_step<R: Eprint>(self, rt: &R) {
+        let (from, to) = (self.from, self.to);
+        let (seconds, rest) = (self.far / SECOND, self.far % SECOND);
+        let _ = match from {
+            0 => eprintln!(rt;
+                "explain: packet {to} is {seconds}.{rest:09} s earlier than the state of --resume"
+            ),
+            _ => eprintln!(rt;
+                "explain: packet {to} is {seconds}.{rest:09} s earlier than packet {from} before it"
+            ),
+        };
     }
 }

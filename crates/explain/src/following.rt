@@ -3,8 +3,9 @@
 ghost use Rattle.std.specs.Prelude.{◌≡◌, ◌-◌, ◌^◌, ◌<◌, OnOk};
 
 use napt_capture::{Sink, Watched, WriteFault, Written};
-use napt_commands::{CountedRun, Exit, Outside, tell_unwritten, tell_warning, unexplained};
-use napt_config::Config;
+use napt_commands::{
+    CountedRun, Exit, Outside, RunStart, tell_unwritten, tell_warning, unexplained,
+};
 use napt_sequential::Input;
 use napt_wire::Side;
 use std::fs::File;
@@ -29,10 +30,10 @@ pub fn follow<R: Files + Eprint + AllocGlobal>(
     rt: &R,
     path: &str,
     outside: Outside,
-    config: &Config,
+    start: &RunStart<'_>,
     inputs: &[Input],
 ) -> Result<(), Exit> {
-    let mut run = CountedRun::begin(rt.alloc(), config)?;
+    let mut run = CountedRun::begin(rt.alloc(), start)?;
     for input in inputs {
         run.step(rt.alloc(), input)?;
     }

@@ -1,9 +1,9 @@
 //! The program `explain`: what a run of `napt` does, for people to read.
 //!
 //! Each question is a command. Over captures it makes the run of `napt` on one thread, and tells what is asked: lines,
-//! the log, who had an endpoint, figures, a picture. It takes the arguments of `napt` as they are, but never writes an
-//! output file of `napt`. If `napt` would refuse a file, `explain` prints why on standard error, and exits with the same
-//! status.
+//! the log, who had an endpoint, figures, a picture. It takes the arguments of `napt` and `stream` as they are, but
+//! never writes an output file of theirs. If they would refuse a file, `explain` prints why on standard error, and
+//! exits with the same status.
 #![tactic(auto)]
 
 mod captures;
@@ -25,8 +25,8 @@ mod setting;
 use crate::commands::Words;
 use crate::manual::{INSTALLED, OWN};
 use crate::options::{Form, Options, options_of};
-use crate::reading::{Written, answer, configuration, read_given, requests_of};
-use crate::setting::explain;
+use crate::reading::{Written, answer, configuration, open_captures, read_given, requests_of};
+use crate::setting::Setting;
 use clap::Error;
 use clap::error::ErrorKind;
 use napt_attribution::{answer_by_blocks, tell_blocks};
@@ -161,6 +161,8 @@ fn explained_run<R: Files + Input + Print + Eprint + AllocGlobal>(
     options: &Options<'_>,
     written: Option<Written>,
 ) -> Result<(), Exit> {
-    let (given, files) = read_given(rt, streams, options, written)?;
-    explain(rt, streams, options, &given, files)
+    let given = read_given(rt, streams, options, written)?;
+    let starts = given.starts(rt, options)?;
+    let files = open_captures(rt, options)?;
+    Setting::new(streams, options, &given, &starts).read(rt, files)
 }

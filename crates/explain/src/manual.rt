@@ -13,7 +13,7 @@ macro_rules! manual {
             about: ABOUT,
             notes: concat!(
                 "Where no command is named, it is show: the arguments of napt can be given unchanged, and no output of napt is written.
-A FILE that is read may be -, standard input; a file of that name is ./-
+A FILE that is read, but that of --resume, may be -, standard input; a file of that name is ./-
 
 Examples:
   ", $name, " --config napt.toml --inside inside.pcap --outside outside.pcap --dropped

@@ -10,12 +10,18 @@ use napt_lines::Choice;
 use napt_log_text::{Request, Span};
 use napt_program::{Call, Role, Stop};
 use std::alloc::{AllocError, Global};
+use std::num::NonZeroU32;
+
+/// What is said of a state that is a standard stream.
+const NO_FILE: &str = "expected a file";
 
 /// What to explain, and what to print of it.
 #[derive(Drop)]
 pub struct Options<'m> {
     /// The files that `napt` would read and write with these arguments; the capture of replies is the outside one.
     pub files: napt_program::Options,
+    /// The log that `stream` would write with them.
+    pub log: Option<&'m str>,
     /// What the outside capture holds.
     pub outside: Outside,
     /// What split is called, beside a program that was called as this one was.
@@ -44,7 +50,27 @@ impl<'m> Options<'m> {
             Role::ToInside => "--to-inside",
             Role::Report => "--report",
             Role::Save => "--save",
-            Role::Log => "--to",
+            Role::Log => "--log",
+        }
+    }
+
+    /// The role of the first option that wants a standard stream which another has, the log last.
+    pub fn standard_again(&self) -> Option<Role> {
+        let files = &self.files;
+        let has_output = files.is_standard(Role::ToOutside)
+            || files.is_stream(Role::ToInside)
+            || files.is_stream(Role::Report);
+        match files.standard_again() {
+            None if has_output && self.is_log_stream() => Some(Role::Log),
+            again => again,
+        }
+    }
+
+    /// Whether the log of `stream` would be standard output.
+    fn is_log_stream(&self) -> bool {
+        match self.log {
+            Some(path) => path == "-",
+            None => false,
         }
     }
 
@@ -61,9 +87,23 @@ impl<'m> Options<'m> {
         self.outside == Outside::Packets && self.files.outside.is_some()
     }
 
-    /// Whether no capture is named.
+    /// Whether no capture is named, and no state from which a run goes on.
     pub fn is_without_captures(&self) -> bool {
-        self.files.inside.is_none() && self.files.outside.is_none()
+        let files = &self.files;
+        files.inside.is_none() && files.outside.is_none() && files.resume.is_none()
+    }
+
+    /// Why a state that is named is refused whatever it says, if it is.
+    fn why_anew(&self) -> Option<&'static str> {
+        match (self.form, self.outside) {
+            (Form::Blocks, _) => Some("blocks are of the configuration alone"),
+            (Form::Sizes | Form::Plans { .. }, _) => {
+                Some("sizes and plan count from where a run begins anew")
+            }
+            (_, Outside::Replies) => Some("replies follow a run that begins anew"),
+            _ if self.files.is_stream(Role::Resume) => Some(NO_FILE),
+            _ => None,
+        }
     }
 
     /// Whether it is told as what the captured gateway did: who had which numbers.
@@ -156,7 +196,8 @@ impl<'m> Form<'m> {
     }
 }
 
-/// What a command is to do with its arguments. An invalid number, time or address is reported.
+/// What a command is to do with its arguments. An invalid number, time or address is reported, and a state that it does not
+/// go on from, or that would be no file.
 pub fn options_of<'m, R: Eprint + AllocGlobal>(
     rt: &R,
     call: Call,
@@ -175,8 +216,9 @@ pub fn options_of<'m, R: Eprint + AllocGlobal>(
         host: parsed(rt, "--host ", host, host.map(host_of))?,
         dropped: matches.get_flag("dropped"),
     };
-    Ok(Options {
+    let options = Options {
         files: files_of(alloc, matches, outside)?,
+        log: matches.get_str("log"),
         outside,
         split: match call.name == INSTALLED.name {
             true => "napt-split",
@@ -188,7 +230,53 @@ pub fn options_of<'m, R: Eprint + AllocGlobal>(
         choice,
         part: part_of(rt, matches)?,
         is_of_napt: matches.get_flag("as-napt"),
-    })
+    };
+    refuse_states(rt, matches, &options)?;
+    refuse_pieces(rt, matches, &options)?;
+    Ok(options)
+}
+
+/// Refuses a state that is named, whatever it says: one that no run goes on from, and one that is no file.
+fn refuse_states<R: Eprint>(
+    rt: &R,
+    matches: &ArgMatches<'_>,
+    options: &Options<'_>,
+) -> Result<(), Exit> {
+    if let (Some(path), Some(why)) = (matches.get_str("resume"), options.why_anew()) {
+        return Err(wrong(rt, "--resume ", path, why));
+    }
+    if options.files.is_stream(Role::Save) {
+        return Err(wrong(rt, "--save ", "-", NO_FILE));
+    }
+    Ok(())
+}
+
+/// Refuses pieces of a log that is no file, and seconds that are no number.
+fn refuse_pieces<R: Eprint>(
+    rt: &R,
+    matches: &ArgMatches<'_>,
+    options: &Options<'_>,
+) -> Result<(), Exit> {
+    let Some(each) = matches.get_str("log-each") else {
+        return Ok(());
+    };
+    if options.log.is_none() || options.is_log_stream() {
+        return Err(wrong(
+            rt,
+            "--log-each ",
+            each,
+            "expected a file of the log (--log FILE)",
+        ));
+    }
+    match each.parse::<NonZeroU32>() {
+        Ok(_) => Ok(()),
+        Err(_) => Err(wrong(
+            rt,
+            "--log-each ",
+            each,
+            "expected whole seconds, from 1 to 4294967295",
+        )),
+    }
 }
 
 /// What a command writes.

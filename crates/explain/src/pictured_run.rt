@@ -1,8 +1,7 @@
 //! What a picture needs of a run.
 
-use napt_account::{Entry, KnownRun, Listed, LoggedStep, Use, in_order_of_making};
-use napt_commands::{Losses, Passing};
-use napt_config::Config;
+use napt_account::{Entry, KnownRun, Listed, LoggedStep, ResumedRun, Use, in_order_of_making};
+use napt_commands::{Losses, Passing, RunStart};
 use napt_lines::{Choice, Line, Unmatched};
 use napt_sequential::{Input, Outcome, RunFault};
 use napt_wire::Cause;
@@ -17,6 +16,8 @@ pub struct PicturedRun {
     pub turns: Vec<Turn>,
     pub losses: Losses,
     pub unmatched: Unmatched,
+    /// The time from which it goes on, in ns.
+    first: u64,
     choice: Choice,
 }
 
@@ -31,19 +32,21 @@ pub struct Turn {
 }
 
 impl PicturedRun {
-    /// The run over the inputs, of which the packets of a host may be chosen.
+    /// The run over the inputs, of which the packets of a host may be chosen. The bindings that are there before are made
+    /// at the time from which it goes on.
     pub fn of(
         alloc: Global,
-        config: &Config,
+        start: &RunStart<'_>,
         inputs: &[Input],
         choice: Choice,
     ) -> Result<PicturedRun, RunFault> {
-        let mut run = KnownRun::begin(alloc, config)?;
+        let ResumedRun { mut run, made, .. } = start.run_begun(alloc)?;
         let mut pictured = PicturedRun {
             entries: Vec::new(alloc),
             turns: Vec::new(alloc),
-            losses: Losses::new(alloc, config)?,
-            unmatched: Unmatched::of(choice, &run.living(alloc)?),
+            losses: Losses::new(alloc, start.config())?,
+            unmatched: Unmatched::of(choice, &made),
+            first: start.clock(),
             choice,
         };
         let mut ended = Vec::new(alloc);
@@ -75,7 +78,7 @@ impl PicturedRun {
             step: &step,
         };
         if self.notes(alloc, passing)? {
-            add_turn(&mut self.turns, input.clock, &step)?;
+            add_turn(&mut self.turns, input.clock.max(self.first), &step)?;
         }
         Ok(())
     }

@@ -3,8 +3,7 @@
 use crate::options::Options;
 use crate::pictured_run::PicturedRun;
 use crate::scene::{Shown, scene_of};
-use napt_commands::{Exit, tell_unwritten, tell_warning};
-use napt_config::Config;
+use napt_commands::{Exit, RunStart, tell_unwritten, tell_warning};
 use napt_display::picture::drawing_of;
 use napt_sequential::Input;
 use std::fs;
@@ -16,14 +15,14 @@ pub fn draw<R: Files + Eprint + AllocGlobal>(
     rt: &R,
     path: &str,
     options: &Options<'_>,
-    config: &Config,
+    start: &RunStart<'_>,
     inputs: &[Input],
 ) -> Result<(), Exit> {
-    let run = PicturedRun::of(rt.alloc(), config, inputs, options.choice)?;
+    let run = PicturedRun::of(rt.alloc(), start, inputs, options.choice)?;
     tell_warning(rt, options.outside, None, &run.losses);
     run.unmatched.tell(rt);
     let shown = Shown {
-        config,
+        config: start.config(),
         inputs,
         run: &run,
         part: options.part,

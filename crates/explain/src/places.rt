@@ -1,9 +1,10 @@
 //! Prints why a file of the command line cannot be used. `napt_program` has already decided that it cannot, as for
-//! `napt`.
+//! `napt`, but of a log, and of what `explain` writes.
 
 use crate::options::Options;
 use napt_commands::{Exit, tell_failed, unwritten};
-use napt_program::{Role, Stop, is_same, place_of, unmade};
+use napt_program::{Place, Role, Stop, is_same, new_path, place_of, unmade};
+use std::alloc::AllocError;
 use std::fs::File;
 use std::rt::Files;
 
@@ -11,6 +12,11 @@ use std::rt::Files;
 const INPUT: &str = "/dev/stdin";
 
 const OUTPUT: &str = "/dev/stdout";
+
+/// What names the file of a state that is saved, and the new file beside it.
+const SAVE: &str = "--save";
+
+const BY_NEW: &str = "--save, by way of";
 
 /// A file and what names it: an option, or a standard stream in place of an absent option.
 #[derive(Clone, Copy)]
@@ -20,7 +26,11 @@ struct Named<'a> {
 }
 
 /// Prints why the file of a role cannot be used, and returns how `napt` would stop.
-pub fn tell_file<R: Files + Eprint>(rt: &R, options: &Options<'_>, role: Role) -> Exit {
+pub fn tell_file<R: Files + Eprint + AllocGlobal>(
+    rt: &R,
+    options: &Options<'_>,
+    role: Role,
+) -> Exit {
     let (files, option) = (&options.files, options.option_of(role));
     let path = match role {
         Role::Config | Role::Resume | Role::Log => None,
@@ -34,6 +44,11 @@ pub fn tell_file<R: Files + Eprint>(rt: &R, options: &Options<'_>, role: Role) -
     match (role, path) {
         (_, None) => {}
         (Role::Inside | Role::Outside, Some(path)) => tell_input(rt, option, path),
+        (Role::Save, Some(path)) => {
+            if let Err(refused) = tell_saved(rt, options, path) {
+                return Exit::from(refused);
+            }
+        }
         (_, Some(path)) => {
             tells_output(rt, options, option, path);
         }
@@ -81,6 +96,64 @@ pub fn refuse_written<R: Files + Eprint>(rt: &R, options: &Options<'_>) -> Resul
     Err(unwritten())
 }
 
+/// Refuses the log of `stream`, if one is named, where another option names its file too or it cannot be created, and
+/// prints why.
+pub fn refuse_log<R: Files + Eprint + AllocGlobal>(
+    rt: &R,
+    options: &Options<'_>,
+) -> Result<(), Exit> {
+    let Some(path) = options.log else {
+        return Ok(());
+    };
+    let option = options.option_of(Role::Log);
+    if is_saved_at(rt, options, path)? {
+        tell_again(rt, option, path, SAVE);
+    } else if !tells_output(rt, options, option, path) {
+        return Ok(());
+    }
+    Err(Exit::Told(Stop::File(Role::Log)))
+}
+
+/// Whether a state is saved to the file at a path, or by way of it.
+fn is_saved_at<R: Files + AllocGlobal>(
+    rt: &R,
+    options: &Options<'_>,
+    path: &str,
+) -> Result<bool, AllocError> {
+    let Some(save) = &options.files.save else {
+        return Ok(false);
+    };
+    let new = new_path(rt.alloc(), save)?;
+    let place = place_of(rt, path);
+    Ok(is_same(place, place_of(rt, save)) || is_same(place, place_of(rt, &new)))
+}
+
+/// Prints why a state cannot be saved to a file: what is wrong with that, or with the new file beside it.
+fn tell_saved<R: Files + Eprint + AllocGlobal>(
+    rt: &R,
+    options: &Options<'_>,
+    path: &str,
+) -> Result<(), AllocError> {
+    let new = new_path(rt.alloc(), path)?;
+    if let Some(other) = saved_again(rt, options, path) {
+        tell_again(rt, SAVE, path, other);
+    } else if let Some(other) = named_again(rt, options, SAVE, &new) {
+        tell_again(rt, BY_NEW, &new, other);
+    } else if !tells_no_file(rt, SAVE, path) && !tells_no_file(rt, BY_NEW, &new) {
+        tells_unmade(rt, SAVE, path);
+    }
+    Ok(())
+}
+
+/// Prints that a path is that of a device, a pipe or a folder, if it is, and returns whether it is so. `name` names it.
+fn tells_no_file<R: Files + Eprint>(rt: &R, name: &str, path: &str) -> bool {
+    let is_so = matches!(place_of(rt, path), Place::Aside);
+    if is_so {
+        let _ = eprintln!(rt; "explain: {name} {path}: expected a file, no device, pipe or folder");
+    }
+    is_so
+}
+
 /// Prints why a capture cannot be opened.
 fn tell_input<R: Files + Eprint>(rt: &R, option: &str, path: &str) {
     if let Err(error) = File::open(rt, path) {
@@ -90,14 +163,24 @@ fn tell_input<R: Files + Eprint>(rt: &R, option: &str, path: &str) {
 
 /// Prints why an output cannot be created, if it cannot, and returns whether it is so.
 fn tells_output<R: Files + Eprint>(rt: &R, options: &Options<'_>, name: &str, path: &str) -> bool {
-    if let Some(other) = named_again(rt, options, name, path) {
-        tell_again(rt, name, path, other);
-    } else if let Some(error) = unmade(rt, path) {
-        tell_failed(rt, name, path, &error);
-    } else {
-        return false;
+    match named_again(rt, options, name, path) {
+        Some(other) => {
+            tell_again(rt, name, path, other);
+            true
+        }
+        None => tells_unmade(rt, name, path),
     }
-    true
+}
+
+/// Prints the system's reason why an output cannot be created, if it has one, and returns whether it is so.
+fn tells_unmade<R: Files + Eprint>(rt: &R, name: &str, path: &str) -> bool {
+    match unmade(rt, path) {
+        Some(error) => {
+            tell_failed(rt, name, path, &error);
+            true
+        }
+        None => false,
+    }
 }
 
 /// Prints what else names the file of an output.
@@ -120,17 +203,27 @@ fn named_again<R: Files>(
     let again = all
         .iter()
         .take_while(|named| named.name != name)
-        .find(|named| named
-            .path
-            .is_some_and(|other| is_same(place, place_of(rt, other))));
+        .find(|named| named.is_at(rt, place));
     again.map(|named| named.name)
 }
 
-/// The files of the options of `napt` in their order, and the standard streams that are in use for want of one.
+/// The same of the file of a state that is saved, which may be that of `--resume`.
+fn saved_again<R: Files>(rt: &R, options: &Options<'_>, path: &str) -> Option<&'static str> {
+    let place = place_of(rt, path);
+    let all = all_named(options);
+    let again = all
+        .iter()
+        .find(|named| named.name != "--resume" && named.is_at(rt, place));
+    again.map(|named| named.name)
+}
+
+/// The files of the options of `napt` in their order, but for that of a state that is saved, and the standard streams
+/// that are in use for want of one.
 fn all_named<'a>(options: &'a Options<'_>) -> [Named<'a>; 9] {
     let files = &options.files;
     [
         Named::of("--config", files.config.as_ref(), INPUT),
+        Named::of("--resume", files.resume.as_ref(), INPUT),
         Named::of("--inside", files.inside.as_ref(), INPUT),
         Named {
             name: "standard input",
@@ -144,7 +237,6 @@ fn all_named<'a>(options: &'a Options<'_>) -> [Named<'a>; 9] {
         Named::of("--to-outside", files.to_outside.as_ref(), OUTPUT),
         Named::of("--to-inside", files.to_inside.as_ref(), OUTPUT),
         Named::of("--report", files.report.as_ref(), OUTPUT),
-        Named::of("--resume", files.resume.as_ref(), INPUT),
     ]
 }
 
@@ -155,6 +247,12 @@ impl<'a> Named<'a> {
             name,
             path: path.map(|path| standing(path, stream)),
         }
+    }
+
+    /// Whether it is the file at a place.
+    fn is_at<R: Files>(self, rt: &R, place: Place<'_>) -> bool {
+        self.path
+            .is_some_and(|other| is_same(place, place_of(rt, other)))
     }
 }
 

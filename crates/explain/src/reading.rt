@@ -1,16 +1,22 @@
 //! Reads the configurations and opens the captures as `napt` does, and explains what it refuses.
 
+ghost use Rattle.std.specs.Prelude.{IfOk, IfSome};
+ghost use Rattle.napt_account.specs.GoingOn.{IsFew};
+ghost use Rattle.napt_program.specs.State.{HasFew};
+
 use crate::options::{Form, Options};
-use crate::places::{refuse_written, tell_closed, tell_file, tell_shared};
+use crate::places::{refuse_log, refuse_written, tell_closed, tell_file, tell_shared};
 use crate::refused;
+use napt_account::LogState;
 use napt_attribution::{Asked, answer_by_log, requests_at};
-use napt_commands::{Exit, tell_failed, text_at};
+use napt_commands::{Exit, RunStart, tell_failed, text_at};
 use napt_config::{Config, ConfigFault};
 use napt_display::reasons::inside_prefixes;
 use napt_program::{
     InputFiles, MEMORY, Role, Stop, Streams, closed_stream, open_inputs, refuse_unmade,
 };
-use napt_state::{read_state, take_up};
+use napt_rules::{State, StateBinding};
+use napt_state::{KeptLog, Saved, read_state, take_up};
 use std::alloc::{AllocError, Global};
 use std::fs::File;
 use std::io::BufReader;
@@ -28,16 +34,21 @@ pub struct Given {
     pub asked: Vec<Asked>,
 }
 
-/// Reads the configuration, unless it was read before, and opens the captures, of which nothing is read.
-///
-/// Fails as `napt` would, with the same fault first. The outputs of `napt` are neither created nor emptied: one that
-/// could not be is refused as far as that can be known beforehand (`napt_program::unmade`).
+/// Where the run starts, and that of the configuration to compare with.
+#[derive(Drop)]
+pub struct Starts<'a> {
+    pub first: RunStart<'a>,
+    pub other: Option<RunStart<'a>>,
+}
+
+/// Reads the configuration, unless it was read before, and what else a run needs beside its captures. Fails as `napt` would,
+/// with the same fault first.
 pub fn read_given<R: Files + Input + Eprint + AllocGlobal>(
     rt: &R,
     streams: Streams,
     options: &Options<'_>,
     written: Option<Written>,
-) -> Result<(Given, InputFiles<Box<R::Reader>, R::File>), Exit> {
+) -> Result<Given, Exit> {
     if let Some(role) = closed_stream(streams, &options.files) {
         return Err(tell_closed(rt, role));
     }
@@ -46,18 +57,46 @@ pub fn read_given<R: Files + Input + Eprint + AllocGlobal>(
         Some(written) => written,
         None => configuration(rt, options)?,
     };
-    refuse_state(rt, options, &written.config)?;
     let others = other_configurations(rt, options)?;
     let asked = requests_of(rt, options.form)?;
-    let files = explain_file(rt, options, open_inputs(rt, &options.files))?;
-    explain_file(rt, options, refuse_unmade(rt, &options.files))?;
-    refuse_written(rt, options)?;
-    let given = Given {
+    Ok(Given {
         written,
         others,
         asked,
-    };
-    Ok((given, files))
+    })
+}
+
+impl Given {
+    /// Where its runs start: from the state of `--resume`, if that is named. What `napt` refuses of it is explained.
+    pub fn starts<R: Files + Eprint + AllocGlobal>(
+        &self,
+        rt: &R,
+        options: &Options<'_>,
+    ) -> Result<Starts<'_>, Exit> {
+        let saved = saved_at(rt, options)?;
+        let other = match (options.form, self.others.first()) {
+            (Form::Differences, Some(config)) => {
+                let saved = copied(rt.alloc(), &saved)?;
+                Some(start_under(rt, options, config, saved)?)
+            }
+            _ => None,
+        };
+        let first = start_under(rt, options, &self.written.config, saved)?;
+        Ok(Starts { first, other })
+    }
+}
+
+/// Opens the captures, of which nothing is read. Fails as `napt` would. The outputs of `napt` are neither created nor
+/// emptied: one that could not be is refused as far as that can be known beforehand (`napt_program::unmade`).
+pub fn open_captures<R: Files + Input + Eprint + AllocGlobal>(
+    rt: &R,
+    options: &Options<'_>,
+) -> Result<InputFiles<Box<R::Reader>, R::File>, Exit> {
+    let files = explain_file(rt, options, open_inputs(rt, &options.files))?;
+    explain_file(rt, options, refuse_unmade(rt, &options.files))?;
+    refuse_log(rt, options)?;
+    refuse_written(rt, options)?;
+    Ok(files)
 }
 
 /// Answers requests by a saved log, under the configuration if one is named. What is refused is explained.
@@ -76,29 +115,18 @@ pub fn answer<R: Files + Input + Print + Eprint + AllocGlobal>(
     answer_by_log(rt, streams, &asked, &options.pieces, config.as_ref())
 }
 
-/// Refuses a state from which the run should go on, and explains why if `napt` would refuse it too: what is told is of runs
-/// that begin anew.
-fn refuse_state<R: Files + Eprint + AllocGlobal>(
-    rt: &R,
-    options: &Options<'_>,
-    config: &Config,
-) -> Result<(), Exit> {
+/// What the file of `--resume` says, or a state without bindings where none is named. A refusal is explained.
+fn saved_at<R: Files + Eprint + AllocGlobal>(rt: &R, options: &Options<'_>) -> Result<Saved, Exit>
+    ensures { IfOk result HasFew }
+{
+    let alloc = rt.alloc();
     let Some(path) = &options.files.resume else {
-        return Ok(());
+        let list = Vec::new(alloc);
+        return Ok(Saved {
+            state: State { clock: 0, list },
+            log: None,
+        });
     };
-    explain_state(rt, path, config)?;
-    let _ = eprintln!(rt;
-        "explain: the state {path} is taken, but what is told here is of runs that begin anew: leave --resume out"
-    );
-    Err(Exit::Told(Stop::Usage))
-}
-
-/// Reads the state at a path, and explains why it is refused under the configuration, if it is.
-fn explain_state<R: Files + Eprint + AllocGlobal>(
-    rt: &R,
-    path: &str,
-    config: &Config,
-) -> Result<(), Exit> {
     let file = match File::open(rt, path) {
         Ok(file) => file,
         Err(error) => {
@@ -106,20 +134,72 @@ fn explain_state<R: Files + Eprint + AllocGlobal>(
             return Err(Exit::Told(Stop::File(Role::Resume)));
         }
     };
-    let reader = BufReader::new(rt.alloc(), file).map_err(|_| Exit::As(MEMORY))?;
-    let mut state = match read_state(rt.alloc(), reader) {
-        Ok(state) => state,
-        Err(fault) => return Err(refused::tell_state(rt, path, &fault)),
-    };
-    match take_up(rt.alloc(), config, &mut state)? {
-        Some((row, misfit)) => Err(refused::tell_binding(rt, path, row, misfit)),
-        None => Ok(()),
+    let reader = BufReader::new(alloc, file).map_err(|_| Exit::As(MEMORY))?;
+    match read_state(alloc, reader) {
+        Ok(saved) => Ok(saved),
+        Err(fault) => Err(refused::tell_state(rt, path, &fault)),
     }
+}
+
+/// Where a run under a configuration starts, from what was saved. A refusal is explained.
+fn start_under<'a, R: Eprint + AllocGlobal>(
+    rt: &R,
+    options: &Options<'_>,
+    config: &'a Config,
+    saved: Saved,
+) -> Result<RunStart<'a>, Exit>
+    requires { HasFew saved }
+{
+    let Saved { mut state, log } = saved;
+    let log = kept_of(rt.alloc(), log);
+    match take_up(rt.alloc(), config, &mut state)? {
+        None => Ok(RunStart::new(config, state, log)),
+        Some((row, misfit)) => {
+            let path = options.files.resume.as_ref();
+            let path = path.map_or("", |path| path.as_str());
+            Err(refused::tell_binding(rt, path, row, misfit))
+        }
+    }
+}
+
+/// What is kept of a log, or nothing.
+fn kept_of(alloc: Global, log: Option<KeptLog>) -> LogState
+    requires { IfSome log (λ kept. IsFew kept.log) }
+    ensures { IsFew result }
+{
+    match log {
+        Some(kept) => kept.log,
+        None => LogState {
+            made: 0,
+            living: Vec::new(alloc),
+        },
+    }
+}
+
+/// The same without a log, once more.
+fn copied(alloc: Global, saved: &Saved) -> Result<Saved, AllocError>
+    ensures { IfOk result HasFew }
+{
+    let mut list = Vec::new(alloc);
+    for binding in &saved.state.list {
+        list.push(StateBinding {
+            row: binding.row,
+            last: binding.last,
+            flows: Vec::from_slice(alloc, &binding.flows)?,
+        })?;
+    }
+    Ok(Saved {
+        state: State {
+            clock: saved.state.clock,
+            list,
+        },
+        log: None,
+    })
 }
 
 /// Refuses the first option that wants a standard stream which another has, and prints why.
 fn refuse_shared<R: Eprint>(rt: &R, options: &Options<'_>) -> Result<(), Exit> {
-    if let Some(role) = options.files.standard_again() {
+    if let Some(role) = options.standard_again() {
         return Err(tell_shared(rt, options.option_of(role), role));
     }
     refuse_more_input(
@@ -146,7 +226,7 @@ fn refuse_more_input<R: Eprint>(
 }
 
 /// What was opened. If a file was refused, prints why.
-fn explain_file<R: Files + Eprint, T: Drop>(
+fn explain_file<R: Files + Eprint + AllocGlobal, T: Drop>(
     rt: &R,
     options: &Options<'_>,
     opened: Result<T, Stop>,

@@ -58,7 +58,8 @@ fn reason_of(misfit: Misfit) -> &'static str {
     match misfit {
         Misfit::NotInside => "its host is in no prefix of inside",
         Misfit::NotPaired => "the configuration gives its host another external address",
-        Misfit::NotItsNumber => "a number of it is 0, or its external one is not of its block",
+        Misfit::NotItsNumber =>
+            "a number of it is 0, or its external one is not of its host's block",
         Misfit::UsedLater => "it, or a flow of it, was used after the time of the state",
         Misfit::FlowsShare => "two of its flows are of one remote endpoint",
         Misfit::Redirected => "a redirect of the configuration has one of these endpoints",

@@ -5,10 +5,9 @@ use crate::explanation::begin_explanation;
 use crate::following::follow;
 use crate::options::{Form, Options};
 use crate::pictures::draw;
-use crate::reading::Given;
+use crate::reading::{Given, Starts};
 use napt_capture::{NoPackets, Source, Watched};
-use napt_commands::{Exit, Outside, take_all};
-use napt_config::Config;
+use napt_commands::{Exit, Outside, RunStart, take_all};
 use napt_lines::{Against, Replies, ends_of};
 use napt_program::{InputFiles, Streams};
 use napt_sequential::Input;
@@ -24,28 +23,24 @@ pub struct Setting<'a> {
     streams: Streams,
     options: &'a Options<'a>,
     given: &'a Given,
-}
-
-/// Reads the captures, and prints the run.
-pub fn explain<R, S: Read + Drop, F: Read + Drop>(
-    rt: &R,
-    streams: Streams,
-    options: &Options<'_>,
-    given: &Given,
-    files: InputFiles<S, F>,
-) -> Result<(), Exit>
-where
-    R: Files + Print + Eprint + AllocGlobal,
-{
-    let setting = Setting {
-        streams,
-        options,
-        given,
-    };
-    setting.read(rt, files)
+    starts: &'a Starts<'a>,
 }
 
 impl<'a> Setting<'a> {
+    pub fn new(
+        streams: Streams,
+        options: &'a Options<'a>,
+        given: &'a Given,
+        starts: &'a Starts<'a>,
+    ) -> Setting<'a> {
+        Setting {
+            streams,
+            options,
+            given,
+            starts,
+        }
+    }
+
     fn refusing(self) -> Refusing<'a> {
         Refusing {
             options: self.options,
@@ -53,8 +48,8 @@ impl<'a> Setting<'a> {
         }
     }
 
-    /// Reads the headers of the captures, the inside one first, and explains their packets.
-    fn read<R: Files + Print + Eprint + AllocGlobal, S: Read + Drop, F: Read + Drop>(
+    /// Reads the captures, the header of the inside one first, and prints the run.
+    pub fn read<R: Files + Print + Eprint + AllocGlobal, S: Read + Drop, F: Read + Drop>(
         self,
         rt: &R,
         files: InputFiles<S, F>,
@@ -85,7 +80,8 @@ impl<'a> Setting<'a> {
         inside: Opened<'_, A>,
         outside: Opened<'_, B>,
     ) -> Result<(), Exit> {
-        let mut captures = Captures::of(rt.alloc(), self.refusing(), inside, outside);
+        let clock = self.starts.first.clock();
+        let mut captures = Captures::of(rt.alloc(), self.refusing(), clock, inside, outside);
         let told = self.explain(rt, &mut captures);
         captures.close();
         told
@@ -100,7 +96,7 @@ impl<'a> Setting<'a> {
         if !self.streams.output {
             return Err(Exit::NoOutput);
         }
-        match (self.options.form, self.given.others.first()) {
+        match (self.options.form, &self.starts.other) {
             (Form::Differences, Some(other)) => self.explain_against(rt, captures, other),
             (Form::Plans { is_csv }, _) => self.explain_plans(rt, captures, is_csv),
             (Form::Picture(path) | Form::Followed(path), _) => self.write(rt, captures, path),
@@ -113,11 +109,11 @@ impl<'a> Setting<'a> {
         self,
         rt: &R,
         captures: &mut Captures<'_, '_, '_, A, B>,
-        other: &'a Config,
+        other: &'a RunStart<'a>,
     ) -> Result<(), Exit> {
         let options = self.options;
-        let configs = [&self.given.written.config, other];
-        let mut against = Against::begin(rt.alloc(), options.choice, configs)?;
+        let first = &self.starts.first;
+        let mut against = Against::begin(rt.alloc(), options.choice, first, other)?;
         if options.outside.follows() {
             let inputs = captures.all(rt)?;
             against.follow(rt, options.outside, &inputs)?;
@@ -156,18 +152,18 @@ impl<'a> Setting<'a> {
         rt: &R,
         captures: &mut Captures<'_, '_, '_, A, B>,
     ) -> Result<(), Exit> {
-        let Given { written, asked, .. } = self.given;
-        let (options, config) = (self.options, &written.config);
+        let (options, start, asked) = (self.options, &self.starts.first, &self.given.asked);
         if !options.outside.follows() {
-            let mut explanation = begin_explanation(rt, options, config, asked, None)?;
+            let mut explanation = begin_explanation(rt, options, start, asked, None)?;
             captures.hand_over(rt, &mut explanation)?;
             return explanation.end(rt, captures.flaws());
         }
         let mut inputs = captures.all(rt)?;
         let ends = named_ends(rt.alloc(), options, &mut inputs)?;
+        let config = start.config();
         let inputs = options.outside.inputs_under(rt.alloc(), config, inputs)?;
         let replies = Replies::of(options.outside, config, &ends);
-        let mut explanation = begin_explanation(rt, options, config, asked, replies)?;
+        let mut explanation = begin_explanation(rt, options, start, asked, replies)?;
         take_all(rt, &inputs, &mut explanation)?;
         explanation.end(rt, captures.flaws())
     }
@@ -179,13 +175,15 @@ impl<'a> Setting<'a> {
         captures: &mut Captures<'_, '_, '_, A, B>,
         path: &str,
     ) -> Result<(), Exit> {
-        let (options, config) = (self.options, &self.given.written.config);
+        let (options, start) = (self.options, &self.starts.first);
         let inputs = captures.all(rt)?;
-        let inputs = options.outside.inputs_under(rt.alloc(), config, inputs)?;
+        let inputs = options
+            .outside
+            .inputs_under(rt.alloc(), start.config(), inputs)?;
         captures.flaws().tell(rt, options.form)?;
         match options.form {
-            Form::Picture(_) => draw(rt, path, options, config, &inputs),
-            _ => follow(rt, path, options.outside, config, &inputs),
+            Form::Picture(_) => draw(rt, path, options, start, &inputs),
+            _ => follow(rt, path, options.outside, start, &inputs),
         }
     }
 }

@@ -9,8 +9,8 @@ use Rattle.napt_rules.specs.Prelude.{Through, Binding, redirected, act, opening,
 use Rattle.napt_laws.proofs.{Grown.{grows, clock_more}, Turns.InTurn}
 use Rattle.napt_account.specs.{AllTold.{joined, all_ended, all_refused, origin, ToldIsTheLog}, declared.log.{Entry.Entry, Listed.Listed, Shortage.Shortage}}
 use Rattle.napt_account.specs.Log.{begun, counted, through, logged_by, logged, shortage_at, shortages, log_of}
-use Rattle.napt_account.{specs.Telling.{numbered, numbered_from, is_open, ends_within, ends_first, placed, in_order_of_end, told_by}, proofs.Books.fold_joined}
-use Rattle.napt_account.proofs.{Leaves.{Opens, act_opens}, Lists.{filter_agrees, map_joined}, LoggedRuns.{ended_told, made_told, refused_told, living_is}}
+use Rattle.napt_account.{specs.Telling.{numbered, numbered_from, is_open, ends_within, ends_first, placed, in_order_of_end, told_by, living_of}, proofs.Books.fold_joined}
+use Rattle.napt_account.proofs.{Leaves.{Opens, act_opens}, Lists.{filter_agrees, map_joined}}
 use Rattle.napt_account.proofs.{MadeLegs.drop_joined, Retold.{flat_joined, log_is, step_turn}}
 
 -- LISTS
@@ -178,12 +178,12 @@ module _ (rules : Rules) (before : List Arrival) (input : Arrival) where
 
   origins_more : map origin (numbered (log_of rules before).entries) ++ map origin (told_by rules before input).made
       ≡ map origin (numbered (log_of rules (before ++ input ∷ [])).entries)
+  unfolding told_by
   origins_more =
       let was : List Entry = (log_of rules before).entries in
       let now : List Entry = (log_of rules (before ++ input ∷ [])).entries in
       let grown = acts_grow rules next.acts was in
-      ap (λ (ls : List Listed). map origin (numbered was) ++ map origin ls) (made_told rules before input)
-      ∙ grown_origins 1 was now grown.more (ap (map origin_of) entries_more ∙ grown.is)
+      grown_origins 1 was now grown.more (ap (map origin_of) entries_more ∙ grown.is)
 
   -- an entry that has ended by the clock of an input was there before it
   closed_next : KeepsRules rules →
@@ -235,6 +235,7 @@ module _ (rules : Rules) (keeps : KeepsRules rules) where
 
   tells_next : (before : List Arrival) (input : Arrival) (told : List Listed) → Tells before told →
       Tells (before ++ input ∷ []) (told ++ (told_by rules before input).ended)
+  unfolding told_by
   tells_next before input told tells =
       let was : ℕ = last_clock 0 before in
       let now : ℕ = last_clock 0 (before ++ input ∷ []) in
@@ -243,7 +244,7 @@ module _ (rules : Rules) (keeps : KeepsRules rules) where
       let since : List Listed = filter (ends_within was now) xs in
       let old : List Listed = filter (is_closed was) xs in
       let ended : (told_by rules before input).ended ≡ in_order_of_end since =
-      ended_told rules before input ∙ ap (λ (n : ℕ). in_order_of_end (filter (ends_within was n) xs)) (sym more) in
+      ap (λ (n : ℕ). in_order_of_end (filter (ends_within was n) xs)) (sym more) in
       let late : List Listed = filter (is_closed now) xs in
       subst (IsPermutation (told ++ (told_by rules before input).ended)) (sym (closed_next rules before input keeps))
       (subst (λ (ls : List Listed). IsPermutation (told ++ ls) late) (sym ended)
@@ -267,14 +268,15 @@ module _ (rules : Rules) (keeps : KeepsRules rules) where
 
   refuses_all : (before inputs : List Arrival) →
       (log_of rules before).shortages ++ joined refused_by before inputs ≡ (log_of rules (before ++ inputs)).shortages
+  unfolding told_by
   refuses_all before [] = append-nil (log_of rules before).shortages
       ∙ ap (λ (all : List Arrival). (log_of rules all).shortages) (sym (append-nil before))
   refuses_all before (input ∷ inputs) =
       let was : List Shortage = (log_of rules before).shortages in
       let new : List Shortage = shortages (next rules before input).acts in
       let rest : List Shortage = joined refused_by (before ++ input ∷ []) inputs in
-      let told : (told_by rules before input).refused ≡ new = refused_told rules before input
-      ∙ (ap (drop (length was)) (shortages_more rules before input) ∙ drop_joined was new) in
+      let told : (told_by rules before input).refused ≡ new =
+      ap (drop (length was)) (shortages_more rules before input) ∙ drop_joined was new in
       ap (λ (xs : List Shortage). was ++ (xs ++ rest)) told
       ∙ (sym (append_assoc was new rest)
       ∙ (ap (λ (xs : List Shortage). xs ++ rest) (sym (shortages_more rules before input))
@@ -313,6 +315,7 @@ none_ended : (rules : Rules) → [] ≡ closed 0 (log_of rules []).entries
 none_ended rules = sym (ap (closed 0) (log_is rules []).0 ∙ none_closed rules.timers (pair_of rules) 1 rules.redirects)
 
 pub told_is_the_log : ToldIsTheLog
+unfolding living_of
 told_is_the_log rules keeps inputs =
     let now : ℕ = last_clock 0 inputs in
     let xs : List Listed = numbered (log_of rules inputs).entries in
@@ -320,15 +323,14 @@ told_is_the_log rules keeps inputs =
     let old : List Listed = filter (is_closed now) xs in
     let left : List Listed = filter (is_open now) xs in
     record {
-      entries = subst (λ (ls : List Listed). IsPermutation (told ++ ls) xs) (sym (living_is rules inputs))
-          (IsPermutation-trans (told ++ in_order_of_end left) (told ++ left) xs
+      entries = IsPermutation-trans (told ++ in_order_of_end left) (told ++ left) xs
           (IsPermutation-append_right told (in_order_of_end left) left
           (IsPermutation-sym left (in_order_of_end left) (order_moves left)))
           (IsPermutation-trans (told ++ left) (old ++ left) xs
           (IsPermutation-append_left left told old (tells_all rules keeps [] inputs []
           (subst (IsPermutation []) (none_ended rules) (IsPermutation-refl []))))
           (IsPermutation-sym xs (old ++ left)
-          (IsPermutation-filter_both (is_closed now) (is_open now) (λ l. not_twice (is_open now l)) xs))));
+          (IsPermutation-filter_both (is_closed now) (is_open now) (λ l. not_twice (is_open now l)) xs)));
       made = made_all rules [] inputs;
       refused = ap (λ (none : List Shortage). none ++ all_refused rules inputs) (sym (log_is rules []).1)
           ∙ refuses_all rules keeps [] inputs;

@@ -1,11 +1,10 @@
 -- At each time the log of a whole run names what is live then.
-use Rattle.std.proofs.lemmas.Grind.{common_steps}
 use Rattle.std.{proofs.Common.{◌≡◌, ℕ, suc, ◌+◌, ◌<◌, ◌≤◌, max, List, [], ◌∷◌, ◌++◌, map, length, refl, sym, ◌∙◌, ap, subst, arith}, specs.Prelude.filter}
 use Rattle.std.specs.List.{list_any, fold}
 use Rattle.napt_rules.specs.Prelude.{Binding, is_live, opening, Arrival, row, Course, ahead, step, run_from, run, last_clock, OpeningIsSound, Apart, Rules, KeepsRules}
 use Rattle.napt_laws.proofs.{Grown.run_append, Turns.run_turn}
 use Rattle.napt_account.specs.{declared.log.Entry.Entry, Log.{begun, logged, log_of, stands_at}}
-use Rattle.napt_account.{specs.Attribution.{IsBeforeNext, has_ends, LogNamesTheHolders, LogListsTheLiving}, proofs.Retold.{RunRetold, run_retold}}
+use Rattle.napt_account.specs.Attribution.{IsBeforeNext, has_ends, LogNamesTheHolders, LogListsTheLiving}
 use Rattle.napt_account.proofs.{Lists.{any_seen_of, any_among, filter_seen, filter_agrees, map_twice, each_mapped, each_every}, Books.fold_joined}
 use Rattle.napt_account.proofs.Entries.{Tells, hold, hold_of, living, named, apart_differ, tells_later, named_now, told_turn, past_turn}
 use Rattle.napt_binding.{specs.Ends.{end_of, is_before}, proofs.FirstEnds.ends_are_first}
@@ -22,13 +21,6 @@ begins rules keeps list apart = record {
       (is_live rules.timers 0) list (λ b. sym (ends_are_first rules.timers keeps.timers 0 b))));
   differ = apart_differ (map row list) apart;
 }
-
--- what the traces of a run tell
-pub retold : (rules : Rules) → (keeps : KeepsRules rules) → OpeningIsSound → (inputs : List Arrival) →
-    RunRetold ends_are_first rules keeps.timers 0 0 inputs (opening rules) (map (begun rules.timers 0) (opening rules))
-retold rules keeps opens inputs =
-    run_retold ends_are_first rules keeps.timers 0 0 inputs (opening rules)
-    (map (begun rules.timers 0) (opening rules)) (begins rules keeps (opening rules) (opens rules keeps).apart)
 
 -- acts of inputs that come after a time leave what was named then
 rest_stays : (rules : Rules) → KeepsRules rules → (at number clock : ℕ) (rest : List Arrival) → clock ≤ at →

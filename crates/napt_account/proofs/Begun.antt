@@ -1,82 +1,117 @@
--- The entries of the redirects, one more.
-use Rattle.std.proofs.Common.{◌≡◌, ℕ, zero, suc, ◌+◌, ◌<◌, ◌≤◌, false, ◌||◌, List, [], ◌∷◌, ◌++◌, length, map, take, get_or, refl, sym, ◌∙◌, ap, subst, arith}
-use Rattle.std.{specs.List.list_any, proofs.lemmas.List.take_more}
-use Rattle.napt_config.specs.{Rules.{Rules, pair_of}, declared.settings.{Redirect.Redirect, Timers.Timers}}
-use Rattle.napt_rules.specs.{Prelude.{Binding, Each, redirected, opening, row, AreRowsApart, Apart}, declared.Row.Row}
-use Rattle.napt_account.{specs.Log.{begun, shares, is_of}, proofs.{Lists.map_joined, Entries.differ_back, Moves.Differ}}
+-- What is kept of a log, put in its places entry by entry.
+use Rattle.std.proofs.lemmas.{Grind.common_steps, Bool.Decides.nat_tests}
+use Rattle.std.proofs.Common.{◌≡◌, ℕ, ◌+◌, ◌<◌, ◌≤◌, inl, inr, true, false, cond, List, [], ◌∷◌, ◌++◌, length, map, take, get_or, Option, Some, None, refl, sym, ◌∙◌, ap, subst, arith}
+use Rattle.std.{specs.Prelude.filter, proofs.lemmas.{Bool.true≢false, List.{take_all, take_more}, Option.same_Some}}
+use Rattle.napt_rules.specs.Prelude.{Each}
+use Rattle.napt_account.specs.declared.{log.Listed.Listed, open_entries.{Due.Due, ExternalKey.ExternalKey, Open.Open, OpenEntries.OpenEntries}}
+use Rattle.napt_account.specs.{GoingOn.{LogState, filled, kept_at}, LogStates.AreKeyed, Telling.{is_open, numbered}}
+use Rattle.napt_account.specs.OpenEntries.{external_key, external_eq, open_at, listed_at, is_queued, IsIndexed, IsIndexedBut, Shows}
+use Rattle.napt_account.proofs.{EndOrder.{has_listed, listed_has}, InOrder.{Has, each_has, filter_has, has_filter, has_left, has_parts}, Keyed.keyed_before}
+use Rattle.napt_account.proofs.OpenEntries.{external_flip, external_itself, indexed_but, open_listed, under}
 
-take_mapped : {X Y : Type 0} (f : X → Y) (n : ℕ) (xs : List X) → take n (map f xs) ≡ map f (take n xs)
-take_mapped f zero xs = refl
-take_mapped f (suc n) [] = refl
-take_mapped f (suc n) (x ∷ xs) = ap (λ (l : List _). f x ∷ l) (take_mapped f n xs)
+module _ (ls : List Listed) (keyed : AreKeyed (map (λ l. l.entry.binding) ls)) (many : ℕ) where
+  -- it has the first of them, and no others
+  pub record HasFirst (k : ℕ) (all : OpenEntries) : Type 0 where
+    pub indexed : IsIndexed all
+    pub made : all.made ≡ many
+    pub there : (x : ExternalKey) (l : Listed) → listed_at all x ≡ Some l → Has (take k ls) l
+    pub has : (l : Listed) → Has (take k ls) l → listed_at all (external_key l.entry.binding) ≡ Some l
 
-get_or_mapped : {X Y : Type 0} (f : X → Y) (xs : List X) (n : ℕ) (d : X) → n < length xs → get_or (map f xs) n (f d)
-    ≡ f (get_or xs n d)
-get_or_mapped f [] n d lt = absurd (omega arith)
-get_or_mapped f (x ∷ xs) zero d lt = refl
-get_or_mapped f (x ∷ xs) (suc n) d lt = get_or_mapped f xs n d (omega arith)
+  pub has_none : (all : OpenEntries) → ((x : ExternalKey) → open_at all x ≡ None) →
+      ((d : Due) → is_queued all d ≡ false) → all.made ≡ many → HasFirst 0 all
+  has_none all opens queue made = record {
+    indexed = record {
+      placed = λ x o at. cc (opens x, at);
+      queued = λ due. grind (arith, common_steps, nat_tests, opens, queue);
+    };
+    made = made;
+    there = λ x l at. grind (arith, common_steps, opens);
+    has = λ l h. absurd h;
+  }
 
-pub long_mapped : {X Y : Type 0} (f : X → Y) (xs : List X) → length (map f xs) ≡ length xs
-long_mapped f [] = refl
-long_mapped f (x ∷ xs) = ap suc (long_mapped f xs)
+  module _ (all : List Listed) (same : all ≡ ls) (k : ℕ) (d : Listed) (lt : k < length all) (old new : OpenEntries)
+      (has : HasFirst k old) where
+    abbrev l : Listed
+    l = get_or all k d
 
-pub begun_few : (timers : Timers) (k : ℕ) (bs : List Binding) → length (map (begun timers 0) (take k bs)) ≤ k
-begun_few timers zero bs = omega arith
-begun_few timers (suc k) [] = omega arith
-begun_few timers (suc k) (b ∷ bs) = let rest = begun_few timers k bs in omega (arith, rest)
+    is : l ≡ get_or ls k d
+    is = ap (λ (xs : List Listed). get_or xs k d) same
 
-each_take : {X : Type 0} (P : X → Type 0) (n : ℕ) (xs : List X) → Each P xs → Each P (take n xs)
-each_take P zero xs h = tt
-each_take P (suc n) [] h = tt
-each_take P (suc n) (x ∷ xs) h = (h.0, each_take P n xs h.1)
+    below : k < length ls
+    below = subst (λ (xs : List Listed). k < length xs) same lt
 
-apart_take : (n : ℕ) (xs : List Row) → Apart xs → Apart (take n xs)
-apart_take zero xs h = tt
-apart_take (suc n) [] h = tt
-apart_take (suc n) (x ∷ xs) h = (each_take (AreRowsApart x) n xs h.0, apart_take n xs h.1)
+    abbrev key : ExternalKey
+    key = external_key l.entry.binding
 
-last_of : {X : Type 0} (P : X → Type 0) (xs : List X) (x : X) → Each P (xs ++ x ∷ []) → P x
-last_of P [] x h = h.0
-last_of P (y ∷ xs) x h = last_of P xs x h.1
+    other : (m : Listed) → Has (take k ls) m → external_eq key (external_key m.entry.binding) ≡ false
+    other m h = external_flip key (external_key m.entry.binding)
+        ∙ subst (λ (n : Listed). external_eq (external_key m.entry.binding) (external_key n.entry.binding) ≡ false)
+        (sym is)
+        (keyed_before (λ l. l.entry.binding) ls keyed k d below m h)
 
-none_shares : (xs : List Row) (w : Row) → Apart (xs ++ w ∷ []) → list_any (shares w) xs ≡ false
-none_shares [] w apart = refl
-none_shares (x ∷ xs) w apart =
-    let differ : Differ x w = λ p. (last_of (AreRowsApart x) xs w apart.0 p).0 in
-    ap (λ v. v || list_any (shares w) xs) (differ_back x w differ)
-    ∙ none_shares xs w apart.1
+    free : (o : Option Open) → open_at old key ≡ o → o ≡ None
+    free None at = refl
+    free (Some o) at =
+        let here = open_listed old key o at in
+        absurd (true≢false (sym (external_itself key) ∙ (ap (external_eq key) (under old has.indexed key o.listed here)
+        ∙ other o.listed (has.there key o.listed here))))
 
-open_redirects : (timers : Timers) (pair : ℕ → ℕ) (w : Row) (rs : List Redirect) →
-    list_any (is_of 0 w) (map (begun timers 0) (map (redirected pair) rs))
-    ≡ list_any (shares w) (map row (map (redirected pair) rs))
-open_redirects timers pair w [] = refl
-open_redirects timers pair w (r ∷ rs) =
-    ap (λ v. shares w (row (redirected pair r)) || v) (open_redirects timers pair w rs)
+    pub but : IsIndexedBut key None old
+    but = let none = free (open_at old key) refl in grind (arith, common_steps, indexed_but)
 
-module _ (rules : Rules) (k : ℕ) (other redirect : Redirect) (lt : k < length rules.redirects)
-    (is : redirect ≡ get_or rules.redirects k other) where
-  abbrev made : Binding
-  made = redirected (pair_of rules) redirect
+    first_next : take (k + 1) ls ≡ take k ls ++ l ∷ []
+    first_next = take_more ls k d below ∙ ap (λ (x : Listed). take k ls ++ x ∷ []) (sym is)
 
-  pub begin_next : take (k + 1) (opening rules) ≡ take k (opening rules) ++ made ∷ []
-  begin_next =
-      let long : length (opening rules) ≡ length rules.redirects = long_mapped (redirected (pair_of rules))
-      rules.redirects in
-      take_more (opening rules) k (redirected (pair_of rules) other) (omega arith)
-      ∙ ap (λ (b : Binding). take k (opening rules) ++ b ∷ [])
-      (get_or_mapped (redirected (pair_of rules)) rules.redirects k other lt
-      ∙ ap (redirected (pair_of rules)) (sym is))
+    last : Has (take k ls ++ l ∷ []) l
+    last = has_right (take k ls)
+      where
+        has_right : (xs : List Listed) → Has (xs ++ l ∷ []) l
+        has_right [] = inl refl
+        has_right (x ∷ xs) = inr (has_right xs)
 
-  pub begin_free : Apart (map row (opening rules)) →
-      list_any (is_of 0 (row made)) (map (begun rules.timers 0) (take k (opening rules))) ≡ false
-  begin_free apart =
-      let rows : List Row = map row (take k (opening rules)) in
-      let front : Apart (rows ++ row made ∷ []) =
-      subst Apart (take_mapped row (k + 1) (opening rules) ∙ (ap (map row) begin_next
-      ∙ map_joined row (take k (opening rules)) (made ∷ []))) (apart_take (k + 1) (map row (opening rules)) apart) in
-      ap (λ (bs : List Binding). list_any (is_of 0 (row made)) (map (begun rules.timers 0) bs))
-      (take_mapped (redirected (pair_of rules)) k rules.redirects)
-      ∙ (open_redirects rules.timers (pair_of rules) (row made) (take k rules.redirects)
-      ∙ (ap (λ (bs : List Binding). list_any (shares (row made)) (map row bs))
-      (sym (take_mapped (redirected (pair_of rules)) k rules.redirects))
-      ∙ none_shares rows (row made) front))
+    pub has_next : new.made ≡ old.made → IsIndexed new → ((x : ExternalKey) → listed_at new x
+        ≡ cond (external_eq key x) (Some l) (listed_at old x)) → HasFirst (k + 1) new
+    has_next made indexed entries = record {
+      indexed = indexed;
+      made = made ∙ has.made;
+      there = λ x m at. subst (λ (ms : List Listed). Has ms m) (sym first_next)
+          (elim (external_eq key x) as (λ v. cond v (Some l) (listed_at old x) ≡ Some m → Has (take k ls ++ l ∷ []) m) [
+            | true ↦ λ here. subst (Has (take k ls ++ l ∷ [])) (same_Some l m here) last
+            | false ↦ λ there. has_left (take k ls) (l ∷ []) m (has.there x m there)
+          ] (sym (entries x) ∙ at));
+      has = λ m h. elim (has_parts (take k ls) (l ∷ []) m (subst (λ (ms : List Listed). Has ms m) first_next h)) [
+        | inl first ↦ entries (external_key m.entry.binding)
+            ∙ (ap (λ v. cond v (Some l) (listed_at old (external_key m.entry.binding))) (other m first)
+            ∙ has.has m first)
+        | inr one ↦ elim one [
+          | inl same ↦ subst (λ (n : Listed). listed_at new (external_key n.entry.binding) ≡ Some n) same
+              (entries key ∙ ap (λ v. cond v (Some l) (listed_at old key)) (external_itself key))
+          | inr none ↦ absurd none
+        ]
+      ];
+    }
+
+-- all of them
+pub has_all : (log : LogState) (keyed : AreKeyed (map (λ l. l.entry.binding) log.living)) (k : ℕ) (all : OpenEntries) →
+    length log.living ≤ k → HasFirst log.living keyed log.made k all → (now most : ℕ) →
+    kept_at now (filled log) ≡ log → Each (λ l. (l.entry.sent ≤ most) × (l.entry.received ≤ most)) log.living →
+    Shows now most (filled log) all
+has_all log keyed k all past has now most kept few =
+    let whole : take k log.living ≡ log.living = take_all k log.living past in
+    let same : filter (is_open now) (numbered (filled log)) ≡ log.living = ap (λ (l : LogState). l.living) kept in
+    let there : (x : ExternalKey) (l : Listed) → listed_at all x ≡ Some l → Has log.living l =
+    λ x l at. subst (λ (ls : List Listed). Has ls l) whole (has.there x l at) in
+    let among : (x : ExternalKey) (l : Listed) → listed_at all x ≡ Some l →
+    Has (numbered (filled log)) l × (is_open now l ≡ true) =
+    λ x l at. filter_has (is_open now) (numbered (filled log)) l
+    (subst (λ (ls : List Listed). Has ls l) (sym same) (there x l at)) in
+    record {
+      indexed = has.indexed;
+      made = has.made ∙ sym (ap (λ (l : LogState). l.made) kept);
+      has = λ l at opens. has.has l (subst (λ (ls : List Listed). Has ls l) (sym whole)
+          (subst (λ (ls : List Listed). Has ls l) same
+          (has_filter (is_open now) (numbered (filled log)) l (listed_has (filled log) l at) opens)));
+      there = λ x l at. has_listed (filled log) l (among x l at).0;
+      unended = λ x l at. (among x l at).1;
+      few = λ x l at. each_has (λ l. (l.entry.sent ≤ most) × (l.entry.received ≤ most)) log.living l few (there x l at);
+    }

@@ -1,23 +1,24 @@
 -- What has ended is taken out, and what is listed is in order of end.
 use Rattle.std.proofs.lemmas.{Grind.common_steps, Bool.Decides.nat_tests}
-use Rattle.std.proofs.Common.{◌≡◌, ◌≢◌, ℕ, zero, suc, ◌+◌, ◌<◌, ◌^◌, ◌⊎◌, inl, inr, Bool, true, false, cond, unwrap_or, List, [], ◌∷◌, ◌++◌, length, map, Option, Some, None, refl, sym, ◌∙◌, ap, subst, arith}
-use Rattle.std.specs.{Prelude.{filter, not}, List.{Contains, AllByRecursion, IsDistinct, slice_index_or, Sorted.{IsPermutation, IsSortedByKey}}}
+use Rattle.std.proofs.Common.{◌≡◌, ◌≢◌, ℕ, ◌+◌, ◌<◌, ◌^◌, ◌⊎◌, inl, inr, Bool, true, false, cond, unwrap_or, List, [], ◌∷◌, ◌++◌, map, Option, Some, None, refl, sym, ◌∙◌, ap, subst, arith}
+use Rattle.std.specs.{Prelude.{filter, not}, Ordering.nat_cmp, List.{AllByRecursion, IsDistinct, Sorted.{IsPermutation, IsSortedByKey}}}
 use Rattle.std.{specs.{Map.{lookup, keys_of, values_of}, Ordering.is_lt, HashMap.IsUnique}, proofs.lemmas.Bool.{and_parts, and_from, eq-eqb}}
-use Rattle.std.proofs.lemmas.{List.Sorted.{Contains-permutation, IsPermutation-sym}, Map.Keys.IsDistinct-IsPermutation, Option.same_Some}
+use Rattle.std.proofs.lemmas.{Map.Keys.IsDistinct-IsPermutation, Option.same_Some}
 use Rattle.napt_rules.specs.Prelude.{Each}
 use Rattle.napt_account.specs.declared.{log.{Entry.Entry, Listed.Listed}, open_entries.{Due.Due, ExternalKey.ExternalKey, Open.Open, OpenEntries.OpenEntries}}
-use Rattle.napt_account.specs.OpenEntries.{external_key, end_key_of, end_key, external_eq, end_cmp, open_at, listed_at, is_queued, is_at, kept, IsIndexed, IsListed, Shows, InOrder}
+use Rattle.napt_account.specs.OpenEntries.{external_key, end_key_of, end_key, external_eq, end_cmp, open_at, listed_at, is_queued, is_at, kept, IsIndexed, IsListed, Shows}
 use Rattle.napt_account.specs.Telling.{numbered, is_open, ends_within, ends_first, in_order_of_end}
-use Rattle.napt_account.proofs.InOrder.{Has, Differ, each_has, has_each, has_left, has_parts, has_filter, filter_has, first_then, is_order, has_number, number_has, numbered_differ}
+use Rattle.napt_account.proofs.InOrder.{Has, Differ, InOrder, each_has, has_each, has_left, has_parts, has_filter, filter_has, first_then, is_order, has_number, number_has, numbered_differ}
+use Rattle.napt_account.proofs.{Rising.{rises_numbered, sorted_rising}, Sorted.{has_back, has_moved, sorted_turn}}
 use Rattle.napt_account.proofs.OpenEntries.{due_of, external_is, external_itself, external_flip, same_place, under, listed_open, open_listed}
 
 -- AGAINST THE ENTRIES
 
-listed_has : (es : List Entry) (l : Listed) → IsListed es l → Has (numbered es) l
+pub listed_has : (es : List Entry) (l : Listed) → IsListed es l → Has (numbered es) l
 listed_has es l at = has_number 1 es at.place l.entry at.there l.number
     (let n : l.number ≡ at.place + 1 = at.number in omega (arith, n))
 
-has_listed : (es : List Entry) (l : Listed) → Has (numbered es) l → IsListed es l
+pub has_listed : (es : List Entry) (l : Listed) → Has (numbered es) l → IsListed es l
 has_listed es l h = grind (arith, common_steps, number_has)
 
 -- A LIST THAT IS SORTED
@@ -26,40 +27,15 @@ has_listed es l h = grind (arith, common_steps, number_has)
 abbrev share : Listed → Listed → Bool
 share l m = external_eq (external_key l.entry.binding) (external_key m.entry.binding)
 
-has_contains : (xs : List Listed) (l : Listed) → Has xs l → Contains xs l
-has_contains [] l h = absurd h
-has_contains (x ∷ xs) l (inl is) = (0, omega arith, is)
-has_contains (x ∷ xs) l (inr h) = let c = has_contains xs l h in (suc c.0, (let lt = c.1 in omega (arith, lt)), c.2)
-
-contains_has : (xs : List Listed) (l : Listed) (k : ℕ) → k < length xs → slice_index_or xs k l ≡ l → Has xs l
-contains_has [] l k lt is = absurd (omega (arith, lt))
-contains_has (x ∷ xs) l zero lt is = inl is
-contains_has (x ∷ xs) l (suc k) lt is = inr (contains_has xs l k (omega (arith, lt)) is)
-
 -- what does not come behind another stands before it
 not_behind : (a b : Option ℕ) (m n : ℕ) (l o : Listed) → l.entry.end ≡ a → o.entry.end ≡ b → l.number ≡ m →
     o.number ≡ n → m ≢ n → is_lt (end_cmp (end_key_of b n) (end_key_of a m)) ≡ false → ends_first l o ≡ true
 not_behind a b m n l o h k g j p q = grind (arith, common_steps, nat_tests)
 
 sorted_order : (xs : List Listed) → IsSortedByKey end_key end_cmp xs → Differ xs → InOrder xs
-sorted_order [] sorted differ = tt
-sorted_order (x ∷ []) sorted differ = (tt, tt)
-sorted_order (x ∷ y ∷ xs) sorted differ =
-    let first : ends_first x y ≡ true = not_behind x.entry.end y.entry.end x.number y.number x y refl refl refl refl
-    differ.0.0 (sorted 0 x (omega arith) (omega arith)) in
-    let rest = sorted_order (y ∷ xs) (λ k d low lt.
-    let next : suc k + 1 ≡ suc (k + 1) = omega arith in
-    subst (λ (j : ℕ). is_lt (end_cmp (end_key (slice_index_or (x ∷ y ∷ xs) j d))
-    (end_key (slice_index_or (y ∷ xs) k d))) ≡ false) next (sorted (suc k) d (omega arith) (omega (arith, lt))))
-    differ.1 in (
-      (
-        first,
-        has_each (λ z. ends_first x z ≡ true) xs (λ z h.
-            first_then x.entry.end y.entry.end z.entry.end x.number y.number z.number first
-            (each_has (λ w. ends_first y w ≡ true) xs z rest.0 h)),
-      ),
-      rest,
-    )
+sorted_order = sorted_turn end_key end_cmp ends_first (λ x y. x.number ≢ y.number)
+    (λ x y. not_behind x.entry.end y.entry.end x.number y.number x y refl refl refl refl)
+    (λ x y z. first_then x.entry.end y.entry.end z.entry.end x.number y.number z.number)
 
 -- OF ENTRIES THAT ARE THERE
 
@@ -95,22 +71,16 @@ apart_differ now most es all shows (x ∷ xs) there apart = (
 
 module _ (now most : ℕ) (es : List Entry) (all : OpenEntries) (shows : Shows now most es all) (xs ys : List Listed)
     (moves : IsPermutation xs ys) (there : AreThere all xs) (apart : Apart xs) where
-  back : (l : Listed) → Has ys l → Has xs l
-  back l h =
-      let c = Contains-permutation ys xs l (IsPermutation-sym xs ys moves) (has_contains ys l h) in
-      contains_has xs l c.0 c.1 c.2
-
-  onward : (l : Listed) → Has xs l → Has ys l
-  onward l h = let c = Contains-permutation xs ys l moves (has_contains xs l h) in contains_has ys l c.0 c.1 c.2
+  pub moved_differ : Differ ys
+  moved_differ = apart_differ now most es all shows ys (λ l h. there l (has_back xs ys moves l h))
+      (IsDistinct-IsPermutation share (λ l m. external_flip (external_key l.entry.binding)
+      (external_key m.entry.binding)) xs ys moves apart)
 
   -- sorted, they are what a list with the same elements is in order of end
   pub sorted_is : IsSortedByKey end_key end_cmp ys → (zs : List Listed) → Differ zs →
       ((l : Listed) → Has xs l → Has zs l) → ((l : Listed) → Has zs l → Has xs l) → ys ≡ in_order_of_end zs
-  sorted_is sorted zs differ f g = is_order ys zs
-      (sorted_order ys sorted (apart_differ now most es all shows ys (λ l h. there l (back l h))
-      (IsDistinct-IsPermutation share (λ l m. external_flip (external_key l.entry.binding)
-      (external_key m.entry.binding)) xs ys moves apart)))
-      differ (λ l h. f l (back l h)) (λ l h. onward l (g l h))
+  sorted_is sorted zs differ f g = is_order ys zs (sorted_order ys sorted moved_differ) differ
+      (λ l h. f l (has_back xs ys moves l h)) (λ l h. has_moved xs ys moves l (g l h))
 
 -- WHAT IS KEPT
 
@@ -182,18 +152,33 @@ module _ (now most : ℕ) (es : List Entry) (all : OpenEntries) (shows : Shows n
       let o = listed_open all x l at in
       subst (Has (kept all)) o.2 (found_has (external_eq x) all.by_external.entries o.0 o.1)
 
-  pub list_is : (xs : List Listed) → IsPermutation (kept all) xs → IsSortedByKey end_key end_cmp xs →
-      xs ≡ in_order_of_end (filter (is_open now) (numbered es))
-  list_is xs moves sorted = sorted_is now most es all shows (kept all) xs moves kept_there
-      (kept_apart all.by_external.entries unique
+  kept_alone : Apart (kept all)
+  kept_alone = kept_apart all.by_external.entries unique
       (each_weaker (λ f. open_at all f.0 ≡ Some f.1) (λ f. f.0 ≡ external_key f.1.listed.entry.binding)
-      (λ f at. (shows.indexed.placed f.0 f.1 at).0) all.by_external.entries kept_each))
-      sorted (filter (is_open now) (numbered es)) (numbered_differ (is_open now) es)
-      (λ l h. let at = kept_at l h in
-      has_filter (is_open now) (numbered es) l (listed_has es l (shows.there at.0 l at.1))
-      (shows.unended at.0 l at.1))
-      (λ l h. let p = filter_has (is_open now) (numbered es) l h in
-      kept_has (external_key l.entry.binding) l (shows.has l (has_listed es l p.0) p.1))
+      (λ f at. (shows.indexed.placed f.0 f.1 at).0) all.by_external.entries kept_each)
+
+  abbrev opens : List Listed
+  opens = filter (is_open now) (numbered es)
+
+  kept_open : (l : Listed) → Has (kept all) l → Has opens l
+  kept_open l h = let at = kept_at l h in
+      has_filter (is_open now) (numbered es) l (listed_has es l (shows.there at.0 l at.1)) (shows.unended at.0 l at.1)
+
+  open_kept : (l : Listed) → Has opens l → Has (kept all) l
+  open_kept l h = let p = filter_has (is_open now) (numbered es) l h in
+      kept_has (external_key l.entry.binding) l (shows.has l (has_listed es l p.0) p.1)
+
+  pub list_is : (xs : List Listed) → IsPermutation (kept all) xs → IsSortedByKey end_key end_cmp xs →
+      xs ≡ in_order_of_end opens
+  list_is xs moves sorted = sorted_is now most es all shows (kept all) xs moves kept_there kept_alone sorted opens
+      (numbered_differ (is_open now) es) kept_open open_kept
+
+  -- and in order of number
+  pub left_is : (xs : List Listed) → IsPermutation (kept all) xs → IsSortedByKey (λ l. l.number) nat_cmp xs →
+      xs ≡ opens
+  left_is xs moves sorted = sorted_rising xs opens sorted
+      (moved_differ now most es all shows (kept all) xs moves kept_there kept_alone) (rises_numbered now 1 es)
+      (λ l h. kept_open l (has_back (kept all) xs moves l h)) (λ l h. has_moved (kept all) xs moves l (open_kept l h))
 
 -- WHAT IS DUE
 

@@ -2,12 +2,12 @@
 use Rattle.std.proofs.lemmas.{Grind.common_steps, Bool.Decides.nat_tests}
 use Rattle.std.proofs.Common.{◌≡◌, ℕ, ◌<◌, ◌≤◌, Bool, true, false, ◌&&◌, cond, List, [], ◌∷◌, ◌++◌, map, Option, Some, refl, sym, ◌∙◌, ap, subst, arith, append-nil}
 use Rattle.std.{specs.{Prelude.{filter, find, nat_le}, List.fold}, proofs.lemmas.{Bool.{and_parts, and_from}, Option.same_Some}}
-use Rattle.napt_rules.specs.Prelude.{Through, Binding, Each, change_first, same_protocol, same_endpoint, is_live, with_live_flows, purge, row, act, Act, Apart, Way, Outgoing, Incoming, Rules, AreTimers, Timers}
+use Rattle.napt_rules.specs.Prelude.{Through, Binding, Each, change_first, is_live, with_live_flows, purge, row, act, Act, Apart, Way, Outgoing, Incoming, Rules, AreTimers, Timers}
 use Rattle.napt_rules.{specs.declared.{Row.Row, Leg.Leg}, proofs.{Lists.{each_filter, filter_all}, Life.lived}}
-use Rattle.napt_laws.proofs.Lists.{filter_narrow, find_passes, each_weaker, each_changed, each_pushed, each_kept}
+use Rattle.napt_laws.proofs.Lists.{filter_narrow, find_passes, each_weaker, each_pushed}
 use Rattle.napt_laws.proofs.{Endpoints.{protocol_is, end_is, same_itself, end_itself}, Fresh.{IsFresh, fresh_purged}, Turns.InTurn}
 use Rattle.napt_binding.{specs.Ends.{end_of, is_before, EndsAreFirst}, proofs.FirstEnds.{before_sooner, end_without_dead}}
-use Rattle.napt_account.specs.{declared.log.Entry.Entry, Log.{begun, shares, is_of, counted, through, logged_by, logged, stands_at}}
+use Rattle.napt_account.specs.{declared.log.Entry.Entry, Log.{begun, shares, counted, through, logged_by, logged, stands_at}}
 use Rattle.napt_account.proofs.Lists.{filter_seen, filter_agrees, filter_agrees_each, filter_joined, map_joined, map_twice, map_agrees, each_mapped, each_shown}
 use Rattle.napt_account.proofs.Moves.{Differ, AllDiffer, differ_kept, differ_act, of_moves}
 

@@ -1,16 +1,18 @@
 -- A log that goes on from what was kept of it.
 use Rattle.std.proofs.lemmas.{Grind.common_steps, Bool.{Decides.nat_tests, eq-eqb, true≢false}}
-use Rattle.std.proofs.Common.{◌≡◌, ℕ, suc, ◌+◌, ◌≤◌, ◌⊎◌, inl, inr, max, false, true, not, ◌&&◌, cond, List, [], ◌∷◌, ◌++◌, length, map, drop, Option, Some, None, refl, sym, ◌∙◌, ap, subst, arith, append_assoc, append-nil, eqb-true, Bool}
-use Rattle.std.{specs.{Prelude.{filter, ◌==◌}, List.{fold, slice_get}}, proofs.lemmas.{List.length-map, Option.same_Some, Grind.flat_map-append}}
-use Rattle.napt_config.specs.{Rules.{Rules}, declared.settings.Timers.Timers}
+use Rattle.std.proofs.Common.{◌≡◌, ℕ, zero, suc, ◌+◌, ◌<◌, ◌≤◌, ◌⊎◌, inl, inr, max, false, true, not, ◌&&◌, cond, List, [], ◌∷◌, ◌++◌, length, map, drop, Option, Some, None, refl, sym, ◌∙◌, ap, subst, arith, append_assoc, append-nil, eqb-true, Bool}
+use Rattle.std.{specs.{Prelude.{filter, ◌==◌}, List.{fold, slice_get}}, proofs.lemmas.{List.{length-map, Sorted.length_permutation}, Option.same_Some, Grind.flat_map-append}}
+use Rattle.napt_config.specs.{Rules.{Rules, pair_of}, declared.settings.{Redirect.Redirect, Timers.Timers}}
 use Rattle.napt_binding.specs.Ends.{end_of, is_before}
-use Rattle.napt_rules.specs.{declared.Leg.Leg, Prelude.{Through, Binding, row, act, Act, Arrival, Course, run_from, last_clock, State, anew, opening, course_from, left_by, under, behind, RunsGoOn, SavedRunsGoOn}}
+use Rattle.napt_table.specs.TimedRows.{timed}
+use Rattle.napt_rules.specs.{declared.Leg.Leg, Prelude.{Through, Binding, Each, purge, redirected, row, act, Act, Arrival, Course, run_from, last_clock, State, anew, opening, course_from, left_by, under, behind, RunsGoOn, SavedRunsGoOn}}
 use Rattle.napt_rules.specs.declared.End.{End, TheVariants.{ToOutside, ToInside, Onward, Dropped}}
-use Rattle.napt_laws.proofs.{Grown.{run_append, clock_on}, Turns.{InTurn, run_turn}}
+use Rattle.napt_laws.proofs.{Grown.{run_append, clock_on}, Opened.redirect_stays, Turns.{InTurn, run_turn}}
 use Rattle.napt_account.specs.{declared.log.{Entry.Entry, Listed.Listed, Shortage.Shortage}, Log.{begun, counted, through, logged_by, logged, shortages, shortage_at, shortage_by, Logged, log_of}}
-use Rattle.napt_account.specs.Telling.{numbered_from, numbered, is_open, ends_within, in_order_of_end, Told, told_by}
-use Rattle.napt_account.specs.GoingOn.{LogState, kept_at, gone, entry_by, entries_by, filled, log_on, told_between, told_on, log_left, LogsBegin, LogGoesOn, LogsGoOn, SavedLogsGoOn}
-use Rattle.napt_account.proofs.{Books.fold_joined, Ended.ended_later, Lists.map_joined, InOrder.{Has, has_filter, filter_has, order_has, has_order, has_number, number_has}}
+use Rattle.napt_account.specs.Telling.{numbered_from, numbered, is_open, ends_within, in_order_of_end, LogPart, told_by, living_of}
+use Rattle.napt_account.specs.GoingOn.{LogState, IsTakenUp, kept_at, gone, entry_by, entries_by, filled, log_begun, log_on, told_between, told_on, log_left, living_from, LogsBegin, UsesBegin, LogGoesOn, LogsGoOn, SavedLogsGoOn}
+use Rattle.napt_account.specs.Uses.{uses_from}
+use Rattle.napt_account.proofs.{Books.fold_joined, Ended.ended_later, Lists.map_joined, InOrder.{Has, has_filter, filter_has, has_number, number_has}}
 
 -- ENTRIES THAT ARE ONE AS LONG AS THEY HAVE NOT ENDED
 
@@ -170,7 +172,7 @@ acts_split rules clock list (a ∷ acts) last new turns many xs ys s =
 
 -- WHAT IS KEPT, FILLED
 
-by_none : (k : ℕ) (all : List Listed) → ((l : Listed) → Has all l → l.number ≡ k → ⊥) → entry_by k all ≡ gone
+pub by_none : (k : ℕ) (all : List Listed) → ((l : Listed) → Has all l → l.number ≡ k → ⊥) → entry_by k all ≡ gone
 by_none k [] none = refl
 by_none k (x ∷ all) none =
     elim (x.number == k) as (λ v. (x.number == k) ≡ v → cond v x.entry (entry_by k all) ≡ gone) [
@@ -178,7 +180,7 @@ by_none k (x ∷ all) none =
       | false ↦ λ e. by_none k all (λ l has. none l (inr has))
     ] refl
 
-by_some : (k : ℕ) (e : Entry) (all : List Listed) → ((l : Listed) → Has all l → l.number ≡ k → l.entry ≡ e) →
+pub by_some : (k : ℕ) (e : Entry) (all : List Listed) → ((l : Listed) → Has all l → l.number ≡ k → l.entry ≡ e) →
     Has all (record { number = k; entry = e }) → entry_by k all ≡ e
 by_some k e [] only has = absurd has
 by_some k e (x ∷ all) only has =
@@ -191,15 +193,17 @@ by_some k e (x ∷ all) only has =
       ]
     ] refl
 
+pub never : (t : ℕ) → is_before t gone.end ≡ false
+never t = grind (arith, nat_tests)
+
 module _ (now : ℕ) (entries : List Entry) where
   abbrev living : List Listed
-  living = in_order_of_end (filter (is_open now) (numbered entries))
+  living = (kept_at now entries).living
 
   only_open : (i : ℕ) (e : Entry) → slice_get entries i ≡ Some e → (l : Listed) → Has living l → l.number ≡ 1 + i →
       (l.entry ≡ e) × (is_before now e.end ≡ true)
   only_open i e at l has number =
-      let among = filter_has (is_open now) (numbered entries) l
-      (order_has (filter (is_open now) (numbered entries)) l has) in
+      let among = filter_has (is_open now) (numbered entries) l has in
       let is = number_has 1 entries l among.0 in
       let place : is.place ≡ i = (let n = is.is in omega (arith, n, number)) in
       let same : l.entry ≡ e = same_Some l.entry e (sym is.there ∙ (ap (slice_get entries) place ∙ at)) in
@@ -209,17 +213,13 @@ module _ (now : ℕ) (entries : List Entry) where
   kept_entry i e at = elim (is_before now e.end) as (λ v. is_before now e.end ≡ v →
       IsSame now e (entry_by (1 + i) living)) [
         | true ↦ λ opens. inl (sym (by_some (1 + i) e living (λ l has n. (only_open i e at l has n).0)
-            (has_order (filter (is_open now) (numbered entries)) _ (has_filter (is_open now) (numbered entries) _
-            (has_number 1 entries i e at (1 + i) refl) opens))))
+            (has_filter (is_open now) (numbered entries) _ (has_number 1 entries i e at (1 + i) refl) opens)))
         | false ↦ λ ended. inr (
           ended,
           ap (λ (x : Entry). is_before now x.end) (by_none (1 + i) living (λ l has n.
               true≢false (sym (only_open i e at l has n).1 ∙ ended))) ∙ never now,
         )
       ] refl
-    where
-      never : (t : ℕ) → is_before t gone.end ≡ false
-      never t = grind (arith, nat_tests)
 
 same_filled : (now n : ℕ) (all : List Listed) (entries : List Entry) → ((i : ℕ) (e : Entry) →
     slice_get entries i ≡ Some e → IsSame now e (entry_by (n + i) all)) →
@@ -291,10 +291,10 @@ made_same now many xs ys s =
 
 kept_same : (now : ℕ) (xs ys : List Entry) → AreSame now xs ys → kept_at now xs ≡ kept_at now ys
 kept_same now xs ys same =
-    ap (λ (n : ℕ). record { made = n; living = in_order_of_end (filter (is_open now) (numbered xs)) })
-    (same_long now xs ys same)
-    ∙ ap (λ (l : List Listed). record { made = length ys; living = in_order_of_end l })
-    (filter_same now (is_open now) (λ l h. h) 1 xs ys same)
+    λ i. record {
+      made = same_long now xs ys same i;
+      living = filter_same now (is_open now) (λ l h. h) 1 xs ys same i;
+    }
 
 module _ (rules : Rules) (state : State) (xs ys : List Entry) (same : AreSame state.clock xs ys) where
   after : (inputs : List Arrival) → (let acts : List Act = (course_from rules state inputs).acts in
@@ -355,13 +355,101 @@ module _ (rules : Rules) (state : State) (xs ys : List Entry) (same : AreSame st
           refused = lost;
         }) made
 
+-- what is kept of what was kept
+pub kept_again : (now : ℕ) (entries : List Entry) →
+    kept_at now (filled (kept_at now entries)) ≡ kept_at now entries
+kept_again now entries = sym (kept_same now entries (filled (kept_at now entries)) (filled_same now entries))
+
+-- ENTRIES BEHIND SOME THAT HAVE ENDED
+
+abbrev pub gones : ℕ → List Entry
+gones zero = []
+gones (suc many) = gone ∷ gones many
+
+module _ (now : ℕ) where
+  gones_long : (many : ℕ) (es : List Entry) → length (gones many ++ es) ≡ many + length es
+  gones_long zero es = omega arith
+  gones_long (suc many) es = let rest = gones_long many es in omega (arith, rest)
+
+  all_open : (n : ℕ) (es : List Entry) → Each (λ e. is_before now e.end ≡ true) es →
+      filter (is_open now) (numbered_from n es) ≡ numbered_from n es
+  all_open n [] h = refl
+  all_open n (e ∷ es) h =
+      let l : Listed = record { number = n; entry = e } in
+      let rest : List Listed = filter (is_open now) (numbered_from (n + 1) es) in
+      ap (λ v. cond v (l ∷ rest) rest) h.0 ∙ ap (λ (ls : List Listed). l ∷ ls) (all_open (n + 1) es h.1)
+
+  none_open : (many n : ℕ) (es : List Entry) → filter (is_open now) (numbered_from n (gones many ++ es))
+      ≡ filter (is_open now) (numbered_from (n + many) es)
+  none_open zero n es =
+      let same : n ≡ n + 0 = omega arith in ap (λ (k : ℕ). filter (is_open now) (numbered_from k es)) same
+  none_open (suc many) n es =
+      let l : Listed = record { number = n; entry = gone } in
+      let rest : List Listed = filter (is_open now) (numbered_from (n + 1) (gones many ++ es)) in
+      let same : (n + 1) + many ≡ n + suc many = omega arith in
+      ap (λ v. cond v (l ∷ rest) rest) (never now)
+      ∙ (none_open many (n + 1) es ∙ ap (λ (k : ℕ). filter (is_open now) (numbered_from k es)) same)
+
+  pub kept_behind : (many : ℕ) (es : List Entry) → Each (λ e. is_before now e.end ≡ true) es →
+      kept_at now (gones many ++ es) ≡ record { made = many + length es; living = numbered_from (many + 1) es }
+  kept_behind many es opens =
+      let same : 1 + many ≡ many + 1 = omega arith in
+      λ i. record {
+        made = gones_long many es i;
+        living = (none_open many 1 es ∙ (all_open (1 + many) es opens
+            ∙ ap (λ (k : ℕ). numbered_from k es) same)) i;
+      }
+
+-- WHERE A RUN BEGINS ANEW, it has the redirects
+
+pub skipped : (x : Listed) (all : List Listed) (k many : ℕ) → x.number < k →
+    entries_by k many (x ∷ all) ≡ entries_by k many all
+skipped x all k zero lt = refl
+skipped x all k (suc many) lt =
+    let other : (x.number == k) ≡ false = grind (arith, nat_tests) in
+    ap (λ v. cond v x.entry (entry_by k all) ∷ entries_by (k + 1) many (x ∷ all)) other
+    ∙ ap (λ (es : List Entry). entry_by k all ∷ es) (skipped x all (k + 1) many (omega arith))
+
+all_by : (n : ℕ) (es : List Entry) → entries_by n (length es) (numbered_from n es) ≡ es
+all_by n [] = refl
+all_by n (e ∷ es) =
+    let x : Listed = record { number = n; entry = e } in
+    let all : List Listed = numbered_from (n + 1) es in
+    ap (λ v. cond v e (entry_by n all) ∷ entries_by (n + 1) (length es) (x ∷ all)) (eq-eqb n n refl)
+    ∙ ap (λ (l : List Entry). e ∷ l) (skipped x all (n + 1) (length es) (omega arith) ∙ all_by (n + 1) es)
+
+module _ (timers : Timers) (pair : ℕ → ℕ) where
+  redirects_stay : (rs : List Redirect) → purge timers 0 (map (redirected pair) rs) ≡ map (redirected pair) rs
+  redirects_stay [] = refl
+  redirects_stay (r ∷ rs) =
+      ap (λ (b : Binding). b ∷ purge timers 0 (map (redirected pair) rs)) (redirect_stays timers 0 pair r)
+      ∙ ap (λ (bs : List Binding). redirected pair r ∷ bs) (redirects_stay rs)
+
+filled_begun : (rules : Rules) → filled (log_begun rules (anew rules)) ≡ map (begun rules.timers 0) (opening rules)
+filled_begun rules =
+    let entries : List Binding → List Entry = map (begun rules.timers 0) in
+    let none : 0 + length (entries (opening rules)) ≡ length (entries (opening rules)) = omega arith in
+    ap (λ (bs : List Binding). entries_by 1 (0 + length (entries bs)) (numbered (entries bs)))
+    (redirects_stay rules.timers (pair_of rules) rules.redirects)
+    ∙ (ap (λ (many : ℕ). entries_by 1 many (numbered (entries (opening rules)))) none
+    ∙ all_by 1 (entries (opening rules)))
+
 -- THE LAWS
 
 pub logs_begin : LogsBegin
 unfolding log_of told_by
 logs_begin rules before input =
-    let entries : List Entry = map (begun rules.timers 0) (opening rules) in
-    sym (told_same rules (anew rules) entries (filled (kept_at 0 entries)) (filled_same 0 entries) before input)
+    ap (λ (es : List Entry). told_on rules (anew rules) es before input) (filled_begun rules)
+
+pub uses_begin : UsesBegin
+uses_begin rules inputs = ap (uses_from rules 0 0 inputs (opening rules)) (filled_begun rules)
+
+pub living_begins : (rules : Rules) (inputs : List Arrival) →
+    living_from rules (anew rules) (log_begun rules (anew rules)) inputs ≡ living_of rules inputs
+unfolding log_of living_of
+living_begins rules inputs =
+    ap (λ (es : List Entry). in_order_of_end (kept_at (last_clock 0 inputs)
+    (log_on rules (anew rules) es inputs).entries).living) (filled_begun rules)
 
 module _ (rules : Rules) (state then : State) (log : LogState) (first : List Arrival)
     (clock : then.clock ≡ last_clock state.clock first)
@@ -399,7 +487,7 @@ module _ (rules : Rules) (state then : State) (log : LogState) (first : List Arr
       let s : List Shortage = (log_on rules state (filled log) first).shortages in
       let a : Logged = log_on rules then told rest in
       let b : Logged = log_on rules then told (rest ++ input ∷ []) in
-      let at : ℕ → Logged → Logged → Told = λ was earlier later.
+      let at : ℕ → Logged → Logged → LogPart = λ was earlier later.
       told_between was (max was input.clock) earlier later in
       let before : log_on rules state (filled log) (first ++ rest)
       ≡ record { entries = a.entries; shortages = s ++ a.shortages } =
@@ -438,3 +526,32 @@ pub saved_logs_go_on : SavedRunsGoOn → SavedLogsGoOn
 saved_logs_go_on go_on rules keeps state saved takes log first rest order =
     log_goes_on rules (under rules state) (under rules saved) log first order.clock
     (λ xs. (go_on rules keeps state saved takes first xs order).acts) rest
+
+-- OF NOTHING THAT WAS KEPT
+
+abbrev nothing : LogState
+nothing = record { made = 0; living = [] }
+
+none_begun : (timers : Timers) (bs : List Binding) → length (map (timed timers) bs) ≡ 0 →
+    record { made = 0 + length (map (begun timers 0) bs); living = numbered (map (begun timers 0) bs) } ≡ nothing
+none_begun timers [] none = refl
+none_begun timers (b ∷ bs) none = absurd (omega (arith, none))
+
+anew_taken : (rules : Rules) (log : LogState) (say : LogPart) → IsTakenUp rules (anew rules) nothing log say →
+    log ≡ log_begun rules (anew rules)
+anew_taken rules log say up = elim up.decided [
+  | inl is ↦ (up.same is).0 ∙ sym (none_begun rules.timers (purge rules.timers 0 (opening rules))
+      (length_permutation _ _ is.rows))
+  | inr isnt ↦ (up.anew isnt).0
+]
+
+pub taken_anew : (rules : Rules) (state : State) (kept : LogState) → state ≡ record { clock = 0; list = [] } →
+    kept ≡ nothing → (log : LogState) (say : LogPart) → IsTakenUp rules (under rules state) kept log say →
+    (log ≡ log_begun rules (anew rules)) × (under rules state ≡ anew rules)
+taken_anew rules state kept at none log say up =
+    let same : under rules state ≡ anew rules = ap (under rules) at
+    ∙ ap (λ (bs : List Binding). record { clock = 0; list = bs }) (append-nil (opening rules)) in (
+      anew_taken rules log say (subst (λ (s : State). IsTakenUp rules s nothing log say) same
+          (subst (λ (k : LogState). IsTakenUp rules (under rules state) k log say) none up)),
+      same,
+    )

@@ -3,7 +3,7 @@ use Rattle.std.proofs.lemmas.{Grind.common_steps, Bool.Decides.nat_tests}
 use Rattle.std.proofs.Common.{◌≡◌, ◌≢◌, ℕ, zero, suc, ◌+◌, ◌⊎◌, inl, inr, Bool, true, false, ◌&&◌, ◌||◌, cond, List, [], ◌∷◌, ◌++◌, Option, Some, None, refl, sym, ◌∙◌, ap, subst, arith}
 use Rattle.std.{specs.{Prelude.{filter, not, nat_lt}, List.slice_get}, proofs.lemmas.Option.same_Some}
 use Rattle.napt_rules.specs.Prelude.{Each}
-use Rattle.napt_account.specs.{declared.log.{Entry.Entry, Listed.Listed}, OpenEntries.InOrder}
+use Rattle.napt_account.specs.declared.log.{Entry.Entry, Listed.Listed}
 use Rattle.napt_account.specs.Telling.{numbered_from, is_sooner, ends_first, placed, in_order_of_end}
 
 abbrev pub Has : {X : Type 0} → List X → X → Type 0
@@ -47,6 +47,44 @@ has_parts [] ys x h = inr h
 has_parts (y ∷ xs) ys x (inl is) = inl (inl is)
 has_parts (y ∷ xs) ys x (inr h) = elim (has_parts xs ys x h) [ inl here ↦ inl (inr here) | inr there ↦ inr there ]
 
+-- LISTS IN AN ORDER
+
+-- it holds of each and all behind it
+abbrev pub Along : {X : Type 0} → (X → X → Type 0) → List X → Type 0
+Along R [] = Unit {0}
+Along R (x ∷ xs) = Each (R x) xs × Along R xs
+
+module _ {X : Type 0} (before : X → X → Bool) where
+  abbrev pub InTurn : List X → Type 0
+  InTurn = Along (λ x y. before x y ≡ true)
+
+  -- two with the same elements are the same
+  pub same_turn : ((x y : X) → before x y ≡ true → before y x ≡ true → ⊥) → (xs ys : List X) → InTurn xs → InTurn ys →
+      ((x : X) → Has xs x → Has ys x) → ((x : X) → Has ys x → Has xs x) → xs ≡ ys
+  same_turn one_way [] [] s t f g = refl
+  same_turn one_way [] (y ∷ ys) s t f g = absurd (g y (inl refl))
+  same_turn one_way (x ∷ xs) [] s t f g = absurd (f x (inl refl))
+  same_turn one_way (x ∷ xs) (y ∷ ys) s t f g =
+      let head : x ≡ y = elim (f x (inl refl)) [
+        | inl is ↦ sym is
+        | inr there ↦ elim (g y (inl refl)) [
+          | inl is ↦ is
+          | inr also ↦ absurd (one_way x y (each_has (λ z. before x z ≡ true) xs y s.0 also)
+              (each_has (λ z. before y z ≡ true) ys x t.0 there))
+        ]
+      ] in
+      let into : (z : X) → Has xs z → Has ys z = λ z there. elim (f z (inr there)) [
+        | inl is ↦ let h = subst (λ (w : X). before w z ≡ true) (head ∙ is)
+            (each_has (λ w. before x w ≡ true) xs z s.0 there) in absurd (one_way z z h h)
+        | inr also ↦ also
+      ] in
+      let back : (z : X) → Has ys z → Has xs z = λ z there. elim (g z (inr there)) [
+        | inl is ↦ let h = subst (λ (w : X). before w z ≡ true) (sym head ∙ is)
+            (each_has (λ w. before y w ≡ true) ys z t.0 there) in absurd (one_way z z h h)
+        | inr also ↦ also
+      ] in
+      ap (λ (z : X). z ∷ xs) head ∙ ap (λ (zs : List X). y ∷ zs) (same_turn one_way xs ys s.1 t.1 into back)
+
 -- THE ORDER
 
 abbrev first_by : Option ℕ → Option ℕ → ℕ → ℕ → Bool
@@ -69,39 +107,10 @@ first_then None None (Some c) l m n h g = cc
 first_then None None None l m n h g = grind (arith, nat_tests, h, g)
 
 abbrev pub Differ : List Listed → Type 0
-Differ [] = Unit {0}
-Differ (x ∷ xs) = Each (λ y. x.number ≢ y.number) xs × Differ xs
+Differ = Along (λ x y. x.number ≢ y.number)
 
-never_itself : (x : Listed) → ends_first x x ≡ true → ⊥
-never_itself x h = not_both x.entry.end x.entry.end x.number x.number h h
-
--- two in order with the same elements are the same
-pub same_order : (xs ys : List Listed) → InOrder xs → InOrder ys → ((x : Listed) → Has xs x → Has ys x) →
-    ((x : Listed) → Has ys x → Has xs x) → xs ≡ ys
-same_order [] [] s t f g = refl
-same_order [] (y ∷ ys) s t f g = absurd (g y (inl refl))
-same_order (x ∷ xs) [] s t f g = absurd (f x (inl refl))
-same_order (x ∷ xs) (y ∷ ys) s t f g =
-    let head : x ≡ y = elim (f x (inl refl)) [
-      | inl is ↦ sym is
-      | inr there ↦ elim (g y (inl refl)) [
-        | inl is ↦ is
-        | inr also ↦ absurd (not_both x.entry.end y.entry.end x.number y.number
-            (each_has (λ z. ends_first x z ≡ true) xs y s.0 also)
-            (each_has (λ z. ends_first y z ≡ true) ys x t.0 there))
-      ]
-    ] in
-    let into : (z : Listed) → Has xs z → Has ys z = λ z there. elim (f z (inr there)) [
-      | inl is ↦ absurd (never_itself z (subst (λ (w : Listed). ends_first w z ≡ true) (head ∙ is)
-          (each_has (λ w. ends_first x w ≡ true) xs z s.0 there)))
-      | inr also ↦ also
-    ] in
-    let back : (z : Listed) → Has ys z → Has xs z = λ z there. elim (g z (inr there)) [
-      | inl is ↦ absurd (never_itself z (subst (λ (w : Listed). ends_first w z ≡ true) (sym head ∙ is)
-          (each_has (λ w. ends_first y w ≡ true) ys z t.0 there)))
-      | inr also ↦ also
-    ] in
-    ap (λ (z : Listed). z ∷ xs) head ∙ ap (λ (zs : List Listed). y ∷ zs) (same_order xs ys s.1 t.1 into back)
+abbrev pub InOrder : List Listed → Type 0
+InOrder = InTurn ends_first
 
 -- AN INSERTION
 
@@ -170,7 +179,9 @@ order_is (l ∷ xs) differ = placed_order l (in_order_of_end xs) (order_is xs di
 -- a list in order with the elements of another is that one put in order
 pub is_order : (xs ys : List Listed) → InOrder xs → Differ ys → ((x : Listed) → Has xs x → Has ys x) →
     ((x : Listed) → Has ys x → Has xs x) → xs ≡ in_order_of_end ys
-is_order xs ys s differ f g = grind (arith, common_steps, same_order, order_is, has_order, order_has)
+is_order xs ys s differ f g = same_turn ends_first
+    (λ x y. not_both x.entry.end y.entry.end x.number y.number) xs (in_order_of_end ys) s (order_is ys differ)
+    (λ x h. has_order ys x (f x h)) (λ x h. g x (order_has ys x h))
 
 -- NUMBERED ENTRIES
 

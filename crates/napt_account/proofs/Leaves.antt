@@ -3,9 +3,9 @@ use Rattle.std.proofs.lemmas.{Grind.common_steps, Bool.Decides.nat_tests}
 use Rattle.std.proofs.Common.{◌≡◌, ℕ, ◌+◌, ◌≤◌, max, true, List, [], ◌∷◌, ◌++◌, length, Option, Some, None, sym, ◌∙◌, subst, arith}
 use Rattle.napt_rules.specs.Prelude.{Protocol, Way, Rules, KeepsRules, AreTimers, Timers}
 use Rattle.napt_binding.{specs.Ends.{end_of, is_before, EndsAreFirst}, proofs.FirstEnds.ends_are_first}
-use Rattle.napt_rules.specs.{declared.{Leg.Leg, End.End}, Prelude.{Through, Binding, Each, purge, act, Act, Arrival, Course, opening, step}}
+use Rattle.napt_rules.specs.{declared.{Leg.Leg, End.End}, Prelude.{Through, Binding, Each, purge, act, Act, Arrival, Course, State, step}}
 use Rattle.napt_laws.proofs.{Fresh.{IsFresh, fresh_purged}, Lists.find_passes, Turns.{IsTurn, InTurn}, Grown.step_one}
-use Rattle.napt_sequential.specs.{declared.passage.Trace.Trace, Traces.{passage_by, passage_of, first_of, second_of, traces_from, traces}}
+use Rattle.napt_sequential.specs.{declared.passage.Trace.Trace, Traces.{passage_by, passage_of, first_of, second_of, traces_from, traces_of}}
 use Rattle.napt_account.{specs.OpenEntries.LeavesOpen, proofs.{Moves.of_moves, Retold.step_turn}}
 
 abbrev pub Leaves : Trace → Type 0
@@ -65,7 +65,9 @@ each_last P [] x h = h.0
 each_last P (y ∷ xs) x h = each_last P xs x h.1
 
 -- the last trace of a run
-pub last_leaves : (rules : Rules) → KeepsRules rules → (before : List Arrival) (input : Arrival) (trace : Trace) →
-    traces rules (before ++ input ∷ []) ≡ traces rules before ++ trace ∷ [] → Leaves trace
-last_leaves rules keeps before input trace more = each_last Leaves (traces rules before) trace
-    (subst (Each Leaves) more (all_leave ends_are_first rules keeps.timers 0 0 (before ++ input ∷ []) (opening rules)))
+pub last_leaves : (rules : Rules) → KeepsRules rules → (state : State) (before : List Arrival) (input : Arrival)
+    (trace : Trace) → traces_of rules state (before ++ input ∷ []) ≡ traces_of rules state before ++ trace ∷ [] →
+    Leaves trace
+last_leaves rules keeps state before input trace more = each_last Leaves (traces_of rules state before) trace
+    (subst (Each Leaves) more
+    (all_leave ends_are_first rules keeps.timers 0 state.clock (before ++ input ∷ []) state.list))

@@ -14,7 +14,12 @@ pub mod EndOrder
 pub mod InOrder
 pub mod Leaves
 pub mod MadeLegs
-pub mod LoggedRuns
 pub mod Numbers
+pub mod Reordered
+pub mod StateLogs
 pub mod OpenEntries
 pub mod TraceLogs
+pub mod Rising
+pub mod LiveRows
+pub mod Sorted
+pub mod Keyed

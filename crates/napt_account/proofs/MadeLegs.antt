@@ -1,7 +1,7 @@
 -- What the legs of an input make.
 use Rattle.std.proofs.lemmas.{Grind.common_steps, Bool.Decides.nat_tests}
 use Rattle.std.proofs.Common.{◌≡◌, ℕ, zero, suc, ◌+◌, ◌≤◌, ◌⊎◌, inl, inr, true, false, cond, List, [], ◌∷◌, ◌++◌, length, drop, map, Option, Some, refl, sym, ◌∙◌, ap, arith, length-append}
-use Rattle.std.{specs.{Prelude.nat_lt, List.{slice_get, list_any}}, proofs.lemmas.{Bool.{and_parts, and_from}, Option.same_Some}}
+use Rattle.std.{specs.{Prelude.nat_lt, List.{slice_get, list_any}}, proofs.lemmas.{Bool.{and_parts, and_from}, List.length-map, Option.same_Some}}
 use Rattle.napt_wire.specs.declared.Way.{Way, TheVariants.{Outgoing, Incoming}}
 use Rattle.napt_rules.specs.declared.Row.{Row}
 use Rattle.napt_table.specs.declared.TimedRow.{TimedRow}
@@ -9,7 +9,7 @@ use Rattle.napt_binding.specs.Ends.{is_before}
 use Rattle.napt_sequential.{specs.declared.passage.{Passage.{Passage, TheVariants.{Nothing, Out, In, Dropped}}, Trace.Trace}, proofs.Lists.get_last}
 use Rattle.napt_account.specs.{declared.{log.{Entry.Entry, Listed.Listed}, open_entries.OpenEntries.OpenEntries}, Book.{made_by, after, after_trace}}
 use Rattle.napt_account.specs.{Log.{is_of, counted, through}, OpenEntries.{external_key, listed_at, listed_as, IsListed, Shows, LeavesOpen}}
-use Rattle.napt_account.{specs.Telling.{numbered, numbered_from}, proofs.{Begun.long_mapped, Ended.{get_mapped, get_joined}, Entries.shares_itself}}
+use Rattle.napt_account.{specs.Telling.{numbered, numbered_from}, proofs.{Ended.{get_mapped, get_joined}, Entries.shares_itself}}
 use Rattle.napt_account.proofs.OpenEntries.{row_only}
 
 abbrev pub timed_of : TimedRow → Passage → TimedRow
@@ -32,7 +32,7 @@ found_is now most all es shows r l at place e there passed =
 -- HOW MANY ENTRIES
 
 pub pass_few : (now : ℕ) (p : Passage) (es : List Entry) → length (after now p es) ≤ length es + 1
-pass_few now p es = grind (arith, common_steps, nat_tests, long_mapped, length-append)
+pass_few now p es = grind (arith, common_steps, nat_tests, length-map, length-append)
 
 pub trace_few : (es : List Entry) (trace : Trace) → length (after_trace es trace) ≤ length es + 2
 trace_few es trace = grind (arith, common_steps, nat_tests, pass_few)
@@ -57,7 +57,7 @@ pub record Grows (now : ℕ) (p : Passage) (es : List Entry) : Type 0 where
 
 pub grows : (now : ℕ) (p : Passage) (es : List Entry) → LeavesOpen now p →
     Grows now p es ⊎ (length (after now p es) ≡ length es)
-grows now p es h = grind (arith, common_steps, nat_tests, long_mapped, and_from, shares_itself)
+grows now p es h = grind (arith, common_steps, nat_tests, length-map, and_from, shares_itself)
 
 -- what has an open entry has it after the next leg
 record Later (now : ℕ) (r : Row) (es : List Entry) (place : ℕ) : Type 0 where

@@ -4,7 +4,7 @@ use Rattle.std.{proofs.lemmas.{Grind.common_steps, Bool.{Decides.nat_tests, not-
 use Rattle.napt_rules.specs.Prelude.{Through, Binding, Each, change_first, has_number, is_live, with_live_flows, purge, hold_ago, taken, permits, inbound_of, granting_of, of_source, sent_by, of_others, fresh, out_made, granted_again, out_found, of_destination, received_by, in_found, sent_of, received_of, Acted, act_out, act_in, act_by, act, row, Protocol, Cause, Flags, Way, Outgoing, Kind, kind, Rules, AreTimers}
 use Rattle.napt_rules.specs.declared.{Granting.Granting, Sent.Sent, Received.Received, Row.Row, Leg.Leg}
 use Rattle.napt_laws.proofs.{Passes.in_passed, Acts.of_act, Lists.{any_none, find_passes, each_weaker, each_pushed, each_kept, each_true}, Endpoints.{has_it, inside_parts}}
-use Rattle.napt_laws.proofs.{Fresh.{IsFresh, sent_fresh, no_flows, received_fresh}, Held.each_rows, Living.purge_taken, StepRows.{purge_keeps, out_keeps, in_keeps}}
+use Rattle.napt_laws.proofs.{Fresh.{IsFresh, sent_fresh, received_fresh}, Held.each_rows, Living.purge_taken, StepRows.{purge_keeps, out_keeps, in_keeps}}
 use Rattle.napt_laws.proofs.{StepsLive.{sent_seen, made_is_seen, made_is_fresh, received_seen}, Quotas.granted_is_chosen, StepsSound.chosen_free}
 
 -- two rows of one protocol have not one external endpoint

@@ -1,12 +1,10 @@
 -- What is kept of the entries that have not ended: what is put, changed and taken out.
 use Rattle.std.proofs.lemmas.{Grind.common_steps, Bool.Decides.nat_tests}
-use Rattle.std.proofs.Common.{◌≡◌, ◌≢◌, ℕ, ◌+◌, ◌<◌, ◌≤◌, true, false, ◌&&◌, cond, List, [], ◌∷◌, ◌++◌, ◌^◌, length, map, set, Option, Some, None, unwrap_or, refl, sym, ◌∙◌, ap, subst, arith, eqb, eqb-true, length-append, length-set}
-use Rattle.std.{specs.{Prelude.◌==◌, List.{slice_get, list_any}, Option.{option_and_then, option_map}}, proofs.lemmas.Bool.{and_parts, and_from, eq-eqb, eqb-false}}
+use Rattle.std.proofs.Common.{◌≡◌, ◌≢◌, ℕ, ◌+◌, ◌<◌, ◌≤◌, true, false, cond, List, [], ◌∷◌, ◌++◌, ◌^◌, length, map, set, Option, Some, None, unwrap_or, refl, sym, ◌∙◌, ap, subst, arith, eqb, eqb-true, length-append, length-set}
+use Rattle.std.{specs.{List.{slice_get, list_any}, Option.{option_and_then, option_map}}, proofs.lemmas.Bool.{and_parts, and_from, eq-eqb, eqb-false}}
 use Rattle.std.proofs.lemmas.Option.{same_Some, slice_get_within}
-use denote.Enum.Bare.{sameb}
-use denote.Enum.Declared.{tag_of}
-use Rattle.napt_wire.specs.{contracts.Protocol.the_type, declared.Way.{Way, TheVariants.{Outgoing, Incoming}}}
-use Rattle.napt_rules.specs.{declared.Row.Row, Prelude.same_protocol}
+use Rattle.napt_wire.specs.{declared.Way.{Way, TheVariants.{Outgoing, Incoming}}}
+use Rattle.napt_rules.specs.{declared.Row.Row}
 use Rattle.napt_laws.proofs.Endpoints.{protocol_is, end_is}
 use Rattle.napt_binding.specs.Ends.{is_before}
 use Rattle.napt_table.specs.declared.TimedRow.{TimedRow}

@@ -1,87 +1,150 @@
 -- The log by the traces of a run's inputs is the log of the run.
-use Rattle.std.proofs.lemmas.{Grind.common_steps, Bool.Decides.nat_tests}
-use Rattle.std.{proofs.Common.{◌≡◌, ℕ, ◌+◌, max, List, [], ◌∷◌, ◌++◌, length, map, drop, refl, sym, ◌∙◌, ap, arith}, specs.Prelude.filter}
-use Rattle.napt_rules.specs.Prelude.{Arrival, Binding, OpeningIsSound, last_clock, opening, redirected, step, Rules, KeepsRules, pair_of}
-use Rattle.napt_sequential.{specs.{Traces.{traces, traces_from}, declared.passage.Trace.Trace}, proofs.Passed.traces_grow}
-use Rattle.napt_account.specs.{declared.log.{Entry.Entry, Listed.Listed, Shortage.Shortage}, Book.after_trace, KnownLogs.taken_in, Log.{begun, log_of}}
-use Rattle.napt_account.specs.Telling.{Told, ends_within, in_order_of_end, numbered, told_by}
-use Rattle.napt_account.specs.TraceLogs.{entries_after, time_after, told_with, IsNext, TracesTellTheLog, TracesHaveTheLiving, TracesCome}
-use Rattle.napt_account.proofs.{Begun.long_mapped, Books.fold_joined, Leaves.last_leaves, Lists.map_joined}
-use Rattle.napt_account.proofs.{LoggedRuns.{ended_told, made_told, refused_told, living_is, entries_told, entries_next, shortages_next}, MadeLegs.drop_joined}
+use Rattle.std.{proofs.Common.{◌≡◌, ℕ, ◌+◌, max, List, [], ◌∷◌, ◌++◌, length, drop, refl, sym, ◌∙◌, ap, arith, append-nil}, specs.Prelude.{filter, flat_map}}
+use Rattle.std.proofs.lemmas.List.{append_cancel_left}
+use Rattle.napt_rules.specs.Prelude.{Arrival, Binding, AlikeStatesGoOn, OpeningIsSound, TakenAreSound, IsSound, State, anew, last_clock, step, under, Rules, KeepsRules, pair_of}
+use Rattle.napt_sequential.{specs.{Traces.{traces_from, traces_of}, declared.passage.Trace.Trace}, proofs.Passed.traces_grow}
+use Rattle.napt_account.specs.{declared.{account.Use.Use, log.{Entry.Entry, Listed.Listed, Shortage.Shortage}}, Book.{after_trace, lost_by, use_by_trace}, KnownLogs.taken_in}
+use Rattle.napt_account.specs.GoingOn.{LogState, IsLogOf, filled, kept_at, living_from, log_begun, log_on, told_from, uses_on}
+use Rattle.napt_account.specs.Telling.{LogPart, ends_within, in_order_of_end, is_open, numbered}
+use Rattle.napt_account.specs.TraceLogs.{Begun, IsNext, TracesCome, TracesHaveTheLiving, TracesTellFrom, TracesTellTheLog, TracesTellTheRest, begun_anew, entries_after, living_with, time_after, told_with}
+use Rattle.napt_account.proofs.{Books.{fold_joined, uses_more, uses_told}, GoingOn.{living_begins, logs_begin}, Leaves.{Leaves, last_leaves}, Lists.map_joined, MadeLegs.drop_joined}
+use Rattle.napt_account.proofs.{Retold.flat_joined, StateLogs.{behind_is_of, entries_told, shortages_told, uses_are_told}}
 
--- LISTS
-
-same_last : {X : Type 0} (xs : List X) (x y : X) → xs ++ x ∷ [] ≡ xs ++ y ∷ [] → x ≡ y
-same_last [] x y e = cc (e)
-same_last (z ∷ xs) x y e = same_last xs x y (cc (e))
+-- ONE TRACE MORE
 
 pub time_more : (now : ℕ) (before : List Trace) (trace : Trace) → time_after now (before ++ trace ∷ []) ≡ trace.now
 time_more now [] trace = refl
 time_more now (t ∷ before) trace = time_more t.now before trace
 
-pub entries_more : (rules : Rules) (before : List Trace) (trace : Trace) →
-    entries_after rules (before ++ trace ∷ []) ≡ after_trace (entries_after rules before) trace
-entries_more rules before trace = grind (arith, common_steps, fold_joined)
-
-pub first_long : (rules : Rules) → length (entries_after rules []) ≡ length rules.redirects
-first_long rules = grind (arith, common_steps, long_mapped)
+pub entries_more : (start : Begun) (before : List Trace) (trace : Trace) →
+    entries_after start (before ++ trace ∷ []) ≡ after_trace (entries_after start before) trace
+entries_more start before trace = fold_joined after_trace before (trace ∷ []) (filled start.log)
 
 pub taken_more : {X : Type 0} (past : List (ℕ × X)) (n : ℕ) (one : X) →
     taken_in (past ++ (n, one) ∷ []) ≡ taken_in past ++ one ∷ []
 taken_more past n one = map_joined (λ taken. taken.1) past ((n, one) ∷ [])
 
--- TIMES
+pub told_as : (start : Begun) (before : List Trace) (trace : Trace) (ended made : List Listed)
+    (refused : List Shortage) → (let told : LogPart = told_with start before trace in
+    ended ≡ told.ended → made ≡ told.made → refused ≡ told.refused →
+    (let all : LogPart = record { ended = ended; made = made; refused = refused } in all ≡ told))
+told_as start before trace ended made refused a b c = λ i. record { ended = a i; made = b i; refused = c i }
 
-times_from : (rules : Rules) (number clock : ℕ) (inputs : List Arrival) (list : List Binding) →
+-- FROM A STATE WITH ITS LOG
+
+pub times_from : (rules : Rules) (number clock : ℕ) (inputs : List Arrival) (list : List Binding) →
     time_after clock (traces_from rules number clock inputs list) ≡ last_clock clock inputs
 times_from rules number clock [] list = refl
 times_from rules number clock (input ∷ inputs) list =
     let now : ℕ = max clock input.clock in
     times_from rules (number + 1) now inputs (step rules number now input list).list
 
-times_are : (rules : Rules) (inputs : List Arrival) → time_after 0 (traces rules inputs) ≡ last_clock 0 inputs
-times_are rules inputs = times_from rules 0 0 inputs (opening rules)
+module _ (alike_go_on : AlikeStatesGoOn) (rules : Rules) (keeps : KeepsRules rules) (state : State)
+    (sound : IsSound (pair_of rules) state.list) (log : LogState) (is : IsLogOf rules state log) where
+  abbrev start : Begun
+  start = record { clock = state.clock; log = log }
 
-module _ (rules : Rules) (before : List Arrival) (input : Arrival) (trace : Trace)
-    (more : traces rules (before ++ input ∷ []) ≡ traces rules before ++ trace ∷ []) where
-  time_is : trace.now ≡ max (last_clock 0 before) input.clock
-  time_is = ap (λ (t : Trace). t.now) (sym (same_last (traces rules before) _ trace
-      (sym (traces_grow rules 0 0 before input (opening rules) (length before) (omega arith)) ∙ more)))
+  abbrev seen : List Arrival → List Trace
+  seen inputs = traces_of rules state inputs
 
-  module _ (keeps : KeepsRules rules) (opens : OpeningIsSound) where
-    same_entries : entries_after rules (traces rules before) ≡ (log_of rules before).entries
-    same_entries = sym (entries_told rules keeps opens before)
+  times : (inputs : List Arrival) → time_after state.clock (seen inputs) ≡ last_clock state.clock inputs
+  times inputs = times_from rules 0 state.clock inputs state.list
 
-    pub tells : told_with rules (traces rules before) trace ≡ told_by rules before input
+  entries_are : (inputs : List Arrival) →
+      entries_after start (seen inputs) ≡ (log_on rules state (filled log) inputs).entries
+  entries_are = entries_told alike_go_on rules keeps state sound log is
+
+  lost_are : (inputs : List Arrival) →
+      flat_map lost_by (seen inputs) ≡ (log_on rules state (filled log) inputs).shortages
+  lost_are = shortages_told alike_go_on rules keeps state sound log is
+
+  module _ (before : List Arrival) (input : Arrival) (trace : Trace)
+      (more : seen (before ++ input ∷ []) ≡ seen before ++ trace ∷ []) where
+    time_is : trace.now ≡ max (last_clock state.clock before) input.clock
+    time_is = ap (time_after 0) (append_cancel_left (seen before) (trace ∷ []) _ (sym more
+        ∙ traces_grow rules 0 state.clock before input state.list (length before) (omega arith)))
+
+    abbrev was : List Entry
+    was = (log_on rules state (filled log) before).entries
+
+    grown : after_trace (entries_after start (seen before)) trace
+        ≡ (log_on rules state (filled log) (before ++ input ∷ [])).entries
+    grown = sym (entries_more start (seen before) trace)
+        ∙ (ap (entries_after start) (sym more) ∙ entries_are (before ++ input ∷ []))
+
+    abbrev lost : List Shortage
+    lost = (log_on rules state (filled log) before).shortages
+
+    refused : lost_by trace ≡ drop (length lost) (log_on rules state (filled log) (before ++ input ∷ [])).shortages
+    refused = sym (append-nil (lost_by trace)) ∙ (sym (drop_joined lost (lost_by trace ++ []))
+        ∙ ap (drop (length lost)) (ap (λ (s : List Shortage). s ++ (lost_by trace ++ [])) (sym (lost_are before))
+        ∙ (sym (flat_joined lost_by (seen before) (trace ∷ []))
+        ∙ (ap (flat_map lost_by) (sym more) ∙ lost_are (before ++ input ∷ [])))))
+
+    tells : told_with start (seen before) trace ≡ told_from rules state log before input
     tells = λ i. record {
-      ended = (ap (λ (es : List Entry). in_order_of_end (filter (ends_within (time_after 0 (traces rules before))
-          trace.now) (numbered es))) same_entries
-          ∙ (ap (λ (was : ℕ). in_order_of_end (filter (ends_within was trace.now)
-          (numbered (log_of rules before).entries))) (times_are rules before)
-          ∙ (ap (λ (now : ℕ). in_order_of_end (filter (ends_within (last_clock 0 before) now)
-          (numbered (log_of rules before).entries))) time_is ∙ sym (ended_told rules before input)))) i;
-      made = (ap (λ (es : List Entry). drop (length es) (numbered (after_trace es trace))) same_entries
-          ∙ (ap (λ (es : List Entry). drop (length (log_of rules before).entries) (numbered es))
-          (entries_next rules keeps opens before input trace more) ∙ sym (made_told rules before input))) i;
-      refused = (sym (drop_joined (log_of rules before).shortages _)
-          ∙ (ap (drop (length (log_of rules before).shortages))
-          (shortages_next rules keeps opens before input trace more) ∙ sym (refused_told rules before input))) i;
+      ended = (ap (λ (es : List Entry). in_order_of_end (filter (ends_within (time_after state.clock (seen before))
+          trace.now) (numbered es))) (entries_are before)
+          ∙ (ap (λ (from : ℕ). in_order_of_end (filter (ends_within from trace.now) (numbered was))) (times before)
+          ∙ ap (λ (now : ℕ). in_order_of_end (filter (ends_within (last_clock state.clock before) now) (numbered was)))
+          time_is)) i;
+      made = (ap (λ (es : List Entry).
+          drop (length es) (numbered (after_trace (entries_after start (seen before)) trace)))
+          (entries_are before) ∙ ap (λ (es : List Entry). drop (length was) (numbered es)) grown) i;
+      refused = refused i;
     }
 
-  pub comes : KeepsRules rules → IsNext (traces rules before) trace
-  comes keeps = grind (arith, common_steps, nat_tests, last_leaves, times_are, time_is)
+    comes : IsNext start (seen before) trace
+    comes =
+        let leaves : Leaves trace = last_leaves rules keeps state before input trace more in
+        let then = times before in
+        record { later = omega (arith, time_is, then); first = leaves.0; second = leaves.1 }
 
-pub traces_tell : OpeningIsSound → TracesTellTheLog
-traces_tell opens rules keeps before input trace more = tells rules before input trace more keeps opens
+    used : uses_on rules state log (before ++ input ∷ []) ≡ uses_on rules state log before
+        ++ use_by_trace (entries_after start (seen before)) trace ∷ []
+    used = sym (uses_are_told alike_go_on rules keeps state sound log is (before ++ input ∷ []))
+        ∙ (ap (uses_told (filled log)) more ∙ (uses_more (filled log) (seen before) trace
+        ∙ ap (λ (us : List Use). us ++ use_by_trace (entries_after start (seen before)) trace ∷ [])
+        (uses_are_told alike_go_on rules keeps state sound log is before)))
 
-pub traces_come : TracesCome
-traces_come rules keeps before input trace more = comes rules before input trace more keeps
+  pub tell_from : TracesTellFrom rules state start
+  tell_from = record {
+    tell = λ before input trace more. (tells before input trace more, comes before input trace more);
+    uses = used;
+    left = λ inputs. ap (λ (now : ℕ). kept_at now (entries_after start (seen inputs))) (times inputs)
+        ∙ ap (kept_at (last_clock state.clock inputs)) (entries_are inputs);
+  }
 
-pub have_living : OpeningIsSound → TracesHaveTheLiving
-have_living opens rules keeps inputs = grind (arith, common_steps, nat_tests, entries_told, times_are, living_is)
+pub living_told : (rules : Rules) (state : State) (start : Begun) → start.clock ≡ state.clock →
+    TracesTellFrom rules state start → (inputs : List Arrival) (seen : List Trace) →
+    seen ≡ traces_of rules state inputs →
+    living_with start seen ≡ living_from rules state start.log inputs
+living_told rules state start clock tell inputs seen same =
+    let run : List Trace = traces_of rules state inputs in
+    ap (living_with start) same
+    ∙ (ap (λ (from : ℕ). in_order_of_end (filter (is_open (time_after from run)) (numbered (entries_after start run))))
+    clock ∙ ap (λ (kept : LogState). in_order_of_end kept.living) (tell.left inputs))
 
-pub told_as : (rules : Rules) (before : List Trace) (trace : Trace) (ended made : List Listed)
-    (refused : List Shortage) → (let told : Told = told_with rules before trace in
-    ended ≡ told.ended → made ≡ told.made → refused ≡ told.refused →
-    (let all : Told = record { ended = ended; made = made; refused = refused } in all ≡ told))
-told_as rules before trace ended made refused a b c = λ i. record { ended = a i; made = b i; refused = c i }
+-- THE LAWS
+
+pub tell_the_rest : AlikeStatesGoOn → TakenAreSound → TracesTellTheRest
+tell_the_rest alike_go_on taken_sound rules keeps state takes log is =
+    tell_from alike_go_on rules keeps (under rules state) (taken_sound rules keeps state takes []) log is
+
+module _ (alike_go_on : AlikeStatesGoOn) (opens : OpeningIsSound) where
+  tell_anew : (rules : Rules) → KeepsRules rules → TracesTellFrom rules (anew rules) (begun_anew rules)
+  tell_anew rules keeps = tell_from alike_go_on rules keeps (anew rules) (opens rules keeps)
+      (log_begun rules (anew rules)) (behind_is_of rules keeps (anew rules) 0)
+
+  pub traces_tell : TracesTellTheLog
+  traces_tell rules keeps before input trace more =
+      ((tell_anew rules keeps).tell before input trace more).0 ∙ logs_begin rules before input
+
+  pub have_living : TracesHaveTheLiving
+  have_living rules keeps inputs =
+      living_told rules (anew rules) (begun_anew rules) refl (tell_anew rules keeps) inputs
+      (traces_of rules (anew rules) inputs)
+      refl ∙ living_begins rules inputs
+
+  pub traces_come : TracesCome
+  traces_come rules keeps before input trace more = ((tell_anew rules keeps).tell before input trace more).1

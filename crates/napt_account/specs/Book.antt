@@ -2,7 +2,6 @@
 -- one if there is none.
 use Rattle.std.specs.{Prelude.{ℕ, cond, length, List, [], ◌∷◌, ◌++◌, map, Option, Some, None, unwrap_or}, List.{list_any, slice_get}, Option.option_map}
 use Rattle.napt_wire.specs.declared.Way.{Way, TheVariants.{Outgoing, Incoming}}
-use Rattle.napt_rules.specs.declared.Row.{Row}
 use Rattle.napt_table.specs.declared.TimedRow.{TimedRow}
 use Rattle.napt_sequential.specs.declared.passage.{Passage.{Passage, TheVariants.{Out, In, Dropped}}, Trace.Trace}
 use Rattle.napt_account.specs.declared.{log.{Entry.Entry, Shortage.Shortage}, account.{Note.Note, Use.Use}}
@@ -14,10 +13,6 @@ use Rattle.napt_account.specs.declared.account.Note.TheVariants as notes
 -- the entry that a packet begins
 abbrev pub made_by : ℕ → TimedRow → Entry
 made_by now timed = counted Outgoing now timed.end (unused timed.row now timed.end)
-
--- that of a redirect, before a packet went through it
-abbrev pub of_redirect : Row → Entry
-of_redirect binding = unused binding 0 None
 
 abbrev pub after_out : ℕ → TimedRow → List Entry → List Entry
 after_out now timed entries = cond (list_any (is_of now timed.row) entries)

@@ -1,24 +1,25 @@
 -- A log that goes on: what a run with a log leaves of it, beside its state, and what the run that goes on tells.
-use Rattle.std.specs.{Prelude.{◌≡◌, ℕ, zero, suc, ◌+◌, ◌==◌, max, cond, false, length, List, [], ◌∷◌, ◌++◌, map, filter, drop, Some}, List.fold}
+use Rattle.std.specs.{Prelude.{◌≡◌, ◌⊎◌, ℕ, zero, suc, ◌+◌, ◌^◌, ◌<◌, ◌≤◌, ◌==◌, max, cond, false, length, List, [], ◌∷◌, ◌++◌, map, filter, drop, Some}, List.{fold, Sorted.IsPermutation}}
 use Rattle.napt_config.specs.Rules.{Rules, KeepsRules}
-use Rattle.napt_rules.specs.{Prelude.{Arrival, Act, last_clock, State, anew, course_from, left_by, under, Takes, IsInOrder, Icmp}, declared.Row.Row}
-use Rattle.napt_account.specs.declared.log.{Entry.Entry, Listed.Listed}
-use Rattle.napt_account.specs.{Log.{unused, begun, logged, shortages, Logged}, Telling.{numbered, is_open, ends_within, in_order_of_end, Told, told_by}}
+use Rattle.napt_rules.specs.{Prelude.{Arrival, Act, Each, last_clock, State, anew, course_from, left_by, purge, under, Takes, IsInOrder, Icmp}, declared.Row.Row}
+use Rattle.napt_table.specs.{declared.TimedRow.TimedRow, TimedRows.timed}
+use Rattle.napt_account.specs.declared.{account.Use.Use, log.{Entry.Entry, Listed.Listed}}
+use Rattle.napt_account.specs.{Log.{unused, begun, logged, shortages, Logged}, Telling.{numbered_from, numbered, is_open, ends_within, in_order_of_end, LogPart, told_by}, Uses.{uses_from, uses_of}}
 
 pub record LogState : Type 0 where
   -- how many entries the log has so far
   pub made : ℕ
-  -- those that have not ended by the clock of the state, by end, equal ends by number
+  -- those that have not ended by the clock of the state, in the order of making
   pub living : List Listed
 
 -- what is kept of a log's entries at a time
 abbrev pub kept_at : ℕ → List Entry → LogState
-kept_at now entries =
-    record { made = length entries; living = in_order_of_end (filter (is_open now) (numbered entries)) }
+kept_at now entries = record { made = length entries; living = filter (is_open now) (numbered entries) }
 
--- where a state was left without a log: an entry for each of its bindings, made at its clock
-abbrev pub log_begun : Rules → State → LogState
-log_begun rules state = kept_at state.clock (map (begun rules.timers state.clock) state.list)
+-- so few that a run can count on
+pub record IsFew (log : LogState) : Type 0 where
+  pub made : log.made ≤ 2 ^ 61
+  pub packets : Each (λ l. (l.entry.sent ≤ 2 ^ 61) × (l.entry.received ≤ 2 ^ 61)) log.living
 
 -- ITS ENTRIES, with one that has ended in place of each that is not kept
 
@@ -45,6 +46,40 @@ entries_by number (suc many) living = entry_by number living ∷ entries_by (num
 abbrev pub filled : LogState → List Entry
 filled log = entries_by 1 log.made log.living
 
+-- THE LOG OF A STATE
+
+abbrev pub timed_by : Listed → TimedRow
+timed_by listed = record { row = listed.entry.binding; end = listed.entry.end }
+
+-- its entries are those of the bindings that live in the state, each with its row and its end
+pub record IsLogOf (rules : Rules) (state : State) (log : LogState) : Type 0 where
+  pub kept : kept_at state.clock (filled log) ≡ log
+  pub made : Each (λ l. l.entry.made ≤ state.clock) log.living
+  pub rows : IsPermutation (map timed_by log.living)
+      (map (timed rules.timers) (purge rules.timers state.clock state.list))
+
+-- where they are not: behind so many, one for each of its bindings, made at its clock
+abbrev pub begun_behind : Rules → State → ℕ → LogState
+begun_behind rules state before =
+    let entries : List Entry = map (begun rules.timers state.clock) (purge rules.timers state.clock state.list) in
+    record { made = before + length entries; living = numbered_from (before + 1) entries }
+
+abbrev pub log_begun : Rules → State → LogState
+log_begun rules state = begun_behind rules state 0
+
+-- an entry that ends at a time
+abbrev pub ended_at : ℕ → Listed → Listed
+ended_at now listed = record listed { entry = record listed.entry { end = Some now } }
+
+-- the log with which a run goes on from a state and what was kept, and what it tells before the first input: if those
+-- are not its entries, all of them end at its clock
+pub record IsTakenUp (rules : Rules) (state : State) (kept log : LogState) (told : LogPart) : Type 0 where
+  pub decided : IsLogOf rules state kept ⊎ (¬ IsLogOf rules state kept)
+  pub same : IsLogOf rules state kept →
+      (log ≡ kept) × (told ≡ record { ended = []; made = []; refused = [] })
+  pub anew : ¬ IsLogOf rules state kept → (log ≡ begun_behind rules state kept.made)
+      × (told ≡ record { ended = map (ended_at state.clock) kept.living; made = log.living; refused = [] })
+
 -- THE LOG FROM THERE
 
 -- of a run that begins with these entries
@@ -54,26 +89,34 @@ log_on rules state entries inputs =
     record { entries = fold (logged rules.timers) entries acts; shortages = shortages acts }
 
 -- between two times
-abbrev pub told_between : ℕ → ℕ → Logged → Logged → Told
+abbrev pub told_between : ℕ → ℕ → Logged → Logged → LogPart
 told_between was now earlier later = record {
   ended = in_order_of_end (filter (ends_within was now) (numbered earlier.entries));
   made = drop (length earlier.entries) (numbered later.entries);
   refused = drop (length earlier.shortages) later.shortages;
 }
 
-abbrev pub told_on : Rules → State → List Entry → List Arrival → Arrival → Told
+abbrev pub told_on : Rules → State → List Entry → List Arrival → Arrival → LogPart
 told_on rules state entries before input =
     let was : ℕ = last_clock state.clock before in
     told_between was (max was input.clock) (log_on rules state entries before)
     (log_on rules state entries (before ++ input ∷ []))
 
 -- what is told with an input after others, and what is left
-abbrev pub told_from : Rules → State → LogState → List Arrival → Arrival → Told
+abbrev pub told_from : Rules → State → LogState → List Arrival → Arrival → LogPart
 told_from rules state log before input = told_on rules state (filled log) before input
 
 abbrev pub log_left : Rules → State → LogState → List Arrival → LogState
 log_left rules state log inputs =
     kept_at (last_clock state.clock inputs) (log_on rules state (filled log) inputs).entries
+
+-- what its inputs did to the bindings
+abbrev pub uses_on : Rules → State → LogState → List Arrival → List Use
+uses_on rules state log inputs = uses_from rules 0 state.clock inputs state.list (filled log)
+
+-- what has not ended by the last clock, by end
+abbrev pub living_from : Rules → State → LogState → List Arrival → List Listed
+living_from rules state log inputs = in_order_of_end (log_left rules state log inputs).living
 
 -- LAWS
 
@@ -81,6 +124,10 @@ log_left rules state log inputs =
 abbrev pub LogsBegin : Type 0
 LogsBegin = (rules : Rules) (before : List Arrival) (input : Arrival) →
     told_from rules (anew rules) (log_begun rules (anew rules)) before input ≡ told_by rules before input
+
+abbrev pub UsesBegin : Type 0
+UsesBegin = (rules : Rules) (inputs : List Arrival) →
+    uses_on rules (anew rules) (log_begun rules (anew rules)) inputs ≡ uses_of rules inputs
 
 -- a run that goes on, with what is left of the log, tells what the run over all inputs does
 pub record LogGoesOn (rules : Rules) (state later : State) (log : LogState) (first rest : List Arrival) : Type 0 where
@@ -97,3 +144,15 @@ abbrev pub SavedLogsGoOn : Type 0
 SavedLogsGoOn = (rules : Rules) → KeepsRules rules → (state saved : State) → Takes rules state → (log : LogState)
     (first rest : List Arrival) → IsInOrder rules (left_by rules (under rules state) first) saved →
     LogGoesOn rules (under rules state) (under rules saved) log first rest
+
+-- each log that is taken up is of the state, with numbers that no entry had before; and what a run leaves of its log is
+-- that of the state that it leaves, as saved and taken up
+pub record KeepsLogs (rules : Rules) (state : State) : Type 0 where
+  pub taken : (kept log : LogState) (told : LogPart) → IsTakenUp rules (under rules state) kept log told →
+      IsLogOf rules (under rules state) log × Each (λ l. kept.made < l.number) told.made
+  pub left : (log : LogState) → IsLogOf rules (under rules state) log → (inputs : List Arrival) (saved : State) →
+      IsInOrder rules (left_by rules (under rules state) inputs) saved →
+      IsLogOf rules (under rules saved) (log_left rules (under rules state) log inputs)
+
+abbrev pub LogsAreOfTheirStates : Type 0
+LogsAreOfTheirStates = (rules : Rules) → KeepsRules rules → (state : State) → Takes rules state → KeepsLogs rules state

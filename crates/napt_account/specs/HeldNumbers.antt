@@ -1,5 +1,5 @@
 -- LAW: a number goes to another inside endpoint only once its last binding had ended the hold before (RFC 6888, REQ-8).
-use Rattle.std.specs.Prelude.{◌≡◌, ◌≢◌, ℕ, false, List, [], ◌∷◌}
+use Rattle.std.specs.Prelude.{◌≡◌, ◌≢◌, false, List, [], ◌∷◌}
 use Rattle.napt_rules.specs.Prelude.{Each, hold_ago, Arrival, Rules, KeepsRules, Timers}
 use Rattle.napt_binding.specs.Ends.{is_before}
 use Rattle.napt_account.specs.{declared.log.Entry.Entry, Log.log_of}

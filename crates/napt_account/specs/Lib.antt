@@ -13,3 +13,5 @@ pub mod Uses
 pub use Rattle.napt_rules.specs.Prelude
 pub mod TraceLogs
 pub mod KnownLogs
+pub mod ResumedLogs
+pub mod LogStates

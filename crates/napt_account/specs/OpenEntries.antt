@@ -1,17 +1,17 @@
 -- The entries that have not ended, as they are kept while a run goes on: found by their endpoints, and queued by the
 -- times at which they are looked at.
-use Rattle.std.specs.Prelude.{◌≡◌, ℕ, ◌+◌, ◌^◌, ◌<◌, ◌≤◌, ◌==◌, nat_le, Bool, true, false, ◌&&◌, cond, List, [], ◌∷◌, length, map, filter, Option, Some, None, unwrap_or}
+use Rattle.std.specs.Prelude.{◌≡◌, ℕ, ◌+◌, ◌^◌, ◌<◌, ◌≤◌, ◌==◌, nat_le, Bool, true, false, ◌&&◌, cond, List, length, map, filter, Option, Some, None, unwrap_or}
 use Rattle.std.specs.{List.slice_get, Option.{option_and_then, option_map}, Ordering.{ordering_then, nat_cmp, bool_cmp}, declared.cmp.Ordering.Ordering}
 use Rattle.std.specs.BTreeSet as sorted
 use Rattle.std.specs.HashMap as hash
 use denote.Enum.Bare.{sameb}
 use Rattle.napt_wire.specs.contracts.Protocol.{the_type}
 use Rattle.napt_wire.specs.contracts.ProtocolOrd.TheImpl as protocols
-use Rattle.napt_rules.specs.{Prelude.Each, declared.Row.Row}
+use Rattle.napt_rules.specs.declared.Row.{Row}
 use Rattle.napt_binding.specs.Ends.{is_before}
 use Rattle.napt_sequential.specs.declared.passage.Passage.{Passage, TheVariants.{Out, In}}
 use Rattle.napt_account.specs.declared.{log.{Entry.Entry, Listed.Listed}, open_entries.{Due.Due, EndKey.EndKey, ExternalKey.ExternalKey, Open.Open}}
-use Rattle.napt_account.specs.{declared.open_entries.OpenEntries.OpenEntries, Telling.{ends_first, is_open}}
+use Rattle.napt_account.specs.{declared.open_entries.OpenEntries.OpenEntries, Telling.is_open}
 
 -- KEYS
 
@@ -102,11 +102,6 @@ pub record Shows (now most : ℕ) (entries : List Entry) (all : OpenEntries) : T
   pub unended : (x : ExternalKey) (l : Listed) → listed_at all x ≡ Some l → is_open now l ≡ true
   pub few : (x : ExternalKey) (l : Listed) → listed_at all x ≡ Some l →
       (l.entry.sent ≤ most) × (l.entry.received ≤ most)
-
--- each stands before all behind it
-abbrev pub InOrder : List Listed → Type 0
-InOrder [] = Unit {0}
-InOrder (x ∷ xs) = Each (λ y. ends_first x y ≡ true) xs × InOrder xs
 
 -- the leg leaves its binding an end that is to come
 abbrev pub LeavesOpen : ℕ → Passage → Type 0

@@ -41,14 +41,14 @@ in_order_of_end [] = []
 in_order_of_end (listed ∷ more) = placed listed (in_order_of_end more)
 
 -- what the log tells with an input
-pub record Told : Type 0 where
+pub record LogPart : Type 0 where
   -- what ended since the clock of the input before
   pub ended : List Listed
   -- what the log has more with it
   pub made : List Listed
   pub refused : List Shortage
 
-unfoldable pub told_by : Rules → List Arrival → Arrival → Told
+unfoldable pub told_by : Rules → List Arrival → Arrival → LogPart
 told_by rules before input =
     let earlier : Logged = log_of rules before in
     let later : Logged = log_of rules (before ++ input ∷ []) in

@@ -2,14 +2,19 @@
 
 ghost use Rattle.std.specs.Prelude.{◌≡◌, ◌+◌, ◌^◌, ◌<◌, ◌≤◌, ◌++◌, [], ◌∷◌, length, OnOk, IfErr, IfOk, true, false};
 ghost use Rattle.napt_account.specs.{Book.use_by_trace, OpenEntries.LeavesOpen};
-ghost use Rattle.napt_account.specs.TraceLogs.{IsOfTraces, TracesCome, TracesHaveTheLiving, TracesTellTheLog, entries_after, living_with, told_in, told_with};
+ghost use Rattle.napt_account.specs.TraceLogs.{IsOfTraces, TracesCome, TracesHaveTheLiving, TracesTellTheLog, TracesTellTheRest, begun_anew, entries_after, last_time, living_with, time_after, told_in, told_with};
+ghost use Rattle.napt_account.specs.{GoingOn.{IsFew, kept_at}, ResumedLogs.IsResumed};
+ghost use Rattle.napt_rules.specs.Prelude.{Takes, under};
 
 use crate::account::Use;
-use crate::log::{Listed, Shortage, is_before};
+use crate::log::{Listed, Shortage, is_before, logs_go_on};
+use crate::log_state::{LogState, no_state};
 use crate::open_entries::OpenEntries;
 use http_server::Log;
 use napt_config::Config;
+use napt_laws::{runs_go_on, taken_states_are_kept};
 use napt_pool::PoolFault;
+use napt_rules::State;
 use napt_sequential::{Passage, RunFault, Trace};
 use napt_table::opening_is_sound;
 use std::alloc::{AllocError, Global};
@@ -25,13 +30,25 @@ pub struct KnownLog<'a> {
     config: &'a Config,
     /// How many traces it took.
     many: u64,
-    /// The time of the last, in ns; 0 before the first.
+    /// The time of the last, in ns; before the first, that at which it began.
     clock: u64,
     entries: OpenEntries,
+    /// The clock and the log with which it began. It takes no memory: only proofs read it.
+    begun: Log<u64, LogState>,
     /// The traces that it took. It takes no memory: only proofs read it.
     past: Log<u64, Trace>,
     /// Whether a trace was refused. From then on it does not go on.
     is_stopped: bool,
+}
+
+/// A log that goes on, and what it has to say before the first input.
+#[derive(Drop)]
+pub struct ResumedLog<'a> {
+    pub log: KnownLog<'a>,
+    /// The entries that end at the clock of the state, if a new one begins for each binding there; with that end.
+    pub ended: Vec<Listed>,
+    /// The new ones, if so, in the order of their numbers.
+    pub made: Vec<Listed>,
 }
 
 /// What the log has to say with an input.
@@ -50,33 +67,80 @@ pub struct LoggedTrace {
 
 impl<'a> Model for KnownLog<'a> {
     ghost use Rattle.std.specs.Prelude.{◌≡◌, false};
-    ghost use Rattle.napt_account.specs.KnownLogs.{IsOpenAfter, KnownTraces, taken_in};
+    ghost use Rattle.napt_account.specs.KnownLogs.{IsOpenAfter, KnownTraces, begun_in, taken_in};
 
     ghost Value = { KnownTraces };
 
-    ghost view = { λ it. record { rules = it.config.now; traces = taken_in it.past.items; is_stopped = it.is_stopped } };
+    ghost view = { λ it. record {
+      rules = it.config.now;
+      begun = begun_in it.begun.items;
+      traces = taken_in it.past.items;
+      is_stopped = it.is_stopped;
+    } };
 
     ghost invariant = { λ it. it.is_stopped ≡ false →
-        IsOpenAfter it.config.now (taken_in it.past.items) it.many it.clock it.entries };
+        IsOpenAfter (begun_in it.begun.items) (taken_in it.past.items) it.many it.clock
+        it.entries };
 }
 
 impl<'a> KnownLog<'a> {
     /// The log before the first trace; it has the redirects. Fails only if memory is refused.
     pub fn begin(alloc: Global, config: &'a Config) -> Result<KnownLog<'a>, AllocError>
         ensures { IfOk result (λ log. log
-            ≡ record { rules = config.now; traces = []; is_stopped = false }) }
+            ≡ record {
+              rules = config.now;
+              begun = begun_anew config.now;
+              traces = [];
+              is_stopped = false;
+            }) }
     {
+        let state = no_state(alloc);
+        let kept = LogState::none(alloc);
+        let resumed = KnownLog::resume(alloc, config, &state, &kept)?;
+        Ok(resumed.log)
+    }
+
+    /// The log from a state on, of what was kept of it there, and what it tells before the first trace: if the entries are
+    /// those of the bindings that live (`LogState::is_of`), it goes on with them and tells nothing; if not, all of them end
+    /// at the clock of the state, and each binding has a new one from then on, with a number behind theirs. Fails only if
+    /// memory is refused.
+    pub fn resume(
+        alloc: Global,
+        config: &'a Config,
+        state: &State,
+        kept: &LogState,
+    ) -> Result<ResumedLog<'a>, AllocError>
+        requires few { IsFew kept.now }
+        requires taken { Takes config.now state.now }
+        ensures { IfOk result (IsResumed config.now (under config.now state.now) kept.now) }
+    {
+        logs_go_on();
         // called for its clause alone: a configuration keeps its rules
         let _pool = config.pool();
-        let entries = OpenEntries::begin(alloc, config)?;
-        Ok(KnownLog {
-            config,
-            many: 0,
-            clock: 0,
-            entries,
-            past: Log::new(),
-            is_stopped: false,
+        let taken = kept.taken_up(alloc, config, state)?;
+        let entries = OpenEntries::of(alloc, &taken.log)?;
+        Ok(ResumedLog {
+            log: KnownLog {
+                config,
+                many: 0,
+                clock: state.clock,
+                entries,
+                begun: Log::new().and(&state.clock, &taken.log),
+                past: Log::new(),
+                is_stopped: false,
+            },
+            ended: taken.ended,
+            made: taken.made,
         })
+    }
+
+    /// What is kept of it beside the state that the run leaves. Fails only if memory is refused.
+    pub fn left(&self, alloc: Global) -> Result<LogState, AllocError>
+        ensures { self.now.is_stopped ≡ false → IfOk result (λ left. left
+            ≡ kept_at (time_after self.now.begun.clock self.now.traces)
+            (entries_after self.now.begun self.now.traces)) }
+    {
+        self.entries.left(alloc)
     }
 
     /// Its configuration.
@@ -86,11 +150,23 @@ impl<'a> KnownLog<'a> {
         self.config
     }
 
+    /// The time of the last trace, in ns; `None` before the first.
+    #[inline(always)]
+    pub fn last(&self) -> Option<u64>
+        ensures { self.now.is_stopped ≡ false → result ≡ last_time self.now.traces }
+    {
+        if self.many == 0 {
+            None
+        } else {
+            Some(self.clock)
+        }
+    }
+
     /// The entries that have not ended by the time of the last trace, by end, equal ends by number; redirects, which never
     /// end, last. Fails only if memory is refused.
     pub fn living(&self, alloc: Global) -> Result<Vec<Listed>, AllocError>
         ensures { self.now.is_stopped ≡ false → IfOk result (λ all.
-            all.items ≡ living_with self.now.rules self.now.traces) }
+            all.items ≡ living_with self.now.begun self.now.traces) }
     {
         let living = self.entries.list(alloc)?;
         Ok(living)
@@ -104,15 +180,15 @@ impl<'a> KnownLog<'a> {
     #[inline(always)]
     pub fn enter(&mut self, alloc: Global, trace: Trace) -> Result<LoggedTrace, RunFault>
         ensures tells { self.old.is_stopped ≡ false → IfOk result (λ told. told_in told
-            ≡ told_with self.old.rules self.old.traces trace) }
+            ≡ told_with self.old.begun self.old.traces trace) }
         ensures uses { self.old.is_stopped ≡ false → IfOk result (λ told. told.used
-            ≡ use_by_trace (entries_after self.old.rules self.old.traces) trace) }
+            ≡ use_by_trace (entries_after self.old.begun self.old.traces) trace) }
         ensures goes { self.old.is_stopped ≡ false → OnOk result (self.new
             ≡ record self.old { traces = self.old.traces ++ trace ∷ [] }) }
         ensures few { self.old.is_stopped ≡ false →
             OnOk result (length self.old.traces + 1 < 2 ^ 62) }
         ensures err { self.old.is_stopped ≡ false →
-            IfErr result (IsOfTraces self.old.traces trace) }
+            IfErr result (IsOfTraces self.old.begun self.old.traces trace) }
     {
         if self.is_stopped {
             return Err(RunFault::Memory);
@@ -168,6 +244,9 @@ pub fn traces_tell_the_log()
     ensures tell { TracesTellTheLog }
     ensures living { TracesHaveTheLiving }
     ensures come { TracesCome }
+    ensures rest { TracesTellTheRest }
 {
     opening_is_sound();
+    runs_go_on();
+    taken_states_are_kept();
 }

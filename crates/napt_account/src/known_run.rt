@@ -2,15 +2,18 @@
 
 ghost use Rattle.std.specs.Prelude.{◌≡◌, ◌↔◌, ◌+◌, ◌^◌, ◌≤◌, ◌++◌, [], ◌∷◌, length, OnOk, Err, IfErr, IfOk, false};
 ghost use Rattle.napt_rules.specs.Sequential as model;
-ghost use Rattle.napt_account.specs.{Telling.living_of, KnownRuns.{IsOfInputs, TellsLast}};
+ghost use Rattle.napt_rules.specs.Prelude.{Takes, anew, under};
+ghost use Rattle.napt_account.specs.{GoingOn.{IsFew, living_from, log_begun}, KnownRuns.{IsOfInputs, TellsLast}, ResumedLogs.IsResumedRun};
 
 use crate::account::Use;
 use crate::known_log::{KnownLog, traces_tell_the_log};
-use crate::log::{Listed, Shortage};
+use crate::log::{Listed, Shortage, logs_go_on};
+use crate::log_state::{LogState, no_state};
 use http_server::Log;
 use napt_config::Config;
+use napt_rules::State;
 use napt_sequential::{Input, Outcome, RunFault, SequentialRun};
-use napt_table::{Row, opening_is_sound};
+use napt_table::Row;
 use std::alloc::{AllocError, Global};
 use std::marker::Model;
 
@@ -20,10 +23,20 @@ use std::marker::Model;
 pub struct KnownRun<'a> {
     run: SequentialRun,
     log: KnownLog<'a>,
+    /// The state from which it goes on. It takes no memory: only proofs read it.
+    begun: Log<u64, State>,
     /// The inputs that it took. It takes no memory: only proofs read it.
     past: Log<u64, Input>,
     /// Whether a step failed. From then on the run does not go on.
     is_stopped: bool,
+}
+
+/// A run that goes on, and what its log has to say before the first input (`ResumedLog`).
+#[derive(Drop)]
+pub struct ResumedRun<'a> {
+    pub run: KnownRun<'a>,
+    pub ended: Vec<Listed>,
+    pub made: Vec<Listed>,
 }
 
 /// What an input of a run did: its outcome, and what the log has to say with it.
@@ -43,28 +56,64 @@ pub struct LoggedStep {
 
 impl<'a> Model for KnownRun<'a> {
     ghost use Rattle.std.specs.Prelude.{◌≡◌, false};
-    ghost use Rattle.napt_account.specs.{KnownLogs.taken_in, KnownRuns.{IsLogged, KnownState}};
+    ghost use Rattle.napt_account.specs.{KnownLogs.taken_in, KnownRuns.{IsLogged, KnownState, begun_in}};
 
     ghost Value = { KnownState };
 
-    ghost view = { λ it. record { rules = it.log.rules; inputs = taken_in it.past.items; is_stopped = it.is_stopped } };
+    ghost view = { λ it. record {
+      rules = it.log.rules;
+      state = begun_in it.log.rules it.begun.items;
+      log = it.log.begun.log;
+      inputs = taken_in it.past.items;
+      is_stopped = it.is_stopped;
+    } };
 
-    ghost invariant = { λ it. it.is_stopped ≡ false → IsLogged (taken_in it.past.items) it.run it.log };
+    ghost invariant = { λ it. it.is_stopped ≡ false →
+        IsLogged (begun_in it.log.rules it.begun.items) (taken_in it.past.items) it.run it.log };
 }
 
 impl<'a> KnownRun<'a> {
     /// The run before its first input; its log has the redirects. Fails only if memory is refused.
     pub fn begin(alloc: Global, config: &'a Config) -> Result<KnownRun<'a>, AllocError>
-        ensures { IfOk result (λ run. run
-            ≡ record { rules = config.now; inputs = []; is_stopped = false }) }
+        ensures { IfOk result (λ run. run ≡ record {
+          rules = config.now;
+          state = anew config.now;
+          log = log_begun config.now (anew config.now);
+          inputs = [];
+          is_stopped = false;
+        }) }
     {
-        let run = SequentialRun::begin(alloc, config)?;
-        let log = KnownLog::begin(alloc, config)?;
-        Ok(KnownRun {
-            run,
-            log,
-            past: Log::new(),
-            is_stopped: false,
+        let state = no_state(alloc);
+        let kept = LogState::none(alloc);
+        let resumed = KnownRun::resume(alloc, config, &state, &kept)?;
+        Ok(resumed.run)
+    }
+
+    /// The run from a state on, with its log of what was kept there (`KnownLog::resume`). Fails only if memory is refused.
+    pub fn resume(
+        alloc: Global,
+        config: &'a Config,
+        state: &State,
+        kept: &LogState,
+    ) -> Result<ResumedRun<'a>, AllocError>
+        requires few { IsFew kept.now }
+        requires taken { Takes config.now state.now }
+        ensures { IfOk result (IsResumedRun config.now (under config.now state.now) kept.now) }
+    {
+        traces_tell_the_log();
+        logs_go_on();
+        let run = SequentialRun::resume(alloc, config, state)?;
+        let resumed = KnownLog::resume(alloc, config, state, kept)?;
+        Ok(ResumedRun {
+            run: KnownRun {
+                run,
+                log: resumed.log,
+                begun: Log::new().and(&0, state),
+                past: Log::new(),
+                is_stopped: false,
+            },
+            ended: resumed.ended,
+            made: resumed.made,
         })
     }
 
@@ -76,12 +125,11 @@ impl<'a> KnownRun<'a> {
     }
 
     /// The entries that have not ended by the latest clock, by end, equal ends by number; redirects, which never end,
-    /// last. Before the first input: the redirects, in order of number. Fails only if memory is refused.
+    /// last. Fails only if memory is refused.
     pub fn living(&self, alloc: Global) -> Result<Vec<Listed>, AllocError>
         ensures { self.now.is_stopped ≡ false → IfOk result (λ all.
-            all.items ≡ living_of self.now.rules self.now.inputs) }
+            all.items ≡ living_from self.now.rules self.now.state self.now.log self.now.inputs) }
     {
-        traces_tell_the_log();
         self.log.living(alloc)
     }
 
@@ -89,7 +137,7 @@ impl<'a> KnownRun<'a> {
     /// (ICMP, TCP, UDP) and external number. Fails only if memory is refused.
     pub fn bindings(&self, alloc: Global) -> Result<Vec<Row>, AllocError>
         ensures { self.now.is_stopped ≡ false → IfOk result (λ made.
-            made.items ≡ (model.ran self.now.rules self.now.inputs).bindings) }
+            made.items ≡ (model.ran_from self.now.rules self.now.state self.now.inputs).bindings) }
     {
         self.run.bindings(alloc)
     }
@@ -101,8 +149,7 @@ impl<'a> KnownRun<'a> {
     /// Fails with `RunFault::TooMany` exactly if it took 4,294,967,295 inputs before and no step failed, with
     /// `RunFault::Memory` only if memory is refused or a step failed before, and never with `RunFault::Pool`.
     pub fn step(&mut self, alloc: Global, input: &Input) -> Result<LoggedStep, RunFault>
-        ensures tells { self.old.is_stopped ≡ false → IfOk result (TellsLast self.old.rules
-            self.old.inputs input.now) }
+        ensures tells { self.old.is_stopped ≡ false → IfOk result (TellsLast self.old input.now) }
         ensures goes { self.old.is_stopped ≡ false → OnOk result (self.new
             ≡ record self.old { inputs = self.old.inputs ++ input.now ∷ [] }) }
         ensures err { self.old.is_stopped ≡ false →
@@ -115,8 +162,6 @@ impl<'a> KnownRun<'a> {
         }
         // unless it comes to the end of this step
         self.is_stopped = true;
-        opening_is_sound();
-        traces_tell_the_log();
         let config = self.log.config();
         let stepped = self.run.step(alloc, config, input)?;
         let told = self.log.enter(alloc, stepped.trace)?;

@@ -3,12 +3,12 @@
 ghost use Rattle.std.specs.{Prelude.{◌≡◌, ◌+◌, ◌<◌, ◌^◌, List, map, IfOk}, List.Sorted.IsPermutation};
 ghost use Rattle.napt_config.specs.Rules.{pair_of};
 ghost use Rattle.napt_rules.specs.Prelude.{redirected, row};
-ghost use Rattle.napt_account.specs.{Log.is_shortage, Attribution.{LogNamesTheHolders, LogListsTheLiving}, HeldNumbers.HeldNumbersHaveOneHolder, Ended.EndedEntriesStay, AllTold.ToldIsTheLog, GoingOn.{LogsBegin, LogsGoOn, SavedLogsGoOn}};
+ghost use Rattle.napt_account.specs.{Log.is_shortage, Attribution.{LogNamesTheHolders, LogListsTheLiving}, HeldNumbers.HeldNumbersHaveOneHolder, Ended.EndedEntriesStay, AllTold.ToldIsTheLog, GoingOn.{LogsBegin, UsesBegin, LogsGoOn, SavedLogsGoOn, LogsAreOfTheirStates}};
 ghost use Rattle.napt_account.specs.{Telling.numbered, declared.log.Entry.Entry as Logged};
 ghost use Rattle.napt_binding.specs.Ends.{EndsAreFirst, is_before};
 
 use napt_config::{Config, Redirect};
-use napt_laws::{runs_go_on, saved_runs_go_on};
+use napt_laws::{runs_go_on, saved_runs_go_on, taken_states_are_kept};
 use napt_table::{Row, TimedRow, opening_is_sound};
 use napt_wire::{Cause, Endpoint, Protocol, Way, packets_carry_numbers};
 use std::alloc::{AllocError, Global};
@@ -34,21 +34,21 @@ pub struct Entry {
 }
 
 impl Entry {
-    ghost use Rattle.napt_account.specs.Book.{made_by, of_redirect};
-    ghost use Rattle.napt_account.specs.Log.{counted};
+    ghost use Rattle.napt_account.specs.Book.{made_by};
+    ghost use Rattle.napt_account.specs.Log.{counted, unused};
 
-    /// The entry of a redirect, before a packet went through it.
-    pub(crate) fn of_redirect(binding: Row) -> Entry
-        ensures { result ≡ of_redirect binding }
+    /// The entry of a binding that is made at a time, in ns, before a packet went through it.
+    pub(crate) fn unused(timed: TimedRow, made: u64) -> Entry
+        ensures { result ≡ unused timed.row made timed.end }
     {
         Entry {
-            binding,
-            made: 0,
-            end: None,
+            binding: timed.row,
+            made,
+            end: timed.end,
             sent: 0,
             received: 0,
-            last: 0,
-            last_sent: 0,
+            last: made,
+            last_sent: made,
         }
     }
 
@@ -56,15 +56,9 @@ impl Entry {
     pub(crate) fn by_packet(now: u64, timed: TimedRow) -> Entry
         ensures { result ≡ made_by now timed }
     {
-        Entry {
-            binding: timed.row,
-            made: now,
-            end: timed.end,
-            sent: 1,
-            received: 0,
-            last: now,
-            last_sent: now,
-        }
+        let mut entry = Entry::unused(timed, now);
+        entry.count(Way::Outgoing, now, timed.end);
+        entry
     }
 
     /// Counts a packet that went one way through the binding at a time, in ns, and left it this end.
@@ -85,8 +79,8 @@ impl Entry {
     }
 }
 
-/// The binding of a redirect.
-pub(crate) fn redirected(config: &Config, redirect: Redirect) -> Row
+/// The binding of a redirect of the configuration.
+pub fn redirected(config: &Config, redirect: Redirect) -> Row
     ensures { result ≡ row (redirected (pair_of config.now) redirect) }
 {
     let protocol = if redirect.tcp {
@@ -194,11 +188,14 @@ pub fn ended_entries_stay()
 /// tells, and leaves the same of the log; also where the state was saved and taken up.
 pub fn logs_go_on()
     ensures begin { LogsBegin }
+    ensures uses { UsesBegin }
     ensures go_on { LogsGoOn }
     ensures saved { SavedLogsGoOn }
+    ensures keep { LogsAreOfTheirStates }
 {
     runs_go_on();
     saved_runs_go_on();
+    taken_states_are_kept();
 }
 
 /// What a run tells with its inputs is its log: the entries told as ended, with those that are left, are the entries of

@@ -2,18 +2,18 @@
 
 ghost use Rattle.std.specs.Prelude.{◌≡◌, ◌+◌, ◌<◌, ◌≤◌, ◌^◌, ◌++◌, ◌&&◌, ◌||◌, not, ℕ, [], ◌∷◌, List, true, false, cond, length, map, set, filter, Some, None, Ok, OnOk, IfOk, IfSome, IfNone, unwrap_or};
 ghost use Rattle.std.specs.{List.Sorted.{IsPermutation, IsSortedByKey}, Option.is_some};
-ghost use Rattle.napt_rules.specs.Prelude.{Each, opening};
+ghost use Rattle.napt_rules.specs.Prelude.{Each};
 ghost use Rattle.napt_binding.specs.Ends.{is_before};
 ghost use Rattle.napt_account.specs.Book as books;
-ghost use Rattle.napt_account.specs.{Log.{begun, counted, place_of, through}, Telling.{numbered, ends_within, in_order_of_end, is_open}};
+ghost use Rattle.napt_account.specs.{GoingOn.{filled, kept_at}, Log.{counted, place_of, through}, LogStates.AreKeyed, Telling.{numbered, ends_within, in_order_of_end, is_open}};
 ghost use Rattle.napt_account.specs.OpenEntries as keys;
 
 use crate::account::{Note, Use};
-use crate::log::{Entry, Listed, is_before, redirected};
+use crate::log::{Entry, Listed, is_before};
+use crate::log_state::LogState;
 use crate::uses::{NO_USE, found};
-use napt_config::Config;
 use napt_sequential::Passage;
-use napt_table::{Row, TimedRow, opening_is_sound};
+use napt_table::{Row, TimedRow};
 use napt_wire::{Protocol, Way};
 use std::alloc::{AllocError, Global};
 use std::collections::{BTreeSet, HashMap};
@@ -64,7 +64,7 @@ pub(crate) struct OpenEntries {
     made: usize,
 }
 
-fn external_key(row: Row) -> ExternalKey
+pub(crate) fn external_key(row: Row) -> ExternalKey
     ensures { result ≡ keys.external_key row }
 {
     ExternalKey {
@@ -133,29 +133,44 @@ impl OpenEntries {
     ghost use Rattle.napt_account.specs.declared.open_entries.Due.{Due as Place};
     ghost use Rattle.napt_account.specs.declared.open_entries.ExternalKey.{ExternalKey as Endpoint};
 
-    /// None.
-    fn new(alloc: Global) -> OpenEntries
+    /// None that has not ended, of so many.
+    fn new(alloc: Global, made: usize) -> OpenEntries
         ensures open { (x : Endpoint) → open_at result x ≡ None }
         ensures queue { (d : Place) → is_queued result d ≡ false }
-        ensures made { result.made ≡ 0 }
+        ensures made { result.made ≡ made }
     {
         OpenEntries {
             by_external: HashMap::new(alloc),
             queue: BTreeSet::new(alloc),
-            made: 0,
+            made,
         }
     }
 
-    /// Begins with the redirects.
-    pub(crate) fn begin(alloc: Global, config: &Config) -> Result<OpenEntries, AllocError>
-        ensures { IfOk result (Shows 0 0 (map (begun config.now.timers 0) (opening config.now))) }
+    /// Begins with what was kept of a log.
+    pub(crate) fn of(alloc: Global, log: &LogState) -> Result<OpenEntries, AllocError>
+        ensures { (now most : ℕ) → kept_at now (filled log.now) ≡ log.now →
+            Each (λ l. (l.entry.sent ≤ most) × (l.entry.received ≤ most)) log.now.living →
+            AreKeyed (map (λ l. l.entry.binding) log.now.living) →
+            IfOk result (Shows now most (filled log.now)) }
     {
-        opening_is_sound();
-        let mut all = OpenEntries::new(alloc);
-        for redirect in config.redirects() {
-            all.put(Entry::of_redirect(redirected(config, *redirect)))?;
+        let mut all = OpenEntries::new(alloc, log.made as usize);
+        for listed in &log.living {
+            all.set(*listed, None)?;
         }
         Ok(all)
+    }
+
+    /// What is kept of the log.
+    pub(crate) fn left(&self, alloc: Global) -> Result<LogState, AllocError>
+        ensures { (now most : ℕ) (entries : List Logged) → Shows now most entries self.now →
+            IfOk result (λ left. left ≡ kept_at now entries) }
+    {
+        let mut living = self.copied(alloc)?;
+        living.sort_unstable_by_key(|listed| listed.number);
+        Ok(LogState {
+            made: self.made as u64,
+            living,
+        })
     }
 
     /// How many entries the log has.

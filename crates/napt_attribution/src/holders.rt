@@ -45,7 +45,7 @@ impl<'a> Holders<'a> {
             last: ending.last,
             later: ending.later,
             config: Some(ending.config),
-            basis: Basis::Run,
+            basis: Basis::Run(ending.first),
         };
         tell_answers(rt, self.asked, known)
     }

@@ -1,13 +1,13 @@
 //! A log that `log` wrote, read again. docs/FORMATS.md describes the order of its rows; `napt_log_text` reads each.
 
-use napt_account::Entry;
+use napt_account::{Entry, Listed, in_order_of_making};
 use napt_commands::{Exit, opened};
 use napt_config::{Address, Config};
 use napt_log_text::{SavedFault, SavedField, SavedLog, SavedRow};
 use napt_records::EndpointText;
 use napt_rules::Row;
 use napt_wire::Endpoint;
-use std::alloc::{AllocFailed, Global};
+use std::alloc::{AllocError, AllocFailed, Global};
 use std::io::{BufReader, ErrorKind, Read};
 use std::rt::Files;
 use std::{fmt, io};
@@ -17,9 +17,31 @@ use std::{fmt, io};
 pub struct Saved {
     /// One for each binding, in the order in which they were made, without its counts and its last use.
     pub entries: Vec<Entry>,
-    /// The time at which the first binding is made, redirects not counted, and that of the last event, in ns.
+    /// The times from which on and until which each binding is there, in ns.
     pub first: u64,
     pub last: u64,
+}
+
+/// What the rows of a log say so far.
+#[derive(Drop)]
+struct Rows {
+    /// In the order of making.
+    listed: Vec<Listed>,
+    /// The time at which the first binding is made, redirects not counted, in ns.
+    first: u64,
+    /// The time of the first event other than a making, in ns.
+    behind_opening: Option<u64>,
+    /// That of the last event, in ns.
+    last: u64,
+    /// Whether bindings are missing that ended before the log began, as one that goes on begins in a new file.
+    lacks: bool,
+    /// Whether the next binding may be one behind such.
+    may_lack: bool,
+    /// Whether the next row may tell again of a binding that lives, as a piece begins that goes on.
+    may_repeat: bool,
+    /// How many bindings have not ended, and how many of them the piece told again.
+    living: u64,
+    repeated: u64,
 }
 
 /// Why a log is refused.
@@ -57,20 +79,16 @@ pub fn read_saved<R: Files + Input + Eprint + AllocGlobal>(
     paths: &[String],
     config: Option<&Config>,
 ) -> Result<Saved, Exit> {
-    let mut saved = Saved {
-        entries: Vec::new(rt.alloc()),
-        first: u64::MAX,
-        last: 0,
-    };
+    let mut rows = Rows::new(rt.alloc());
     for (nth, path) in paths.iter().enumerate() {
         let piece = Piece {
             path,
             is_first: nth == 0,
             config,
         };
-        piece.read(rt, &mut saved)?;
+        piece.read(rt, &mut rows)?;
     }
-    Ok(saved)
+    Ok(rows.saved(rt.alloc())?)
 }
 
 /// A piece of a log.
@@ -87,11 +105,11 @@ impl Piece<'_, '_> {
     fn read<R: Files + Input + Eprint + AllocGlobal>(
         self,
         rt: &R,
-        saved: &mut Saved,
+        rows: &mut Rows,
     ) -> Result<(), Exit> {
         let path = self.path;
         let device = opened(rt, "--from-log", path)?;
-        match self.add_to(saved, rt.alloc(), device) {
+        match self.add_to(rows, rt.alloc(), device) {
             Ok(()) => Ok(()),
             Err(refused) => tell_refused(rt, path, &refused),
         }
@@ -100,7 +118,7 @@ impl Piece<'_, '_> {
     /// Adds the rows that a device has, up to one that is refused.
     fn add_to<D: Read + Drop>(
         self,
-        saved: &mut Saved,
+        rows: &mut Rows,
         alloc: Global,
         device: D,
     ) -> Result<(), Refused> {
@@ -116,23 +134,28 @@ impl Piece<'_, '_> {
         let first = if self.is_first { 2 } else { 1 };
         for row in first..u64::MAX {
             let taken = match log.next() {
-                _ if row == 1 && log.is_at_names() => Ok(()),
-                Ok(Some(read)) => self.add_row(saved, &read),
-                Ok(None) => return Ok(()),
+                _ if row == 1 && log.is_at_names() => {
+                    rows.begin_piece();
+                    Ok(true)
+                }
+                Ok(Some(read)) => self.add_row(rows, &read),
+                Ok(None) => rows.end_opening().map(|()| false),
                 Err(fault) => Err(Fault::Saved(fault)),
             };
-            if let Err(fault) = taken {
-                return Err(Refused { row, fault });
+            match taken {
+                Ok(true) => {}
+                Ok(false) => return Ok(()),
+                Err(fault) => return Err(Refused { row, fault }),
             }
         }
         Ok(())
     }
 
-    /// Adds a row behind the names.
-    fn add_row(self, saved: &mut Saved, row: &SavedRow) -> Result<(), Fault> {
-        match saved.take(row)? {
+    /// Adds a row behind the names, and returns that more may come.
+    fn add_row(self, rows: &mut Rows, row: &SavedRow) -> Result<bool, Fault> {
+        match rows.take(row)? {
             Some(made) if self.is_elsewhere(&made) => Err(Fault::Elsewhere(made)),
-            _ => Ok(()),
+            _ => Ok(true),
         }
     }
 
@@ -186,22 +209,73 @@ const NO_TIME: &str = "observationTimeNanoseconds: expected a number";
 
 const NO_BINDING: &str = "binding: no row above makes it, or it has ended";
 
-impl Saved {
+const NOT_AGAIN: &str =
+    "binding: one that lives by the rows above is not told again: rows between are missing";
+
+impl Rows {
+    fn new(alloc: Global) -> Rows {
+        Rows {
+            listed: Vec::new(alloc),
+            first: u64::MAX,
+            behind_opening: None,
+            last: 0,
+            lacks: false,
+            may_lack: true,
+            may_repeat: false,
+            living: 0,
+            repeated: 0,
+        }
+    }
+
+    /// Begins a piece with the names of the fields, which tells of each binding that lives.
+    fn begin_piece(&mut self) {
+        self.may_repeat = true;
+        self.repeated = 0;
+    }
+
+    /// Ends what a piece tells again, if it goes on: then it tells of all that live by the rows above.
+    fn end_opening(&mut self) -> Result<(), Fault> {
+        let is_opening = self.may_repeat;
+        self.may_repeat = false;
+        if is_opening && self.repeated > 0 && self.repeated < self.living {
+            return Err(wrong(NOT_AGAIN));
+        }
+        Ok(())
+    }
+
+    /// What they say in the end. Where bindings are missing, it is known of each from the first event on that none of a
+    /// beginning is.
+    fn saved(self, alloc: Global) -> Result<Saved, AllocError> {
+        let first = match self.behind_opening {
+            _ if !self.lacks => self.first.min(self.last),
+            Some(at) => at,
+            None => self.last,
+        };
+        let mut listed = self.listed;
+        end_replaced(&mut listed);
+        Ok(Saved {
+            entries: in_order_of_making(alloc, listed)?,
+            first,
+            last: self.last,
+        })
+    }
+
     /// Takes a row behind the names. Returns the binding that it makes, if it makes one.
     fn take(&mut self, row: &SavedRow) -> Result<Option<Row>, Fault> {
+        if row.event == SavedField::Number(8) {
+            let binding = row.binding().map_err(wrong)?;
+            self.make(row, binding)?;
+            return Ok(Some(binding));
+        }
+        self.end_opening()?;
         match row.event {
-            SavedField::Number(8) => {
-                let binding = row.binding().map_err(wrong)?;
-                self.make(row, binding)?;
-                return Ok(Some(binding));
-            }
             SavedField::Number(9) => {
                 let binding = row.binding().map_err(wrong)?;
-                let at = self.time_of(row.time)?;
+                let at = self.time_of_other(row.time)?;
                 self.end(row.number, binding, u128::from(at))?;
             }
             SavedField::Number(12 | 13) => {
-                self.time_of(row.time)?;
+                self.time_of_other(row.time)?;
             }
             SavedField::Empty => self.live_on(row, row.binding().map_err(wrong)?)?,
             _ => return Err(wrong("natEvent: expected 8, 9, 12, 13 or nothing")),
@@ -224,19 +298,26 @@ impl Saved {
         }
     }
 
-    /// Begins the entry of a binding.
+    /// The same of an event other than a making.
+    fn time_of_other(&mut self, time: SavedField) -> Result<u64, Fault> {
+        let at = self.time_of(time)?;
+        self.behind_opening = self.behind_opening.or(Some(at));
+        Ok(at)
+    }
+
+    /// Begins the entry of a binding, unless a piece that goes on tells of it again.
     fn make(&mut self, row: &SavedRow, binding: Row) -> Result<(), Fault> {
-        let made = self.time_of(row.time)?;
-        let next = (self.entries.len() as u128).saturating_add(1);
-        if row.number != SavedField::Number(next) {
-            return Err(wrong(
-                "binding: expected the number behind that of the binding made before",
-            ));
+        if self.may_repeat && self.is_again(row, binding) {
+            self.repeated = self.repeated.saturating_add(1);
+            return Ok(());
         }
+        self.end_opening()?;
+        let made = self.time_of(row.time)?;
+        let number = self.next_number(row.number)?;
         if !binding.fixed {
             self.first = self.first.min(made);
         }
-        self.entries.push(Entry {
+        let entry = Entry {
             binding,
             made,
             end: None,
@@ -244,19 +325,52 @@ impl Saved {
             received: 0,
             last: made,
             last_sent: made,
-        })?;
+        };
+        self.listed.push(Listed { number, entry })?;
+        self.living = self.living.saturating_add(1);
         Ok(())
+    }
+
+    /// Whether a row tells of a binding that a row above makes at the same time, and that has not ended.
+    fn is_again(&mut self, row: &SavedRow, binding: Row) -> bool {
+        let made = match self.entry_of(row.number, binding) {
+            Some(entry) if entry.end.is_none() => entry.made,
+            _ => return false,
+        };
+        row.time == SavedField::Number(u128::from(made))
+    }
+
+    /// The number of a new binding: the next one, or, where bindings may be missing, a later one.
+    fn next_number(&mut self, number: SavedField) -> Result<u64, Fault> {
+        let next = self
+            .listed
+            .last()
+            .map_or(0, |it| it.number)
+            .saturating_add(1);
+        let given = match number {
+            SavedField::Number(number) => u64::try_from(number).unwrap_or(0),
+            _ => 0,
+        };
+        if given < next || (given > next && !self.may_lack) {
+            return Err(wrong(
+                "binding: expected the number behind that of the binding made before",
+            ));
+        }
+        self.lacks |= given > next;
+        self.may_lack &= self.behind_opening.is_none();
+        Ok(given)
     }
 
     /// Takes a binding that lives at the end of the log, with the time at which it ends if no packet comes. A redirect
     /// never does.
     fn live_on(&mut self, row: &SavedRow, binding: Row) -> Result<(), Fault> {
         match row.time {
-            SavedField::Number(end) => self.end(row.number, binding, end),
+            SavedField::Number(end) if !binding.fixed => self.end(row.number, binding, end),
             SavedField::Empty if binding.fixed => match self.entry_of(row.number, binding) {
                 Some(_) => Ok(()),
                 None => Err(wrong(NO_BINDING)),
             },
+            SavedField::Number(_) => Err(wrong(NO_BINDING)),
             _ => Err(wrong(NO_TIME)),
         }
     }
@@ -264,12 +378,13 @@ impl Saved {
     /// Ends the entry of a binding.
     fn end(&mut self, number: SavedField, binding: Row, end: u128) -> Result<(), Fault> {
         match self.entry_of(number, binding) {
-            Some(entry) if entry.end.is_none() && !binding.fixed => {
+            Some(entry) if entry.end.is_none() => {
                 entry.end = Some(end);
-                Ok(())
             }
-            _ => Err(wrong(NO_BINDING)),
+            _ => return Err(wrong(NO_BINDING)),
         }
+        self.living = self.living.saturating_sub(1);
+        Ok(())
     }
 
     /// The entry of a binding, if a row above made it.
@@ -277,10 +392,45 @@ impl Saved {
         let SavedField::Number(number) = number else {
             return None;
         };
-        let place = usize::try_from(number.checked_sub(1)?).ok()?;
-        let entry = self.entries.get_mut(place)?;
-        (entry.binding == binding).then_some(entry)
+        let place = self
+            .listed
+            .partition_point(|it| u128::from(it.number) < number);
+        let Listed {
+            number: found,
+            entry,
+        } = self.listed.get_mut(place)?;
+        (u128::from(*found) == number && entry.binding == binding).then_some(entry)
     }
+}
+
+/// Ends each entry without an end when the next one of its external endpoint begins: of a log that begins new entries in a new
+/// file, no row ends the ones before.
+fn end_replaced(listed: &mut Vec<Listed>) {
+    listed.sort_unstable_by_key(|it| {
+        let Row {
+            protocol,
+            external,
+            ..
+        } = it.entry.binding;
+        (protocol, external.address, external.number, it.number)
+    });
+    let many = listed.len();
+    for at in 1..many {
+        let Some(next) = listed.get(at).copied() else {
+            return;
+        };
+        if let Some(one) = listed.get_mut(at - 1)
+            && one.entry.end.is_none()
+            && has_endpoint(&one.entry.binding, next.entry.binding)
+        {
+            one.entry.end = Some(u128::from(next.entry.made));
+        }
+    }
+}
+
+/// Whether two bindings of one protocol have one external endpoint.
+fn has_endpoint(binding: &Row, other: Row) -> bool {
+    binding.protocol == other.protocol && binding.external == other.external
 }
 
 /// The fault of a row that is none of a log: what was expected.

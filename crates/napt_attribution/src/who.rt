@@ -33,21 +33,33 @@ pub struct Known<'a> {
 pub enum Basis {
     /// The blocks of the configuration.
     Blocks,
-    /// A run over captures.
-    Run,
-    /// A log whose first event is at this time, in ns.
+    /// A run over captures, which is known from this time on, in ns.
+    Run(u64),
+    /// A log that is known from this time on, in ns.
     Log(u64),
 }
 
 impl Known<'_> {
-    /// When the log begins and ends, if it is over before the time that a request asks about, or begins behind it.
-    fn beside(self, request: &Request) -> Option<(u128, u128)> {
-        let (Basis::Log(first), Some(span)) = (self.basis, request.at) else {
-            return None;
+    /// When the run begins, or the log begins and ends, if that is behind the time that a request asks about, or the log is
+    /// over before it.
+    fn beside(self, request: &Request) -> Option<Beside> {
+        let span = request.at?;
+        let (what, first, last) = match self.basis {
+            Basis::Blocks => return None,
+            Basis::Run(first) => ("run", first, None),
+            Basis::Log(first) => ("log", first, Some(self.last)),
         };
-        let (first, last) = (u128::from(first), u128::from(self.last));
-        (span.until <= first || last < span.first).then_some((first, last))
+        let is_over = last.is_some_and(|last| u128::from(last) < span.first);
+        (is_over || span.until <= u128::from(first)).then_some(Beside { what, first, last })
     }
+}
+
+/// What is not of the time that a request asks about, and when it begins and ends, in ns.
+#[derive(Clone, Copy)]
+struct Beside {
+    what: &'static str,
+    first: u64,
+    last: Option<u64>,
 }
 
 /// Answers requests from the blocks of a configuration. Fails with `Nobody` if one has no answer.
@@ -92,7 +104,7 @@ pub fn answer_by_log<R: Files + Input + Print + Eprint + AllocGlobal>(
         last,
         later: 0,
         config,
-        basis: Basis::Log(first.min(last)),
+        basis: Basis::Log(first),
     };
     tell_answers(rt, asked, known)
 }
@@ -150,8 +162,8 @@ fn tell_answer<R: Print + AllocGlobal>(
     }
     mark(asked, &mut page.text)?;
     let (request, text) = (&asked.request, &mut page.text);
-    if let Some(times) = known.beside(request) {
-        add_beside(request, times, text)?;
+    if let Some(beside) = known.beside(request) {
+        add_beside(request, beside, text)?;
     } else {
         let nearest = request.nearest_among(known.entries);
         add_nobody(request, &nearest, known.config, known.last, text)?;
@@ -160,21 +172,20 @@ fn tell_answer<R: Print + AllocGlobal>(
     Ok(is_owned)
 }
 
-/// Ends the line that says that the log is not of the time that a request asks about.
-fn add_beside(
-    request: &Request,
-    (first, last): (u128, u128),
-    text: &mut String,
-) -> Result<(), AllocError> {
+/// Ends the line that says that nobody is known at the time that a request asks about.
+fn add_beside(request: &Request, beside: Beside, text: &mut String) -> Result<(), AllocError> {
+    let Beside { what, first, last } = beside;
     text.push_str("nobody is known at ")?;
     if let Some(protocol) = request.protocol {
         write!(text, "{} ", protocol_name(protocol))?;
     }
     add_party(request.party, text)?;
-    text.push_str(" then: the log begins at ")?;
-    Moment(first).add_to(text)?;
-    text.push_str(", ends at ")?;
-    Moment(last).add_to(text)?;
+    write!(text, " then: the {what} begins at ")?;
+    Moment(u128::from(first)).add_to(text)?;
+    if let Some(last) = last {
+        text.push_str(", ends at ")?;
+        Moment(u128::from(last)).add_to(text)?;
+    }
     text.push_str("\n")
 }
 

@@ -23,20 +23,15 @@ flows_of (Many many) = somes many.value.slots.slots
 
 -- kept with maps
 abbrev pub has_maps : Kept → Bool
-has_maps Empty = false
-has_maps (One flow) = false
-has_maps (Few flows) = false
 has_maps (Many many) = true
+has_maps _ = false
 
 -- a list that is full
 abbrev pub are_full : Timers → Sent → Kept → Bool
-are_full timers sent Empty = false
-are_full timers sent (One flow) = false
 are_full timers sent (Few flows) = is_full timers sent flows.items
-are_full timers sent (Many many) = false
+are_full timers sent _ = false
 
 abbrev pub IsKept : Kept → Type 0
-IsKept Empty = Unit {0}
-IsKept (One flow) = Unit {0}
 IsKept (Few flows) = AreDistinct flows.items × (length flows.items ≤ few)
 IsKept (Many many) = IsMany many.value
+IsKept _ = Unit {0}

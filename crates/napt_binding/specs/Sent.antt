@@ -5,8 +5,7 @@ use Rattle.napt_rules.specs.{declared.{Flow.Flow, Sent.Sent}, Prelude.{change_fi
 -- the flow that begins with the packet
 abbrev pub begun_by : Sent → Flow
 begun_by sent =
-    used sent.protocol Outgoing sent.flags sent.now
-    (record { remote = sent.remote; marks = no_marks; last = sent.now })
+    used sent.protocol Outgoing sent.flags sent.now (record { remote = sent.remote; marks = no_marks; last = sent.now })
 
 -- the flows that stand when the packet goes out
 abbrev pub standing_at : Timers → Sent → List Flow → List Flow

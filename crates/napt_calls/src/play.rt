@@ -18,6 +18,7 @@ mod table;
 mod translators;
 
 use self::line::Line;
+pub(crate) use self::table::is_number;
 use self::translators::Translators;
 use crate::Stop;
 use napt_config::Config;
@@ -70,14 +71,8 @@ impl Player {
             "stream" => merging::tell_alone(line)?,
             "translate" | "route" | "onward" | "rows" => self.translated(line, call)?,
             "settings" | "built_in" | "copy" => self.configure(line, call)?,
-            "input" => {
-                let input = logs::input(line)?;
-                self.inputs.push(input).map_err(|_| Stop::Call)?
-            }
-            "logged" => {
-                let config = self.config.as_ref().ok_or(Stop::Usage)?;
-                logs::tell_log(line, config, &self.inputs)?
-            }
+            "input" => logs::take_input(line, &mut self.inputs)?,
+            "logged" => logs::tell_log(line, self.config.as_ref(), &self.inputs)?,
             "bytes"
             | "local_end"
             | "remote_end"

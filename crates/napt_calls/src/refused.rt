@@ -10,12 +10,12 @@
 //! One line on standard output tells the end. Statuses: 0 done, 1 something is left, changed or wrong, 2 usage, 3 memory was
 //! refused before the call, 4 after it, 5 memory or a thread was refused to the call, 6 the line is not written.
 
+mod captures;
 mod dispatching;
 mod left;
 mod pool;
 mod readers;
 mod run;
-mod streams;
 mod table;
 
 use self::table::Kind;
@@ -24,6 +24,11 @@ use std::process::ExitCode;
 use std::rt::Files;
 use std::sync::Wait;
 use std::thread::Threads;
+
+/// What the calls need of the runtime.
+pub(crate) trait System: Files + AllocGlobal + Threads + Wait + Copy + Send + 'static {}
+
+impl<R: Files + AllocGlobal + Threads + Wait + Copy + Send + 'static> System for R {}
 
 /// Why a call did not answer what it answers with ample memory.
 #[derive(Clone, Copy)]
@@ -63,10 +68,7 @@ impl From<AllocError> for End {
 }
 
 /// Makes the call that the word says, writes the line that tells its end, and answers the status.
-pub(crate) fn told<R: Files + Print + AllocGlobal + Threads + Wait + Copy + Send + 'static>(
-    rt: &R,
-    call: Option<&String>,
-) -> ExitCode {
+pub(crate) fn told<R: System + Print>(rt: &R, call: Option<&String>) -> ExitCode {
     let (line, status) = match ended(rt, call) {
         Ok(()) => ("done", 0),
         Err(end) => end.told(),
@@ -78,17 +80,14 @@ pub(crate) fn told<R: Files + Print + AllocGlobal + Threads + Wait + Copy + Send
 }
 
 /// Makes the call that the word says.
-fn ended<R: Files + AllocGlobal + Threads + Wait + Copy + Send + 'static>(
-    rt: &R,
-    call: Option<&String>,
-) -> Result<(), End> {
+fn ended(rt: &impl System, call: Option<&String>) -> Result<(), End> {
     let alloc = rt.alloc();
     match call.map(String::as_str) {
         Some("pool") => pool::ended(rt),
-        Some("run") => run::ended(rt),
+        Some("run") => captures::ended(rt, true),
         Some("workers") => run::workers_ended(rt),
-        Some("streams") => streams::ended(rt),
-        Some("devices") => streams::devices_ended(rt),
+        Some("streams") => captures::ended(rt, false),
+        Some("devices") => captures::devices_ended(rt),
         Some("plain") => run::plain_ended(alloc),
         Some("dispatch") => dispatching::ended(rt),
         Some("merge") => run::merge_ended(alloc),

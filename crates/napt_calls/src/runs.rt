@@ -61,16 +61,15 @@ pub(crate) fn measured<
     }
     let config = configuration(rt, words.get(2))?;
     let inputs = merged(rt)?;
-    let told = match how {
-        How::Plain => tell(rt, &plain(rt, &config, &inputs)?),
-        How::Workers => tell(rt, &over_workers(rt, &config, &inputs, OpenGate)?),
-        How::Slow => tell(
-            rt,
-            &over_workers(rt, &config, &inputs, SlowStart { rt: *rt })?,
-        ),
-        How::Copy | How::Merged => println!(rt; "packets {}", inputs.len()),
+    let run = match how {
+        How::Plain => run_plain(rt.alloc(), &config, &inputs).map_err(|_| Stop::Call)?,
+        How::Workers => over_workers(rt, &config, &inputs, OpenGate)?,
+        How::Slow => over_workers(rt, &config, &inputs, SlowStart { rt: *rt })?,
+        How::Copy | How::Merged => {
+            return println!(rt; "packets {}", inputs.len()).map_err(|_| Stop::File);
+        }
     };
-    told.map_err(|_| Stop::File)
+    tell(rt, &run).map_err(|_| Stop::File)
 }
 
 /// What a word says is to be done.
@@ -111,11 +110,6 @@ fn merged<R: Input + AllocGlobal>(rt: &R) -> Result<Vec<napt_run::Input>, Stop> 
     merge(alloc, capture.records, Vec::new(alloc)).map_err(|_| Stop::Call)
 }
 
-/// The run on one thread.
-fn plain<R: AllocGlobal>(rt: &R, config: &Config, inputs: &[napt_run::Input]) -> Result<Run, Stop> {
-    run_plain(rt.alloc(), config, inputs).map_err(|_| Stop::Call)
-}
-
 /// The run over workers, through a gate.
 fn over_workers<
     R: AllocGlobal + Threads + Wait + Copy + Send + 'static,
@@ -127,22 +121,15 @@ fn over_workers<
 
 /// Writes the line that counts.
 fn tell<R: Print>(rt: &R, run: &Run) -> io::Result<()> {
-    let outcomes = &run.outcomes;
-    let to_outside = outcomes
-        .iter()
-        .filter(|o| matches!(o, Outcome::ToOutside(_)))
-        .count();
-    let to_inside = outcomes
-        .iter()
-        .filter(|o| matches!(o, Outcome::ToInside(_)))
-        .count();
-    let dropped = outcomes
-        .iter()
-        .filter(|o| matches!(o, Outcome::Dropped(_)))
-        .count();
+    macro_rules! count {
+        ($end:ident) => {
+            run.outcomes.iter().filter(|it| matches!(it, Outcome::$end(_))).count()
+        };
+    }
+    let packets = run.outcomes.len();
+    let (to_outside, to_inside, dropped) = (count!(ToOutside), count!(ToInside), count!(Dropped));
     print!(rt;
-        "packets {} to-outside {to_outside} to-inside {to_inside} dropped {dropped} legs",
-        outcomes.len()
+        "packets {packets} to-outside {to_outside} to-inside {to_inside} dropped {dropped} legs"
     )?;
     for legs in &run.legs {
         print!(rt; " {legs}")?;

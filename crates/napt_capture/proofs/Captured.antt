@@ -1,7 +1,7 @@
 -- What a text begins with, and what it holds.
 use Rattle.std.proofs.lemmas.{Grind.common_steps, Bool.{Decides.nat_tests, cases_Bool, cases_lt, lt-ltb, le-ltb}}
 use Rattle.std.proofs.Common.{◌≡◌, ℕ, zero, suc, ◌+◌, ◌-◌, ◌<◌, ◌≤◌, inl, inr, Bool, true, false, List, [], ◌∷◌, length, take, drop, Option, Result, Ok, Err, refl, sym, ◌∙◌, ap, arith, length-drop, length-take-le, nat_lt}
-use Rattle.napt_capture.specs.Prelude.{LARGEST_RECORD, CaptureFault, TooLarge, Next, Whole, End, Spelling, units_per_second, Entry, Held, announced, asked_first, asked_records, captured, captured_by, captured_of, entry_in, fraction_of, held, held_by, next_by, next_in, number_behind, size_in, spelling_by, spelling_in}
+use Rattle.napt_capture.specs.Prelude.{LARGEST_RECORD, CaptureFault, TooLarge, Next, Whole, End, Spelling, units_per_second, CapturedRecord, CapturedRecords, announced, asked_first, asked_records, captured, captured_by, captured_of, entry_in, fraction_of, held, held_by, next_by, next_in, number_behind, size_in, spelling_by, spelling_in}
 
 -- THE HEADER OF A RECORD
 
@@ -82,20 +82,21 @@ pub entry_size : (s : Spelling) (text : List ℕ) (size : ℕ) → 16 + size ≤
 entry_size s text size whole = length-take-le size (drop 16 text) (omega (arith, length-drop 16 text, whole))
 
 -- a whole record is in the text, and is what is asked for
-record IsWhole (s : Spelling) (n : ℕ) (text : List ℕ) (entry : Entry) : Type 0 where
+record IsWhole (s : Spelling) (n : ℕ) (text : List ℕ) (entry : CapturedRecord) : Type 0 where
   pub within : 16 + length entry.bytes ≤ length text
   pub asked : asked_first s text ≡ 16 + length entry.bytes
 
-whole_of : (s : Spelling) (n : ℕ) (text : List ℕ) (entry : Entry) → FirstOf s n text →
+whole_of : (s : Spelling) (n : ℕ) (text : List ℕ) (entry : CapturedRecord) → FirstOf s n text →
     next_in s n text ≡ Ok (Whole entry) → IsWhole s n text entry
 whole_of s n text entry h k =
     grind (arith, common_steps, nat_tests, next_short, next_fault, next_cut, next_whole, entry_size, asked_long)
 
-pub next_within_text : (s : Spelling) (n : ℕ) (text : List ℕ) (entry : Entry) → next_in s n text ≡ Ok (Whole entry) →
+pub next_within_text : (s : Spelling) (n : ℕ) (text : List ℕ) (entry : CapturedRecord) →
+    next_in s n text ≡ Ok (Whole entry) →
     16 + length entry.bytes ≤ length text
 next_within_text s n text entry is = (whole_of s n text entry (first_of s n text) is).within
 
-pub next_asked : (s : Spelling) (n : ℕ) (text : List ℕ) (entry : Entry) → next_in s n text ≡ Ok (Whole entry) →
+pub next_asked : (s : Spelling) (n : ℕ) (text : List ℕ) (entry : CapturedRecord) → next_in s n text ≡ Ok (Whole entry) →
     asked_first s text ≡ 16 + length entry.bytes
 next_asked s n text entry is = (whole_of s n text entry (first_of s n text) is).asked
 
@@ -108,10 +109,11 @@ skips s n (suc skipped) [] = refl
 skips s n zero (byte ∷ text) = refl
 skips s n (suc skipped) (byte ∷ text) = skips s n skipped text
 
-abbrev pub with_first : Entry → Held → Held
+abbrev pub with_first : CapturedRecord → CapturedRecords → CapturedRecords
 with_first entry more = record { records = entry ∷ more.records; end = more.end }
 
-pub held_record : (s : Spelling) (n : ℕ) (text : List ℕ) (entry : Entry) → next_in s n text ≡ Ok (Whole entry) →
+pub held_record : (s : Spelling) (n : ℕ) (text : List ℕ) (entry : CapturedRecord) →
+    next_in s n text ≡ Ok (Whole entry) →
     held s n 0 text ≡ with_first entry (held s (number_behind n) 0 (drop (16 + length entry.bytes) text))
 unfolding held
 held_record s n [] entry is = absurd cc
@@ -135,7 +137,7 @@ held_fault s n [] fault is = absurd cc
 held_fault s n (byte ∷ text) fault is = ap (λ r. held_by r (λ skipped. held s (number_behind n) skipped text)) is
 
 -- the records are no longer than the text
-records_by : (s : Spelling) (n : ℕ) (text : List ℕ) (others : ℕ → Held) (next : Result Next CaptureFault) →
+records_by : (s : Spelling) (n : ℕ) (text : List ℕ) (others : ℕ → CapturedRecords) (next : Result Next CaptureFault) →
     next_in s n text ≡ next
     → ((skipped : ℕ) → asked_records (others skipped).records ≤ (length text - 1) - skipped)
     → asked_records (held_by next others).records ≤ length text
@@ -165,7 +167,8 @@ next_never : (s : Spelling) (n : ℕ) (text : List ℕ) → FirstOf s n text →
 next_never s n text h k =
     grind (arith, common_steps, nat_tests, next_short, next_fault, size_never, next_cut, next_whole)
 
-held_by_never : (s : Spelling) (n : ℕ) (text : List ℕ) (others : ℕ → Held) (next : Result Next CaptureFault) →
+held_by_never : (s : Spelling) (n : ℕ) (text : List ℕ) (others : ℕ → CapturedRecords) (next : Result Next CaptureFault)
+    →
     next_in s n text ≡ next → ((skipped : ℕ) → (others skipped).end ≡ Err TooLarge → ⊥)
     → (held_by next others).end ≡ Err TooLarge → ⊥
 held_by_never s n text others next h k g = grind (arith, common_steps, nat_tests, next_never)

@@ -4,7 +4,7 @@ use Rattle.std.proofs.Common.{◌≡◌, ℕ, zero, suc, nat_eq, false, rules, �
 use Rattle.std.{specs.{Io.{WritesAtMost, KnownBytes.{WriteAppends, Appends, Keeps}}, Result.result_unwrap_or}, proofs.Math.Seq.take-append-add}
 use Rattle.std.{proofs.lemmas.List.{take-append-le, take_more, Elements.{All-head, All-tail}, Concat.flat_map-append}, specs.List.flat_map}
 use lib.Seq.{take-add}
-use Rattle.napt_capture.specs.Prelude.{failed_writes, DeviceFault, WriteFault, Entry, IsWritable, entry_of_packet, file_header, record_header, record_text, text, Puts, PutsAll, PutsFront}
+use Rattle.napt_capture.specs.Prelude.{failed_writes, DeviceFault, WriteFault, CapturedRecord, IsWritable, entry_of_packet, file_header, record_header, record_text, text, Puts, PutsAll, PutsFront}
 
 -- the first was written whole, and then the second
 pub PutsAll-append : {before mid written : ℕ} {old now new : Option (List ℕ)} (xs ys : List ℕ)
@@ -100,16 +100,17 @@ pub PutsFront-same : {before : ℕ} {fault : WriteFault} {old new : Option (List
 PutsFront-same {before} {fault} {old} {new} e p = subst (λ l. PutsFront before old new l fault) e p
 
 -- the text of a record has its time and its bytes alone
-pub record_text_whole : (r : Entry) → record_text (entry_of_packet r.time r.bytes) ≡ record_text r
+pub record_text_whole : (r : CapturedRecord) → record_text (entry_of_packet r.time r.bytes) ≡ record_text r
 unfolding record_text record_header
 record_text_whole r = refl
 
 -- a record's text is no longer than the limit and its header
-pub length-record_text : (r : Entry) → IsWritable r → length (record_text r) ≤ 262160
+pub length-record_text : (r : CapturedRecord) → IsWritable r → length (record_text r) ≤ 262160
 unfolding record_text record_header
 length-record_text r h = omega (arith, h.bytes)
 
-pub length-texts : (rs : List Entry) → All IsWritable rs → length (flat_map record_text rs) ≤ 262160 * length rs
+pub length-texts : (rs : List CapturedRecord) → All IsWritable rs →
+    length (flat_map record_text rs) ≤ 262160 * length rs
 length-texts [] h = omega arith
 length-texts (r ∷ rs) h =
     omega (
@@ -120,34 +121,35 @@ length-texts (r ∷ rs) h =
     )
 
 -- the text with its first i records
-abbrev pub text_of_first : ℕ → List Entry → List ℕ
+abbrev pub text_of_first : ℕ → List CapturedRecord → List ℕ
 text_of_first i rs = file_header ++ flat_map record_text (take i rs)
 
 -- one record more
-pub text_of_first-more : (i : ℕ) (rs : List Entry) (r : Entry) → i < length rs → r ≡ get_or rs i r
+pub text_of_first-more : (i : ℕ) (rs : List CapturedRecord) (r : CapturedRecord) → i < length rs → r ≡ get_or rs i r
     → text_of_first i rs ++ record_text r ≡ text_of_first (i + 1) rs
 text_of_first-more i rs r within is =
     grind (arith, common_steps, nat_tests, append_assoc, take_more, flat_map-append, append-nil)
 
 -- and the rest of the text
-pub text-split : (i : ℕ) (rs : List Entry) → text rs ≡ text_of_first i rs ++ flat_map record_text (drop i rs)
+pub text-split : (i : ℕ) (rs : List CapturedRecord) → text rs ≡ text_of_first i rs ++ flat_map record_text (drop i rs)
 unfolding text
 text-split i rs =
     ap (λ l. file_header ++ flat_map record_text l) (sym (take-append-drop i rs))
     ∙ ap (λ l. file_header ++ l) (flat_map-append record_text (take i rs) (drop i rs))
     ∙ sym (append_assoc file_header (flat_map record_text (take i rs)) (flat_map record_text (drop i rs)))
 
-pub text_of_first-all : (i : ℕ) (rs : List Entry) → length rs ≤ i → text_of_first i rs ≡ text rs
+pub text_of_first-all : (i : ℕ) (rs : List CapturedRecord) → length rs ≤ i → text_of_first i rs ≡ text rs
 unfolding text
 text_of_first-all i rs past = ap (λ l. file_header ++ flat_map record_text l) (take_all i rs past)
 
 -- the whole text has a length that fits
-pub length-text : (rs : List Entry) → length rs < 2 ^ 32 → All IsWritable rs → length (text rs) < 2 ^ 64
+pub length-text : (rs : List CapturedRecord) → length rs < 2 ^ 32 → All IsWritable rs → length (text rs) < 2 ^ 64
 unfolding text file_header
 length-text rs few all = omega (arith, length-texts rs all)
 
 -- so there is room for one record more
-pub text_of_first-room : (i : ℕ) (rs : List Entry) (r : Entry) (written : ℕ) → i < length rs → r ≡ get_or rs i r
+pub text_of_first-room : (i : ℕ) (rs : List CapturedRecord) (r : CapturedRecord) (written : ℕ) → i < length rs →
+    r ≡ get_or rs i r
     → length rs < 2 ^ 32 → All IsWritable rs → written ≡ 0 + length (text_of_first i rs) →
     written + length (record_text r) < 2 ^ 64
 text_of_first-room i rs r written within is few all counted =

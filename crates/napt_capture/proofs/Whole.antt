@@ -1,13 +1,13 @@
 -- A capture that is read whole: how far reading has come, and what it comes to.
 use Rattle.std.proofs.lemmas.{Grind.common_steps, Bool.{Decides.nat_tests, cases_lt, lt-ltb, le-ltb}}
 use Rattle.std.proofs.Common.{◌≡◌, ℕ, ◌+◌, ◌^◌, ◌<◌, ◌≤◌, min, inl, inr, Bool, true, List, [], ◌∷◌, ◌++◌, length, take, drop, Option, Result, Ok, Err, refl, sym, ◌∙◌, ap, subst, arith, append-nil, append_assoc, length-append, length-drop, drop-drop, IfSome, nat_lt}
-use Rattle.napt_capture.specs.Prelude.{MOST_ASKED, CaptureFault, TooLarge, Memory, Next, Whole, End, Spelling, Entry, Contents, Held, asked_by, asked_first, asked_of, asked_records, captured, captured_by, contents_by, entry_in, held, next_in, number_behind, read_whole, spelling_in, Gives, IsForRecords, Leaves, ReadsNext, ReadsWhole, Says, StopsBehind, TakesAtMost, TakesMemory, next_within}
+use Rattle.napt_capture.specs.Prelude.{MOST_ASKED, CaptureFault, TooLarge, Memory, Next, Whole, End, Spelling, CapturedRecord, Contents, CapturedRecords, asked_by, asked_first, asked_of, asked_records, captured, captured_by, contents_by, entry_in, held, next_in, number_behind, read_whole, spelling_in, Gives, IsForRecords, Leaves, ReadsNext, ReadsWhole, Says, StopsBehind, TakesAtMost, TakesMemory, next_within}
 use Rattle.napt_capture.proofs.Filled.{Gives-both, Gives-map, Says-err}
 use Rattle.napt_capture.proofs.Captured.{FirstOf, asked_least, asked_most, first_of, held_end, held_fault, held_record, is_bad, is_cut, is_short, is_whole, next_asked, next_cut, next_fault, next_short, next_whole, records_within}
 
 -- ---- how much is asked for
 
-abbrev pub asked_all : Spelling → List ℕ → List Entry → ℕ
+abbrev pub asked_all : Spelling → List ℕ → List CapturedRecord → ℕ
 asked_all s bytes records =
     let front : ℕ = 24 + asked_records records in
     front + asked_first s (drop front bytes)
@@ -20,7 +20,7 @@ captured_is : (s : Spelling) (bytes : List ℕ) → spelling_in (take 24 bytes) 
     ≡ held s 1 0 (drop 24 bytes)
 captured_is s bytes is = ap (λ r. captured_by r (drop 24 bytes)) is
 
-pub asked_joined : (xs ys : List Entry) → asked_records (xs ++ ys) ≡ asked_records xs + asked_records ys
+pub asked_joined : (xs ys : List CapturedRecord) → asked_records (xs ++ ys) ≡ asked_records xs + asked_records ys
 asked_joined [] ys = omega arith
 asked_joined (x ∷ xs) ys = omega (arith, asked_joined xs ys)
 
@@ -50,11 +50,11 @@ read_short bytes short =
 
 -- ---- how far it has come
 
-abbrev joined : List Entry → Held → Held
+abbrev joined : List CapturedRecord → CapturedRecords → CapturedRecords
 joined records more = record { records = records ++ more.records; end = more.end }
 
 -- these records were read, and so much was asked for
-pub record Progress (s : Spelling) (records : List Entry) (asked : ℕ) (bytes left : List ℕ) : Type 0 where
+pub record Progress (s : Spelling) (records : List CapturedRecord) (asked : ℕ) (bytes left : List ℕ) : Type 0 where
   pub spelled : spelling_in (take 24 bytes) ≡ Ok s
   pub left_is : left ≡ drop asked bytes
   pub held_is : held s 1 0 (drop 24 bytes) ≡ joined records (held s (length records + 1) 0 left)
@@ -72,11 +72,13 @@ large_is : (s : Spelling) (asked n : ℕ) (text : List ℕ) → MOST_ASKED < ask
     next_within s asked n text ≡ Err TooLarge
 large_is s asked n text large = rw (lt-ltb MOST_ASKED (asked + asked_first s text) large) refl
 
-whole_is : (s : Spelling) (asked n : ℕ) (text : List ℕ) (entry : Entry) → next_within s asked n text ≡ Ok (Whole entry)
+whole_is : (s : Spelling) (asked n : ℕ) (text : List ℕ) (entry : CapturedRecord) →
+    next_within s asked n text ≡ Ok (Whole entry)
     → next_in s n text ≡ Ok (Whole entry)
 whole_is s asked n text entry is = grind (arith, common_steps, cases_lt, large_is, within_is)
 
-pub Progress-more : (s : Spelling) (records : List Entry) (asked : ℕ) (bytes text left : List ℕ) (entry : Entry) →
+pub Progress-more : (s : Spelling) (records : List CapturedRecord) (asked : ℕ) (bytes text left : List ℕ)
+    (entry : CapturedRecord) →
     length records + 2 < 2 ^ 64 → Progress s records asked bytes text
     → ReadsNext s asked (length records + 1) (Ok (Whole entry)) text left
     → Progress s (records ++ entry ∷ []) (asked + (16 + length entry.bytes)) bytes left
@@ -99,34 +101,36 @@ Progress-more s records asked bytes text left entry few p q =
 -- ---- at its end
 
 -- where no record is left, what is next is the last that is asked for
-asked_last : (s : Spelling) (text : List ℕ) (records more : List Entry) (asked : ℕ) (bytes : List ℕ) → more ≡ [] →
+asked_last : (s : Spelling) (text : List ℕ) (records more : List CapturedRecord) (asked : ℕ) (bytes : List ℕ) →
+    more ≡ [] →
     asked ≡ 24 + asked_records records → text ≡ drop asked bytes
     → asked_all s bytes (records ++ more) ≡ asked + asked_first s text
 asked_last s text records more asked bytes none counted left_is = grind (arith, common_steps, append-nil)
 
 -- else more is
-least_by : (s : Spelling) (n : ℕ) (text : List ℕ) (records : List Entry) (asked : ℕ) (bytes : List ℕ) →
+least_by : (s : Spelling) (n : ℕ) (text : List ℕ) (records : List CapturedRecord) (asked : ℕ) (bytes : List ℕ) →
     FirstOf s n text → asked ≡ 24 + asked_records records → text ≡ drop asked bytes
     → asked + asked_first s text ≤ asked_all s bytes (records ++ (held s n 0 text).records)
 least_by s n text records asked bytes (is_short short) counted left_is =
     omega (
       arith,
       asked_last s text records (held s n 0 text).records asked bytes
-          (ap (λ (h : Held). h.records) (held_end s n text (nat_lt 0 (length text)) (next_short s n text short)))
+          (ap (λ (h : CapturedRecords). h.records) (held_end s n text (nat_lt 0 (length text))
+          (next_short s n text short)))
           counted left_is,
     )
 least_by s n text records asked bytes (is_bad fault long size) counted left_is =
     omega (
       arith,
       asked_last s text records (held s n 0 text).records asked bytes
-          (ap (λ (h : Held). h.records) (held_fault s n text fault (next_fault s n text fault long size)))
+          (ap (λ (h : CapturedRecords). h.records) (held_fault s n text fault (next_fault s n text fault long size)))
           counted left_is,
     )
 least_by s n text records asked bytes (is_cut size long is short) counted left_is =
     omega (
       arith,
       asked_last s text records (held s n 0 text).records asked bytes
-          (ap (λ (h : Held). h.records) (held_end s n text true (next_cut s n text size long is short)))
+          (ap (λ (h : CapturedRecords). h.records) (held_end s n text true (next_cut s n text size long is short)))
           counted left_is,
     )
 least_by s n text records asked bytes (is_whole size is whole) counted left_is =
@@ -143,12 +147,12 @@ least_by s n text records asked bytes (is_whole size is whole) counted left_is =
       asked_least s (drop (24 + all) bytes),
     ))
 
-asked_from : (s : Spelling) (records : List Entry) (asked : ℕ) (bytes text : List ℕ) →
+asked_from : (s : Spelling) (records : List CapturedRecord) (asked : ℕ) (bytes text : List ℕ) →
     Progress s records asked bytes text → asked_of bytes
     ≡ asked_all s bytes (records ++ (held s (length records + 1) 0 text).records)
 asked_from s records asked bytes text p = grind (arith, common_steps, asked_is)
 
-asked_more : (s : Spelling) (records : List Entry) (asked : ℕ) (bytes text : List ℕ) →
+asked_more : (s : Spelling) (records : List CapturedRecord) (asked : ℕ) (bytes text : List ℕ) →
     asked ≡ 24 + asked_records records → Progress s records asked bytes text
     → asked + asked_first s text ≤ asked_of bytes
 asked_more s records asked bytes text counted p =
@@ -160,19 +164,20 @@ asked_more s records asked bytes text counted p =
     )
 
 -- where no record is left, and it is not too large
-read_last : (s : Spelling) (records : List Entry) (asked : ℕ) (bytes text : List ℕ) (end : Result Bool CaptureFault) →
+read_last : (s : Spelling) (records : List CapturedRecord) (asked : ℕ) (bytes text : List ℕ)
+    (end : Result Bool CaptureFault) →
     asked ≡ 24 + asked_records records → Progress s records asked bytes text → asked + asked_first s text ≤ MOST_ASKED
     → held s (length records + 1) 0 text ≡ record { records = []; end = end }
     → read_whole bytes ≡ contents_by records end
 read_last s records asked bytes text end counted p few none =
     grind (arith, common_steps, nat_tests, asked_from, asked_last, captured_is, le-ltb, append-nil)
 
-read_large : (s : Spelling) (records : List Entry) (asked : ℕ) (bytes text : List ℕ) →
+read_large : (s : Spelling) (records : List CapturedRecord) (asked : ℕ) (bytes text : List ℕ) →
     asked ≡ 24 + asked_records records → Progress s records asked bytes text
     → MOST_ASKED < asked + asked_first s text → read_whole bytes ≡ Err TooLarge
 read_large s records asked bytes text counted p large = grind (arith, common_steps, lt-ltb, asked_more)
 
-read_end : (s : Spelling) (records : List Entry) (asked : ℕ) (bytes text left : List ℕ) (cut : Bool) →
+read_end : (s : Spelling) (records : List CapturedRecord) (asked : ℕ) (bytes text left : List ℕ) (cut : Bool) →
     asked ≡ 24 + asked_records records → Progress s records asked bytes text
     → ReadsNext s asked (length records + 1) (Ok (End cut)) text left
     → read_whole bytes ≡ Ok (record { records = records; cut = cut })
@@ -184,7 +189,8 @@ read_end s records asked bytes text left cut counted p q =
           (held_end s n text cut (within_is s asked n text (Ok (End cut)) few q.is))
     ]
 
-read_fault : (s : Spelling) (records : List Entry) (asked : ℕ) (bytes text left : List ℕ) (fault : CaptureFault) →
+read_fault : (s : Spelling) (records : List CapturedRecord) (asked : ℕ) (bytes text left : List ℕ)
+    (fault : CaptureFault) →
     asked ≡ 24 + asked_records records → Progress s records asked bytes text
     → ReadsNext s asked (length records + 1) (Err fault) text left → read_whole bytes ≡ Err fault
 read_fault s records asked bytes text left fault counted p q =
@@ -198,7 +204,8 @@ read_fault s records asked bytes text left fault counted p q =
           (held_fault s n text fault (within_is s asked n text (Err fault) few q.is))
     ]
 
-takes : (s : Spelling) (records : List Entry) (asked : ℕ) (bytes text left : List ℕ) (result : Result Next CaptureFault)
+takes : (s : Spelling) (records : List CapturedRecord) (asked : ℕ) (bytes text left : List ℕ)
+    (result : Result Next CaptureFault)
     → asked ≡ 24 + asked_records records → Progress s records asked bytes text
     → ReadsNext s asked (length records + 1) result text left → TakesAtMost (min MOST_ASKED (asked_of bytes)) bytes left
 takes s records asked bytes text left result counted p q = (
@@ -208,18 +215,19 @@ takes s records asked bytes text left result counted p q = (
 )
 
 -- where it stopped
-stops_behind : (s : Spelling) (records : List Entry) (asked : ℕ) (bytes text left : List ℕ) (fault : CaptureFault) →
+stops_behind : (s : Spelling) (records : List CapturedRecord) (asked : ℕ) (bytes text left : List ℕ)
+    (fault : CaptureFault) →
     asked ≡ 24 + asked_records records → Progress s records asked bytes text
     → ReadsNext s asked (length records + 1) (Err fault) text left
     → StopsBehind s records (held s (length records + 1) 0 text).records asked bytes left
 stops_behind s records asked bytes text left fault counted p q =
     let n = length records + 1 in
     record {
-      all = ap (λ (h : Held). h.records) (captured_is s bytes p.spelled ∙ p.held_is);
+      all = ap (λ (h : CapturedRecords). h.records) (captured_is s bytes p.spelled ∙ p.held_is);
       asked_is = counted;
       last = elim (cases_lt MOST_ASKED (asked + asked_first s text)) [
         | inl large ↦ inr (subst (λ t. MOST_ASKED < asked + asked_first s t) p.left_is large)
-        | inr few ↦ inl (ap (λ (h : Held). h.records)
+        | inr few ↦ inl (ap (λ (h : CapturedRecords). h.records)
             (held_fault s n text fault (within_is s asked n text (Err fault) few q.is)))
       ];
       left_is = q.left_is ∙ ap (drop q.taken) p.left_is ∙ drop-drop q.taken asked bytes
@@ -228,11 +236,13 @@ stops_behind s records asked bytes text left fault counted p q =
 
 -- ---- of a reader
 
-module _ (s : Spelling) (records : List Entry) (asked number : ℕ) (counted : asked ≡ 24 + asked_records records)
+module _ (s : Spelling) (records : List CapturedRecord) (asked number : ℕ)
+    (counted : asked ≡ 24 + asked_records records)
     (numbered : number ≡ length records + 1) (old mid new : Option (List ℕ))
     (progress : Gives old mid (Progress s records
     asked)) where
-  pub reads_on : (entry : Entry) → number + 1 < 2 ^ 64 → Gives mid new (ReadsNext s asked number (Ok (Whole entry)))
+  pub reads_on : (entry : CapturedRecord) → number + 1 < 2 ^ 64 →
+      Gives mid new (ReadsNext s asked number (Ok (Whole entry)))
       → Gives old new (Progress s (records ++ entry ∷ []) (asked + (16 + length entry.bytes)))
   reads_on entry few next =
       Gives-both old mid new (λ bytes text left p q.
@@ -288,7 +298,8 @@ refuses old new fault says =
 
 -- MEMORY, where behind so many bytes that were asked for there is the header of a record
 
-pub for_records : (s : Spelling) (records : List Entry) (asked : ℕ) (first now : Option (List ℕ)) → 24 ≤ asked →
+pub for_records : (s : Spelling) (records : List CapturedRecord) (asked : ℕ) (first now : Option (List ℕ)) →
+    24 ≤ asked →
     Gives first now (Progress s records asked) → (fault : CaptureFault) →
     ((let r : Result Next CaptureFault = Err fault in TakesMemory r) →
     IfSome now (λ bytes. 16 ≤ length bytes)) → IsForRecords first fault

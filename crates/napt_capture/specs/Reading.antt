@@ -2,7 +2,7 @@
 use Rattle.std.specs.Prelude.{ℕ, ◌+◌, ◌*◌, ◌^◌, ◌<◌, ◌≤◌, ◌≡◌, ◌⊎◌, ⊤, nat_lt, if◌then◌else◌, min, List, [], ◌++◌, length, take, drop, Option, Some, None, IfSome, Result, Ok, Err}
 use Rattle.napt_capture.specs.declared.{TheConstants.{LARGEST_RECORD, MOST_ASKED}, fault.CaptureFault.{CaptureFault, TheVariants.{TooLarge, Read, Memory}}}
 use Rattle.napt_capture.specs.declared.{reading.{Next.{Next, TheVariants.{Whole, End}}, Fields.Fields}, spelling.Spelling.Spelling}
-use Rattle.napt_capture.specs.{Contents.{Contents, Entry}, Text.IsWritable}
+use Rattle.napt_capture.specs.{Contents.{Contents, CapturedRecord}, Text.IsWritable}
 use Rattle.napt_capture.specs.Capture.{asked_first, asked_of, asked_records, captured, next_in, original_of, read_whole, size_in, spelling_in, time_of}
 
 -- unless the device or memory failed
@@ -77,7 +77,8 @@ TakesAtMost most bytes left = (taken : ℕ) × (taken ≤ most) × (left ≡ dro
 
 -- with a fault behind these records: all, or so many that what is next may not be asked for; the next header was read,
 -- if that may be
-pub record StopsBehind (s : Spelling) (records more : List Entry) (asked : ℕ) (bytes left : List ℕ) : Type 0 where
+pub record StopsBehind (s : Spelling) (records more : List CapturedRecord) (asked : ℕ)
+    (bytes left : List ℕ) : Type 0 where
   pub all : (captured bytes).records ≡ records ++ more
   pub asked_is : asked ≡ 24 + asked_records records
   pub last : (more ≡ []) ⊎ (MOST_ASKED < asked + asked_first s (drop asked bytes))
@@ -88,7 +89,8 @@ abbrev pub Leaves : Result Contents CaptureFault → Result Spelling CaptureFaul
 Leaves (Ok contents) header bytes left = left ≡ []
 Leaves (Err fault) (Err refused) bytes left = left ≡ drop 24 bytes
 Leaves (Err fault) (Ok s) bytes left =
-    (records : List Entry) × (more : List Entry) × (asked : ℕ) × StopsBehind s records more asked bytes left
+    (records : List CapturedRecord) × (more : List CapturedRecord) ×
+    (asked : ℕ) × StopsBehind s records more asked bytes left
 
 -- the file was read whole, and no more of it than that takes
 pub record ReadsWhole (result : Result Contents CaptureFault) (bytes left : List ℕ) : Type 0 where

@@ -14,9 +14,9 @@ pub struct Record {
 }
 
 impl Model for Record {
-    ghost use Rattle.napt_capture.specs.Contents.{Entry};
+    ghost use Rattle.napt_capture.specs.Contents.{CapturedRecord};
 
-    ghost Value = { Entry };
+    ghost Value = { CapturedRecord };
 
     ghost view = { λ r. record { time = r.time; bytes = r.bytes.items; original = r.original } };
 }

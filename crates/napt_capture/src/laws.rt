@@ -1,12 +1,12 @@
 //! Laws of capture texts, for the crates above.
 ghost use Rattle.std.specs.Prelude.{◌≡◌, ◌≢◌, ◌+◌, ◌≤◌, List, [], ◌∷◌, ℕ, length, drop, map, All, Bool, Ok, Err, false};
 ghost use Rattle.napt_capture.specs.declared.{fault.CaptureFault.{CaptureFault, TheVariants.TooLarge}, spelling.Spelling.Spelling};
-ghost use Rattle.napt_capture.specs.{declared.reading.Next.TheVariants.{Whole, End}, Contents.Entry};
+ghost use Rattle.napt_capture.specs.{declared.reading.Next.TheVariants.{Whole, End}, Contents.CapturedRecord};
 ghost use Rattle.napt_capture.specs.{Capture.{captured, contents_by, held, next_in, number_behind, read_whole}, Text.{IsWritable, as_written, text}};
 
 /// What a text behind the header of its file holds is what it begins with, and what follows that holds.
 pub fn records_follow()
-    ensures record { (s : Spelling) (number : ℕ) (text : List ℕ) (entry : Entry) →
+    ensures record { (s : Spelling) (number : ℕ) (text : List ℕ) (entry : CapturedRecord) →
         next_in s number text ≡ Ok (Whole entry) → held s number 0 text ≡ record {
           records = entry ∷ (held s (number_behind number) 0 (drop (16 + length entry.bytes) text)).records;
           end = (held s (number_behind number) 0 (drop (16 + length entry.bytes) text)).end;
@@ -20,9 +20,9 @@ pub fn records_follow()
 /// What is written reads back: the same times and bytes, each original length the number of bytes, and not cut. So it does
 /// read whole, if the text has at most 68,719,476,720 bytes, so that its end can be asked for too.
 pub fn reads_back()
-    ensures captured { (records : List Entry) → All IsWritable records →
+    ensures captured { (records : List CapturedRecord) → All IsWritable records →
         captured (text records) ≡ record { records = map as_written records; end = Ok false } }
-    ensures whole { (records : List Entry) → All IsWritable records →
+    ensures whole { (records : List CapturedRecord) → All IsWritable records →
         length (text records) ≤ 68719476720
         → read_whole (text records) ≡ Ok (record { records = map as_written records; cut = false }) }
 {}

@@ -140,8 +140,7 @@ fn read_record<R: Source>(
     ensures next { Says result (Gives (R.remaining reader.old) (R.remaining reader.new)
         (ReadsNext spelling asked number result)) }
     ensures room { IfOk result (IsWithin asked) }
-    ensures memory { TakesMemory result →
-        IfSome (R.remaining reader.old) (λ bytes. 16 ≤ length bytes) }
+    ensures memory { TakesMemory result → IfSome (R.remaining reader.old) (λ all. 16 ≤ length all) }
     ensures large { MOST_ASKED < asked + 16 → result ≡ Err CaptureFault.TooLarge }
     ensures writable { IfOk result IsWritableNext }
     ensures count { R.failed reader.new ≡ R.failed reader.old + failed_reads result }

@@ -2,6 +2,7 @@
 
 use crate::losses::Losses;
 use crate::plain_run::PlainRun;
+use crate::start::RunStart;
 use napt_config::Config;
 use napt_records::Counts;
 use napt_sequential::{Input, Outcome, RunFault};
@@ -17,11 +18,11 @@ pub struct CountedRun<'a> {
 
 impl<'a> CountedRun<'a> {
     /// Before the first packet.
-    pub fn begin(alloc: Global, config: &'a Config) -> Result<CountedRun<'a>, AllocError> {
+    pub fn begin(alloc: Global, start: &RunStart<'a>) -> Result<CountedRun<'a>, AllocError> {
         Ok(CountedRun {
-            run: PlainRun::begin(alloc, config)?,
+            run: start.plain_run(alloc)?,
             counts: Counts::new(),
-            losses: Losses::new(alloc, config)?,
+            losses: Losses::new(alloc, start.config())?,
         })
     }
 

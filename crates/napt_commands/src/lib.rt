@@ -12,15 +12,17 @@ mod passed;
 mod plain_run;
 mod seconds;
 mod sorted;
+mod start;
 mod warning;
 
 pub use crate::counted_run::CountedRun;
 pub use crate::exit::Exit;
 pub use crate::files::{opened, tell_failed, tell_unwritten, text_at, unexplained, unwritten};
-pub use crate::losses::{Losses, Origin, destination_of, source_of};
+pub use crate::losses::{Losses, SourceKind, destination_of, source_of};
 pub use crate::outside::{Outside, copied};
 pub use crate::page::Page;
 pub use crate::passed::{Consumer, Ending, Passing, take_all};
 pub use crate::seconds::Seconds;
 pub use crate::sorted::Sorted;
+pub use crate::start::RunStart;
 pub use crate::warning::{begin_warning, tell_warning};

@@ -44,14 +44,14 @@ impl Losses {
                 self.no_binding = self.no_binding.saturating_add(1);
             }
             Outcome::Dropped(Cause::NotOurs) => self.not_ours = self.not_ours.saturating_add(1),
-            Outcome::Dropped(Cause::Spoofed) => match Origin::of(config, &input.bytes) {
-                Origin::Inside => self.from_inside = self.from_inside.saturating_add(1),
-                Origin::Pool(place) => {
+            Outcome::Dropped(Cause::Spoofed) => match SourceKind::of(config, &input.bytes) {
+                SourceKind::Inside => self.from_inside = self.from_inside.saturating_add(1),
+                SourceKind::Pool(place) => {
                     if let Some(many) = self.from_pool.get_mut(place as usize) {
                         *many = many.saturating_add(1);
                     }
                 }
-                Origin::Remote => {}
+                SourceKind::Remote => {}
             },
             _ => {}
         }
@@ -87,7 +87,7 @@ impl Losses {
 
 /// Where a packet comes from, by its source address.
 #[derive(Clone, Copy)]
-pub enum Origin {
+pub enum SourceKind {
     /// An inside address.
     Inside,
     /// The address at this index of the pool.
@@ -96,18 +96,18 @@ pub enum Origin {
     Remote,
 }
 
-impl Origin {
+impl SourceKind {
     /// That of the datagram that these bytes begin.
-    pub fn of(config: &Config, bytes: &[u8]) -> Origin {
+    pub fn of(config: &Config, bytes: &[u8]) -> SourceKind {
         let Some(source) = source_of(bytes) else {
-            return Origin::Remote;
+            return SourceKind::Remote;
         };
         if config.is_inside(source) {
-            return Origin::Inside;
+            return SourceKind::Inside;
         }
         match config.pool_index(source) {
-            Some(place) => Origin::Pool(place),
-            None => Origin::Remote,
+            Some(place) => SourceKind::Pool(place),
+            None => SourceKind::Remote,
         }
     }
 }

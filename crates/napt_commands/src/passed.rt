@@ -21,7 +21,9 @@ pub struct Ending<'a> {
     pub config: &'a Config,
     /// How many packets there were.
     pub packets: u64,
-    /// The latest time of a packet, in ns.
+    /// The time from which on what the run did is known, in ns.
+    pub first: u64,
+    /// The latest time of a packet, in ns, or that from which on it is known.
     pub last: u64,
     /// How far packets step back in time, in ns.
     pub later: u64,

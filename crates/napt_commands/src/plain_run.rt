@@ -1,11 +1,12 @@
 //! A run of which only the outcomes are wanted.
 
 ghost use Rattle.std.specs.Prelude.{◌≡◌, ◌++◌, [], ◌∷◌, OnOk, IfOk, false};
-ghost use Rattle.napt_rules.specs.Prelude.{opening, run};
-ghost use Rattle.napt_account.specs.KnownRuns.{KnownState};
+ghost use Rattle.napt_rules.specs.Prelude.{Takes, under};
+ghost use Rattle.napt_commands.specs.PlainRuns.{IsOutcome};
 
 use http_server::Log;
 use napt_config::Config;
+use napt_rules::State;
 use napt_sequential::{Input, Outcome, RunFault, SequentialRun};
 use std::alloc::{AllocError, Global};
 use std::marker::Model;
@@ -15,7 +16,9 @@ use std::marker::Model;
 pub struct PlainRun<'a> {
     config: &'a Config,
     run: SequentialRun,
-    /// The packets that it took. It takes no memory: only proofs read it.
+    /// The state from which it goes on. It takes no memory: only proofs read it.
+    begun: Log<u64, State>,
+    /// The packets that it took, likewise.
     past: Log<u64, Input>,
     /// Whether a step failed. From then on the run does not go on.
     is_stopped: bool,
@@ -23,27 +26,44 @@ pub struct PlainRun<'a> {
 
 impl<'a> Model for PlainRun<'a> {
     ghost use Rattle.std.specs.Prelude.{◌≡◌, List, false};
-    ghost use Rattle.napt_account.specs.{KnownLogs.{taken_in}, KnownRuns.{KnownState}};
-    ghost use Rattle.napt_sequential.specs.SequentialRuns.{StandsAfter};
+    ghost use Rattle.napt_account.specs.{KnownLogs.{taken_in}, KnownRuns.{begun_in}};
+    ghost use Rattle.napt_commands.specs.PlainRuns.{PlainState};
+    ghost use Rattle.napt_sequential.specs.SequentialRuns.{StandsFrom};
 
-    ghost Value = { KnownState };
+    ghost Value = { PlainState };
 
-    ghost view = { λ it. record { rules = it.config.now; inputs = taken_in it.past.items; is_stopped = it.is_stopped } };
+    ghost view = { λ it. record {
+      rules = it.config.now;
+      state = begun_in it.config.now it.begun.items;
+      inputs = taken_in it.past.items;
+      is_stopped = it.is_stopped;
+    } };
 
     ghost invariant = { λ it. it.is_stopped ≡ false
-        → StandsAfter it.config.now (taken_in it.past.items) it.run };
+        → StandsFrom it.config.now (begun_in it.config.now it.begun.items)
+        (taken_in it.past.items) it.run };
 }
 
 impl<'a> PlainRun<'a> {
-    /// Before the first packet.
-    pub fn begin(alloc: Global, config: &'a Config) -> Result<PlainRun<'a>, AllocError>
-        ensures { IfOk result (λ run. run
-            ≡ record { rules = config.now; inputs = []; is_stopped = false }) }
+    /// The run from a state on, before the first packet. Fails only if memory is refused.
+    pub fn resume(
+        alloc: Global,
+        config: &'a Config,
+        state: &State,
+    ) -> Result<PlainRun<'a>, AllocError>
+        requires { Takes config.now state.now }
+        ensures { IfOk result (λ run. run ≡ record {
+          rules = config.now;
+          state = under config.now state.now;
+          inputs = [];
+          is_stopped = false;
+        }) }
     {
-        let run = SequentialRun::begin(alloc, config)?;
+        let run = SequentialRun::resume(alloc, config, state)?;
         Ok(PlainRun {
             config,
             run,
+            begun: Log::new().and(&0, state),
             past: Log::new(),
             is_stopped: false,
         })
@@ -58,9 +78,8 @@ impl<'a> PlainRun<'a> {
     /// Passes the next packet through the run, and tells what becomes of it: the last outcome of the sequential run over
     /// all packets so far. After a fault each later step fails with `RunFault::Memory`.
     pub fn step(&mut self, alloc: Global, input: &Input) -> Result<Outcome, RunFault>
-        ensures tells { self.old.is_stopped ≡ false → IfOk result (λ outcome.
-            (run self.old.rules (self.old.inputs ++ input.now ∷ []) (opening self.old.rules)).outcomes
-            ≡ (run self.old.rules self.old.inputs (opening self.old.rules)).outcomes ++ outcome ∷ []) }
+        ensures tells { self.old.is_stopped ≡ false →
+            IfOk result (IsOutcome self.old input.now) }
         ensures goes { self.old.is_stopped ≡ false → OnOk result (self.new
             ≡ record self.old { inputs = self.old.inputs ++ input.now ∷ [] }) }
     {

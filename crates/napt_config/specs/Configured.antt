@@ -167,11 +167,9 @@ inside_in pool table = do
 
 -- ---- filter, refresh, parity, numbers
 
-abbrev pub filters : List (List ℕ × Filter)
-filters = (codes "independent", Independent) ∷ (codes "address", Address) ∷ (codes "address-port", AddressPort) ∷ []
-
 unfoldable pub filter_in : Members → Result Filter ConfigFault
-filter_in table = optional (codes "filter") Independent (word_at filters) table
+filter_in table = optional (codes "filter") Independent (word_at ((codes "independent", Independent)
+    ∷ (codes "address", Address) ∷ (codes "address-port", AddressPort) ∷ [])) table
 
 unfoldable pub refresh_in : Members → Result Refresh ConfigFault
 refresh_in table =
@@ -212,10 +210,6 @@ choosing_in table = do
   is_random ← is_random_in table
   seed ← seed_in is_random table
   Ok (record { keeps_parity = keeps_parity; seed = seed })
-
--- that of a configuration which says nothing of it
-abbrev pub default_choosing : Choosing
-default_choosing = record { keeps_parity = true; seed = None }
 
 -- ---- timers
 
@@ -421,7 +415,7 @@ built_in = record {
   inside = private_networks;
   filter = Independent;
   refresh = Outbound;
-  choosing = default_choosing;
+  choosing = record { keeps_parity = true; seed = None };
   timers = default_timers;
   ring = 64;
   quota = None;

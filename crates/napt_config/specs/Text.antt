@@ -51,8 +51,7 @@ network_at address bits = if address % 2 ^ (32 - bits) == 0 then Some (record { 
 -- the prefix that the text is: the one whose `network_text` it is, where there is one
 unfoldable pub network_of : List ℕ → Option Network
 network_of text =
-    option_and_then
-    (λ address. option_and_then (network_at address) (number_of 0 32 (after_first is_slash text)))
+    option_and_then (λ address. option_and_then (network_at address) (number_of 0 32 (after_first is_slash text)))
     (address_of (before_first is_slash text))
 
 abbrev pub socket_at : ℕ → ℕ → Option Socket
@@ -61,8 +60,7 @@ socket_at address port = Some (record { address = address; port = port })
 -- the transport address that the text is: the one whose `socket_text` it is, where there is one
 unfoldable pub socket_of : List ℕ → Option Socket
 socket_of text =
-    option_and_then
-    (λ address. option_and_then (socket_at address) (number_of 1 65535 (after_first is_colon text)))
+    option_and_then (λ address. option_and_then (socket_at address) (number_of 1 65535 (after_first is_colon text)))
     (address_of (before_first is_colon text))
 
 -- What a text reads as: the value whose spelling it is, and no other; the fault, where it spells no value.

@@ -3,7 +3,7 @@ use Rattle.std.proofs.lemmas.{Grind.common_steps, Bool.Decides.nat_tests, Option
 use Rattle.std.proofs.Common.{◌≡◌, ℕ, zero, suc, ◌+◌, ◌<◌, ◌≤◌, max, List, [], ◌∷◌, ◌++◌, length, map, Result, Ok, refl, sym, ◌∙◌, ap, subst, arith, append-nil}
 use Rattle.std.{proofs.lemmas.List.{length-map, Folds.flat_map-map}, specs.Prelude.{slice_index, slice_index_or, flat_map, OnOk}}
 use Rattle.napt_config.specs.Rules.{Rules}
-use Rattle.napt_rules.specs.{declared.Row.Row, Prelude.{left_by as run_left_by, Binding, of, hold_ago, opening, anew, under, Takes, Arrival, rows_of, rows, Course, State, course_from, last_clock, legs_at, Ran, ran_from, Kept, kept_after_all}}
+use Rattle.napt_rules.specs.{declared.Row.Row, Prelude.{left_by as run_left_by, Binding, of, hold_ago, opening, anew, under, Arrival, rows_of, rows, Course, State, course_from, last_clock, legs_at, Ran, ran_from, Kept, kept_after_all}}
 use Rattle.napt_rules.specs.declared.{Leg.Leg, Outcome.Outcome}
 use Rattle.napt_translate.specs.Translators.{TranslatorState, begun, kept_of, with_kept, left_by}
 use Rattle.napt_pool.specs.{declared.closing.Ended.Ended, Pools.zip_with}
@@ -130,9 +130,6 @@ started_more rules start n = let e : n + 1 ≡ suc n = omega arith in ap (starte
 
 nothing : (state : State) → state.clock ≡ 0 → state.list ≡ [] → state ≡ record { clock = 0; list = [] }
 nothing state at none = λ i. record { clock = at i; list = none i }
-
-pub takes_nothing : (rules : Rules) (state : State) → state.clock ≡ 0 → state.list ≡ [] → Takes rules state
-takes_nothing rules state at none = subst (Takes rules) (sym (nothing state at none)) refl
 
 pub under_nothing : (rules : Rules) (state : State) → state.clock ≡ 0 → state.list ≡ [] →
     under rules state ≡ anew rules

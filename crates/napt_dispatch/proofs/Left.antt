@@ -1,6 +1,6 @@
 -- The state that the translators of a run are left with.
-use Rattle.std.proofs.{lemmas.{List.length-map, Option.{slice_get-map, slice_get_within, slice_get_cases}}, Common.{◌≡◌, ℕ, max, List, length, map, sym, ◌∙◌, ap, subst, arith, inl, inr}}
-use Rattle.std.specs.{List.slice_get, Option.option_map}
+use Rattle.std.proofs.{lemmas.{List.length-map, Option.{slice_get-map, slice_get_within, slice_get_cases}}, Common.{◌≡◌, ℕ, max, List, length, map, ◌∙◌, ap, arith, inl, inr}}
+use Rattle.std.specs.Option.{option_map}
 use Rattle.napt_config.specs.{Rules.Rules, declared.settings.Timers.Timers}
 use Rattle.napt_rules.specs.Prelude.{Binding, of, taken, State, AreLeft, IsInOrder}
 use Rattle.napt_translate.specs.Translators.{TranslatorState}

@@ -3,11 +3,11 @@ use Rattle.std.{proofs.lemmas.{Grind.common_steps, Bool.{Decides.nat_tests, case
 use Rattle.std.proofs.Common.{◌≡◌, ◌≢◌, ◌⊎◌, ◌||◌, ℕ, zero, suc, ◌+◌, ◌<◌, ◌≤◌, min, Bool, true, false, List, [], ◌∷◌, ◌++◌, length, map, take, drop, length-append, length-drop, take-append-drop, Option, refl, sym, ◌∙◌, ap, subst, arith}
 use Rattle.napt_rules.specs.{Prelude.course_from, declared.Leg.Leg}
 use Rattle.napt_pool.specs.{declared.pool.Pool.Pool, Pools.{starts, accepts, takes, capacity_of}}
-use Rattle.napt_dispatch.specs.declared.dispatcher.{Dispatcher.Dispatcher, holding.{Front.Front, Held.TheVariants.Ready}, progress.Progress.Progress}
+use Rattle.napt_dispatch.specs.declared.dispatcher.{Dispatcher.Dispatcher, holding.{Front.Front, Pending.TheVariants.Ready}, progress.Progress.Progress}
 use Rattle.napt_dispatch.specs.{declared.{dispatcher.progress.Progress.TheVariants.{Returning, Answered}, departures.Departed.Departed}, Dispatch.of_worker}
 use Rattle.napt_dispatch.specs.QueueStates.{QueueState, queue_of, many_owed, front_of, readied, answered, with_offers, with_queue}
 use Rattle.napt_dispatch.specs.Windows.{Window, progress_in, IsWritten, IsMarked}
-use Rattle.napt_dispatch.specs.Standing.{Journal, journal_of, state_with, state_of, added, Keeps, KeepsAt, IsSizedFor, Continues, Noted, NotesAll, Forgets, IsSame, Resolves, waits, waits_behind, Readies, HasTaken, HasOffered, OffersOnlyTo, MovesLegsAt}
+use Rattle.napt_dispatch.specs.Standing.{journal_of, state_with, state_of, added, Keeps, KeepsAt, IsSizedFor, Continues, Noted, NotesAll, Forgets, IsSame, Resolves, waits, waits_behind, Readies, HasTaken, HasOffered, OffersOnlyTo, MovesLegsAt}
 use Rattle.napt_dispatch.proofs.Lanes.{grows_none, added_own, added_other, added_none, added_more, set_added}
 use Rattle.napt_dispatch.proofs.{QueueStates.{queue_own, queue_other, sum_with, nothing}, Standing.{queues_keep, offers_keep, readied_keeps, answer_keeps}}
 use Rattle.napt_sequential.specs.declared.{telling.Told.Told, passage.Passage.Passage}
@@ -15,8 +15,8 @@ use Rattle.napt_sequential.specs.declared.{telling.Told.Told, passage.Passage.Pa
 -- WHAT STANDS FIRST
 
 journal_as : {P : Type 0} {times times' : List ℕ} {left left' : List (ℕ × Departed P)} → times ≡ times' → left ≡ left' →
-    (let j : Journal P = record { times = times; left = left } in j) ≡ record { times = times'; left = left' }
-journal_as a b = λ i. record { times = a i; left = b i }
+    (let j : List ℕ × List (ℕ × Departed P) = (times, left) in j) ≡ (times', left')
+journal_as a b = λ i. (a i, b i)
 
 pub written_same : {P : Type 0} (number : ℕ) (p : Progress P) (window later : Window P) →
     IsWritten number p window later → journal_of later ≡ journal_of window
@@ -102,7 +102,6 @@ module _ {P M G : Type 0} where
 
     pub none_continue : IsSizedFor pool mid → Continues tells pool d pool mid
     none_continue sized = record {
-      starts_stay = refl;
       grows = grows_none pool;
       sized = sized;
       journal_stays = r.journal_stays;

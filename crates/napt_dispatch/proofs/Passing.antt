@@ -12,10 +12,10 @@ use Rattle.napt_dispatch.specs.{declared.{dispatcher.Dispatcher.Dispatcher, depa
 use Rattle.napt_dispatch.specs.Windows.{Window, IsHandedOver, times_in, progress_in, expecting, NoneBehind, whole_of}
 use Rattle.napt_dispatch.specs.Standing.{journal_of, state_of, IsSizedFor, Stands, Continues, ContinuesOr, HaltsBy, Admits, HasRoom, IsDone}
 use Rattle.napt_dispatch.proofs.{QueueStates.held_none, Lanes.{grows_none, grows_both, halts_after}, Standing.known_stands}
-use Rattle.napt_dispatch.{proofs.Windows.{known_push, times_long, expecting_times, expecting_progress}, specs.declared.stopped.Halted.Halted}
+use Rattle.napt_dispatch.{proofs.Windows.{known_push, times_long, expecting_times, expecting_progress}, specs.declared.faults.DispatchFault.DispatchFault}
 use Rattle.napt_dispatch.specs.declared.dispatcher.{reading.EndOfInputs.EndOfInputs, progress.Progress.TheVariants.Awaited}
 use Rattle.napt_dispatch.specs.Passing.{Fails, GoesOn, LetsGo, HaltsIn, HaltsAt, Serves, Reads, HasCome, ReadsToEnd, ReadsHalted}
-use Rattle.napt_dispatch.specs.declared.stopped.Halted.TheVariants as halts
+use Rattle.napt_dispatch.specs.declared.faults.DispatchFault.TheVariants as dispatch_faults
 
 pub many_read : {P : Type 0} (d : Dispatcher P) (inputs : List Arrival) →
     times_in d.progress ≡ map (λ i. i.time) inputs → length inputs ≡ length (progress_in d.progress)
@@ -44,7 +44,6 @@ module _ {P M G : Type 0} {tells : Passage → P} where
       IsSizedFor pool d → later.queues ≡ d.queues → IsHandedOver went d.progress later.progress →
       GoesOn tells pool d went pool later
   goes_over pool d later went sized queues over = record {
-    starts_stay = refl;
     grows = grows_none pool;
     sized = rw queues sized;
     times_stay = over.times_stay;
@@ -61,7 +60,6 @@ module _ {P M G : Type 0} {tells : Passage → P} where
     pub continues_both : Continues tells pool d mid_pool mid → Continues tells mid_pool mid later_pool later →
         Continues tells pool d later_pool later
     continues_both a b = record {
-      starts_stay = b.starts_stay ∙ a.starts_stay;
       grows = grows_both a.grows b.grows;
       sized = b.sized;
       journal_stays = b.journal_stays ∙ a.journal_stays;
@@ -71,7 +69,6 @@ module _ {P M G : Type 0} {tells : Passage → P} where
     pub goes_more : {xs ys : List (ℕ × Departed P)} → GoesOn tells pool d xs mid_pool mid →
         GoesOn tells mid_pool mid ys later_pool later → GoesOn tells pool d (xs ++ ys) later_pool later
     goes_more {xs} {ys} a b = record {
-      starts_stay = b.starts_stay ∙ a.starts_stay;
       grows = grows_both a.grows b.grows;
       sized = b.sized;
       times_stay = b.times_stay ∙ a.times_stay;
@@ -83,11 +80,10 @@ module _ {P M G : Type 0} {tells : Passage → P} where
     pub goes_then : {xs : List (ℕ × Departed P)} → GoesOn tells pool d xs mid_pool mid →
         Continues tells mid_pool mid later_pool later → GoesOn tells pool d xs later_pool later
     goes_then a b = record {
-      starts_stay = b.starts_stay ∙ a.starts_stay;
       grows = grows_both a.grows b.grows;
       sized = b.sized;
-      times_stay = ap (λ j. j.times) b.journal_stays ∙ a.times_stay;
-      left_is = ap (λ j. j.left) b.journal_stays ∙ a.left_is;
+      times_stay = ap (λ j. j.0) b.journal_stays ∙ a.times_stay;
+      left_is = ap (λ j. j.1) b.journal_stays ∙ a.left_is;
       keeps = λ rules start done all s. b.keeps rules start done all (a.keeps rules start done all s);
     }
 
@@ -109,12 +105,11 @@ module _ {P M G : Type 0} {tells : Passage → P} where
       journal_of admitted.progress ≡ journal_of window → Continues tells pool admitted later_pool later →
       Serves tells rules now input pool d later_pool later
   serves_as rules now number input pool d admitted window later_pool later is at admits journal goes = record {
-    starts_stay = goes.starts_stay;
     grows = goes.grows;
     sized = goes.sized;
-    times_are = ap (λ j. j.times) (goes.journal_stays ∙ journal)
+    times_are = ap (λ j. j.0) (goes.journal_stays ∙ journal)
         ∙ (ap times_in is ∙ expecting_times input.time (way_from input.side) d.progress);
-    left_stays = ap (λ j. j.left) (goes.journal_stays ∙ journal) ∙ ap (λ (w : Window P). w.left) is;
+    left_stays = ap (λ j. j.1) (goes.journal_stays ∙ journal) ∙ ap (λ (w : Window P). w.left) is;
     served = λ start done rest long clock s.
         let all : List Arrival = (done ++ input ∷ []) ++ rest in
         let way : Way = way_from input.side in
@@ -143,7 +138,6 @@ module _ {P M G : Type 0} {tells : Passage → P} where
     pub reads_on : {xs ys : List (ℕ × Departed P)} → Reads tells rules pool d inputs xs mid_pool mid →
         GoesOn tells mid_pool mid ys later_pool later → Reads tells rules pool d inputs (xs ++ ys) later_pool later
     reads_on {ys = ys} a b = record {
-      starts_stay = b.starts_stay ∙ a.starts_stay;
       grows = grows_both a.grows b.grows;
       sized = b.sized;
       times_are = b.times_stay ∙ a.times_are;
@@ -158,7 +152,6 @@ module _ {P M G : Type 0} {tells : Passage → P} where
         Serves tells rules now input mid_pool mid later_pool later →
         Reads tells rules pool d (inputs ++ input ∷ []) went later_pool later
     reads_more {went} {now} {input} a clock b = record {
-      starts_stay = b.starts_stay ∙ a.starts_stay;
       grows = grows_both a.grows b.grows;
       sized = b.sized;
       times_are = b.times_are ∙ (ap (λ l. l ++ input.time ∷ []) a.times_are
@@ -207,15 +200,15 @@ module _ {P S F : Type 0} {takes : S → List (ℕ × Departed P) → S → Type
 
   pub lets_halt : {tells : Passage → P} {M G : Type 0} {pool mid_pool : Pool M G Leg (Told P)}
       (later_pool : Pool M G Leg (Told P)) {d mid : Dispatcher P} (later : Dispatcher P) {before between : S}
-      (after : S) (open_gate : Bool) (e : Halted F) → LetsGo tells takes pool d before mid_pool mid between →
+      (after : S) (open_gate : Bool) (e : DispatchFault F) → LetsGo tells takes pool d before mid_pool mid between →
       HaltsAt tells open_gate takes fails mid_pool mid between later_pool later after e →
       HaltsAt tells open_gate takes fails pool d before later_pool later after e
-  lets_halt later_pool later after open_gate (halts.Departure fault) a b = record {
+  lets_halt later_pool later after open_gate (dispatch_faults.Departure fault) a b = record {
     went = a.went ++ b.went;
     goes = goes_more a.goes b.goes;
     failed = fails_after a.took b.failed;
   }
-  lets_halt later_pool later after open_gate (halts.Run fault) a b = record {
+  lets_halt later_pool later after open_gate (dispatch_faults.Run fault) a b = record {
     last_pool = b.last_pool;
     last = b.last;
     lets = lets_more b.last_pool b.last after a b.lets;
@@ -257,19 +250,19 @@ module _ {P S F : Type 0} {takes : S → List (ℕ × Departed P) → S → Type
       (is_settled : S → Type 0) {M G : Type 0} {pool mid_pool : Pool M G Leg (Told P)}
       (later_pool : Pool M G Leg (Told P)) {d mid : Dispatcher P} (later : Dispatcher P) {from left : A}
       {before between : S} (after : S) {inputs : List Arrival} {went : List (ℕ × Departed P)} where
-    pub reads_halt : (open_gate : Bool) (e : Halted F) → Reads tells rules pool d inputs went mid_pool mid →
+    pub reads_halt : (open_gate : Bool) (e : DispatchFault F) → Reads tells rules pool d inputs went mid_pool mid →
         takes before went between → HasCome hands ends from inputs left →
         HaltsAt tells open_gate takes fails mid_pool mid between later_pool later after e →
         ReadsHalted tells rules hands ends takes fails is_settled pool d from before later_pool later left after
         open_gate e
-    reads_halt open_gate (halts.Departure fault) reads took come b = record {
+    reads_halt open_gate (dispatch_faults.Departure fault) reads took come b = record {
       inputs = inputs;
       went = went ++ b.went;
       come = come;
       reads = reads_on reads b.goes;
       failed = fails_after took b.failed;
     }
-    reads_halt open_gate (halts.Run fault) reads took come b = record {
+    reads_halt open_gate (dispatch_faults.Run fault) reads took come b = record {
       inputs = inputs;
       unread = [];
       went = went ++ b.lets.went;

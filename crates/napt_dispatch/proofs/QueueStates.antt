@@ -4,7 +4,7 @@ use Rattle.std.proofs.Common.{◌≡◌, ◌≢◌, ℕ, zero, suc, ◌+◌, ◌
 use Rattle.std.proofs.lemmas.List.{length-append, length-map, length-set, length-replicate, length_push, get_or_default, get_or-set_same, get_or-set_other}
 use Rattle.std.proofs.lemmas.List.Sums.{sum_by-cons, sum_by-set}
 use Rattle.napt_rules.specs.{Prelude.Act, declared.Leg.Leg}
-use Rattle.napt_dispatch.specs.{declared.dispatcher.holding.{Held.{Held, TheVariants.Ready}, Owed.Owed}, Standing.{MovesLegs, MovesLegsAt, turned}}
+use Rattle.napt_dispatch.specs.{declared.dispatcher.holding.{Pending.{Pending, TheVariants.Ready}, Owed.Owed}, Standing.{MovesLegs, MovesLegsAt, turned}}
 use Rattle.napt_dispatch.specs.QueueStates.{QueueState, unused, queue_of, all_held, count_held, many_held, AreCounted, Holds, AllHold, AnswersAt, only_at, with_queue}
 
 module _ (queues : List QueueState) (w : ℕ) (change : QueueState → QueueState) where
@@ -31,7 +31,7 @@ module _ (queues : List QueueState) (w : ℕ) (queue later : QueueState) (lt : w
       set queues w later ≡ with_queue w change queues
   changed change e = ap (set queues w) (e ∙ ap change (sym queue_is))
 
-  pub holds_here : (more : List Held) → Holds more queue later → AllHold (only_at w more) queues (set queues w later)
+  pub holds_here : (more : List Pending) → Holds more queue later → AllHold (only_at w more) queues (set queues w later)
   holds_here more h = λ v. elim (cases_eq v w) [
     | inl e ↦ rw (e, get_or-set_same queues w later unused lt, queue_is, eq-eqb w w refl) h
     | inr n ↦ rw (get_or-set_other queues w v later unused n, ne_eqb v w n) (record {
@@ -65,11 +65,12 @@ module _ (queues : List QueueState) (w : ℕ) (queue later : QueueState) (lt : w
 length_all : (q : QueueState) → length (all_held q) ≡ count_held q
 length_all q = grind (arith, common_steps, nat_tests, length-append, length-map)
 
-pub count_more : (held : Held) (q later : QueueState) → Holds (held ∷ []) q later → count_held later ≡ count_held q + 1
+pub count_more : (held : Pending) (q later : QueueState) → Holds (held ∷ []) q later →
+    count_held later ≡ count_held q + 1
 count_more held q later h = grind (arith, common_steps, nat_tests, length_push, length_all)
 
 -- a leg that was held first is the last of the next message
-pub turned_on : (acts : List Act) (ready : List Leg) (leg : Leg) (held rest : List Held) → held ≡ Ready leg ∷ rest →
+pub turned_on : (acts : List Act) (ready : List Leg) (leg : Leg) (held rest : List Pending) → held ≡ Ready leg ∷ rest →
     turned acts (ready ++ leg ∷ []) rest ≡ turned acts ready held
 turned_on acts ready leg held rest e = grind (arith, common_steps, nat_tests, append_assoc, flat_map)
 

@@ -9,7 +9,7 @@ use Rattle.napt_rules.specs.Prelude.{Each, way_from, served_at, Acted, act, foll
 use Rattle.napt_rules.specs.declared.{Leg.Leg, End.End, Outcome.Outcome}
 use Rattle.napt_rules.specs.declared.End.TheVariants as ends
 use Rattle.napt_rules.specs.declared.Outcome.TheVariants as outcomes
-use Rattle.napt_dispatch.specs.declared.dispatcher.{holding.{Front.Front, Held.{Held, TheVariants.{Ready, Place}}, Owed.Owed}, progress.Progress.Progress}
+use Rattle.napt_dispatch.specs.declared.dispatcher.{holding.{Front.Front, Pending.{Pending, TheVariants.{Ready, Place}}, Owed.Owed}, progress.Progress.Progress}
 use Rattle.napt_dispatch.specs.declared.{dispatcher.progress.Progress.TheVariants.{Returning, Answered}}
 use Rattle.napt_dispatch.specs.{declared.dispatcher.Dispatcher.Dispatcher, Dispatch.{of_worker, fresh, IsDispatchedFrom, Right, departed, departed_of}}
 use Rattle.napt_dispatch.specs.{Collecting.outcome_of, Passing.timed}
@@ -226,7 +226,7 @@ resolves_known whole (fronts.FirstPlace number) window later (Some leg) goes is 
     rw is.written.progress_is (known_set whole (progress_in window) number (Returning is.first)
     (returning_known whole number is.asks.p leg is.first legs is.first_is (known number is.asks.p is.asks.there)) known)
 
-first_stands : {P : Type 0} (whole : Whole P) (held : List Held) (window later : Window P) (second : Option Leg) →
+first_stands : {P : Type 0} (whole : Whole P) (held : List Pending) (window later : Window P) (second : Option Leg) →
     waits (progress_in window) (front_of held) ≡ false → Resolves (front_of held) window second later →
     AllKnown whole (progress_in window) →
     flat_map (resolved whole.acts) held ≡ first_leg second held ++ flat_map (resolved whole.acts) (drop 1 held)
@@ -473,7 +473,7 @@ same_test pool distinct v w lv lw = grind (arith, common_steps, nat_tests, cases
 reads_if : {X Y : Type 0} (f : X → List Y) (b : Bool) (x : X) → flat_map f (cond b (x ∷ []) []) ≡ cond b (f x) []
 reads_if f b x = grind (arith, common_steps, nat_tests, append-nil)
 
-legs_behind : (acts : List Act) (legs : List Leg) (rest : List Held) →
+legs_behind : (acts : List Act) (legs : List Leg) (rest : List Pending) →
     flat_map (resolved acts) (map (λ leg. Ready leg) legs ++ rest) ≡ legs ++ flat_map (resolved acts) rest
 legs_behind acts [] rest = refl
 legs_behind acts (leg ∷ legs) rest = ap (λ (ls : List Leg). leg ∷ ls) (legs_behind acts legs rest)
@@ -485,7 +485,7 @@ legs_held acts q = legs_behind acts q.ready q.held
 
 -- one worker holds more
 lane_more : {P : Type 0} (acts : List Act) (offered : List Leg) (taken : List (Told P)) (q later : QueueState)
-    (more : List Held) →
+    (more : List Pending) →
     Holds more q later → lane_legs acts (record { offered = offered; taken = taken; queue = later })
     ≡ lane_legs acts (record { offered = offered; taken = taken; queue = q }) ++ flat_map (resolved acts) more
 lane_more acts offered taken q later more h =
@@ -511,7 +511,8 @@ module _ {P : Type 0} (tells : Passage → P) (rules : Rules) (start : State) (d
   at_place v = slice_index rules.pool v
 
   -- the same, but for more that is held and known, with the legs of one input more
-  grown_stands : (extra : ℕ → List Held) → length later.queues ≡ length d.queues → AllHold extra d.queues later.queues →
+  grown_stands : (extra : ℕ → List Pending) → length later.queues ≡ length d.queues →
+      AllHold extra d.queues later.queues →
       ((v : ℕ) → v < length rules.pool → legs_at (at_place v) (course_from rules start now_done).acts ≡ legs_at
       (at_place v) (course_from rules start done).acts ++ flat_map (resolved acts_all) (extra v)) →
       (AllKnown (whole_of tells rules start all_of) (progress_in d.progress) → AllKnown

@@ -91,10 +91,4 @@ pub record IsDispatchedFrom (rules : Rules) (start : State) (inputs : List Arriv
     (outcomes : List Outcome) (numbers : List ℕ) : Type 0 where
   pub legs : offered ≡ map (λ address. legs_at address (course_from rules start inputs).acts) rules.pool
   pub outcomes_are : outcomes ≡ (course_from rules start inputs).outcomes
-  pub numbers_are : numbers ≡ map (λ address. length (legs_at address (course_from rules start inputs).acts))
-      rules.pool
-
--- from the bindings that the configuration opens with
-abbrev pub IsDispatched : Rules → List Arrival → List (List Leg) → List Outcome → List ℕ → Type 0
-IsDispatched rules inputs offered outcomes numbers =
-    IsDispatchedFrom rules (anew rules) inputs offered outcomes numbers
+  pub numbers_are : numbers ≡ map (λ address. length (legs_at address (course_from rules start inputs).acts)) rules.pool

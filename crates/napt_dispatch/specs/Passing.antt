@@ -5,14 +5,14 @@ use Rattle.napt_rules.specs.{Prelude.{Arrival, State, last_clock, left_by, ran_f
 use Rattle.napt_translate.specs.Translators.{TranslatorState}
 use Rattle.napt_pool.specs.{declared.pool.Pool.Pool, Pools.{starts, accepts, zip_with, takes as taken}}
 use Rattle.napt_sequential.specs.{declared.{passage.Passage.Passage, telling.Told.Told, fault.RunFault.RunFault}, Inputs.Came}
-use Rattle.napt_dispatch.specs.declared.{departures.Departed.Departed, dispatcher.{Dispatcher.Dispatcher, Dispatched.Dispatched}, stopped.Halted.Halted}
-use Rattle.napt_dispatch.specs.declared.{dispatcher.{Ending.Ending, reading.EndOfInputs.EndOfInputs}, stopped.Stopped.Stopped, workers.Passed.Passed}
+use Rattle.napt_dispatch.specs.declared.{departures.Departed.Departed, dispatcher.{Dispatcher.Dispatcher, Dispatched.Dispatched}, faults.DispatchFault.DispatchFault}
+use Rattle.napt_dispatch.specs.declared.{dispatcher.{Ending.Ending, reading.EndOfInputs.EndOfInputs}, faults.PassFault.PassFault, workers.Passed.Passed}
 use Rattle.napt_dispatch.specs.{Collecting.outcome_of, Dispatch.{IsFaultUnder, IsDispatchedFrom, Right, departed, IsLeftWith}}
 use Rattle.napt_dispatch.specs.{Windows.{Window, progress_in, times_in, IsHandedOver}, Standing.{state_of, IsSizedFor, Stands, KeepsAt, IsDone, Grows, HaltsBy}}
 use Rattle.napt_laws.specs.Dispatching.{IsFront}
-use Rattle.napt_dispatch.specs.declared.stopped.Halted.TheVariants as halts
+use Rattle.napt_dispatch.specs.declared.faults.DispatchFault.TheVariants as dispatch_faults
 use Rattle.napt_dispatch.specs.declared.dispatcher.Ending.TheVariants as endings
-use Rattle.napt_dispatch.specs.declared.stopped.Stopped.TheVariants as stops
+use Rattle.napt_dispatch.specs.declared.faults.PassFault.TheVariants as pass_faults
 
 -- OUTCOMES THAT LEAVE
 
@@ -20,10 +20,16 @@ use Rattle.napt_dispatch.specs.declared.stopped.Stopped.TheVariants as stops
 abbrev pub timed : {X : Type 0} → List Arrival → List X → List (ℕ × X)
 timed inputs xs = zip_with (λ input x. (input.time, x)) inputs xs
 
+-- what is known of departures before and after they take outcomes, and where a fault comes
+abbrev pub Taking : Type 0 → Type 0 → Type 1
+Taking P S = S → List (ℕ × Departed P) → S → Type 0
+
+abbrev pub Failing : Type 0 → Type 0 → Type 0 → Type 1
+Failing P S F = S → List (ℕ × Departed P) → F → S → Type 0
+
 -- the first of these outcomes were taken, and the fault came while taking the others
-pub record Fails {P S F : Type 0} (takes : S → List (ℕ × Departed P) → S → Type 0)
-    (fails : S → List (ℕ × Departed P) → F → S → Type 0) (before : S) (went : List (ℕ × Departed P)) (fault : F)
-    (after : S) : Type 0 where
+pub record Fails {P S F : Type 0} (takes : Taking P S) (fails : Failing P S F) (before : S)
+    (went : List (ℕ × Departed P)) (fault : F) (after : S) : Type 0 where
   pub first : List (ℕ × Departed P)
   pub others : List (ℕ × Departed P)
   pub middle : S
@@ -32,16 +38,15 @@ pub record Fails {P S F : Type 0} (takes : S → List (ℕ × Departed P) → S 
   pub failed : fails middle others fault after
 
 -- the outcomes that left the window were taken
-pub record HandsOver {P S : Type 0} (takes : S → List (ℕ × Departed P) → S → Type 0) (before : S)
-    (window : Window P) (after : S) (later : Window P) : Type 0 where
+pub record HandsOver {P S : Type 0} (takes : Taking P S) (before : S) (window : Window P) (after : S)
+    (later : Window P) : Type 0 where
   pub went : List (ℕ × Departed P)
   pub handed : IsHandedOver went window later
   pub took : takes before went after
 
 -- or taking them failed
-pub record FailsOver {P S F : Type 0} (takes : S → List (ℕ × Departed P) → S → Type 0)
-    (fails : S → List (ℕ × Departed P) → F → S → Type 0) (before : S) (window : Window P) (after : S)
-    (later : Window P) (fault : F) : Type 0 where
+pub record FailsOver {P S F : Type 0} (takes : Taking P S) (fails : Failing P S F) (before : S) (window : Window P)
+    (after : S) (later : Window P) (fault : F) : Type 0 where
   pub went : List (ℕ × Departed P)
   pub handed : IsHandedOver went window later
   pub failed : Fails takes fails before went fault after
@@ -51,7 +56,6 @@ pub record FailsOver {P S F : Type 0} (takes : S → List (ℕ × Departed P) �
 -- the pool has the same workers, the dispatcher's invariant still holds, and these outcomes left
 pub record GoesOn {P M G : Type 0} (tells : Passage → P) (pool : Pool M G Leg (Told P)) (d : Dispatcher P)
     (went : List (ℕ × Departed P)) (later_pool : Pool M G Leg (Told P)) (later : Dispatcher P) : Type 0 where
-  pub starts_stay : starts later_pool ≡ starts pool
   pub grows : Grows pool later_pool
   pub sized : IsSizedFor later_pool later
   pub times_stay : times_in later.progress ≡ times_in d.progress
@@ -59,44 +63,38 @@ pub record GoesOn {P M G : Type 0} (tells : Passage → P) (pool : Pool M G Leg 
   pub keeps : KeepsAt tells pool d later_pool later
 
 -- and were taken
-pub record LetsGo {P M G S : Type 0} (tells : Passage → P) (takes : S → List (ℕ × Departed P) → S → Type 0)
-    (pool : Pool M G Leg (Told P)) (d : Dispatcher P) (before : S) (later_pool : Pool M G Leg (Told P))
-    (later : Dispatcher P) (after : S) : Type 0 where
-  pub went : List (ℕ × Departed P)
-  pub goes : GoesOn tells pool d went later_pool later
-  pub took : takes before went after
-
--- or taking them failed
-pub record StopsAt {P M G S F : Type 0} (tells : Passage → P) (takes : S → List (ℕ × Departed P) → S → Type 0)
-    (fails : S → List (ℕ × Departed P) → F → S → Type 0) (pool : Pool M G Leg (Told P)) (d : Dispatcher P) (before : S)
-    (later_pool : Pool M G Leg (Told P)) (later : Dispatcher P) (after : S) (fault : F) : Type 0 where
-  pub went : List (ℕ × Departed P)
-  pub goes : GoesOn tells pool d went later_pool later
-  pub failed : Fails takes fails before went fault after
+pub record LetsGo {P M G S : Type 0} (tells : Passage → P) (takes : Taking P S) (pool : Pool M G Leg (Told P))
+    (d : Dispatcher P) (before : S) (later_pool : Pool M G Leg (Told P)) (later : Dispatcher P) (after : S) : Type 0
+  where
+    pub went : List (ℕ × Departed P)
+    pub goes : GoesOn tells pool d went later_pool later
+    pub took : takes before went after
 
 -- or there was a fault of dispatching, after these outcomes were taken
-pub record HaltsIn {P M G S : Type 0} (tells : Passage → P) (open_gate : Bool)
-    (takes : S → List (ℕ × Departed P) → S → Type 0) (pool : Pool M G Leg (Told P)) (d : Dispatcher P) (before : S)
-    (later_pool : Pool M G Leg (Told P)) (after : S) (fault : RunFault) : Type 0 where
+pub record HaltsIn {P M G S : Type 0} (tells : Passage → P) (open_gate : Bool) (takes : Taking P S)
+    (pool : Pool M G Leg (Told P)) (d : Dispatcher P) (before : S) (later_pool : Pool M G Leg (Told P)) (after : S)
+    (fault : RunFault) : Type 0 where
   pub last_pool : Pool M G Leg (Told P)
   pub last : Dispatcher P
   pub lets : LetsGo tells takes pool d before last_pool last after
   pub halted : HaltsBy open_gate last_pool later_pool fault
 
-abbrev pub HaltsAt : {P M G S F : Type 0} → (Passage → P) → Bool → (S → List (ℕ × Departed P) → S → Type 0) →
-    (S → List (ℕ × Departed P) → F → S → Type 0) → Pool M G Leg (Told P) → Dispatcher P → S → Pool M G Leg (Told P) →
-    Dispatcher P → S → Halted F → Type 0
-HaltsAt tells open_gate takes fails pool d before later_pool later after (halts.Departure fault) =
-    StopsAt tells takes fails pool d before later_pool later after fault
-HaltsAt tells open_gate takes fails pool d before later_pool later after (halts.Run fault) =
-    HaltsIn tells open_gate takes pool d before later_pool after fault
+module _ {P M G S F : Type 0} (tells : Passage → P) (open_gate : Bool) (takes : Taking P S) (fails : Failing P S F)
+    (pool : Pool M G Leg (Told P)) (d : Dispatcher P) (before : S) (later_pool : Pool M G Leg (Told P))
+    (later : Dispatcher P) (after : S) where
+  -- or taking them failed
+  pub record StopsAt (fault : F) : Type 0 where
+    pub went : List (ℕ × Departed P)
+    pub goes : GoesOn tells pool d went later_pool later
+    pub failed : Fails takes fails before went fault after
 
-abbrev pub LetsGoUnlessFault : {P M G S F X : Type 0} → (Passage → P) → Bool →
-    (S → List (ℕ × Departed P) → S → Type 0) → (S → List (ℕ × Departed P) → F → S → Type 0) → Pool M G Leg (Told P) →
-    Dispatcher P → S → Pool M G Leg (Told P) → Dispatcher P → S → Result X (Halted F) → Type 0
-LetsGoUnlessFault tells open_gate takes fails pool d before later_pool later after result =
-    MatchResult result (λ done. LetsGo tells takes pool d before later_pool later after)
-    (HaltsAt tells open_gate takes fails pool d before later_pool later after)
+  abbrev pub HaltsAt : DispatchFault F → Type 0
+  HaltsAt (dispatch_faults.Departure fault) = StopsAt fault
+  HaltsAt (dispatch_faults.Run fault) = HaltsIn tells open_gate takes pool d before later_pool after fault
+
+  abbrev pub LetsGoUnlessFault : {X : Type 0} → Result X (DispatchFault F) → Type 0
+  LetsGoUnlessFault result =
+      MatchResult result (λ done. LetsGo tells takes pool d before later_pool later after) HaltsAt
 
 -- READING
 
@@ -110,9 +108,8 @@ pub record Begins {P M G : Type 0} (rules : Rules) (pool : Pool M G Leg (Told P)
 
 -- one more input was read, at this time
 pub record Serves {P M G : Type 0} (tells : Passage → P) (rules : Rules) (now : ℕ) (input : Arrival)
-    (pool : Pool M G Leg (Told P))
-    (d : Dispatcher P) (later_pool : Pool M G Leg (Told P)) (later : Dispatcher P) : Type 0 where
-  pub starts_stay : starts later_pool ≡ starts pool
+    (pool : Pool M G Leg (Told P)) (d : Dispatcher P) (later_pool : Pool M G Leg (Told P)) (later : Dispatcher P)
+    : Type 0 where
   pub grows : Grows pool later_pool
   pub sized : IsSizedFor later_pool later
   pub times_are : times_in later.progress ≡ times_in d.progress ++ input.time ∷ []
@@ -124,9 +121,8 @@ pub record Serves {P M G : Type 0} (tells : Passage → P) (rules : Rules) (now 
 
 -- these are all inputs read so far, and all outcomes that have left
 pub record Reads {P M G : Type 0} (tells : Passage → P) (rules : Rules) (pool : Pool M G Leg (Told P))
-    (d : Dispatcher P) (inputs : List Arrival)
-    (went : List (ℕ × Departed P)) (later_pool : Pool M G Leg (Told P)) (later : Dispatcher P) : Type 0 where
-  pub starts_stay : starts later_pool ≡ starts pool
+    (d : Dispatcher P) (inputs : List Arrival) (went : List (ℕ × Departed P)) (later_pool : Pool M G Leg (Told P))
+    (later : Dispatcher P) : Type 0 where
   pub grows : Grows pool later_pool
   pub sized : IsSizedFor later_pool later
   pub times_are : times_in later.progress ≡ map (λ i. i.time) inputs
@@ -149,8 +145,7 @@ pub record LeavesState (rules : Rules) (state : State) (passed : Passed) : Type 
       slice_get passed.translators.items place ≡ Some translator → IsLeftWith rules state address translator
 
 module _ {P A F S B : Type 0} (tells : Passage → P) (rules : Rules) (hands : A → List Arrival → A → Type 0)
-    (ends : A → Option F → A → Type 0) (takes : S → List (ℕ × Departed P) → S → Type 0)
-    (fails : S → List (ℕ × Departed P) → B → S → Type 0) (is_settled : S → Type 0) where
+    (ends : A → Option F → A → Type 0) (takes : Taking P S) (fails : Failing P S B) (is_settled : S → Type 0) where
   module _ {M G : Type 0} (pool : Pool M G Leg (Told P)) (d : Dispatcher P) (from : A) (before : S)
       (later_pool : Pool M G Leg (Told P)) (later : Dispatcher P) (left : A) (after : S) where
     -- the arrivals ended or failed, and every input before that was read
@@ -190,14 +185,13 @@ module _ {P A F S B : Type 0} (tells : Passage → P) (rules : Rules) (hands : A
       pub took : takes before went after
       pub halted : HaltsBy open_gate last_pool later_pool fault
 
-    abbrev pub ReadsHalted : Bool → Halted B → Type 0
-    ReadsHalted open_gate (halts.Departure fault) = ReadsSome fault
-    ReadsHalted open_gate (halts.Run fault) = ReadsToHalt open_gate fault
+    abbrev pub ReadsHalted : Bool → DispatchFault B → Type 0
+    ReadsHalted open_gate (dispatch_faults.Departure fault) = ReadsSome fault
+    ReadsHalted open_gate (dispatch_faults.Run fault) = ReadsToHalt open_gate fault
 
 module _ {P A F S B : Type 0} (tells : Passage → P) (rules : Rules) (start : State)
-    (hands : A → List Arrival → A → Type 0) (ends : A → Option F → A → Type 0)
-    (takes : S → List (ℕ × Departed P) → S → Type 0) (fails : S → List (ℕ × Departed P) → B → S → Type 0)
-    (is_settled : S → Type 0) where
+    (hands : A → List Arrival → A → Type 0) (ends : A → Option F → A → Type 0) (takes : Taking P S)
+    (fails : Failing P S B) (is_settled : S → Type 0) where
   -- THE RESULT OF DISPATCHING, from a state
 
   module _ {M G : Type 0} (from : A) (before : S) (pool : Pool M G Leg (Told P)) (left : A) (after : S) where
@@ -275,14 +269,13 @@ module _ {P A F S B : Type 0} (tells : Passage → P) (rules : Rules) (start : S
       pub front : IsFront went (timed inputs (departed tells rules start inputs))
       pub took : takes before went after ⊎ ((fault : B) × Fails takes fails before went fault after)
 
-    abbrev pub Passes : Result Passed (Stopped F B) → Type 0
+    abbrev pub Passes : Result Passed (PassFault F B) → Type 0
     Passes (Ok passed) = PassesWell passed
-    Passes (Err (stops.Arrival fault)) = PassesTo (Some fault)
-    Passes (Err (stops.Departure fault)) = PassesEarly fault
-    Passes (Err (stops.Run fault)) = PassesHalted
+    Passes (Err (pass_faults.Arrival fault)) = PassesTo (Some fault)
+    Passes (Err (pass_faults.Departure fault)) = PassesEarly fault
+    Passes (Err (pass_faults.Run fault)) = PassesHalted
 
 -- a fault of a run that has started. A gate that promises yes is never reported as shut
-abbrev pub IsStoppedUnder : {F B : Type 0} → Bool → Stopped F B → Type 0
-IsStoppedUnder open_gate (stops.Run fault) = IsFaultUnder open_gate fault
-IsStoppedUnder open_gate (stops.Arrival fault) = ⊤
-IsStoppedUnder open_gate (stops.Departure fault) = ⊤
+abbrev pub IsStoppedUnder : {F B : Type 0} → Bool → PassFault F B → Type 0
+IsStoppedUnder open_gate (pass_faults.Run fault) = IsFaultUnder open_gate fault
+IsStoppedUnder open_gate _ = ⊤

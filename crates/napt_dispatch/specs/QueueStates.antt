@@ -2,7 +2,7 @@
 use Rattle.std.specs.Prelude.{◌≡◌, ℕ, ◌+◌, ◌<◌, ◌≤◌, ◌^◌, ◌==◌, if◌then◌else◌, List, [], ◌∷◌, ◌++◌, drop, map, length, option_to_list, slice_set, slice_index_or, Option, Some, None}
 use Rattle.std.specs.List.{sum_by}
 use Rattle.napt_rules.specs.declared.Leg.{Leg}
-use Rattle.napt_dispatch.specs.declared.dispatcher.holding.{Front.Front, Held.{Held, TheVariants.{Ready, Place}}, Owed.Owed}
+use Rattle.napt_dispatch.specs.declared.dispatcher.holding.{Front.Front, Pending.{Pending, TheVariants.{Ready, Place}}, Owed.Owed}
 use Rattle.napt_dispatch.specs.declared.dispatcher.holding.Front.TheVariants as fronts
 
 -- one worker: the number of legs offered, those not answered yet, those of the next message, and what is held behind
@@ -10,7 +10,7 @@ pub record QueueState : Type 0 where
   pub offered : ℕ
   pub owed : List Owed
   pub ready : List Leg
-  pub held : List Held
+  pub held : List Pending
 
 -- before any offer
 abbrev pub unused : QueueState
@@ -25,7 +25,7 @@ abbrev pub counts_in : List QueueState → List ℕ
 counts_in queues = map (λ q. q.offered) queues
 
 -- all that is held, oldest first, and its count
-abbrev pub all_held : QueueState → List Held
+abbrev pub all_held : QueueState → List Pending
 all_held q = map (λ leg. Ready leg) q.ready ++ q.held
 
 abbrev pub count_held : QueueState → ℕ
@@ -46,7 +46,7 @@ pub record AreCounted (many : ℕ) (queues : List QueueState) : Type 0 where
   pub numbered : length queues < 2 ^ 32
 
 -- what is first
-abbrev pub front_of : List Held → Front
+abbrev pub front_of : List Pending → Front
 front_of [] = fronts.Nothing
 front_of (Ready leg ∷ rest) = fronts.FirstLeg
 front_of (Place number ∷ rest) = fronts.FirstPlace number
@@ -61,25 +61,25 @@ abbrev pub with_queue : ℕ → (QueueState → QueueState) → List QueueState 
 with_queue w change queues = slice_set queues w (change (queue_of queues w))
 
 -- more is held, behind everything else
-pub record Holds (more : List Held) (q later : QueueState) : Type 0 where
+pub record Holds (more : List Pending) (q later : QueueState) : Type 0 where
   pub offered_stays : later.offered ≡ q.offered
   pub owed_stays : later.owed ≡ q.owed
   pub held_is : all_held later ≡ all_held q ++ more
 
 -- for each worker
-abbrev pub AllHold : (ℕ → List Held) → List QueueState → List QueueState → Type 0
+abbrev pub AllHold : (ℕ → List Pending) → List QueueState → List QueueState → Type 0
 AllHold more queues later = (v : ℕ) → Holds (more v) (queue_of queues v) (queue_of later v)
 
 -- for one worker, or for none
-abbrev pub only_at : ℕ → List Held → ℕ → List Held
+abbrev pub only_at : ℕ → List Pending → ℕ → List Pending
 only_at w more v = if v == w then more else []
 
-abbrev pub place_at : ℕ → Option ℕ → ℕ → List Held
+abbrev pub place_at : ℕ → Option ℕ → ℕ → List Pending
 place_at number None v = []
 place_at number (Some w) v = only_at w (Place number ∷ []) v
 
 -- the leg that is held first, or stands for the placeholder that is, becomes one of the next message
-abbrev pub first_leg : Option Leg → List Held → List Leg
+abbrev pub first_leg : Option Leg → List Pending → List Leg
 first_leg second [] = []
 first_leg second (Ready leg ∷ rest) = leg ∷ []
 first_leg second (Place number ∷ rest) = option_to_list second

@@ -10,8 +10,8 @@ use Rattle.napt_pool.specs.{declared.pool.Pool.Pool, Pools.{starts, accepts, tak
 use Rattle.napt_sequential.specs.{declared.{fault.RunFault.RunFault, passage.Passage.{Passage, TheVariants.Nothing}, telling.Told.Told}, Steps.told_replies}
 use Rattle.napt_wire.specs.declared.Way.{Way}
 use Rattle.napt_laws.specs.{Dispatching.IsFront, Places.second_legs}
-use Rattle.napt_dispatch.specs.declared.{departures.Departed.Departed, dispatcher.{Dispatcher.Dispatcher, holding.{Front.Front, Held.Held}}}
-use Rattle.napt_dispatch.specs.declared.dispatcher.{holding.{Held.TheVariants.{Ready, Place}, Owed.Owed}, progress.{OpenInput.OpenInput, Progress.Progress}}
+use Rattle.napt_dispatch.specs.declared.{departures.Departed.Departed, dispatcher.{Dispatcher.Dispatcher, holding.{Front.Front, Pending.Pending}}}
+use Rattle.napt_dispatch.specs.declared.dispatcher.{holding.{Pending.TheVariants.{Ready, Place}, Owed.Owed}, progress.{OpenInput.OpenInput, Progress.Progress}}
 use Rattle.napt_dispatch.specs.declared.dispatcher.{progress.Progress.TheVariants.{Returning, Answered}, taking.Until.Until}
 use Rattle.napt_dispatch.specs.Dispatch.{of_worker, fresh, IsDispatchFault}
 use Rattle.napt_dispatch.specs.QueueStates.{QueueState, AnswersAt, all_held, count_held, front_of, queue_of, owed_of, many_owed, many_held, with_queue}
@@ -64,12 +64,12 @@ abbrev pub LaneStands : {P : Type 0} → Lane P → Type 0
 LaneStands lane = IsOwed lane.offered lane.taken lane.queue.offered lane.queue.owed
 
 -- the legs that something held turns into
-abbrev pub resolved : List Act → Held → List Leg
+abbrev pub resolved : List Act → Pending → List Leg
 resolved acts (Ready leg) = leg ∷ []
 resolved acts (Place number) = second_legs number acts
 
 -- the legs of a next message, and those that what is held behind turns into
-abbrev pub turned : List Act → List Leg → List Held → List Leg
+abbrev pub turned : List Act → List Leg → List Pending → List Leg
 turned acts ready held = ready ++ flat_map (resolved acts) held
 
 -- the legs offered to a worker, and those that are held for it
@@ -108,12 +108,8 @@ Keeps tells state later = (rules : Rules) (start : State) (done all : List Arriv
 -- OVER A POOL
 
 -- the arrival times of the inputs read, and what has left
-pub record Journal (P : Type 0) : Type 0 where
-  pub times : List ℕ
-  pub left : List (ℕ × Departed P)
-
-abbrev pub journal_of : {P : Type 0} → Window P → Journal P
-journal_of window = record { times = times_in window; left = window.left }
+abbrev pub journal_of : {P : Type 0} → Window P → List ℕ × List (ℕ × Departed P)
+journal_of window = (times_in window, window.left)
 
 -- the dispatcher has queues for each worker of the pool
 abbrev pub IsSizedFor : {P M G : Type 0} → Pool M G Leg (Told P) → Dispatcher P → Type 0
@@ -144,7 +140,6 @@ pub record HaltsBy {P M G : Type 0} (open_gate : Bool) (pool later_pool : Pool M
 -- the pool has the same workers, and the dispatcher's invariant still holds
 pub record Continues {P M G : Type 0} (tells : Passage → P) (pool : Pool M G Leg (Told P)) (d : Dispatcher P)
     (later_pool : Pool M G Leg (Told P)) (later : Dispatcher P) : Type 0 where
-  pub starts_stay : starts later_pool ≡ starts pool
   pub grows : Grows pool later_pool
   pub sized : IsSizedFor later_pool later
   pub journal_stays : journal_of later.progress ≡ journal_of d.progress
@@ -154,8 +149,7 @@ pub record Continues {P M G : Type 0} (tells : Passage → P) (pool : Pool M G L
 abbrev pub ContinuesOr : {P M G X : Type 0} → (Passage → P) → Bool → Pool M G Leg (Told P) → Dispatcher P →
     Pool M G Leg (Told P) → Dispatcher P → Result X RunFault → Type 0
 ContinuesOr tells open_gate pool d later_pool later result =
-    MatchResult result (λ done. Continues tells pool d later_pool later)
-    (HaltsBy open_gate pool later_pool)
+    MatchResult result (λ done. Continues tells pool d later_pool later) (HaltsBy open_gate pool later_pool)
 
 -- STEPS
 
@@ -210,10 +204,7 @@ waits progress fronts.Nothing = true
 waits progress fronts.FirstLeg = false
 waits progress (fronts.FirstPlace number) = is_unknown (slice_get progress number)
 
-abbrev pub waits_at : {P : Type 0} → Dispatcher P → ℕ → Bool
-waits_at d w = waits (progress_in d.progress) (front_of (all_held (queue_of d.queues w)))
-
--- behind the legs of the next message
+-- of a worker, behind the legs of its next message
 abbrev pub waits_behind : {P : Type 0} → Dispatcher P → ℕ → Bool
 waits_behind d w = waits (progress_in d.progress) (front_of (queue_of d.queues w).held)
 
@@ -227,8 +218,7 @@ Resolves (fronts.FirstPlace number) window second later = IsSecond number window
 abbrev pub Admits : {P : Type 0} → (Passage → P) → Rules → ℕ → ℕ → Arrival → Dispatcher P → Dispatcher P → Type 0
 Admits {P} tells rules number now input d later =
     (start : State) (offered : ℕ → List Leg) (taken : ℕ → List (Told P)) (done rest : List Arrival) →
-    length done ≡ number →
-    max (last_clock start.clock done) input.clock ≡ now →
+    length done ≡ number → max (last_clock start.clock done) input.clock ≡ now →
     Stands tells rules start done ((done ++ input ∷ []) ++ rest) (state_with offered taken d) →
     Stands tells rules start (done ++ input ∷ []) ((done ++ input ∷ []) ++ rest) (state_with offered taken later)
 
@@ -267,13 +257,13 @@ pub record Readies {P : Type 0} (tells : Passage → P) (w : ℕ) (d later : Dis
   pub others : (v : ℕ) → v ≢ w → queue_of later.queues v ≡ queue_of d.queues v
   pub forgets : Forgets (progress_in d.progress) (progress_in later.progress)
 
--- the ring of a worker is full until an answer is taken
-abbrev pub IsRingFull : {P : Type 0} → ℕ → Lane P → Type 0
-IsRingFull capacity lane = length lane.offered ≡ length lane.taken + capacity
-
 -- a worker was offered all it can be: nothing is held for it, a waiting placeholder is first, or its ring is full
+-- until an answer is taken
 abbrev pub HasOffered : {P M G : Type 0} → Pool M G Leg (Told P) → Dispatcher P → ℕ → Type 0
-HasOffered pool d w = (waits_at d w ≡ true) ⊎ IsRingFull (capacity_of pool) ((state_of pool d).lane w)
+HasOffered {P} pool d w =
+    let lane : Lane P = (state_of pool d).lane w in
+    (waits (progress_in d.progress) (front_of (all_held lane.queue)) ≡ true)
+    ⊎ (length lane.offered ≡ length lane.taken + capacity_of pool)
 
 -- and so was every worker
 abbrev pub HasOfferedAll : {P M G : Type 0} → Pool M G Leg (Told P) → Dispatcher P → Type 0

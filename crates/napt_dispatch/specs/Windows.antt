@@ -71,9 +71,8 @@ departed_with now first second (Some outcome) =
 
 -- if it is known
 abbrev pub departed_in : {P : Type 0} → Progress P → Option (Departed P)
-departed_in (Awaited way) = None
-departed_in (Returning first) = None
 departed_in (Answered owed end first second) = departed_with owed.now first second (outcome_told end)
+departed_in _ = None
 
 abbrev pub has_ended : {P : Type 0} → Progress P → Bool
 has_ended progress = is_some (departed_in progress)
@@ -84,10 +83,8 @@ is_incoming Outgoing = false
 
 -- it is not known if the input has a second leg (RFC 4787, REQ-9)
 abbrev pub is_unknown : {P : Type 0} → Option (Progress P) → Bool
-is_unknown None = true
-is_unknown (Some (Awaited way)) = true
-is_unknown (Some (Returning first)) = true
 is_unknown (Some (Answered owed end first second)) = is_incoming owed.way
+is_unknown _ = true
 
 -- an input is open, and not marked
 pub record IsUnmarked {P : Type 0} (number : ℕ) (window : Window P) : Type 0 where
@@ -101,23 +98,18 @@ FirstMayLeave (first ∷ rest) = (has_ended first.progress ≡ true) × (first.h
 
 -- STEPS
 
--- a new input, which arrived at a time, and whose first leg goes this way
-abbrev pub opened : {P : Type 0} → ℕ → Way → OpenInput P
-opened time way = record { time = time; progress = Awaited way; has_place = false }
-
--- one more input was read
+-- one more input was read, which arrived at a time, and whose first leg goes this way
 abbrev pub expecting : {P : Type 0} → ℕ → Way → Window P → Window P
-expecting time way window = record window { under_way = window.under_way ++ opened time way ∷ [] }
+expecting time way window = record window {
+  under_way = window.under_way ++ record { time = time; progress = Awaited way; has_place = false } ∷ [];
+}
 
 -- what is told of the first leg and of the second, once this is told of a leg that goes this way and is awaited
 abbrev pub passages_after : {P : Type 0} → P → Progress P → Way → P → Option (P × P)
 passages_after none (Awaited Outgoing) Outgoing passage = Some (passage, none)
-passages_after none (Awaited Outgoing) Incoming passage = None
-passages_after none (Awaited Incoming) Outgoing passage = None
 passages_after none (Awaited Incoming) Incoming passage = Some (passage, none)
-passages_after none (Returning first) Outgoing passage = None
 passages_after none (Returning first) Incoming passage = Some (first, passage)
-passages_after none (Answered owed end first second) way passage = None
+passages_after none _ _ passage = None
 
 -- the progress of one input was set
 pub record IsWritten {P : Type 0} (number : ℕ) (progress : Progress P) (window later : Window P) : Type 0 where
@@ -158,20 +150,15 @@ whole_of tells rules start inputs = record {
   firsts = map (λ trace. tells trace.first) (traces_of rules start inputs);
 }
 
-abbrev pub next_leg : ℕ → ℕ → List ℕ → Leg
-next_leg number now packet = record { number = number; now = now; way = Incoming; packet = packet }
-
 -- the second leg that the last answer asks for
 abbrev pub asked_by : ℕ → ℕ → End → Option Leg
-asked_by number now (ends.ToOutside packet) = None
-asked_by number now (ends.ToInside packet) = None
-asked_by number now (ends.Onward place packet) = Some (next_leg number now packet)
-asked_by number now (ends.Dropped cause) = None
+asked_by number now (ends.Onward place packet) =
+    Some (record { number = number; now = now; way = Incoming; packet = packet })
+asked_by number now _ = None
 
 abbrev pub asked : {P : Type 0} → ℕ → Progress P → Option Leg
-asked number (Awaited way) = None
-asked number (Returning first) = None
 asked number (Answered owed end first second) = asked_by number owed.now end
+asked number _ = None
 
 pub record Asks {P : Type 0} (number : ℕ) (progress : List (Progress P)) (second : Option Leg) : Type 0 where
   pub p : Progress P
@@ -180,10 +167,8 @@ pub record Asks {P : Type 0} (number : ℕ) (progress : List (Progress P)) (seco
 
 -- what is told of the first leg, while there is to be a second
 abbrev pub first_by : {P : Type 0} → P → End → Option P
-first_by first (ends.ToOutside packet) = None
-first_by first (ends.ToInside packet) = None
 first_by first (ends.Onward place packet) = Some first
-first_by first (ends.Dropped cause) = None
+first_by first _ = None
 
 abbrev pub first_in : {P : Type 0} → Progress P → Option P
 first_in (Awaited way) = None

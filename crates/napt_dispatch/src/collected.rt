@@ -24,8 +24,9 @@ impl Collected {
 }
 
 impl Departures for Collected {
-    ghost use Rattle.std.specs.Prelude.{⊤, ◌∷◌, MatchResult};
-    ghost use Rattle.napt_dispatch.specs.Collecting.{Collects, collects_none, collects_more};
+    ghost use Rattle.std.specs.Prelude.{⊤, ◌∷◌, ◌++◌, map, MatchResult};
+    ghost use Rattle.std.proofs.{Common.{ap, sym, ◌∙◌, append-nil, append_assoc}, lemmas.List.map-append};
+    ghost use Rattle.napt_dispatch.specs.Collecting.{Collects, outcome_of};
 
     type Fault = AllocError;
 
@@ -37,9 +38,12 @@ impl Departures for Collected {
 
     ghost is_settled = { λ collected. ⊤ };
 
-    ghost takes_none = { collects_none };
+    ghost takes_none = { λ x. sym (append-nil x.outcomes.items) };
 
-    ghost takes_more = { λ x y z xs ys first second. collects_more x y z xs ys first second };
+    ghost takes_more = { λ x y z xs ys first second.
+        second ∙ (ap (λ l. l ++ map outcome_of ys) first
+        ∙ (append_assoc x.outcomes.items (map outcome_of xs) (map outcome_of ys)
+        ∙ ap (λ l. x.outcomes.items ++ l) (sym (map-append outcome_of xs ys)))) };
 
     fn leave(
         &mut self,

@@ -6,8 +6,8 @@
 //! else does.
 ghost use Rattle.std.specs.Prelude.{◌≡◌, ◌<◌, ◌^◌, [], length, map, replicate, IfOk, IfErr, OnOk, OnErr};
 ghost use Rattle.napt_pool.specs.{Pools.{starts, accepts, takes, zip_with}, Histories.replies};
-ghost use Rattle.napt_rules.specs.Prelude.{State};
-ghost use Rattle.napt_dispatch.specs.{Dispatch.{started, IsDispatchFault, IsDispatched}, Passing.{EndsBy, EndsHalted}, QueueStates.unused};
+ghost use Rattle.napt_rules.specs.Prelude.{State, anew};
+ghost use Rattle.napt_dispatch.specs.{Dispatch.{started, IsDispatchFault, IsDispatchedFrom}, Passing.{EndsBy, EndsHalted}, QueueStates.unused};
 
 mod holding;
 mod offering;
@@ -24,8 +24,8 @@ mod worker_queues;
 use crate::Worker;
 use crate::collected::Collected;
 use crate::departures::Departures;
+use crate::faults::DispatchFault;
 use crate::inputs::copies;
-use crate::stopped::Halted;
 use napt_config::Config;
 use napt_pool::{Gate, Machine, Pool};
 use napt_sequential::{Arrivals, Input, Outcome, RunFault, Telling, Untold};
@@ -97,7 +97,8 @@ pub fn dispatch<R: Wait, G: Gate>(
     ensures settled { OnOk result (map length (takes pool.new) ≡ map length (accepts pool.new)) }
     ensures run { IfOk result (λ done. takes pool.new
         ≡ zip_with (replies ⟦<Worker<Untold> as Machine>⟧) (starts pool.new) (accepts pool.new) →
-        IsDispatched config.now inputs.now (accepts pool.new) done.0.items done.1.items) }
+        IsDispatchedFrom config.now (anew config.now) inputs.now (accepts pool.new) done.0.items
+        done.1.items) }
     ensures fault { IfErr result (IsDispatchFault G.is_open) }
 {
     let mut collected = Collected::with_capacity(alloc, inputs.len())?;
@@ -162,12 +163,12 @@ pub(crate) fn dispatch_to<R: Wait, G: Gate, A: Arrivals, D: Departures>(
             clock,
             ending: Ending::of(fault),
         }),
-        Err(Halted::Departure(fault)) => Ok(Dispatched {
+        Err(DispatchFault::Departure(fault)) => Ok(Dispatched {
             legs: Vec::new(alloc),
             clock: 0,
             ending: Ending::Departure(fault),
         }),
-        Err(Halted::Run(fault)) => Err(fault),
+        Err(DispatchFault::Run(fault)) => Err(fault),
     }
 }
 

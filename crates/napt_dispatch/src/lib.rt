@@ -7,13 +7,13 @@
 mod collected;
 mod departures;
 mod dispatcher;
+mod faults;
 mod inputs;
-mod stopped;
 mod worker;
 mod workers;
 
 pub use departures::{Departed, Departures};
 pub use dispatcher::dispatch;
-pub use stopped::Stopped;
+pub use faults::PassFault;
 pub use worker::Worker;
 pub use workers::{Passed, run_through, run_workers};

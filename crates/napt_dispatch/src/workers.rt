@@ -11,8 +11,8 @@ ghost use Rattle.napt_rules.specs.Prelude.{AreRowsApart, Takes, under};
 use crate::Worker;
 use crate::departures::Departures;
 use crate::dispatcher::{Dispatched, Ending, dispatch, dispatch_to};
+use crate::faults::PassFault;
 use crate::inputs::last_clock;
-use crate::stopped::Stopped;
 use napt_config::Config;
 use napt_pool::{Ended, Gate, Machine, Pool, PoolFault};
 use napt_rules::State;
@@ -255,7 +255,7 @@ pub fn run_through<
     arrivals: &mut A,
     departures: &mut D,
     gate: Arc<G>,
-) -> Result<Passed, Stopped<A::Fault, D::Fault>>
+) -> Result<Passed, PassFault<A::Fault, D::Fault>>
     requires { Takes config.now state.now }
     ensures passes { Passes D.Told.tells config.now (under config.now state.now) A.hands A.ends
         D.takes D.fails D.is_settled arrivals.old departures.old arrivals.new departures.new result }
@@ -280,9 +280,9 @@ pub fn run_through<
     match ending {
         Ending::Whole => match result_of(alloc, ended, legs, clock) {
             Ok(passed) => Ok(passed),
-            Err(_) => Err(Stopped::Run(RunFault::Memory)),
+            Err(_) => Err(PassFault::Run(RunFault::Memory)),
         },
-        Ending::Arrival(fault) => Err(Stopped::Arrival(fault)),
-        Ending::Departure(fault) => Err(Stopped::Departure(fault)),
+        Ending::Arrival(fault) => Err(PassFault::Arrival(fault)),
+        Ending::Departure(fault) => Err(PassFault::Departure(fault)),
     }
 }

@@ -1,9 +1,8 @@
 -- Laws of runs for a dispatcher, which hands each leg to the translator of its address and takes the answers one by
 -- one.
 use Rattle.std.specs.{Prelude.{◌≡◌, ℕ, max, List, [], ◌∷◌, ◌++◌, length, Option, Some, None, IfSome, Ok}, List.slice_get}
-use Rattle.napt_rules.specs.Prelude.{Binding, Each, of, act, Arrival, Act, Course, ahead, step, last_clock, State, course_from, legs_at, kept_replies, answers_at, Side, Outgoing, destination, reading, Rules, place_of}
-use Rattle.napt_rules.specs.declared.{Leg.Leg, Answer.Answer, End.{End, TheVariants.{ToOutside, ToInside, Onward, Dropped}}, Outcome.Outcome}
-use Rattle.napt_rules.specs.declared.Outcome.TheVariants as outcomes
+use Rattle.napt_rules.specs.Prelude.{Binding, Each, of, act, Arrival, Act, Course, ahead, outcome_of, step, last_clock, State, course_from, legs_at, kept_replies, answers_at, Side, Outgoing, destination, reading, Rules, place_of}
+use Rattle.napt_rules.specs.declared.{Leg.Leg, Answer.Answer, End.{End, TheVariants.Onward}, Outcome.Outcome}
 
 -- xs begins ys
 abbrev pub IsFront : {X : Type 0} → List X → List X → Type 0
@@ -28,10 +27,8 @@ RunsGrow = (rules : Rules) (state : State) (inputs : List Arrival) (input : Arri
 
 -- the outcome that the end of a leg tells, where it is the last
 abbrev pub outcome_told : End → Option Outcome
-outcome_told (ToOutside packet) = Some (outcomes.ToOutside packet)
-outcome_told (ToInside packet) = Some (outcomes.ToInside packet)
 outcome_told (Onward place packet) = None
-outcome_told (Dropped cause) = Some (outcomes.Dropped cause)
+outcome_told end = Some (outcome_of end)
 
 -- each leg that does not go onward tells the outcome of its input
 abbrev pub IsTold : List Outcome → Act → Type 0

@@ -45,7 +45,7 @@ pub(crate) fn shape_of(alloc: Global, bytes: &[u8], plan: Plan) -> Result<Shape,
 }
 
 /// What the capture of one packet comes to where it ends after so many of its bytes.
-fn shape_of_front(length: usize) -> Result<Shape, CaptureFault> {
+fn shape_of_front(length: u16) -> Result<Shape, CaptureFault> {
     match length {
         0..=23 => Err(CaptureFault::NoHeader),
         24 => Ok((0, false)),
@@ -57,25 +57,18 @@ fn shape_of_front(length: usize) -> Result<Shape, CaptureFault> {
 /// How many bytes a read gives, and how many reads the capture takes: the last finds the end.
 #[test]
 fn each_read_fails_in_turn(rt: HostRuntime) {
-    for (most, reads) in [
-        (100, 4),
-        (70, 4),
-        (29, 5),
-        (16, 6),
-        (7, 13),
-        (2, 36),
-        (1, 71),
-    ] {
-        for call in 1..=reads {
-            let failed = shape_of(rt.alloc(), &ONE_PACKET, at_most(most, call, Trouble::Fails));
-            assert_eq!(rt;
-                failed,
-                Err(CaptureFault::Read),
-                "{most} bytes, read {call}"
-            );
+    let all_reads = [4, 4, 5, 6, 13, 36, 71];
+    for (most, reads) in [100, 70, 29, 16, 7, 2, 1].iter().zip(&all_reads) {
+        for call in 0..=*reads {
+            let plan = at_most(*most, call, Trouble::Fails);
+            let wanted = if call == 0 {
+                Ok((1, false))
+            } else {
+                Err(CaptureFault::Read)
+            };
+            let found = shape_of(rt.alloc(), &ONE_PACKET, plan);
+            assert_eq!(rt; found, wanted, "{most} bytes, read {call}");
         }
-        let whole = shape_of(rt.alloc(), &ONE_PACKET, at_most(most, 0, Trouble::Fails));
-        assert_eq!(rt; whole, Ok((1, false)), "{most} bytes");
     }
 }
 
@@ -83,16 +76,13 @@ fn each_read_fails_in_turn(rt: HostRuntime) {
 #[test]
 fn each_read_finds_the_end(rt: HostRuntime) {
     for given in 0..=70u16 {
-        let front = usize::from(given);
-        let cut = shape_of(
-            rt.alloc(),
-            &ONE_PACKET[..front],
-            at_most(100, 0, Trouble::Fails),
-        );
-        assert_eq!(rt; cut, shape_of_front(front), "{given} bytes");
+        let (front, wanted) = (&ONE_PACKET[..usize::from(given)], shape_of_front(given));
+        let whole = at_most(100, 0, Trouble::Fails);
+        let cut = shape_of(rt.alloc(), front, whole);
+        assert_eq!(rt; cut, wanted, "{given} bytes");
         let plan = at_most(1, u64::from(given) + 1, Trouble::TakesNone);
         let ended = shape_of(rt.alloc(), &ONE_PACKET, plan);
-        assert_eq!(rt; ended, shape_of_front(front), "none after {given} bytes");
+        assert_eq!(rt; ended, wanted, "none after {given} bytes");
     }
 }
 
@@ -108,27 +98,16 @@ fn packet(alloc: Global) -> Result<Record, Fail>
     })
 }
 
-/// What a disk holds, and how writing to it ended.
+/// How writing to a disk ended, and what the disk holds.
 type Written = (Result<(), WriteFault>, Vec<u8>);
 
-/// Writes a capture to a disk.
-fn write_to(alloc: Global, records: &[Record], plan: Plan) -> Written
-    requires few { length records.now < 2 ^ 32 }
-    requires writable { All IsWritable records.now }
-    requires plan { 0 < plan.most }
-{
-    let mut disk = Faulty::new(Watched::new(Vec::new(alloc)), plan);
-    let result = write_capture(&mut disk, records);
-    (result, disk.into_inner().into_inner())
-}
-
-/// Writes the text of the one packet to a disk.
-fn write_text_to(alloc: Global, plan: Plan) -> Written
-    requires { 0 < plan.most }
-{
-    let mut disk = Faulty::new(Watched::new(Vec::new(alloc)), plan);
-    let result = write_text(&mut disk, &WRITTEN);
-    (result, disk.into_inner().into_inner())
+/// Writes to a disk that goes wrong as planned.
+macro_rules! written {
+    ($rt:ident, $plan:expr, $write:ident($written:expr)) => {{
+        let mut disk = Faulty::new(Watched::new(Vec::new($rt.alloc())), $plan);
+        let result = $write(&mut disk, $written);
+        (result, disk.into_inner().into_inner())
+    }};
 }
 
 /// What a disk is to hold once it was written to, and how that is to have ended.
@@ -142,8 +121,8 @@ fn assert_written(rt: &impl Abort, written: Written, wanted: Result<(), WriteFau
 fn one_packet_or_none_is_written(rt: HostRuntime) -> Result<(), Fail> {
     let records = [packet(rt.alloc())?];
     let plan = at_most(100, 0, Trouble::Fails);
-    assert_written(&rt, write_to(rt.alloc(), &records, plan), Ok(()), 70);
-    assert_written(&rt, write_to(rt.alloc(), &[], plan), Ok(()), 24);
+    assert_written(&rt, written!(rt, plan, write_capture(&records)), Ok(()), 70);
+    assert_written(&rt, written!(rt, plan, write_capture(&[])), Ok(()), 24);
     Ok(())
 }
 
@@ -161,8 +140,10 @@ fn each_write_fails_in_turn(rt: HostRuntime) -> Result<(), Fail> {
                 Err(WriteFault { written })
             };
             let plan = at_most(1, u64::from(taken) + 1, trouble);
-            assert_written(&rt, write_to(rt.alloc(), &records, plan), wanted, front);
-            assert_written(&rt, write_text_to(rt.alloc(), plan), wanted, front);
+            let capture = written!(rt, plan, write_capture(&records));
+            assert_written(&rt, capture, wanted, front);
+            let text = written!(rt, plan, write_text(&WRITTEN));
+            assert_written(&rt, text, wanted, front);
         }
     }
     Ok(())
@@ -173,16 +154,14 @@ fn each_write_fails_in_turn(rt: HostRuntime) -> Result<(), Fail> {
 struct Counted {
     fault: Option<io::ErrorKind>,
     /// The reads, the writes and the flushes.
-    calls: (u8, u8, u8),
+    calls: [u8; 3],
 }
 
 impl Counted {
-    fn of(fault: Option<io::ErrorKind>) -> Counted {
-        let calls = (0, 0, 0);
-        Counted { fault, calls }
-    }
-
-    fn answer(&self) -> io::Result<()> {
+    fn call(&mut self, kind: usize) -> io::Result<()> {
+        if let Some(calls) = self.calls.get_mut(kind) {
+            *calls = calls.saturating_add(1);
+        }
         match self.fault {
             Some(kind) => Err(io::Error::from(kind)),
             None => Ok(()),
@@ -192,42 +171,36 @@ impl Counted {
 
 impl Read for Counted {
     fn read(&mut self, buffer: &mut [u8]) -> io::Result<usize> {
-        self.calls.0 = self.calls.0.saturating_add(1);
-        self.answer()?;
+        self.call(0)?;
         Ok(buffer.len().min(1))
     }
 }
 
 impl Write for Counted {
     fn write(&mut self, bytes: &[u8]) -> io::Result<usize> {
-        self.calls.1 = self.calls.1.saturating_add(1);
-        self.answer()?;
+        self.call(1)?;
         Ok(bytes.len().min(1))
     }
 
     fn flush(&mut self) -> io::Result<()> {
-        self.calls.2 = self.calls.2.saturating_add(1);
-        self.answer()
+        self.call(2)
     }
 }
 
 /// Each call goes to the device once, and answers what that answers.
 #[test]
 fn calls_are_handed_on_once(rt: HostRuntime) {
-    let faults = [
-        None,
-        Some(io::ErrorKind::BrokenPipe),
-        Some(io::ErrorKind::Interrupted),
-    ];
-    for fault in faults {
-        let mut read = Watched::new(Counted::of(fault));
+    let (broken, interrupted) = (io::ErrorKind::BrokenPipe, io::ErrorKind::Interrupted);
+    for fault in [None, Some(broken), Some(interrupted)] {
+        let calls = [0; 3];
+        let mut read = Watched::new(Counted { fault, calls });
         assert_eq!(rt; read.read(&mut [0; 2]).is_ok(), fault.is_none());
-        assert_eq!(rt; read.into_inner().calls, (1, 0, 0));
-        let mut written = Watched::new(Counted::of(fault));
+        assert_eq!(rt; read.into_inner().calls, [1, 0, 0]);
+        let mut written = Watched::new(Counted { fault, calls });
         assert_eq!(rt; written.write(&[7; 2]).is_ok(), fault.is_none());
-        assert_eq!(rt; written.into_inner().calls, (0, 1, 0));
-        let mut flushed = Watched::new(Counted::of(fault));
+        assert_eq!(rt; written.into_inner().calls, [0, 1, 0]);
+        let mut flushed = Watched::new(Counted { fault, calls });
         assert_eq!(rt; flushed.flush().is_ok(), fault.is_none());
-        assert_eq!(rt; flushed.into_inner().calls, (0, 0, 1));
+        assert_eq!(rt; flushed.into_inner().calls, [0, 0, 1]);
     }
 }

@@ -30,23 +30,17 @@ fn the_least_time_first(rt: HostRuntime) -> Result<(), Fail> {
     Ok(())
 }
 
-/// The numbers of three entries of one time, in order.
-fn three_of(due: &mut Due<u16>, time: u64) -> Result<[u16; 3], Fail> {
-    let mut numbers = [0; 3];
-    for place in numbers.iter_mut() {
-        match due.take_first() {
-            Some((found, number)) if found == time => *place = number,
-            _ => return Err("an entry that was put in".into()),
-        }
-    }
-    numbers.sort_unstable();
-    Ok(numbers)
-}
-
 #[test]
 fn each_entry_of_one_time(rt: HostRuntime) -> Result<(), Fail> {
     let mut due = queue_of(rt.alloc(), &[(100, 7), (100, 9), (100, 7)])?;
-    assert_eq!(rt; three_of(&mut due, 100)?, [7, 7, 9]);
+    let mut numbers = [0; 3];
+    for place in numbers.iter_mut() {
+        let (time, number) = due.take_first().expect(&rt, "an entry that was put in");
+        assert_eq!(rt; time, 100);
+        *place = number;
+    }
+    numbers.sort_unstable();
+    assert_eq!(rt; numbers, [7, 7, 9]);
     assert_eq!(rt; taken(&mut due), [None, None]);
     Ok(())
 }

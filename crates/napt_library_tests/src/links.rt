@@ -61,28 +61,19 @@ fn change(
 /// Node 0 stays first and node 1 last; 600 times another one of 20 goes or comes, wherever the numbers say.
 #[test]
 fn row_and_list_of_nodes_agree(rt: HostRuntime) -> Result<(), Fail> {
-    let mut links = Vec::new(rt.alloc());
-    for _ in 0..20 {
-        links.push(Links {
-            before: 0,
-            after: 1,
-        })?;
-    }
-    let mut order: Vec<u32> = Vec::new(rt.alloc());
-    order.push(0)?;
-    order.push(1)?;
+    let end = Links {
+        before: 0,
+        after: 1,
+    };
+    let mut links = vec![in rt.alloc(); end; 20]?;
+    let mut order = vec![in rt.alloc(); 0, 1]?;
     let mut longest = 0;
     let mut state: u32 = 12_345;
     for _ in 0..600 {
         state = state.wrapping_mul(1_664_525).wrapping_add(1_013_904_223);
         let drawn = state >> 16;
-        change(
-            &rt,
-            &mut links,
-            &mut order,
-            2 + drawn % 18,
-            drawn as usize / 18,
-        )?;
+        let (node, place) = (2 + drawn % 18, drawn as usize / 18);
+        change(&rt, &mut links, &mut order, node, place)?;
         assert!(rt; are_in_order(&links, &order));
         longest = order.len().max(longest);
     }

@@ -15,27 +15,17 @@ fn inside(number: u16) -> Endpoint {
 
 /// What stands for each number.
 fn choices(numbers: &Numbers, of: [u16; 4]) -> [Option<u16>; 4] {
-    let [first, second, third, fourth] = of;
-    [
-        numbers.choose(Choosing::DEFAULT, None, inside(first)),
-        numbers.choose(Choosing::DEFAULT, None, inside(second)),
-        numbers.choose(Choosing::DEFAULT, None, inside(third)),
-        numbers.choose(Choosing::DEFAULT, None, inside(fourth)),
-    ]
-}
-
-/// Puts the even numbers below 1024 in.
-fn fill(numbers: &mut Numbers) {
-    for k in 0..511 {
-        numbers.put(2 + 2 * k);
-    }
+    of.map(|number| numbers.choose(Choosing::DEFAULT, None, inside(number)))
 }
 
 #[test]
 fn none_of_a_full_class(rt: HostRuntime) -> Result<(), Fail> {
     let mut numbers = Numbers::new(rt.alloc(), Protocol::Udp)?;
     assert_eq!(rt; numbers.protocol(), Protocol::Udp);
-    fill(&mut numbers);
+    // The even numbers below 1024.
+    for k in 0..511 {
+        numbers.put(2 + 2 * k);
+    }
     let found = choices(&numbers, [2, 1022, 1, 1024]);
     assert_eq!(rt; found, [None, None, Some(1), Some(1024)]);
     numbers.take(1000);

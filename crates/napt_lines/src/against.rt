@@ -3,8 +3,7 @@
 use crate::choice::Choice;
 use crate::lines::{leaves_with, side_column};
 use crate::shown::{add_arrival, add_packet, is_end_of_arrival};
-use napt_commands::{Consumer, CountedRun, Exit, Outside, Seconds, copied, tell_warning};
-use napt_config::Config;
+use napt_commands::{Consumer, CountedRun, Exit, Outside, RunStart, Seconds, copied, tell_warning};
 use napt_records::{Counts, cause_name};
 use napt_sequential::{Input, Outcome};
 use napt_wire::Cause;
@@ -34,13 +33,13 @@ impl<'a> Against<'a> {
     pub fn begin(
         alloc: Global,
         choice: Choice,
-        configs: [&'a Config; 2],
+        start: &RunStart<'a>,
+        other: &RunStart<'a>,
     ) -> Result<Against<'a>, AllocError> {
-        let [first, second] = configs;
         Ok(Against {
             choice,
-            first: CountedRun::begin(alloc, first)?,
-            second: CountedRun::begin(alloc, second)?,
+            first: CountedRun::begin(alloc, start)?,
+            second: CountedRun::begin(alloc, other)?,
             different: 0,
         })
     }

@@ -1,7 +1,7 @@
 //! Replies that were dropped, in a user's words.
 
 use crate::digits::{add_address, add_endpoint};
-use napt_commands::{Losses, Origin, Outside};
+use napt_commands::{Losses, Outside, SourceKind};
 use napt_config::{Address, Config};
 use napt_sequential::Input;
 use napt_wire::{Cause, Endpoint, Packet, Side, Way};
@@ -91,10 +91,10 @@ impl<'a> Replies<'a> {
                 text.push_str("it is not to an inside host, but to ")?;
                 add_address(text, end.address)?;
             }
-            Cause::Spoofed => match Origin::of(self.config, bytes) {
-                Origin::Inside => write!(text, "from an inside address: {FROM_INSIDE}")?,
-                Origin::Pool(_) => write!(text, "from an address of the pool: {FROM_POOL}")?,
-                Origin::Remote => return Ok(false),
+            Cause::Spoofed => match SourceKind::of(self.config, bytes) {
+                SourceKind::Inside => write!(text, "from an inside address: {FROM_INSIDE}")?,
+                SourceKind::Pool(_) => write!(text, "from an address of the pool: {FROM_POOL}")?,
+                SourceKind::Remote => return Ok(false),
             },
             _ => return Ok(false),
         }

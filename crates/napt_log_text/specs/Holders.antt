@@ -1,5 +1,5 @@
 -- The lines that say who had an external endpoint, and when.
-use Rattle.std.specs.Prelude.{ℕ, ◌-◌, ◌==◌, nat_le, Bool, true, false, not, is_some, Option, Some, None, unwrap_or, [], ◌++◌, codes, decimal, if◌then◌else◌}
+use Rattle.std.specs.Prelude.{ℕ, ◌-◌, ◌==◌, nat_le, Bool, true, false, not, ◌&&◌, is_some, Option, Some, None, unwrap_or, [], ◌++◌, codes, decimal, if◌then◌else◌}
 use Rattle.napt_wire.specs.declared.Protocol.{Protocol}
 use Rattle.napt_config.specs.{Rules.{Rules, place_of}, Text.address_text}
 use Rattle.napt_records.specs.Report.{protocol_name, endpoint_text}
@@ -15,9 +15,14 @@ times_text last made end =
     codes " from " ++ moment_text made ++ codes " until " ++ moment_text end ++ premise_text last end
 
 -- a binding without an end: a redirect, or one of a saved log that breaks off while it lives
+abbrev pub why_open : Bool → Text
+why_open true = codes " on, a redirect"
+why_open false = codes " on, with no end in the log"
+
+-- the entry of a redirect begins later in a log that another run began
 abbrev pub open_text : Bool → ℕ → Text
-open_text true made = codes " always, a redirect"
-open_text false made = codes " from " ++ moment_text made ++ codes " on, with no end in the log"
+open_text fixed made = if fixed && (made == 0) then codes " always, a redirect"
+    else codes " from " ++ moment_text made ++ why_open fixed
 
 -- from when until when a binding had its endpoint
 abbrev pub span_text : ℕ → Bool → ℕ → Option ℕ → Text

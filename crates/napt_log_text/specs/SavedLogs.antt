@@ -2,11 +2,11 @@
 use Rattle.std.specs.Prelude.{◌≡◌, List, [], ◌∷◌, ◌++◌, Result, Err, flat_map, map}
 use Rattle.napt_config.specs.Rules.{Rules}
 use Rattle.napt_rules.specs.Prelude.{Arrival}
-use Rattle.napt_account.specs.Telling.{Told, living_of, told_by}
+use Rattle.napt_account.specs.Telling.{LogPart, living_of, told_by}
 use Rattle.napt_log_text.specs.declared.{event.Event.{Event, TheVariants.{Made, Ended, Living, Refused}}, saved_log.SavedFault.{SavedFault, TheVariants.Unread}}
 use Rattle.napt_log_text.specs.{Logs.log_text, Rows.{csv_row, header}}
 
-abbrev pub told_events : Told → List Event
+abbrev pub told_events : LogPart → List Event
 told_events told = map Ended told.ended ++ (map Made told.made ++ map Refused told.refused)
 
 -- the events of inputs that come after these, in order

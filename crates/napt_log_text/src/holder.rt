@@ -55,20 +55,32 @@ fn add_span(entry: &Entry, last: u64, text: &mut String) -> Result<(), AllocErro
 {
     match entry.end {
         Some(end) => add_times(entry.made, end, last, text),
-        None if entry.binding.fixed => text.push_str(" always, a redirect"),
-        None => add_open(entry.made, text),
+        None => add_open(entry.binding.fixed, entry.made, text),
     }
 }
 
-/// Appends from when on a binding had its endpoint whose end is not known.
-fn add_open(made: u64, text: &mut String) -> Result<(), AllocError>
+/// Appends from when on a binding had its endpoint that has no end.
+fn add_open(fixed: bool, made: u64, text: &mut String) -> Result<(), AllocError>
     ensures { OnOk result (string_bytes text.new
-        ≡ string_bytes text.old ++ holders.open_text false made) }
+        ≡ string_bytes text.old ++ holders.open_text fixed made) }
 {
+    if fixed && made == 0 {
+        return text.push_str(" always, a redirect");
+    }
     text.push_str(" from ")?;
     Moment(u128::from(made)).add_to(text)?;
-    text.push_str(" on, with no end in the log")?;
-    Ok(())
+    text.push_str(why_open(fixed))
+}
+
+/// Why a binding has no end.
+fn why_open(fixed: bool) -> &'static str
+    ensures { result.now ≡ holders.why_open fixed }
+{
+    if fixed {
+        " on, a redirect"
+    } else {
+        " on, with no end in the log"
+    }
 }
 
 /// Appends both times of a binding that ends.

@@ -20,7 +20,8 @@ pub use digits::{add_address, add_endpoint, add_number};
 pub use event::{Event, header};
 pub use holder::{add_holder, add_mark, add_nobody};
 pub use log_rows::{
-    add_entered, add_living, add_opening, add_told, log_grows, traces_have_the_rows,
+    add_entered, add_first, add_living, add_opening, add_told, begins_piece, log_grows, logs_join,
+    traces_have_the_rows,
 };
 pub use moment::Moment;
 pub use napt_account::Listed;

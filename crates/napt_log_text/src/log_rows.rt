@@ -1,25 +1,39 @@
 //! The text of the log of a run, part by part, while packets come.
-ghost use Rattle.std.specs.Prelude.{◌≡◌, ◌++◌, OnOk, string_bytes};
-ghost use Rattle.napt_account.specs.{KnownRuns.told_of, TraceLogs.told_in};
+ghost use Rattle.std.specs.{Prelude.{◌≡◌, ◌++◌, OnOk, option_map, string_bytes}, Int.NonZero.{non_zero_u32_get}};
+ghost use Rattle.napt_account.specs.{KnownRuns.told_of, ResumedLogs.told_first, TraceLogs.told_in};
 ghost use Rattle.napt_log_text.specs.Logs as logs;
 
 use crate::event::{Event, header};
-use napt_account::{Listed, LoggedStep, LoggedTrace, Shortage, traces_tell_the_log};
+use napt_account::{Listed, LoggedStep, LoggedTrace, Shortage, logs_go_on, traces_tell_the_log};
 use napt_config::Config;
 use std::alloc::AllocError;
+use std::num::NonZeroU32;
 
-/// Appends the beginning of a log: the names of its fields, and a row for each redirect, which exist before the first
-/// packet. Fails only if memory runs out.
-pub fn add_opening(
+const NANOSECONDS_A_SECOND: u64 = 1_000_000_000;
+
+/// Appends the beginning of a log: the names of its fields, and a row for each binding that lives before the first packet,
+/// as the redirects of a run that begins anew. Fails only if memory runs out.
+pub fn add_opening(config: &Config, living: &[Listed], text: &mut String) -> Result<(), AllocError>
+    ensures { OnOk result (string_bytes text.new ≡ string_bytes text.old
+        ++ logs.opening_text config.now living.now) }
+{
+    text.push_str(header())?;
+    add_made(config, living, text)
+}
+
+/// Appends the rows of what a log that goes on tells before the first packet: entries that end, and new ones. Fails only if
+/// memory runs out.
+pub fn add_first(
     config: &Config,
-    redirects: &[Listed],
+    ended: &[Listed],
+    made: &[Listed],
     text: &mut String,
 ) -> Result<(), AllocError>
     ensures { OnOk result (string_bytes text.new ≡ string_bytes text.old
-        ++ logs.opening_text config.now redirects.now) }
+        ++ logs.told_rows config.now (told_first ended.now made.now)) }
 {
-    text.push_str(header())?;
-    add_made(config, redirects, text)
+    add_ended(config, ended, text)?;
+    add_made(config, made, text)
 }
 
 /// Appends the rows of what the log tells with an input: the bindings that ended since the clock of the input before, the
@@ -44,6 +58,19 @@ pub fn add_entered(config: &Config, told: &LoggedTrace, text: &mut String) -> Re
     add_refused(config, &told.refused, text)
 }
 
+/// Whether a log in pieces of `each` seconds begins one with an input at a time, in ns, whose clock was `last` before: whether
+/// that passes a multiple of them. A log in one piece, and the first input of a run, for which there is no `last`, begin none.
+#[inline(always)]
+pub fn begins_piece(each: Option<NonZeroU32>, last: Option<u64>, now: u64) -> bool
+    ensures { result ≡ logs.begins_piece (option_map non_zero_u32_get each) last now }
+{
+    let (Some(each), Some(last)) = (each, last) else {
+        return false;
+    };
+    let length = u64::from(each.get()) * NANOSECONDS_A_SECOND;
+    last / length < now / length
+}
+
 /// Appends the end of a log: a row without an event for each binding that lives at the end. Fails only if memory runs out.
 pub fn add_living(config: &Config, living: &[Listed], text: &mut String) -> Result<(), AllocError>
     ensures { OnOk result (string_bytes text.new ≡ string_bytes text.old
@@ -60,9 +87,22 @@ pub fn log_grows()
     ensures { logs.LogGrows }
 {}
 
-/// The rows of the traces of a run are those of its inputs.
+/// The log of a run that goes on from before any input is that of the run. The log of a run, without rows of what lives,
+/// and then that of the run that goes on where it was left, is the log of the run over all inputs; also where the state was
+/// saved and taken up. From where a piece begins the log is that of the run that goes on there with a new one.
+pub fn logs_join()
+    ensures anew { logs.LogsBeginAnew }
+    ensures join { logs.LogsJoin }
+    ensures saved { logs.SavedLogsJoin }
+    ensures pieces { logs.PiecesStandAlone }
+{
+    logs_go_on();
+}
+
+/// The rows of the traces of a run are those of its inputs, also of a run that goes on from a state.
 pub fn traces_have_the_rows()
-    ensures { logs.TracesHaveTheRows }
+    ensures rows { logs.TracesHaveTheRows }
+    ensures rest { logs.TracesHaveTheRest }
 {
     traces_tell_the_log();
 }

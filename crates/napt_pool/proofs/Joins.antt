@@ -3,8 +3,8 @@ use Rattle.std.proofs.lemmas.Grind.{common_steps}
 use Rattle.std.proofs.Common.{rules, ◌≡◌, ℕ, zero, suc, ◌+◌, ◌<◌, add-one, refl, sym, ap, ◌∙◌, arith, Bool, true, false, List, map, length, [], ◌∷◌, ◌++◌, append_assoc, length-append, ◌⊎◌, inl, inr, ⊎_elim, get_or}
 use Rattle.std.{specs.Prelude.{Result, Ok, Err, OnOk, IfOk, IfErr, MatchResult, Contains, replicate}, proofs.lemmas.List.{length-map, nil_from_length}}
 use Rattle.std.{specs.Vec.Iter.{into_iter_items, into_iter_len}}
-use Rattle.napt_pool.specs.declared.{fault.{PoolFault.PoolFault, Stop.{Stop, TheVariants.{Memory, GateShut, Ring}}}, machine.Machine.Ghosts}
-use Rattle.napt_pool.{specs.declared.{closing.{Closing.Closing, Ended.Ended}, message.Reply.TheVariants.Stopped, pool.Pool.Pool}, proofs.Steps.map-snoc}
+use Rattle.napt_pool.specs.declared.{fault.{PoolFault.PoolFault, WorkerFault.{WorkerFault, TheVariants.{Memory, GateShut, Ring}}}, machine.Machine.Ghosts}
+use Rattle.napt_pool.{specs.declared.{closing.{Closing.Closing, Ended.Ended}, message.Reply.TheVariants.Failed, pool.Pool.Pool}, proofs.Steps.map-snoc}
 use Rattle.napt_pool.specs.{declared.thread_state.ThreadState.ThreadState, Faults.{is_shut, is_gate_shut, fault_of, IsFaultOf, IsFaultUpTo, IsLeastFault}}
 use Rattle.napt_pool.specs.Histories.{after, replies, AllBegin}
 use Rattle.napt_pool.specs.Workers.{IsEnd, AreEnds, closing_machine, closing_thread_state, closing_accepted, closing_taken, closing_heard}
@@ -15,23 +15,24 @@ no_rest [] [] e = refl
 no_rest [] (x ∷ rest) e = cc
 no_rest (x ∷ t) rest e = let shorter : length (t ++ rest) ≡ length t = cc in ap (λ r. x ∷ r) (no_rest t rest shorter)
 
-first_below : {X : Type 0} (es : List (Result X Stop)) (before : List X) (stop : Stop) (rest : List (Result X Stop))
+first_below : {X : Type 0} (es : List (Result X WorkerFault)) (before : List X) (stop : WorkerFault)
+    (rest : List (Result X WorkerFault))
     → es ≡ map Ok before ++ Err stop ∷ rest → length before < length es
 first_below {X} es before stop rest e = grind (arith, common_steps, length-append, length-map)
 
-fault_of_is : (stop : Stop) (w n : ℕ) → w < n → IsFaultOf (λ v. v < n) (fault_of stop w)
+fault_of_is : (stop : WorkerFault) (w n : ℕ) → w < n → IsFaultOf (λ v. v < n) (fault_of stop w)
 fault_of_is Memory w n below = tt
 fault_of_is GateShut w n below = below
 fault_of_is Ring w n below = tt
 
-shut_is : (stop : Stop) (w : ℕ) → is_shut (fault_of stop w) ≡ is_gate_shut stop
+shut_is : (stop : WorkerFault) (w : ℕ) → is_shut (fault_of stop w) ≡ is_gate_shut stop
 shut_is Memory w = refl
 shut_is GateShut w = refl
 shut_is Ring w = refl
 
 module _ {M G I A : Type 0} (g : Ghosts M I A) (open_gate : Bool) where
-  pub AreEnds-push : (ws : List (Closing M G I A)) (es : List (Result (Ended M I A) Stop)) (w : Closing M G I A)
-      (e : Result (Ended M I A) Stop)
+  pub AreEnds-push : (ws : List (Closing M G I A)) (es : List (Result (Ended M I A) WorkerFault)) (w : Closing M G I A)
+      (e : Result (Ended M I A) WorkerFault)
       → AreEnds g open_gate ws es → IsEnd g open_gate w e → AreEnds g open_gate (ws ++ w ∷ []) (es ++ e ∷ [])
   AreEnds-push [] [] w e h k = (k, tt)
   AreEnds-push [] (f ∷ es) w e h k = absurd h
@@ -56,14 +57,15 @@ module _ {M G I A : Type 0} (g : Ghosts M I A) (open_gate : Bool) where
   answers_are (w ∷ ws) (e ∷ es) h = grind (arith, answers_are ws es h.1)
 
   -- what was taken is the first of them, also where a worker stopped
-  pub taken_are : (ws : List (Closing M G I A)) (es : List (Result (Ended M I A) Stop)) → AreEnds g open_gate ws es
+  pub taken_are : (ws : List (Closing M G I A)) (es : List (Result (Ended M I A) WorkerFault)) →
+      AreEnds g open_gate ws es
       → AllBegin (map closing_taken ws) (zip_with (replies g) (map closing_machine ws) (map closing_accepted ws))
   taken_are [] [] h = tt
   taken_are [] (e ∷ es) h = absurd h
   taken_are (w ∷ ws) [] h = absurd h
   taken_are (w ∷ ws) (e ∷ es) h = (h.0.taken_are, taken_are ws es h.1)
 
-  pub taken_at : (ws : List (Closing M G I A)) (es : List (Result (Ended M I A) Stop)) (ms : List M)
+  pub taken_at : (ws : List (Closing M G I A)) (es : List (Result (Ended M I A) WorkerFault)) (ms : List M)
       (xs : List (List I))
       (ts : List (List A)) → AreEnds g open_gate ws es → map closing_machine ws ≡ ms → map closing_accepted ws ≡ xs
       → map closing_taken ws ≡ ts → AllBegin ts (zip_with (replies g) ms xs)
@@ -91,21 +93,21 @@ module _ {M G I A : Type 0} (g : Ghosts M I A) (open_gate : Bool) where
       cc
 
   -- a worker that stopped, behind a gate that promises yes, does not say that it was shut
-  gate_at : (ws : List (Closing M G I A)) (before : List (Ended M I A)) (stop : Stop)
-      (rest : List (Result (Ended M I A) Stop))
+  gate_at : (ws : List (Closing M G I A)) (before : List (Ended M I A)) (stop : WorkerFault)
+      (rest : List (Result (Ended M I A) WorkerFault))
       → AreEnds g open_gate ws (map Ok before ++ Err stop ∷ rest) → open_gate ≡ true → is_gate_shut stop ≡ false
   gate_at [] [] stop rest h is_open = absurd h
   gate_at [] (b ∷ bs) stop rest h is_open = absurd h
   gate_at (w ∷ ws) [] stop rest h is_open = h.0.gate is_open
   gate_at (w ∷ ws) (b ∷ bs) stop rest h is_open = gate_at ws bs stop rest h.1 is_open
 
-  least_not_shut : (ws : List (Closing M G I A)) (es : List (Result (Ended M I A) Stop)) (fault : PoolFault)
+  least_not_shut : (ws : List (Closing M G I A)) (es : List (Result (Ended M I A) WorkerFault)) (fault : PoolFault)
       → AreEnds g open_gate ws es → IsLeastFault es fault → open_gate ≡ true → is_shut fault ≡ false
   least_not_shut ws es fault h least is_open = grind (arith, shut_is, gate_at)
 
   -- the same of what `close` gives
   module _ {T : Type 0} (items : T → List (Ended M I A)) (r : Result T PoolFault) (ws : List (Closing M G I A))
-      (es : List (Result (Ended M I A) Stop))
+      (es : List (Result (Ended M I A) WorkerFault))
       (ms : List M) (xs : List (List I)) (ends : AreEnds g open_gate ws es) (began : map closing_machine ws ≡ ms)
       (accepted : map closing_accepted ws ≡ xs) where
     pub machines_if_ok : IfOk r (λ v. map Ok (items v) ≡ es) →
@@ -118,20 +120,22 @@ module _ {M G I A : Type 0} (g : Ghosts M I A) (open_gate : Bool) where
     answers_if_ok ts taken h = grind (arith, common_steps, answers_are)
 
   pub settled_at : {T : Type 0} (items : T → List (Ended M I A)) (ws : List (Closing M G I A))
-      (es : List (Result (Ended M I A) Stop)) (ms : List M) (xs : List (List I))
+      (es : List (Result (Ended M I A) WorkerFault)) (ms : List M) (xs : List (List I))
       → AreEnds g open_gate ws es → map closing_machine ws ≡ ms → map closing_accepted ws ≡ xs
       → (ts : List (List A)) (r : Result T PoolFault) → map closing_taken ws ≡ ts → map length ts ≡ map length xs →
       IfOk r (λ v. map Ok (items v) ≡ es) → OnOk r (ts ≡ zip_with (replies g) ms xs)
   settled_at items ws es ms xs h k j ts r p q s = grind (arith, settled)
 
-  AreEnds-length : (ws : List (Closing M G I A)) (es : List (Result (Ended M I A) Stop)) → AreEnds g open_gate ws es →
+  AreEnds-length : (ws : List (Closing M G I A)) (es : List (Result (Ended M I A) WorkerFault)) →
+      AreEnds g open_gate ws es →
       length es ≡ length ws
   AreEnds-length [] [] h = refl
   AreEnds-length [] (e ∷ es) h = absurd h
   AreEnds-length (w ∷ ws) [] h = absurd h
   AreEnds-length (w ∷ ws) (e ∷ es) h = ap suc (AreEnds-length ws es h.1)
 
-  pub fault_if_err : {T : Type 0} (ws : List (Closing M G I A)) (es : List (Result (Ended M I A) Stop)) (ms : List M)
+  pub fault_if_err : {T : Type 0} (ws : List (Closing M G I A)) (es : List (Result (Ended M I A) WorkerFault))
+      (ms : List M)
       (r : Result T PoolFault) → AreEnds g open_gate ws es → map closing_machine ws ≡ ms
       → IfErr r (λ fault. IsLeastFault es fault) → IfErr r (λ fault. IsFaultOf (λ v. v < length ms) fault)
   fault_if_err ws es ms (Ok v) h began least = tt
@@ -143,7 +147,7 @@ module _ {M G I A : Type 0} (g : Ghosts M I A) (open_gate : Bool) where
       rw least.fault_is (fault_of_is least.stop (length least.before) (length ms) below)
 
   pub least_if_err : {T : Type 0} (p : Pool M G I A) (ws : List (Closing M G I A))
-      (es : List (Result (Ended M I A) Stop))
+      (es : List (Result (Ended M I A) WorkerFault))
       → map closing_machine ws ≡ starts p → map closing_accepted ws ≡ accepts p → map closing_taken ws ≡ takes p
       → map closing_heard ws ≡ heard p → map closing_thread_state ws ≡ thread_states p → AreEnds g open_gate ws es
       → (r : Result T PoolFault) → IfErr r (λ fault. IsLeastFault es fault) →
@@ -153,17 +157,17 @@ module _ {M G I A : Type 0} (g : Ghosts M I A) (open_gate : Bool) where
   -- a worker that told that it stopped: where all ended well there is none, and else the least that stopped is that one
   -- or one before it
   all_well_untold : (ws : List (Closing M G I A)) (es : List (Ended M I A)) → AreEnds g open_gate ws (map Ok es)
-      → (w : ℕ) (stop : Stop) → Contains (get_or (map closing_heard ws) w []) (Stopped stop) → ⊥
+      → (w : ℕ) (stop : WorkerFault) → Contains (get_or (map closing_heard ws) w []) (Failed stop) → ⊥
   all_well_untold [] [] h w stop c = let below = c.1 in absurd (omega arith)
   all_well_untold [] (e ∷ es) h w stop c = absurd h
   all_well_untold (v ∷ ws) [] h w stop c = absurd h
   all_well_untold (v ∷ ws) (e ∷ es) h zero stop c = let here = h.0.told stop c in cc
   all_well_untold (v ∷ ws) (e ∷ es) h (suc w) stop c = all_well_untold ws es h.1 w stop c
 
-  least_up_to : (ws : List (Closing M G I A)) (before : List (Ended M I A)) (s : Stop)
-      (rest : List (Result (Ended M I A) Stop))
-      → AreEnds g open_gate ws (map Ok before ++ Err s ∷ rest) → (w : ℕ) (stop : Stop) →
-      Contains (get_or (map closing_heard ws) w []) (Stopped stop)
+  least_up_to : (ws : List (Closing M G I A)) (before : List (Ended M I A)) (s : WorkerFault)
+      (rest : List (Result (Ended M I A) WorkerFault))
+      → AreEnds g open_gate ws (map Ok before ++ Err s ∷ rest) → (w : ℕ) (stop : WorkerFault) →
+      Contains (get_or (map closing_heard ws) w []) (Failed stop)
       → (length before < w) ⊎ ((length before ≡ w) × (s ≡ stop))
   least_up_to [] [] s rest h w stop c = absurd h
   least_up_to [] (b ∷ bs) s rest h w stop c = absurd h
@@ -173,16 +177,16 @@ module _ {M G I A : Type 0} (g : Ghosts M I A) (open_gate : Bool) where
   least_up_to (v ∷ ws) (b ∷ bs) s rest h (suc w) stop c = grind (arith, least_up_to ws bs s rest h.1 w stop c)
 
   pub told_is : {T : Type 0} (p : Pool M G I A) (items : T → List (Ended M I A)) (ws : List (Closing M G I A))
-      (es : List (Result (Ended M I A) Stop)) → AreEnds g open_gate ws es → map closing_heard ws ≡ heard p
+      (es : List (Result (Ended M I A) WorkerFault)) → AreEnds g open_gate ws es → map closing_heard ws ≡ heard p
       → (r : Result T PoolFault) → IfOk r (λ v. map Ok (items v) ≡ es) → IfErr r (λ fault. IsLeastFault es fault)
       → (w : ℕ) (fault : PoolFault) → HasTold p w fault → MatchResult r (λ _. ⊥) (IsFaultUpTo w fault)
   told_is p items ws es h listened (Ok v) ended least w fault told =
       let here = rw (← ended) at h in
-      let c : Contains (get_or (map closing_heard ws) w []) (Stopped told.0) = rw listened told.1 in
+      let c : Contains (get_or (map closing_heard ws) w []) (Failed told.0) = rw listened told.1 in
       all_well_untold ws (items v) here w told.0 c
   told_is p items ws es h listened (Err f) ended least w fault told =
       let here = rw least.ends_are at h in
-      let c : Contains (get_or (map closing_heard ws) w []) (Stopped told.0) = rw listened told.1 in
+      let c : Contains (get_or (map closing_heard ws) w []) (Failed told.0) = rw listened told.1 in
       ⊎_elim
       (λ less. let first : 0 < w = omega arith in
       inr (first, rw least.fault_is (fault_of_is least.stop (length least.before) w less)))
@@ -197,14 +201,14 @@ module _ {M G I A : Type 0} (g : Ghosts M I A) (open_gate : Bool) where
   received_are (w ∷ ws) (e ∷ es) h = (h.0.has_received, received_are ws es h.1)
 
   pub received_on_ok : {T : Type 0} (items : T → List (Ended M I A)) (ws : List (Closing M G I A))
-      (es : List (Result (Ended M I A) Stop)) (states : List (ThreadState M G I A)) (xs : List (List I))
+      (es : List (Result (Ended M I A) WorkerFault)) (states : List (ThreadState M G I A)) (xs : List (List I))
       → AreEnds g open_gate ws es → map closing_thread_state ws ≡ states → map closing_accepted ws ≡ xs
       → (r : Result T PoolFault) → IfOk r (λ v. map Ok (items v) ≡ es) → OnOk r (HaveReceived g open_gate states xs)
   received_on_ok items ws es states xs h given accepted (Ok v) ended =
       let here = rw (← ended) at h in rw (← given, ← accepted) (received_are ws (items v) here)
   received_on_ok items ws es states xs h given accepted (Err e) ended = tt
 
-  pub gate_if_err : {T : Type 0} (ws : List (Closing M G I A)) (es : List (Result (Ended M I A) Stop))
+  pub gate_if_err : {T : Type 0} (ws : List (Closing M G I A)) (es : List (Result (Ended M I A) WorkerFault))
       (r : Result T PoolFault)
       → AreEnds g open_gate ws es → open_gate ≡ true → IfErr r (λ fault. IsLeastFault es fault) →
       IfErr r (λ fault. is_shut fault ≡ false)

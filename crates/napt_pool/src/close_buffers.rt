@@ -3,7 +3,7 @@
 ghost use Rattle.std.specs.Prelude.{◌≡◌, ◌≤◌, [], vec_capacity, IfOk};
 
 use crate::closing::{Closing, Ended};
-use crate::fault::Stop;
+use crate::fault::WorkerFault;
 use crate::gate::Gate;
 use crate::machine::Machine;
 use std::alloc::{AllocError, Global};
@@ -13,7 +13,7 @@ use std::alloc::{AllocError, Global};
 pub(crate) struct CloseBuffers<M: Machine, G: Gate> {
     pub(crate) count: usize,
     pub(crate) closing: Vec<Closing<M, G>>,
-    pub(crate) ends: Vec<Result<Ended<M>, Stop>>,
+    pub(crate) ends: Vec<Result<Ended<M>, WorkerFault>>,
     pub(crate) ended: Vec<Ended<M>>,
     ghost empty: { (closing.items ≡ []) × (ends.items ≡ []) × (ended.items ≡ []) },
     ghost fits: { (count ≤ vec_capacity closing) × (count ≤ vec_capacity ends) × (count ≤ vec_capacity ended) },

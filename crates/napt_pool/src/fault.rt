@@ -71,21 +71,21 @@ impl<I: Drop> Error for OfferRefused<I> {}
 
 /// Why a worker ended without meeting Close.
 #[derive(Debug, Clone, Copy, PartialEq, Eq)]
-pub(crate) enum Stop {
+pub(crate) enum WorkerFault {
     Memory,
     GateShut,
     Ring,
 }
 
-impl Stop {
+impl WorkerFault {
     /// The fault of the worker with this number.
     pub(crate) fn of_worker(self, worker: u32) -> PoolFault
         ensures { result ≡ fault_of self worker }
     {
         match self {
-            Stop::Memory => PoolFault::Memory,
-            Stop::GateShut => PoolFault::GateShut(worker),
-            Stop::Ring => PoolFault::Ring,
+            WorkerFault::Memory => PoolFault::Memory,
+            WorkerFault::GateShut => PoolFault::GateShut(worker),
+            WorkerFault::Ring => PoolFault::Ring,
         }
     }
 }

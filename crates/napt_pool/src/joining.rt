@@ -6,7 +6,7 @@ ghost use Rattle.napt_pool.specs.Workers.{machine_of, thread_state_of, accepted_
 
 use crate::close_buffers::CloseBuffers;
 use crate::closing::{Closing, Ended};
-use crate::fault::{PoolFault, Stop};
+use crate::fault::{PoolFault, WorkerFault};
 use crate::gate::Gate;
 use crate::machine::Machine;
 use crate::worker::Worker;
@@ -18,7 +18,7 @@ pub(crate) struct NotStarted<M: Machine> {
     pub(crate) fault: PoolFault,
     // How many were started.
     pub(crate) started: usize,
-    pub(crate) ends: Vec<Result<Ended<M>, Stop>>,
+    pub(crate) ends: Vec<Result<Ended<M>, WorkerFault>>,
 }
 
 /// Closes and joins each worker, since the next one was not started.
@@ -75,8 +75,8 @@ pub(crate) fn close_all<M: Machine, G: Gate>(
 pub(crate) fn join_all<M: Machine, G: Gate, R: Threads>(
     rt: &R,
     workers: Vec<Closing<M, G>>,
-    into: Vec<Result<Ended<M>, Stop>>,
-) -> Vec<Result<Ended<M>, Stop>>
+    into: Vec<Result<Ended<M>, WorkerFault>>,
+) -> Vec<Result<Ended<M>, WorkerFault>>
     requires empty { into.items ≡ [] }
     requires room { vec_len workers ≤ vec_capacity into }
     ensures ends { AreEnds M.Machine G.is_open workers.items result.items }
@@ -91,7 +91,7 @@ pub(crate) fn join_all<M: Machine, G: Gate, R: Threads>(
 
 /// The ends of all workers, or the fault of the first that stopped, by number.
 pub(crate) fn all_ended<M: Machine>(
-    ends: Vec<Result<Ended<M>, Stop>>,
+    ends: Vec<Result<Ended<M>, WorkerFault>>,
     into: Vec<Ended<M>>,
 ) -> Result<Vec<Ended<M>>, PoolFault>
     requires empty { into.items ≡ [] }

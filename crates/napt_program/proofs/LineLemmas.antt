@@ -1,11 +1,11 @@
 -- What clap's answer says of a command line.
-use Rattle.std.{proofs.lemmas.{Grind.common_steps, Bool.Decides.nat_tests}, specs.Prelude.{◌≢◌, IfOk, Option, None, Result, codes, option_map, string_bytes}}
+use Rattle.std.{proofs.lemmas.{Grind.common_steps, Bool.Decides.nat_tests}, specs.Prelude.{◌≢◌, ℕ, IfOk, Option, Some, None, Result, codes}}
 use Rattle.std.proofs.Common.{◌≡◌, ◌≤◌, Bool, true, false, List, [], ◌∷◌, length, refl, sym, ap, inl, inr, arith}
 use Rattle.clap.specs.Words.{App, HasKind, HasMatchesOf, IsAmong, Kinds, Row, Text, fault_of, first_value, found_of, is_simple, is_simple_and_free, kind_of, rows_of}
 use Rattle.clap.{proofs.WalkLemmas.first_value-rows, specs.declared.{error.{kind.ErrorKind.ErrorKind, Error.Error}, parser.matches.ArgMatches.ArgMatches}}
 use Rattle.clap.specs.declared.error.kind.ErrorKind.TheVariants as kind
-use Rattle.napt_program.specs.CommandLine.{Files, app_for, files, files_in, files_of, files_with_log, help, line_by, line_for, log_in, misuses_state, mistake, version}
-use Rattle.napt_program.{specs.declared.options_with_log.OptionsWithLog.OptionsWithLog, proofs.OneKind.one_fault}
+use Rattle.napt_program.specs.CommandLine.{Files, app_for, files, files_in, files_of, help, is_misused, line_by, line_for, log_in, mistake, seconds_in, seconds_of, version}
+use Rattle.napt_program.{specs.declared.options.Options.Options, proofs.OneKind.one_fault}
 
 line_is_simple : (takes_log : Bool) → is_simple (app_for takes_log) ≡ true
 line_is_simple takes_log = grind (arith, common_steps, nat_tests)
@@ -24,10 +24,10 @@ unfolding line_for
 taken_line takes_log app words m is matches none = grind (arith, common_steps, nat_tests, line_is_free, line_is_simple)
 
 -- files that are misused are a mistake
-pub misused_line : (named : Files) → misuses_state named ≡ true → line_by [] named ≡ mistake
+pub misused_line : (named : Files) → is_misused named ≡ true → line_by [] named ≡ mistake
 misused_line named misused = rw misused refl
 
-pub used_line : (named : Files) → misuses_state named ≡ false → line_by [] named ≡ files named
+pub used_line : (named : Files) → is_misused named ≡ false → line_by [] named ≡ files named
 used_line named used = rw used refl
 
 -- a list of one kind at most, with this kind among them, is this kind alone
@@ -91,19 +91,38 @@ pub files_read : (m : ArgMatches) (config resume inside outside to_outside to_in
       report = report;
       save = save;
       log = None;
+      log_each = None;
     }
 files_read m config resume inside outside to_outside to_inside report save a b c d e f g h =
     grind (arith, common_steps, nat_tests, first_value-rows)
 
--- with the log, they are the files of the options
-pub log_read : (takes_log : Bool) (rows : List Row) (o : OptionsWithLog) → files_of o.files ≡ files_in false rows
-    → option_map string_bytes o.log ≡ log_in takes_log rows → files_in takes_log rows ≡ files_with_log o
-log_read takes_log rows o read log = grind (arith, common_steps, nat_tests)
+abbrev pub with_log : Options → Option Text → Option ℕ → Files
+with_log o log seconds = record (files_of o) { log = log; log_each = seconds }
+
+-- with the log and the seconds of its pieces, they are the files of the line
+pub log_read : (takes_log : Bool) (rows : List Row) (o : Options) (log : Option Text) (seconds : Option ℕ)
+    → files_of o ≡ files_in false rows → log ≡ log_in takes_log rows → seconds ≡ seconds_in takes_log rows
+    → files_in takes_log rows ≡ with_log o log seconds
+log_read takes_log rows o log seconds read is each = grind (arith, common_steps, nat_tests)
+
+-- seconds that are not misused are not 0
+pub some_second : (named : Files) → is_misused named ≡ false → named.log_each ≢ Some 0
+some_second named used = grind (arith, common_steps, nat_tests)
 
 -- of a program that takes it, the value of the log is that of its option
 pub log_named : (takes_log : Bool) (m : ArgMatches) → takes_log ≡ true
     → first_value (found_of m) (codes "log") ≡ log_in takes_log (rows_of (found_of m))
 log_named takes_log m takes = grind (arith, common_steps, nat_tests, first_value-rows)
+
+-- and the seconds are those of theirs
+pub seconds_named : (takes_log : Bool) (m : ArgMatches) (text : Text) → takes_log ≡ true
+    → first_value (found_of m) (codes "log-each") ≡ Some text
+    → Some (seconds_of text) ≡ seconds_in takes_log (rows_of (found_of m))
+seconds_named takes_log m text takes is = grind (arith, common_steps, nat_tests, first_value-rows)
+
+pub no_seconds_named : (takes_log : Bool) (m : ArgMatches) → first_value (found_of m) (codes "log-each") ≡ None
+    → None ≡ seconds_in takes_log (rows_of (found_of m))
+no_seconds_named takes_log m none = grind (arith, common_steps, nat_tests, first_value-rows)
 
 -- what a value is, by another name
 pub if_ok_is : {V E : Type 0} (r : Result V E) (text : V → Option Text) (a b : Option Text) → a ≡ b

@@ -1,9 +1,10 @@
 -- Why a text gives no state.
-use Rattle.std.proofs.{lemmas.{Grind.common_steps, Bool.Decides.nat_tests}, Common.{◌≡◌, Bool, false, is_some, arith}}
-use Rattle.std.specs.Prelude.{Option}
+use Rattle.std.proofs.{lemmas.{Grind.common_steps, Bool.Decides.nat_tests}, Common.{◌≡◌, [], Bool, true, false, Option, Some, None, IfSome, is_some, refl, sym, subst, arith}}
 use Rattle.clap.specs.Words.{Text}
-use Rattle.napt_program.specs.{CommandLine.files_of, Command.IsRunStop, State.IsNewStop}
-use Rattle.napt_program.specs.declared.{options.Options.Options, stop.Stop.Stop, streams.Streams.Streams}
+use Rattle.napt_program.specs.{CommandLine.{files_of, files_with_log}, Command.IsRunStop, State.{IsNewStop, IsSaveStop}}
+use Rattle.napt_program.specs.declared.{options.Options.Options, options_with_log.OptionsWithLog.OptionsWithLog, stop.Stop.Stop, streams.Streams.Streams}
+use Rattle.napt_account.specs.GoingOn.{LogState, IsFew}
+use Rattle.napt_state.specs.declared.saved.KeptLog.{KeptLog}
 use Rattle.napt_state.specs.{Saved.unless_for, declared.fault.StateReason.{StateReason, TheVariants.{Unread, NotUtf8, Memory}}}
 
 -- what would hold if a text was read, but does not, was not read
@@ -18,3 +19,14 @@ unread other fact told not is told_so = told_so (not is)
 pub new_stop : (s : Streams) (o : Options) (log : Option Text) (stop : Stop) → IsNewStop (is_some o.save) stop
     → IsRunStop s (record (files_of o) { log = log }) stop
 new_stop s o log stop is = grind (arith, common_steps, nat_tests)
+
+-- what stops the saving of a state stops a run that saves it
+pub save_stop : (s : Streams) (o : OptionsWithLog) (stop : Stop) → is_some o.files.save ≡ true → IsSaveStop stop →
+    IsRunStop s (files_with_log o) stop
+save_stop s o stop named is = grind (arith, common_steps, nat_tests)
+
+-- of a state whose log a run can count on, what is kept of it is one, and nothing is where it has none
+pub few_kept : (log : Option KeptLog) (kept : LogState) → IfSome log (λ it. IsFew it.log) →
+    IfSome log (λ it. kept ≡ it.log) → (log ≡ None → kept ≡ record { made = 0; living = [] }) → IsFew kept
+few_kept None kept few is none = subst IsFew (sym (none refl)) (record { made = omega arith; packets = tt })
+few_kept (Some it) kept few is none = subst IsFew (sym is) few

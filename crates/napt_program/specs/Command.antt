@@ -1,7 +1,9 @@
 -- What stops a program: its arguments, what it opens, or its run.
 use Rattle.std.specs.Prelude.{◌≡◌, ◌||◌, Bool, true, false, not, is_some, if◌then◌else◌}
-use Rattle.napt_program.specs.{CommandLine.{Files, Line, files, help, mistake, version}, declared.{role.Role.Role, stop.Stop.Stop, streams.Streams.Streams}}
-use Rattle.napt_program.specs.declared.stop.TheConstants.{MEMORY}
+use Rattle.napt_program.specs.{CommandLine.{Files, Line, files, help, mistake, version}, Standard.is_named, declared.role.Role.Role}
+use Rattle.napt_program.specs.declared.{stop.{Stop.Stop, TheConstants.MEMORY}, streams.Streams.Streams}
+use Rattle.napt_program.specs.declared.options.LineFault.{LineFault}
+use Rattle.napt_program.specs.declared.options.LineFault.TheVariants as fault
 use Rattle.napt_program.specs.declared.role.Role.TheVariants as role
 use Rattle.napt_program.specs.declared.stop.Stop.TheVariants as stop
 use Rattle.napt_records.specs.{Faults.tells_shut_gate, declared.Fault.{Fault, TheVariants.Capture}}
@@ -9,15 +11,9 @@ use Rattle.napt_wire.specs.declared.Side.TheVariants.{Outside}
 
 -- what may fail as a file: one that is named, or a closed standard stream
 abbrev pub can_fail : Streams → Files → Role → Bool
-can_fail streams named role.Config = is_some named.config
-can_fail streams named role.Resume = is_some named.resume
 can_fail streams named role.Inside = is_some named.inside || not streams.input
-can_fail streams named role.Outside = is_some named.outside
 can_fail streams named role.ToOutside = is_some named.to_outside || not streams.output
-can_fail streams named role.ToInside = is_some named.to_inside
-can_fail streams named role.Report = is_some named.report
-can_fail streams named role.Save = is_some named.save
-can_fail streams named role.Log = is_some named.log
+can_fail streams named other = is_named named other
 
 -- a fault of the outside capture comes of one that is named
 abbrev pub IsOfGiven : Files → Fault → Type 0
@@ -27,8 +23,7 @@ IsOfGiven named other = Unit {0}
 -- what a fault of a run over these files is told as: what stands for an outside capture that is not named has none, so
 -- memory was refused
 abbrev pub stop_after : Files → Fault → Stop
-stop_after named (Capture Outside fault) =
-    if is_some named.outside then stop.Run (Capture Outside fault) else MEMORY
+stop_after named (Capture Outside fault) = if is_some named.outside then stop.Run (Capture Outside fault) else MEMORY
 stop_after named fault = stop.Run fault
 
 -- what stops a run over these files, under a gate that always opens
@@ -36,6 +31,7 @@ abbrev pub IsRunStop : Streams → Files → Stop → Type 0
 IsRunStop streams named stop.LineMemory = Unit {0}
 IsRunStop streams named (stop.Config fault) = Unit {0}
 IsRunStop streams named (stop.File role) = can_fail streams named role ≡ true
+IsRunStop streams named (stop.LogFile refusal) = is_some named.log ≡ true
 IsRunStop streams named stop.Log = is_some named.log ≡ true
 IsRunStop streams named (stop.State refusal) = is_some named.resume ≡ true
 IsRunStop streams named stop.Save = is_some named.save ≡ true
@@ -52,6 +48,19 @@ abbrev pub IsUsageStop : Stop → Type 0
 IsUsageStop stop.LineMemory = Unit {0}
 IsUsageStop stop.Usage = Unit {0}
 IsUsageStop other = ⊥
+
+-- help or the version was asked for
+abbrev pub IsAsked : LineFault → Type 0
+IsAsked (fault.Help text) = Unit {0}
+IsAsked (fault.Version text) = Unit {0}
+IsAsked other = ⊥
+
+-- what stops the program where a command line names no run
+abbrev pub IsLineAnswer : LineFault → Stop → Type 0
+IsLineAnswer (fault.Help text) s = s ≡ stop.Help
+IsLineAnswer (fault.Version text) s = s ≡ stop.Help
+IsLineAnswer fault.Usage s = s ≡ stop.Usage
+IsLineAnswer fault.Memory s = s ≡ stop.LineMemory
 
 -- what stops the program on a command line
 abbrev pub IsLineStop : Streams → Line → Stop → Type 0

@@ -1,12 +1,14 @@
 -- What a command line means, by clap's own specification.
-use Rattle.std.specs.Prelude.{◌&&◌, ◌||◌, List, [], ◌∷◌, Bool, true, false, Option, Some, None, bytes_eq, codes, is_some, option_map, string_bytes, if◌then◌else◌}
+use Rattle.std.specs.Prelude.{◌||◌, ◌&&◌, ◌==◌, ◌^◌, ℕ, List, [], ◌∷◌, length, nat_lt, Bool, true, false, Option, Some, None, bytes_eq, codes, option_map, string_bytes, if◌then◌else◌}
+use Rattle.std.specs.{Char.is_ascii_digit, List.list_all, Str.Parse.{digits_value, without_leading_plus}}
+use Rattle.std.specs.Int.NonZero.{non_zero_u32_get}
 use Rattle.clap.specs.Words.{App, Kinds, Row, Rule, Text, fault_of, first_of, matches_of, new_app, new_rule, with_rule}
 use Rattle.clap.specs.declared.{builder.action.ArgAction.TheVariants.Set, error.kind.ErrorKind.TheVariants.{DisplayHelp, DisplayVersion}}
 use Rattle.napt_program.specs.declared.{options.{Options.Options, LineFault.LineFault}, options_with_log.OptionsWithLog.OptionsWithLog}
 use Rattle.napt_program.specs.declared.{options.LineFault.TheVariants.{Help, Version}, role.Role.Role}
 use Rattle.napt_program.specs.declared.role.Role.TheVariants as role
 
--- `--name FILE`: a plain option that takes one value
+-- `--name FILE`: a plain option that takes one value, the name of a file or other words
 abbrev pub file_option : Text → Rule
 file_option name =
     record (new_rule name) { long = Some name; action = Some Set; value_names = 1 }
@@ -20,20 +22,18 @@ abbrev pub option_names : List Text
 option_names = codes "config" ∷ codes "resume" ∷ codes "inside" ∷ codes "outside" ∷ codes "to-outside"
     ∷ codes "to-inside" ∷ codes "report" ∷ codes "save" ∷ []
 
--- the command with a version
-abbrev pub with_version : App → App
-with_version a = record a { top = record a.top { has_version = true } }
-
--- the program's command; clap adds `-h` and `--help`, `-V` and `--version` to it
+-- the program's command, with a version; clap adds `-h` and `--help`, `-V` and `--version` to it
 abbrev pub napt_app : App
-napt_app = with_options (with_version (new_app (codes "napt"))) option_names
+napt_app =
+    let bare : App = new_app (codes "napt") in
+    with_options (record bare { top = record bare.top { has_version = true } }) option_names
 
--- the same of a program that takes `--log` too, or does not
+-- the same of a program that takes `--log` and `--log-each` too, or does not
 abbrev pub app_for : Bool → App
 app_for false = napt_app
-app_for true = with_options napt_app (codes "log" ∷ [])
+app_for true = with_options napt_app (codes "log" ∷ codes "log-each" ∷ [])
 
--- the file that each option names
+-- the file that each option names, and the seconds of each piece of the log
 pub record Files : Type 0 where
   pub config : Option Text
   pub resume : Option Text
@@ -44,6 +44,7 @@ pub record Files : Type 0 where
   pub report : Option Text
   pub save : Option Text
   pub log : Option Text
+  pub log_each : Option ℕ
 
 abbrev pub files_of : Options → Files
 files_of o = record {
@@ -56,15 +57,31 @@ files_of o = record {
   report = option_map string_bytes o.report;
   save = option_map string_bytes o.save;
   log = None;
+  log_each = None;
 }
 
 abbrev pub files_with_log : OptionsWithLog → Files
-files_with_log o = record (files_of o.files) { log = option_map string_bytes o.log }
+files_with_log o = record (files_of o.files) {
+  log = option_map string_bytes o.log;
+  log_each = option_map non_zero_u32_get o.log_each;
+}
 
 -- the value of `--log`, if the program takes it
 abbrev pub log_in : Bool → List Row → Option Text
 log_in false rows = None
 log_in true rows = first_of (codes "log") rows
+
+-- a whole number below 2 ^ 32, in decimal digits, with or without a plus before them; 0 if the text is none
+abbrev pub seconds_of : Text → ℕ
+seconds_of text =
+    let digits = without_leading_plus text in
+    let number = digits_value 10 digits in
+    if (nat_lt 0 (length digits) && list_all is_ascii_digit digits) && nat_lt number (2 ^ 32) then number else 0
+
+-- the value of `--log-each`, if the program takes it
+abbrev pub seconds_in : Bool → List Row → Option ℕ
+seconds_in false rows = None
+seconds_in true rows = option_map seconds_of (first_of (codes "log-each") rows)
 
 -- the values in clap's matches
 abbrev pub files_in : Bool → List Row → Files
@@ -78,6 +95,7 @@ files_in takes_log rows = record {
   report = first_of (codes "report") rows;
   save = first_of (codes "save") rows;
   log = log_in takes_log rows;
+  log_each = seconds_in takes_log rows;
 }
 
 -- what a command line means: files, a request for help or for the version, or a mistake
@@ -95,20 +113,27 @@ abbrev pub is_dash_given : Option Text → Bool
 is_dash_given None = false
 is_dash_given (Some path) = is_dash path
 
--- a state is given as `-`, or beside a log
+-- a state is given as `-`
 abbrev pub misuses_state : Files → Bool
-misuses_state named =
-    is_dash_given named.resume || is_dash_given named.save
-    || (is_some named.log && (is_some named.resume || is_some named.save))
+misuses_state named = is_dash_given named.resume || is_dash_given named.save
+
+-- pieces are asked for of a log that is no file, or each of no second
+abbrev pub misuses_pieces : Option Text → Option ℕ → Bool
+misuses_pieces log None = false
+misuses_pieces None (Some seconds) = true
+misuses_pieces (Some path) (Some seconds) = seconds == 0 || is_dash path
+
+abbrev pub is_misused : Files → Bool
+is_misused named = misuses_state named || misuses_pieces named.log named.log_each
 
 -- clap finds no fault in arguments that it accepts, and reports help and the version as faults of those kinds
 abbrev pub line_by : Kinds → Files → Line
-line_by [] named = if misuses_state named then mistake else files named
+line_by [] named = if is_misused named then mistake else files named
 line_by (DisplayHelp ∷ more) named = help
 line_by (DisplayVersion ∷ more) named = version
 line_by (other ∷ more) named = mistake
 
--- what a command line means to a program that takes `--log`, or does not; the arguments begin with the program's name
+-- what a command line means to a program that takes a log, or does not; the arguments begin with the program's name
 unfoldable pub line_for : Bool → List Text → Line
 line_for takes_log words =
     line_by (fault_of (app_for takes_log) words) (files_in takes_log (matches_of (app_for takes_log) words))

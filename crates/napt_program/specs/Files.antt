@@ -1,7 +1,7 @@
 -- The result of opening the files of a run.
-use Rattle.std.specs.Prelude.{◌≡◌, ◌⊎◌, ◌||◌, true, option_map}
-use Rattle.either.specs.Either.{is_left}
-use Rattle.napt_program.specs.{CommandLine.Files, Standard.{is_dash, is_named, is_standard, is_stream}, declared.files.InputFiles.InputFiles}
+use Rattle.std.specs.Prelude.{◌≡◌, ◌⊎◌, ◌||◌, Bool, true, false, not, IfSome, option_map}
+use Rattle.either.specs.{Either.{either, is_left}, declared.Either.Either}
+use Rattle.napt_program.specs.{CommandLine.Files, Standard.{has_pieces, is_dash, is_named, is_standard, is_stream}, declared.files.InputFiles.InputFiles}
 use Rattle.napt_program.specs.declared.{files.{FilesWithLog.FilesWithLog, RunFiles.RunFiles}, stop.{Stop.Stop, TheConstants.MEMORY}}
 use Rattle.napt_program.specs.declared.role.Role.TheVariants as role
 use Rattle.napt_program.specs.declared.stop.Stop.TheVariants as stop
@@ -14,10 +14,16 @@ AreOpen named files = (is_left files.inside ≡ is_standard named role.Inside)
     × (option_map is_left files.to_inside ≡ option_map is_dash named.to_inside)
     × (option_map is_left files.report ≡ option_map is_dash named.report)
 
--- the same with a log
-abbrev pub AreOpenWithLog : {S T F : Type 0} → Files → FilesWithLog S T F → Type 0
+-- the device of a log is a standard stream, and no file or pieces
+abbrev pub is_stream_log : {T F P : Type 0} → Either (Either T F) P → Bool
+is_stream_log device = either is_left (λ pieces. false) device
+
+-- the same with a log, in pieces if they are asked for
+abbrev pub AreOpenWithLog : {S T F P : Type 0} → Files → FilesWithLog S T F P → Type 0
 AreOpenWithLog named opened =
-    AreOpen named opened.files × (option_map is_left opened.log ≡ option_map is_dash named.log)
+    AreOpen named opened.files
+    × (option_map (λ log. is_stream_log log.device) opened.log ≡ option_map is_dash named.log)
+    × IfSome opened.log (λ log. is_left log.device ≡ not (has_pieces named))
 
 -- the same of the captures alone
 abbrev pub AreInputsOpen : {S F : Type 0} → Files → InputFiles S F → Type 0
@@ -27,11 +33,13 @@ AreInputsOpen named files = (is_left files.inside ≡ is_standard named role.Ins
 -- a fault of a file that is named
 abbrev pub IsFileStop : Files → Stop → Type 0
 IsFileStop named (stop.File role) = is_named named role ≡ true
+IsFileStop named (stop.LogFile why) = is_named named role.Log ≡ true
 IsFileStop named other = ⊥
 
--- the same, or memory was refused to the reader of standard input, which a capture comes from, or to the path of the
--- new file of a state
+-- the same, or memory was refused to the reader of standard input, which a capture comes from, to the path of the new
+-- file of a state, or to the end of a log
 abbrev pub IsOpenStop : Files → Stop → Type 0
 IsOpenStop named s = ((s ≡ MEMORY)
-    × ((is_standard named role.Inside || is_stream named role.Outside || is_named named role.Save) ≡ true))
+    × ((is_standard named role.Inside || is_stream named role.Outside || is_named named role.Save
+    || is_named named role.Log) ≡ true))
     ⊎ IsFileStop named s

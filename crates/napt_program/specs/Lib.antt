@@ -3,6 +3,7 @@ pub mod CommandLine
 pub mod Config
 pub mod Devices
 pub mod Files
+pub mod LogFiles
 pub mod Place
 pub mod Places
 pub mod Standard

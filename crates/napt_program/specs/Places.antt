@@ -22,8 +22,7 @@ is_again p (Some file) first second =
 
 -- it is a file that is read or written, but for the states
 abbrev pub is_taken : Places → Place → Bool
-is_taken p file =
-    is_input p file || is_there file p.to_outside || is_there file p.to_inside || is_there file p.report
+is_taken p file = is_input p file || is_there file p.to_outside || is_there file p.to_inside || is_there file p.report
 
 -- a device, a pipe or a folder
 abbrev pub is_aside : Place → Bool
@@ -46,10 +45,16 @@ output_named_again p =
     else (if is_save_lost p p.save then Some role.Save
     else None)))
 
+-- a state is saved to this file, or by way of it
+abbrev pub is_saved_there : Place → Option SavePlaces → Bool
+is_saved_there file None = false
+is_saved_there file (Some save) = is_same file save.file || is_same file save.new
+
 -- the log is a file of another option, or a standard stream
 abbrev pub is_log_named_again : Places → Option Place → Bool
 is_log_named_again p None = false
-is_log_named_again p (Some log) = is_again p (Some log) p.to_outside p.to_inside || is_there log p.report
+is_log_named_again p (Some log) =
+    is_again p (Some log) p.to_outside p.to_inside || is_there log p.report || is_saved_there log p.save
 
 -- an output that has a place
 abbrev pub is_placed : Places → Role → Bool

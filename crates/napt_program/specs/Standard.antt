@@ -27,6 +27,10 @@ is_stream named r = is_dash_given (file_for named r)
 abbrev pub is_standard : Files → Role → Bool
 is_standard named r = not (is_some (file_for named r)) || is_stream named r
 
+-- the log is in pieces: seconds are given for each, and it is a file
+abbrev pub has_pieces : Files → Bool
+has_pieces named = is_some named.log_each && not (is_stream named role.Log)
+
 -- the log wants standard output, which an output has
 abbrev pub is_log_again : Files → Bool
 is_log_again named =

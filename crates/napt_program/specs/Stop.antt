@@ -1,5 +1,5 @@
 -- The fault line and the exit status of a program that stops early.
-use Rattle.std.specs.Prelude.{ℕ, List, ◌++◌, Bool, true, false, Option, Some, None, Result, Ok, Err, codes, decimal}
+use Rattle.std.specs.Prelude.{ℕ, List, ◌++◌, Bool, true, Option, Some, None, Result, Ok, Err, codes, decimal}
 use Rattle.napt_program.specs.{CommandLine.role_name, declared.{role.Role.Role, stop.{Stop.Stop, StateRefusal.StateRefusal}}}
 use Rattle.napt_program.specs.declared.role.Role.TheVariants as role
 use Rattle.napt_program.specs.declared.stop.Stop.TheVariants as stop
@@ -22,7 +22,8 @@ use Rattle.napt_config.specs.declared.ConfigFault.TheVariants as config
 abbrev pub Text : Type 0
 Text = List ℕ
 
--- 2 for the command line, 3 for the configuration, 4 for a capture, 5 for the run, 6 for a file, 8 for a state
+-- 2 for the command line, 3 for the configuration, 4 for a capture, 5 for the run, 8 for a state, and 6 for a file or
+-- what else is written
 abbrev pub status_of_fault : Fault → ℕ
 status_of_fault (run.Capture side fault) = 4
 status_of_fault (run.Run fault) = 5
@@ -31,13 +32,10 @@ status_of_fault (run.Write which fault) = 6
 abbrev pub status_of : Stop → ℕ
 status_of stop.Usage = 2
 status_of stop.LineMemory = 5
-status_of stop.Help = 6
 status_of (stop.Config fault) = 3
-status_of (stop.File role) = 6
 status_of (stop.Run fault) = status_of_fault fault
-status_of stop.Log = 6
 status_of (stop.State refusal) = 8
-status_of stop.Save = 6
+status_of _ = 6
 
 -- a fault's name, in lower case with hyphens between its words
 abbrev pub config_name : ConfigFault → Text
@@ -122,14 +120,15 @@ stop_text stop.LineMemory = codes "run memory"
 stop_text stop.Help = codes "write " ++ role_name role.ToOutside
 stop_text (stop.Config fault) = codes "config " ++ config_name fault
 stop_text (stop.File role) = codes "file " ++ role_name role
+stop_text (stop.LogFile refusal) = codes "file " ++ role_name role.Log
 stop_text (stop.Run fault) = fault_text fault
 stop_text stop.Log = codes "write " ++ role_name role.Log
 stop_text (stop.State refusal) = codes "state " ++ state_name refusal
 stop_text stop.Save = codes "write " ++ role_name role.Save
 
--- the fault line, without its line feed
-abbrev pub line_of : Stop → Text
-line_of s = codes "napt: " ++ stop_text s
+-- the fault line of the program with this name, without its line feed
+abbrev pub line_of : Text → Stop → Text
+line_of name s = name ++ codes ": " ++ stop_text s
 
 -- the exit status of a run that was done or stopped
 abbrev pub status_at_end : {A : Type 0} → Result A Stop → ℕ
@@ -137,7 +136,6 @@ status_at_end (Ok done) = 0
 status_at_end (Err s) = status_of s
 
 -- its line on standard error, if that is open
-abbrev pub line_at_end : {A : Type 0} → Bool → Result A Stop → Option Text
-line_at_end true (Err s) = Some (line_of s)
-line_at_end true (Ok done) = None
-line_at_end false answer = None
+abbrev pub line_at_end : {A : Type 0} → Text → Bool → Result A Stop → Option Text
+line_at_end name true (Err s) = Some (line_of name s)
+line_at_end _ _ _ = None

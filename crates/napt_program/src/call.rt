@@ -1,26 +1,62 @@
 //! How a program was called, and what it tells people at a terminal.
 
-ghost use Rattle.std.specs.Prelude.{◌≡◌, ◌⊎◌, IfErr};
+ghost use Rattle.std.specs.{Prelude.{◌≡◌, ◌⊎◌, IfErr, OnOk}, Process.exit_status};
+ghost use Rattle.napt_program.specs.{Command.{IsAsked, IsLineAnswer}, Stop.status_at_end};
 
 use crate::command::words;
-use crate::options::Manual;
+use crate::options::{LineFault, Manual};
 use crate::role::Role;
-use crate::stop::Stop;
+use crate::stop::{LogRefusal, Stop, line_at_end, status_at_end};
 use crate::streams::Streams;
 use crate::tally::Tallied;
 use napt_config::ConfigFault;
+use napt_log_text::Moment;
 use napt_records::Fault;
+use std::alloc::{AllocError, Global};
 use std::env::Env;
 use std::fmt;
 use std::io::IsTerminal;
 use std::path::Path;
+use std::process::ExitCode;
+
+/// Writes the help or the version to standard output, if it was asked for.
+///
+/// Fails with `Stop::Help` if it cannot be written, and if the arguments are not understood or memory ran out for them.
+pub fn answer_line(rt: &impl Print, fault: LineFault) -> Result<(), Stop>
+    ensures asked { OnOk result (IsAsked fault) }
+    ensures stop { IfErr result (IsLineAnswer fault) }
+{
+    match fault {
+        LineFault::Help(text) | LineFault::Version(text) => rt.print(text).map_err(|_| Stop::Help),
+        LineFault::Usage => Err(Stop::Usage),
+        LineFault::Memory => Err(Stop::LineMemory),
+    }
+}
+
+/// Says on standard error that the log of a program begins a new entry for each binding of the state, at its clock, in ns. Fails
+/// only if memory runs out.
+pub fn tell_new_entries(
+    rt: &impl Eprint,
+    alloc: Global,
+    name: &str,
+    clock: u64,
+) -> Result<(), AllocError> {
+    let mut date = String::new(alloc);
+    Moment(u128::from(clock)).add_date(&mut date)?;
+    let _ = eprintln!(rt;
+        "{name}: the log begins a new entry for each binding of the state, at {date}"
+    );
+    Ok(())
+}
 
 /// How a program was called.
 #[derive(Clone, Copy, Debug)]
 pub struct Call {
     /// What it is called.
     pub name: &'static str,
-    /// Whether people read standard error: it is open, and a terminal.
+    /// Whether standard error is open.
+    pub is_heard: bool,
+    /// Whether people read it: it is a terminal too.
     pub at_terminal: bool,
 }
 
@@ -29,8 +65,23 @@ impl Call {
     pub fn of(rt: &HostRuntime, streams: Streams, name: &'static str) -> Call {
         Call {
             name,
+            is_heard: streams.error,
             at_terminal: streams.error && rt.stderr().is_terminal(),
         }
+    }
+
+    /// Ends the program: writes the fault line, if there is one and standard error is open, for which no memory is taken,
+    /// tells people what to do about it, and returns the exit status.
+    pub fn ended(self, rt: &impl Eprint, answer: &Result<(), Stop>) -> ExitCode
+        ensures { exit_status result ≡ status_at_end answer.now }
+    {
+        if let Some(line) = line_at_end(self.name, self.is_heard, answer) {
+            let _ = rt.eprintln(line);
+        }
+        if let Err(stop) = answer {
+            self.tell_advice(rt, *stop);
+        }
+        ExitCode::from(status_at_end(answer))
     }
 
     /// The same by the name that it is installed under, if it was called so. Fails as `words` does.
@@ -59,14 +110,29 @@ impl Call {
         }
     }
 
-    /// Tells people at a terminal what to do about a stop, in a line behind its fault line.
-    pub fn tell_advice(self, rt: &impl Eprint, stop: Stop) {
-        if self.at_terminal {
+    /// Tells people at a terminal what to do about a stop, in a line behind its fault line; of a log that is refused whoever
+    /// reads.
+    fn tell_advice(self, rt: &impl Eprint, stop: Stop) {
+        if self.at_terminal || (self.is_heard && matches!(stop, Stop::LogFile(_))) {
             let _ = rt.eprintln(Advice {
                 name: self.name,
                 stop,
             });
         }
+    }
+
+    /// Tells that the entries of the log that the state has are not those of its bindings, so that new ones begin at its
+    /// clock, in ns. Fails only if memory runs out.
+    pub fn tell_new_entries(
+        self,
+        rt: &impl Eprint,
+        alloc: Global,
+        clock: u64,
+    ) -> Result<(), AllocError> {
+        if self.is_heard {
+            tell_new_entries(rt, alloc, self.name, clock)?;
+        }
+        Ok(())
     }
 
     /// Tells people at a terminal which captures end inside a record.
@@ -120,10 +186,32 @@ impl fmt::Display for Advice {
                     "  {name} --help tells what it takes, and what each line means"
                 )
             }
+            Stop::LogFile(refusal) => write!(f, "  the log {refusal}"),
             Stop::Config(_) | Stop::State(_) | Stop::File(_) | Stop::Run(Fault::Capture(..)) =>
                 f.write_str(
                     "  explain (installed: napt-explain) with the same words tells why, and what to do",
                 ),
+        }
+    }
+}
+
+impl fmt::Display for LogRefusal {
+    fn fmt<W: fmt::Write>(&self, f: &mut fmt::Formatter<W>) -> fmt::Result {
+        match self {
+            LogRefusal::Anew => f.write_str(
+                "has text or pieces, and this run begins anew: name a new file, or go on with --resume",
+            ),
+            LogRefusal::Untold => f.write_str(
+                "has text, and the state tells of no log in a file: name a new file",
+            ),
+            LogRefusal::Another(bytes) => write!(
+                f,
+                "is not that of the state, which has {bytes} bytes: name that one, or a new file"
+            ),
+            LogRefusal::Longer(bytes) => write!(
+                f,
+                "goes on behind the {bytes} bytes that the state tells of: cut it there (truncate -s {bytes}), or name a new file"
+            ),
         }
     }
 }

@@ -1,11 +1,12 @@
 //! The devices of a run: its files behind buffers, with failed calls counted.
 
-ghost use Rattle.std.specs.{Prelude.{◌≡◌, IfErr, IfOk, is_some, option_map}, Io.Buffered.reader_remaining};
-ghost use Rattle.either.specs.Either.{is_left, left};
+ghost use Rattle.std.specs.{Prelude.{◌≡◌, IfErr, IfOk, is_some, option_map}, Io.Buffered.{reader_remaining, writer_contents}};
+ghost use Rattle.either.specs.Either.{either, is_left, left};
 ghost use Rattle.napt_capture.specs.Watched.{failed_of};
-ghost use Rattle.napt_program.specs.Devices.{AreFresh, AreOver, bytes_left, bytes_written, failed_in};
+ghost use Rattle.napt_program.specs.Devices.{AreFresh, AreOver, IsFreshLog, bytes_left, bytes_written, failed_in, log_written};
 
 use crate::files::RunFiles;
+use crate::log_file::LogOutput;
 use crate::stop::{MEMORY, Stop};
 use either::{Either, Left, Right};
 use napt_capture::{NoPackets, Nowhere, Watched};
@@ -25,13 +26,22 @@ pub(crate) const HELD: usize = 2_097_152;
 pub struct Devices<S, T: Write + Drop, F: Write + Drop> {
     pub inside: Watched<BufReader<Either<S, F>>>,
     pub outside: Either<Watched<BufReader<Either<S, F>>>, NoPackets>,
+    pub outputs: Outputs<T, F>,
+}
+
+/// Those that are written.
+#[derive(Drop)]
+pub struct Outputs<T: Write + Drop, F: Write + Drop> {
     pub to_outside: Watched<BufWriter<Either<T, F>>>,
     pub to_inside: Either<Watched<BufWriter<Either<T, F>>>, Nowhere>,
     pub report: Either<Watched<BufWriter<Either<T, F>>>, Nowhere>,
 }
 
-/// Puts the files behind buffers, those of the captures that are written of so many bytes: each device reads what its file reads, or writes what
-/// its file writes. Fails, as a run does, if memory runs out.
+/// The device of a log: `D` behind a buffer, or its pieces, `P`.
+pub type LogDevice<D, P> = Watched<Either<BufWriter<D>, P>>;
+
+/// Puts the files behind buffers; those of captures that are written hold `held` bytes. Each device reads what its file reads,
+/// or writes what its file writes. Fails, as a run does, if memory runs out.
 pub fn buffered<S: Read + Drop, T: Write + Drop, F: Read + Write + Drop>(
     alloc: Global,
     files: RunFiles<S, T, F>,
@@ -45,9 +55,11 @@ pub fn buffered<S: Read + Drop, T: Write + Drop, F: Read + Write + Drop>(
     Ok(Devices {
         inside: source(alloc, files.inside)?,
         outside: source_over(alloc, files.outside)?,
-        to_outside: sink(alloc, files.to_outside, held)?,
-        to_inside: sink_over(alloc, files.to_inside, held)?,
-        report: sink_over(alloc, files.report, BUFFERED)?,
+        outputs: Outputs {
+            to_outside: sink(alloc, files.to_outside, held)?,
+            to_inside: sink_over(alloc, files.to_inside, held)?,
+            report: sink_over(alloc, files.report, BUFFERED)?,
+        },
     })
 }
 
@@ -95,14 +107,50 @@ fn sink<D: Write + Drop>(
     ensures shows { IfOk result (λ made. bytes_written D.contents made ≡ D.contents device) }
     ensures refused { IfErr result (λ stop. stop ≡ MEMORY) }
 {
-    match BufWriter::with_capacity(alloc, held, device) {
-        Ok(writer) => Ok(Watched::new(writer)),
-        Err(_) => Err(MEMORY),
-    }
+    Ok(Watched::new(writer(alloc, device, held)?))
+}
+
+/// The writer behind a buffer of so many bytes. Fails, as a run does, if memory runs out.
+pub(crate) fn writer<D: Write + Drop>(
+    alloc: Global,
+    device: D,
+    held: usize,
+) -> Result<BufWriter<D>, Stop>
+    ensures shows { IfOk result (λ made. writer_contents D.contents made ≡ D.contents device) }
+    ensures refused { IfErr result (λ stop. stop ≡ MEMORY) }
+{
+    BufWriter::with_capacity(alloc, held, device).map_err(|_| MEMORY)
+}
+
+/// The log behind a buffer, if there is one; pieces have their own. Fails, as a run does, if memory runs out.
+pub(crate) fn buffered_log<D: Write + Drop, P: Write + Drop>(
+    alloc: Global,
+    log: Option<LogOutput<Either<D, P>>>,
+) -> Result<Option<LogOutput<LogDevice<D, P>>>, Stop>
+    ensures fresh { IfOk result IsFreshLog }
+    ensures given { IfOk result (λ made. is_some made ≡ is_some log) }
+    ensures new { IfOk result (λ made.
+        option_map (λ log. log.is_new) made ≡ option_map (λ log. log.is_new) log) }
+    ensures shows { IfOk result (λ made.
+        option_map (λ log. log_written D.contents P.contents log.device) made
+        ≡ option_map (λ log. either D.contents P.contents log.device) log) }
+    ensures refused { IfErr result (λ stop. stop ≡ MEMORY) }
+{
+    let Some(LogOutput { device, is_new }) = log else {
+        return Ok(None);
+    };
+    let device = match device {
+        Left(file) => Left(writer(alloc, file, BUFFERED)?),
+        Right(pieces) => Right(pieces),
+    };
+    Ok(Some(LogOutput {
+        device: Watched::new(device),
+        is_new,
+    }))
 }
 
 /// The same, or without a writer one that discards everything.
-pub(crate) fn sink_over<D: Write + Drop>(
+fn sink_over<D: Write + Drop>(
     alloc: Global,
     device: Option<D>,
     held: usize,

@@ -1,10 +1,12 @@
 //! The files of a run, opened in a fixed order.
 
-ghost use Rattle.std.specs.Prelude.{◌≡◌, IfErr, IfOk, IsSome, false, option_map, string_bytes, true};
+ghost use Rattle.std.specs.Prelude.{◌≡◌, IfErr, IfOk, IsSome, None, false, option_map, string_bytes, true};
 ghost use Rattle.either.specs.Either.{is_left};
 ghost use Rattle.napt_program.specs.{CommandLine.{files_of, files_with_log}, Files.{AreInputsOpen, AreOpen, AreOpenWithLog, IsFileStop, IsOpenStop}};
-ghost use Rattle.napt_program.specs.Standard.{is_dash};
+ghost use Rattle.napt_program.specs.{LogFiles.IsKept, Standard.{has_pieces, is_dash}};
 
+use crate::log_file::{LogOutput, bytes_to_keep, open_log};
+use crate::log_pieces::{LogPieces, last_piece};
 use crate::options::{Options, is_dash};
 use crate::options_with_log::OptionsWithLog;
 use crate::places::{is_log_lost, lost_file};
@@ -32,14 +34,22 @@ pub struct RunFiles<S, T, F> {
     pub report: Option<Either<T, F>>,
 }
 
-/// The open files of a run with a log.
+/// The open files of a run with a log. `P` are the pieces of a log.
 #[derive(Drop)]
-pub struct FilesWithLog<S, T, F> {
+pub struct FilesWithLog<S, T, F, P> {
     /// All but the log.
     pub files: RunFiles<S, T, F>,
     /// The log, if it is named.
-    pub log: Option<Either<T, F>>,
+    pub log: Option<LogOutput<Either<Either<T, F>, P>>>,
 }
+
+/// Those of a runtime.
+pub type OpenFiles<'r, R> = FilesWithLog<
+    Box<<R as Input>::Reader>,
+    Printer<'r, R>,
+    <R as Files>::File,
+    LogPieces<'r, R>,
+>;
 
 /// The open captures of a run: those that are named, and standard input for `-`, and in place of an inside capture that is
 /// not named.
@@ -51,37 +61,54 @@ pub struct InputFiles<S, F> {
     pub outside: Option<Either<S, F>>,
 }
 
-/// Opens the captures, the inside first; then creates or empties the outputs: to the outside, to the inside, the report.
+/// Opens the captures, the inside first; then creates or empties the outputs: to the outside, to the inside, the report;
+/// the log last, of which a state tells so many bytes if the run goes on from one.
 ///
 /// Fails with the role of a file that cannot be opened or created, and, before any output is touched, with the role of one
-/// that an earlier option also names; and, as a run does, if memory runs out for standard input.
+/// that an earlier option also names, and then if the run may not go on with the log; and, as a run does, if memory runs out.
 pub fn open_files<'r, R: Files + Input + Print + AllocGlobal>(
     rt: &'r R,
-    options: &Options,
-) -> Result<RunFiles<Box<R::Reader>, Printer<'r, R>, R::File>, Stop>
-    ensures open { IfOk result (AreOpen (files_of options.now)) }
-    ensures refused { IfErr result (IsOpenStop (files_of options.now)) }
-{
-    let inputs = open_inputs(rt, options)?;
-    with_outputs(rt, options, inputs)
-}
-
-/// The same, and creates or empties the log last. A log that another option also names is refused behind the outputs that
-/// are refused for the same, and before any output is touched.
-pub fn open_files_with_log<'r, R: Files + Input + Print + AllocGlobal>(
-    rt: &'r R,
     options: &OptionsWithLog,
-) -> Result<FilesWithLog<Box<R::Reader>, Printer<'r, R>, R::File>, Stop>
+    told: Option<u64>,
+) -> Result<OpenFiles<'r, R>, Stop>
     ensures open { IfOk result (AreOpenWithLog (files_with_log options.now)) }
     ensures refused { IfErr result (IsOpenStop (files_with_log options.now)) }
 {
     let inputs = open_inputs(rt, &options.files)?;
-    if is_log_lost(rt, options) {
+    let kept = kept_of_log(rt, options, told)?;
+    let files = with_outputs(rt, &options.files, inputs)?;
+    let log = match &options.log {
+        Some(path) if options.has_pieces() => Some(LogOutput {
+            device: Right(LogPieces::behind(rt, path, kept)?),
+            is_new: true,
+        }),
+        Some(path) => Some(open_log(rt, path, kept)?),
+        None => None,
+    };
+    Ok(FilesWithLog { files, log })
+}
+
+/// How many bytes the log keeps of its text, or the number of its last piece. Changes nothing. Fails with its role if another
+/// option names its file, and as `bytes_to_keep` and `last_piece` do.
+fn kept_of_log<R: Files + AllocGlobal>(
+    rt: &R,
+    options: &OptionsWithLog,
+    told: Option<u64>,
+) -> Result<u64, Stop>
+    ensures kept { has_pieces (files_with_log options.now) ≡ false → IfOk result (IsKept told) }
+    ensures anew { told ≡ None → IfOk result (λ kept. kept ≡ 0) }
+    ensures refused { IfErr result (IsOpenStop (files_with_log options.now)) }
+{
+    let Some(path) = &options.log else {
+        return Ok(0);
+    };
+    if is_log_lost(rt, rt.alloc(), options)? {
         return Err(Stop::File(Role::Log));
     }
-    let files = with_outputs(rt, &options.files, inputs)?;
-    let log = created_at(rt, options.log.as_ref(), Role::Log)?;
-    Ok(FilesWithLog { files, log })
+    if options.has_pieces() {
+        return last_piece(rt, path, options.files.save.as_ref(), told);
+    }
+    bytes_to_keep(rt, path, told)
 }
 
 /// Creates or empties the outputs of a run whose captures are open. Fails with the role of one that cannot be created.
@@ -135,10 +162,9 @@ pub fn open_inputs<R: Files + Input + AllocGlobal>(
 fn refuse_lost_file<R: Files + AllocGlobal>(rt: &R, options: &Options) -> Result<(), Stop>
     ensures { IfErr result (IsOpenStop (files_of options.now)) }
 {
-    match lost_file(rt, rt.alloc(), options) {
-        Ok(Some(role)) => Err(Stop::File(role)),
-        Ok(None) => Ok(()),
-        Err(_) => Err(MEMORY),
+    match lost_file(rt, rt.alloc(), options)? {
+        Some(role) => Err(Stop::File(role)),
+        None => Ok(()),
     }
 }
 

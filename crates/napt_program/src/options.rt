@@ -1,7 +1,8 @@
 //! The command line: which files a program reads and writes.
 ghost use Rattle.std.specs.Prelude.{◌≡◌, ◌≢◌, IfErr, IfOk, IfSome, None, false, map, option_map, string_bytes, true};
+ghost use Rattle.std.specs.Int.NonZero.{non_zero_u32_get};
 ghost use Rattle.clap.specs.Words.{app_of, first_value, found_of, kind_of, rows_of, rule_of};
-ghost use Rattle.napt_program.specs.CommandLine.{IsHelp, IsVersion, app_for, file_option, files, files_in, files_of, files_with_log, help, line_for, line_of_words, log_in, mistake, napt_app, version};
+ghost use Rattle.napt_program.specs.CommandLine.{IsHelp, IsVersion, app_for, file_option, files, files_in, files_of, files_with_log, help, is_misused, line_for, line_of_words, log_in, misuses_pieces, misuses_state, mistake, napt_app, seconds_in, seconds_of, version};
 ghost use Rattle.napt_program.specs.Standard.{file_for, is_dash, is_named, is_standard, is_stream, output_again, standard_again};
 
 use crate::options_with_log::OptionsWithLog;
@@ -9,6 +10,7 @@ use crate::role::Role;
 use clap::error::ErrorKind;
 use clap::{Arg, ArgAction, ArgMatches, Command, Error};
 use std::alloc::{AllocError, Global};
+use std::num::NonZeroU32;
 
 /// What a program says of itself with `--version`, behind its name: the number of its version, and on a line of its own what
 /// was proved of it, and with which kit.
@@ -108,7 +110,7 @@ words tells where in a file, and what to do):
        redirected       a redirect has its inside or its external endpoint
        shared           another binding has one of them";
 
-// The options, each with its meaning, in the order of the help text.
+// The options of files, each with its meaning, in the order of the help text.
 const OPTIONS: [(&str, &str); 8] = [
     (
         "config",
@@ -144,11 +146,13 @@ const OPTIONS: [(&str, &str); 8] = [
     ),
 ];
 
-// The option of a program that takes a log too.
-const LOG: (&str, &str) = (
-    "log",
-    "Log of the bindings as CSV, written as they begin and end; with no state [default: not written]",
-);
+// What the options of a program that takes a log too mean.
+const LOG: &str =
+    "Log of the bindings as CSV, written as they begin and end; with --resume it goes on in the same file [default: not written]";
+
+const LOG_EACH: &str =
+    "Writes the log to FILE.1, FILE.2, ..: a new file where the clock of the run passes a multiple of SECONDS; each stands by \
+itself [default: one file, FILE]";
 
 /// The file that each option names, `None` where the option is absent.
 #[derive(Debug, PartialEq, Eq, Drop)]
@@ -225,6 +229,13 @@ impl Options {
         }
     }
 
+    /// Whether a state is given as `-`.
+    fn misuses_state(&self) -> bool
+        ensures { result ≡ misuses_state (files_of self.now) }
+    {
+        self.is_stream(Role::Resume) || self.is_stream(Role::Save)
+    }
+
     /// The same among the outputs.
     fn output_again(&self) -> Option<Role>
         ensures again { result ≡ output_again (files_of self.now) }
@@ -277,7 +288,7 @@ impl From<AllocError> for LineFault {
 /// Parses the arguments of `napt`, the program's name first, as `clap` does.
 ///
 /// Each option is a long one with one value, in the next argument or after `=`, and may be given once. A value begins with
-/// `-` only if it is `-` itself, or follows `=`. The file of a state is not `-`, and no log goes with one. `-h` and `--help` ask for help, `-V` and `--version` for the version. `Memory`
+/// `-` only if it is `-` itself, or follows `=`. The file of a state is not `-`. `-h` and `--help` ask for help, `-V` and `--version` for the version. `Memory`
 /// may be returned in place of any other result.
 pub fn parse_words(alloc: Global, words: Vec<String>) -> Result<Options, LineFault>
     ensures ok { IfOk result (λ o. line_of_words (map string_bytes words.items)
@@ -319,7 +330,7 @@ pub(crate) fn parse_words_for(
 ) -> Result<OptionsWithLog, LineFault>
     ensures ok { IfOk result (λ o. line_for takes_log (map string_bytes words.items)
         ≡ files (files_with_log o)) }
-    ensures none { takes_log ≡ false → IfOk result (λ o. o.log ≡ None) }
+    ensures none { takes_log ≡ false → IfOk result (λ o. (o.log ≡ None) × (o.log_each ≡ None)) }
     ensures help { IfErr result (λ fault. IsHelp fault
         → line_for takes_log (map string_bytes words.items) ≡ help) }
     ensures version { IfErr result (λ fault. IsVersion fault
@@ -332,11 +343,15 @@ pub(crate) fn parse_words_for(
         Ok(matches) => {
             let files = options_in(alloc, &matches)?;
             let log = log_in(alloc, &matches, takes_log)?;
-            let options = OptionsWithLog { files, log };
-            if options.misuses_state() {
+            let seconds = seconds_in(&matches, takes_log);
+            if is_misused(&files, &log, seconds) {
                 return Err(LineFault::Usage);
             }
-            Ok(options)
+            Ok(OptionsWithLog {
+                files,
+                log,
+                log_each: above_zero(seconds),
+            })
         }
         Err(error) => Err(fault_of(alloc, &error)?),
     }
@@ -376,7 +391,59 @@ fn log_in(
     }
 }
 
-/// The command, with the log's option or without.
+/// The seconds after which the log goes on in a new piece, if they are given and the program takes them; 0 if the value is
+/// no number of them.
+fn seconds_in(matches: &ArgMatches<'_>, takes_log: bool) -> Option<u32>
+    ensures value { result ≡ seconds_in takes_log (rows_of (found_of matches.now)) }
+    ensures none { takes_log ≡ false → result ≡ None }
+{
+    if takes_log {
+        Some(seconds_of(matches.get_str("log-each")?))
+    } else {
+        None
+    }
+}
+
+/// The number in a text, 0 if there is none below 2^32.
+fn seconds_of(text: &str) -> u32
+    ensures { result ≡ seconds_of text.now }
+{
+    match text.parse::<u32>() {
+        Ok(seconds) => seconds,
+        Err(_) => 0,
+    }
+}
+
+/// Whether a state is given as `-`, or the pieces of the log are misused.
+fn is_misused(files: &Options, log: &Option<String>, seconds: Option<u32>) -> bool
+    ensures { result ≡ is_misused (record (files_of files.now) {
+      log = option_map string_bytes log.now;
+      log_each = seconds;
+    }) }
+{
+    files.misuses_state() || misuses_pieces(log, seconds)
+}
+
+/// Whether pieces are asked for of a log that is no file, or each of no second.
+fn misuses_pieces(log: &Option<String>, seconds: Option<u32>) -> bool
+    ensures { result ≡ misuses_pieces (option_map string_bytes log.now) seconds }
+{
+    match (log, seconds) {
+        (_, None) => false,
+        (None, Some(_)) => true,
+        (Some(path), Some(seconds)) => seconds == 0 || is_dash(path),
+    }
+}
+
+/// A number that is not 0.
+fn above_zero(number: Option<u32>) -> Option<NonZeroU32>
+    ensures same { number ≢ Some 0 → option_map non_zero_u32_get result ≡ number }
+    ensures none { number ≡ None → result ≡ None }
+{
+    NonZeroU32::new(number?)
+}
+
+/// The command, with the log's options or without.
 fn command_for<'a>(
     alloc: Global,
     manual: Manual,
@@ -386,8 +453,9 @@ fn command_for<'a>(
 {
     let command = command_of(alloc, manual)?;
     if takes_log {
-        let (name, meaning) = LOG;
-        command.arg(file_arg(alloc, name, meaning))
+        command
+            .arg(plain_arg(alloc, "log", "FILE", LOG))?
+            .arg(plain_arg(alloc, "log-each", "SECONDS", LOG_EACH))
     } else {
         Ok(command)
     }
@@ -404,20 +472,20 @@ fn command_of<'a>(alloc: Global, manual: Manual) -> Result<Command<'a>, AllocErr
         .about(manual.about)
         .after_help(manual.notes);
     for (name, meaning) in OPTIONS {
-        command = command.arg(file_arg(alloc, name, meaning))?;
+        command = command.arg(plain_arg(alloc, name, "FILE", meaning))?;
     }
     Ok(command)
 }
 
-// A plain option that takes the name of a file.
-fn file_arg<'a>(alloc: Global, name: &'a str, meaning: &'a str) -> Arg<'a>
+// A plain option that takes a value, the name of a file or another.
+fn plain_arg<'a>(alloc: Global, name: &'a str, value: &'a str, meaning: &'a str) -> Arg<'a>
     ensures rule { rule_of result ≡ file_option name.entry.now }
     ensures local { result.global ≡ false }
 {
     Arg::new(alloc, name)
         .long(name)
         .action(ArgAction::Set)
-        .value_name("FILE")
+        .value_name(value)
         .help(meaning)
 }
 

@@ -1,12 +1,13 @@
 //! The command line of a program that takes a log too.
 
 ghost use Rattle.std.specs.Prelude.{◌≡◌, IfErr, IfOk, IfSome, is_some, map, string_bytes, true};
-ghost use Rattle.napt_program.specs.CommandLine.{IsHelp, IsVersion, files, files_with_log, help, line_with_log, misuses_state, mistake, version};
-ghost use Rattle.napt_program.specs.Standard.{is_log_again, is_named, is_stream, standard_again};
+ghost use Rattle.napt_program.specs.CommandLine.{IsHelp, IsVersion, files, files_with_log, help, line_with_log, mistake, version};
+ghost use Rattle.napt_program.specs.Standard.{has_pieces, is_log_again, is_named, is_stream, standard_again};
 
 use crate::options::{LineFault, Manual, Options, is_dash, parse_words_for};
 use crate::role::Role;
 use std::alloc::Global;
+use std::num::NonZeroU32;
 
 /// The file that each option names, with the log's.
 #[derive(Debug, PartialEq, Eq, Drop)]
@@ -15,6 +16,8 @@ pub struct OptionsWithLog {
     pub files: Options,
     /// The log of the bindings; absent, it is not written.
     pub log: Option<String>,
+    /// The seconds after which the log goes on in a new file; absent, it is one file.
+    pub log_each: Option<NonZeroU32>,
 }
 
 impl OptionsWithLog {
@@ -27,6 +30,13 @@ impl OptionsWithLog {
             Some(path) => is_dash(path),
             None => false,
         }
+    }
+
+    /// Whether the log is in pieces: seconds are given for each, and it is a file.
+    pub fn has_pieces(&self) -> bool
+        ensures { result ≡ has_pieces (files_with_log self.now) }
+    {
+        self.log_each.is_some() && !self.is_log_stream()
     }
 
     /// The role of the first option, captures before outputs and the log last, that wants a standard stream which another
@@ -42,16 +52,6 @@ impl OptionsWithLog {
         }
     }
 
-    /// Whether a state is given as `-`, or beside a log.
-    pub(crate) fn misuses_state(&self) -> bool
-        ensures { result ≡ misuses_state (files_with_log self.now) }
-    {
-        let Options { resume, save, .. } = &self.files;
-        self.files.is_stream(Role::Resume)
-            || self.files.is_stream(Role::Save)
-            || (self.log.is_some() && (resume.is_some() || save.is_some()))
-    }
-
     /// Whether the log wants standard output, which an output has.
     fn is_log_again(&self) -> bool
         ensures again { result ≡ is_log_again (files_with_log self.now) }
@@ -65,7 +65,7 @@ impl OptionsWithLog {
 }
 
 /// Parses the arguments of a program with this help text and the options of `parse_words`, as that does, and of the log's
-/// option, which is like them.
+/// options, which are like them. Seconds are a whole number from 1 to 4294967295, and the log is a file then.
 pub fn parse_words_with_log(
     alloc: Global,
     manual: Manual,

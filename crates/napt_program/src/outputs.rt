@@ -22,7 +22,19 @@ pub fn refuse_unmade<R: Files>(rt: &R, options: &Options) -> Result<(), Stop>
     refuse_unmade_file(rt, options.to_outside.as_ref(), Role::ToOutside)?;
     refuse_unmade_file(rt, options.to_inside.as_ref(), Role::ToInside)?;
     refuse_unmade_file(rt, options.report.as_ref(), Role::Report)?;
-    refuse_unmade_file(rt, options.save.as_ref(), Role::Save)
+    match &options.save {
+        Some(path) if !has_folder(rt, path) => Err(Stop::File(Role::Save)),
+        _ => Ok(()),
+    }
+}
+
+/// Whether a path names a file in a folder that is there: what is beside it can be put into its place.
+fn has_folder<R: Files>(rt: &R, path: &str) -> bool {
+    let Some(folder) = folder_of(path) else {
+        return false;
+    };
+    let is_name = !path.is_empty() && !path.ends_with('/');
+    is_name && fs::metadata(rt, folder).is_ok_and(|known| known.is_dir())
 }
 
 /// Fails, with its role, on a file that cannot be created or emptied.

@@ -95,6 +95,17 @@ pub(crate) fn folder_of<'a>(path: &'a str) -> Option<Path<'a>>
     }
 }
 
+/// Whether what is known is of the file at this path; so it is if the system does not tell one file from another.
+pub(crate) fn is_at<R: Files>(rt: &R, known: &Metadata, path: &str) -> bool {
+    let Ok(there) = fs::metadata(rt, path) else {
+        return false;
+    };
+    match (node_of(known), node_of(&there)) {
+        (Some(known), Some(there)) => is_same_node(known, there),
+        _ => true,
+    }
+}
+
 fn is_same_node(a: Node, b: Node) -> bool
     ensures { result ≡ is_same_node a b }
 {

@@ -1,7 +1,7 @@
 //! Finds an output that would overwrite another file of the run.
 ghost use Rattle.std.specs.Prelude.{◌≡◌, IfErr, IfOk, IfSome, is_some, not, true};
 ghost use Rattle.napt_program.specs.CommandLine.{files_of};
-ghost use Rattle.napt_program.specs.{Places.{ArePlacesOf, is_again, is_aside, is_input, is_log_named_again, is_placed, is_save_lost, is_taken, is_there, output_named_again}, Standard.is_named};
+ghost use Rattle.napt_program.specs.{Places.{ArePlacesOf, is_again, is_aside, is_input, is_log_named_again, is_placed, is_save_lost, is_saved_there, is_taken, is_there, output_named_again}, Standard.is_named};
 
 use crate::options::{Options, is_dash};
 use crate::options_with_log::OptionsWithLog;
@@ -50,33 +50,44 @@ pub fn lost_file<R: Files>(
         is_named (files_of options.now) role ≡ true)) }
     ensures memory { IfErr result (λ _. is_named (files_of options.now) Role.Save ≡ true) }
 {
+    let new = path_of_new(alloc, options)?;
+    Ok(lost_beside(rt, options, new.as_ref()))
+}
+
+/// The path of the new file of a state, if one is saved. Fails if memory runs out.
+fn path_of_new(alloc: Global, options: &Options) -> Result<Option<String>, AllocError>
+    ensures new { IfOk result (λ new. is_some new ≡ is_some options.now.save) }
+    ensures memory { IfErr result (λ _. is_some options.now.save ≡ true) }
+{
     match &options.save {
-        None => Ok(lost_beside(rt, options, None)),
-        Some(save) => {
-            let new = new_path(alloc, save)?;
-            Ok(lost_beside(rt, options, Some(&new)))
-        }
+        Some(save) => Ok(Some(new_path(alloc, save)?)),
+        None => Ok(None),
     }
 }
 
-/// The same, given the path of the new file if a state is saved.
+/// The same as `lost_file`, given the path of the new file if a state is saved.
 fn lost_beside<R: Files>(rt: &R, options: &Options, new: Option<&String>) -> Option<Role>
     ensures { IfSome result (λ role. is_named (files_of options.now) role ≡ true) }
 {
     output_named_again(&places_of(rt, options, new))
 }
 
-/// Whether the log is a file that another option also names, or a standard stream.
-pub fn is_log_lost<R: Files>(rt: &R, options: &OptionsWithLog) -> bool
-    ensures { result ≡ true → is_some options.now.log ≡ true }
+/// Whether the log is a file that another option also names, or a standard stream. Fails if memory runs out, which is only
+/// taken for a state that is saved.
+pub fn is_log_lost<R: Files>(
+    rt: &R,
+    alloc: Global,
+    options: &OptionsWithLog,
+) -> Result<bool, AllocError>
+    ensures lost { IfOk result (λ lost. lost ≡ true → is_some options.now.log ≡ true) }
+    ensures memory { IfErr result (λ _. is_some options.now.files.save ≡ true) }
 {
-    match place_at(rt, options.log.as_ref(), OUTPUT) {
-        Some(log) => is_log_named_again(&places_of(rt, &options.files, None), Some(log)),
-        None => false,
-    }
+    let new = path_of_new(alloc, &options.files)?;
+    let log = place_at(rt, options.log.as_ref(), OUTPUT);
+    Ok(is_log_named_again(&places_of(rt, &options.files, new.as_ref()), log))
 }
 
-/// The places of the files of the options; that of a saved state is left out without the path of its new file.
+/// The places of the files of the options, given the path of the new file if a state is saved.
 fn places_of<'a, R: Files>(rt: &R, options: &'a Options, new: Option<&'a String>) -> Places<'a>
     ensures { ArePlacesOf options.now result }
 {
@@ -186,7 +197,18 @@ fn is_log_named_again(places: &Places<'_>, log: Option<Place<'_>>) -> bool
         Some(file) => {
             is_again(places, log, places.to_outside, places.to_inside)
                 || is_there(file, places.report)
+                || is_saved_there(places, file)
         }
+        None => false,
+    }
+}
+
+/// Whether a state is saved to this file, or by way of it.
+fn is_saved_there(places: &Places<'_>, file: Place<'_>) -> bool
+    ensures { result ≡ is_saved_there file.entry places.now.save }
+{
+    match places.save {
+        Some(save) => is_same(file, save.file) || is_same(file, save.new),
         None => false,
     }
 }

@@ -1,64 +1,65 @@
-//! The state from which a run goes on.
+//! The state from which a run goes on, and the log beside it.
 
-ghost use Rattle.std.specs.{Prelude.{◌≡◌, ◌≢◌, IfErr, IfOk, IfSome, None, Some, false, is_some, true}, IoError.error_kind};
-ghost use Rattle.napt_rules.specs.Prelude.{State as Left, Takes};
-ghost use Rattle.napt_state.specs.{Saved.{unless_for}, StateText.{IsState, state_text}};
-ghost use Rattle.napt_program.specs.State.{IsAnew, IsStateOf, IsStateStop, is_bad_line};
+ghost use Rattle.std.specs.Prelude.{◌≡◌, IfErr, IfOk, IfSome, None, Some, false, is_some, true};
+ghost use Rattle.napt_rules.specs.Prelude.{Takes};
+ghost use Rattle.napt_state.specs.{Saved.{unless_for}, StateText.{IsSaved, saved_text}, declared.saved.Saved.{Saved as Told}};
+ghost use Rattle.napt_program.specs.State.{HasFew, IsAnew, IsStateOf, IsStateStop, is_bad_line};
 
 use crate::devices::reader;
 use crate::role::Role;
-use crate::stop::{MEMORY, StateRefusal, Stop};
+use crate::stop::{MEMORY, StateRefusal, Stop, unread};
 use napt_config::Config;
 use napt_rules::State;
-use napt_state::{StateFault, StateReason, read_state, take_up};
+use napt_state::{Saved, StateFault, StateReason, read_state, take_up};
 use std::alloc::Global;
 use std::fs::File;
-use std::io;
-use std::io::{ErrorKind, Read};
+use std::io::Read;
 use std::rt::Files;
 
-/// The state in the file, as the configuration takes it up, or one without bindings if no file is named. Fails as `state_from`
-/// does, and with the file's role if it cannot be opened.
+/// The state in the file, as the configuration takes it up, or one without bindings and without a log if no file is named.
+/// Fails as `state_from` does, and with the file's role if it cannot be opened.
 pub fn state_at<R: Files + AllocGlobal>(
     rt: &R,
     config: &Config,
     path: Option<&String>,
-) -> Result<State, Stop>
-    ensures taken { IfOk result (λ state. Takes config.now state) }
+) -> Result<Saved, Stop>
+    ensures taken { IfOk result (λ saved. Takes config.now saved.state) }
+    ensures few { IfOk result HasFew }
     ensures anew { path.entry ≡ None → IfOk result IsAnew }
     ensures stop { IfErr result (IsStateStop (is_some path.entry)) }
 {
     let Some(path) = path else {
-        return Ok(State {
-            clock: 0,
-            list: Vec::new(rt.alloc()),
+        let list = Vec::new(rt.alloc());
+        return Ok(Saved {
+            state: State { clock: 0, list },
+            log: None,
         });
     };
-    let file = File::open(rt, path).map_err(|error| unread_state(&error))?;
+    let file = File::open(rt, path).map_err(|error| unread(&error, Role::Resume))?;
     state_from(rt.alloc(), config, file)
 }
 
 /// Reads a state to the reader's end, and leaves out what counts for nothing under the configuration: redirects, and what has
-/// gone by the state's clock.
+/// gone by the state's clock. The log beside it stays as it is.
 ///
 /// Fails with `Stop::State` if the text is refused or a binding is not taken, and with the file's role if the reader fails;
 /// and, as a run does, if memory runs out.
-pub fn state_from<D: Read + Drop>(alloc: Global, config: &Config, device: D) -> Result<State, Stop>
-    ensures taken { IfOk result (λ state. Takes config.now state) }
-    ensures read { IfOk result (λ state. IfSome (D.remaining device) (λ text.
-        IsStateOf config.now text state)) }
-    ensures whole { (saved : Left) → IsState saved → D.remaining device ≡ Some (state_text saved)
+pub fn state_from<D: Read + Drop>(alloc: Global, config: &Config, device: D) -> Result<Saved, Stop>
+    ensures taken { IfOk result (λ saved. Takes config.now saved.state) }
+    ensures few { IfOk result HasFew }
+    ensures read { IfOk result (λ saved. IfSome (D.remaining device) (λ text.
+        IsStateOf config.now text saved)) }
+    ensures whole { (told : Told) → IsSaved told → D.remaining device ≡ Some (saved_text told)
         → IfErr result (λ stop. is_bad_line stop ≡ false) }
     ensures stop { IfErr result (IsStateStop true) }
 {
-    let mut state = match read_state(alloc, reader(alloc, device)?) {
-        Ok(state) => state,
+    let mut saved = match read_state(alloc, reader(alloc, device)?) {
+        Ok(saved) => saved,
         Err(fault) => return Err(stop_of_state(&fault)),
     };
-    match take_up(alloc, config, &mut state) {
-        Ok(None) => Ok(state),
-        Ok(Some((_, misfit))) => Err(Stop::State(StateRefusal::Binding(misfit))),
-        Err(_) => Err(MEMORY),
+    match take_up(alloc, config, &mut saved.state)? {
+        None => Ok(saved),
+        Some((_, misfit)) => Err(Stop::State(StateRefusal::Binding(misfit))),
     }
 }
 
@@ -67,25 +68,15 @@ pub fn stop_of_state(fault: &StateFault) -> Stop
     ensures line { unless_for fault.now.reason
         (result ≡ Stop.State (StateRefusal.Line fault.now.line)) }
     ensures unread { unless_for fault.now.reason ⊥ → is_bad_line result ≡ false }
+    ensures utf8 { fault.now.reason ≡ StateReason.NotUtf8 →
+        result ≡ Stop.State (StateRefusal.NotUtf8 fault.now.line) }
+    ensures memory { fault.now.reason ≡ StateReason.Memory → result ≡ MEMORY }
     ensures stop { IsStateStop true result }
 {
     match &fault.reason {
         StateReason::Memory => MEMORY,
-        StateReason::Unread(error) => unread_state(error),
+        StateReason::Unread(error) => unread(error, Role::Resume),
         StateReason::NotUtf8 => Stop::State(StateRefusal::NotUtf8(fault.line)),
         _ => Stop::State(StateRefusal::Line(fault.line)),
-    }
-}
-
-/// Why a state was not read: memory ran out, or its file failed.
-fn unread_state(error: &io::Error) -> Stop
-    ensures memory { error_kind error.now ≡ ErrorKind.OutOfMemory → result ≡ MEMORY }
-    ensures file { error_kind error.now ≢ ErrorKind.OutOfMemory → result ≡ Stop.File Role.Resume }
-    ensures unread { is_bad_line result ≡ false }
-    ensures stop { IsStateStop true result }
-{
-    match error.kind() {
-        ErrorKind::OutOfMemory => MEMORY,
-        _ => Stop::File(Role::Resume),
     }
 }

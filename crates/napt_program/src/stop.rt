@@ -1,5 +1,5 @@
 //! Why a program stops early: the fault line for standard error, and the exit status.
-ghost use Rattle.std.specs.Prelude.{◌≡◌, IfOk, Some, option_map, string_bytes};
+ghost use Rattle.std.specs.{Prelude.{◌≡◌, ◌≢◌, ◌⊎◌, Some, option_map}, IoError.error_kind};
 ghost use Rattle.napt_program.specs.Stop.{capture_name, config_name, fault_text, line_at_end, line_of, misfit_name, output_role, run_name, side_name, state_name, status_at_end, status_of, status_of_fault, stop_text};
 
 use crate::role::Role;
@@ -10,8 +10,9 @@ use napt_records::{Fault, Which};
 use napt_rules::Misfit;
 use napt_sequential::RunFault;
 use napt_wire::Side;
-use std::alloc::{AllocError, Global};
-use std::fmt;
+use std::alloc::AllocError;
+use std::io::ErrorKind;
+use std::{fmt, io};
 
 /// Why a program stops with a status other than 0.
 #[derive(Clone, Copy, Debug, PartialEq, Eq)]
@@ -26,6 +27,8 @@ pub enum Stop {
     Config(ConfigFault),
     /// The file cannot be opened or created, or the configuration cannot be read.
     File(Role),
+    /// The file of the log has text that the run may not go on with. Nothing was created or changed.
+    LogFile(LogRefusal),
     /// The run failed.
     Run(Fault),
     /// The log could not be written.
@@ -34,6 +37,19 @@ pub enum Stop {
     State(StateRefusal),
     /// The state that the run leaves could not be written. The file of its option is as it was.
     Save,
+}
+
+/// Why a run may not write to the file of its log, which has text.
+#[derive(Clone, Copy, Debug, PartialEq, Eq)]
+pub enum LogRefusal {
+    /// The run begins anew: there is text, or a piece.
+    Anew,
+    /// The state was left without a log, or with one in no file.
+    Untold,
+    /// It is not the log that the state tells of, which has so many bytes: it has fewer, or no row ends there.
+    Another(u64),
+    /// More than a part of a row stands behind so many bytes, those that the state tells of.
+    Longer(u64),
 }
 
 /// Why a state is refused.
@@ -50,6 +66,16 @@ pub enum StateRefusal {
 /// Memory ran out before the run.
 pub const MEMORY: Stop = Stop::Run(Fault::Run(RunFault::Memory));
 
+impl From<AllocError> for Stop {
+    ghost use Rattle.napt_program.specs.declared.stop.TheConstants.{MEMORY};
+
+    ghost from_gives = { λ _ stop. stop ≡ MEMORY };
+
+    fn from(_error: AllocError) -> Stop {
+        MEMORY
+    }
+}
+
 impl From<ConfigFault> for Stop {
     ghost use Rattle.napt_program.specs.declared.stop.Stop.TheVariants.{Config};
 
@@ -57,6 +83,18 @@ impl From<ConfigFault> for Stop {
 
     fn from(fault: ConfigFault) -> Stop {
         Stop::Config(fault)
+    }
+}
+
+/// Why the file of a role was not read: memory ran out, or the file failed.
+pub(crate) fn unread(error: &io::Error, role: Role) -> Stop
+    ensures memory { error_kind error.now ≡ ErrorKind.OutOfMemory → result ≡ MEMORY }
+    ensures file { error_kind error.now ≢ ErrorKind.OutOfMemory → result ≡ Stop.File role }
+    ensures either { (result ≡ MEMORY) ⊎ (result ≡ Stop.File role) }
+{
+    match error.kind() {
+        ErrorKind::OutOfMemory => MEMORY,
+        _ => Stop::File(role),
     }
 }
 
@@ -70,7 +108,7 @@ pub fn stop_status(stop: &Stop) -> u8
         Stop::LineMemory => 5,
         Stop::Help => 6,
         Stop::Config(_) => 3,
-        Stop::File(_) => 6,
+        Stop::File(_) | Stop::LogFile(_) => 6,
         Stop::Run(fault) => status_of_run(*fault),
         Stop::Log | Stop::Save => 6,
         Stop::State(_) => 8,
@@ -87,12 +125,14 @@ pub fn status_at_end(answer: &Result<(), Stop>) -> u8
     }
 }
 
-/// The line that a run prints on standard error, if that is open: none if it was done, else the stop's.
-pub fn line_at_end(is_open: bool, answer: &Result<(), Stop>) -> Option<StopLine>
-    ensures { option_map (λ line. line_of line.0) result ≡ line_at_end is_open answer.now }
+/// The line that a run of the program with this name prints on standard error, if that is open: none if it was done, else
+/// the stop's.
+pub fn line_at_end(name: &'static str, is_open: bool, answer: &Result<(), Stop>) -> Option<StopLine>
+    ensures { option_map (λ line. line_of line.name.now line.stop) result
+        ≡ line_at_end name.now is_open answer.now }
 {
     match answer {
-        Err(stop) if is_open => Some(StopLine(*stop)),
+        Err(stop) if is_open => Some(StopLine { name, stop: *stop }),
         _ => None,
     }
 }
@@ -109,22 +149,19 @@ fn status_of_run(fault: Fault) -> u8
 
 /// The fault line of a stop, without its line feed. Printing it takes no memory, so that it can say that memory ran out.
 #[derive(Clone, Copy, Debug)]
-pub struct StopLine(pub Stop);
-
-impl fmt::Display for StopLine {
-    ghost output = { λ line. Some (line_of line.0) };
-
-    fn fmt<W: fmt::Write>(&self, f: &mut fmt::Formatter<W>) -> fmt::Result {
-        let stop = self.0;
-        write!(f, "napt: {stop}")
-    }
+pub struct StopLine {
+    /// What the program is called.
+    pub name: &'static str,
+    pub stop: Stop,
 }
 
-/// The fault line as a text. Fails only if memory runs out.
-pub fn stop_line(alloc: Global, stop: &Stop) -> Result<String, AllocError>
-    ensures { IfOk result (λ line. string_bytes line ≡ line_of stop.now) }
-{
-    StopLine(*stop).to_string(alloc)
+impl fmt::Display for StopLine {
+    ghost output = { λ line. Some (line_of line.name.now line.stop) };
+
+    fn fmt<W: fmt::Write>(&self, f: &mut fmt::Formatter<W>) -> fmt::Result {
+        let (name, stop) = (self.name, self.stop);
+        write!(f, "{name}: {stop}")
+    }
 }
 
 /// The fault line after the program's name, such as `config timer-too-short`.
@@ -143,6 +180,10 @@ impl fmt::Display for Stop {
             Stop::File(role) => {
                 f.write_str("file ")?;
                 f.write_str(role.name())
+            }
+            Stop::LogFile(_) => {
+                f.write_str("file ")?;
+                f.write_str(Role::Log.name())
             }
             Stop::Run(fault) => {
                 let fault = FaultText(*fault);

@@ -2,7 +2,7 @@
 use native.Mathlib.Omega.{arith}
 use Rattle.std.{proofs.lemmas.{Grind.common_steps, Bool.Decides.nat_tests}, specs.Option.option_map}
 use Rattle.std.proofs.Common.{◌≡◌, ℕ, Bool, true, false, All, List, [], ◌∷◌, ◌++◌, Option, None, Some, IfSome, IsSome, option_to_list, unwrap_or, Result, Ok, Err, refl, sym, subst, subst₂, append-nil}
-use Rattle.napt_capture.specs.{declared.{device.Source.Ghosts, records.Records.Records, fault.CaptureFault.CaptureFault}, Contents.Entry, Capture.Held}
+use Rattle.napt_capture.specs.{declared.{device.Source.Ghosts, records.Records.Records, fault.CaptureFault.CaptureFault}, Contents.CapturedRecord, Capture.CapturedRecords}
 use Rattle.napt_capture.specs.Reading.{StopsBy}
 use Rattle.napt_records.{specs.declared.{stream.Stream.Stream, merged_streams.MergedStreams.MergedStreams}, proofs.Left.StopsBy-then}
 use Rattle.napt_records.{proofs.Merges.{IsKnown, hands_until, takes_timely}, specs.Output.IsTimely}
@@ -14,15 +14,15 @@ use Rattle.napt_rules.specs.Prelude.{Arrival, Side, Inside, Outside}
 
 -- ---- more records behind those that were read
 
-inside_next : (entry : Entry) (ins outs others more : List Entry) → (outs ≡ [] → more ≡ []) →
+inside_next : (entry : CapturedRecord) (ins outs others more : List CapturedRecord) → (outs ≡ [] → more ≡ []) →
     is_outside_next (entry ∷ ins) outs ≡ false → is_outside_next (entry ∷ others) (outs ++ more) ≡ false
 inside_next entry ins outs others more shown is = grind (arith, common_steps, nat_tests)
 
-outside_next : (entry : Entry) (ins outs others more : List Entry) → (ins ≡ [] → more ≡ []) →
+outside_next : (entry : CapturedRecord) (ins outs others more : List CapturedRecord) → (ins ≡ [] → more ≡ []) →
     is_outside_next ins (entry ∷ outs) ≡ true → is_outside_next (ins ++ more) (entry ∷ others) ≡ true
 outside_next entry ins outs others more shown is = grind (arith, common_steps, nat_tests)
 
-takes_more : (ins outs ins_left outs_left more others : List Entry) (side : Side) (entry : Entry) →
+takes_more : (ins outs ins_left outs_left more others : List CapturedRecord) (side : Side) (entry : CapturedRecord) →
     Takes ins outs (Some (side, entry)) ins_left outs_left → (ins ≡ [] → more ≡ []) → (outs ≡ [] → others ≡ [])
     → Takes (ins ++ more) (outs ++ others) (Some (side, entry)) (ins_left ++ more) (outs_left ++ others)
 takes_more ins outs ins_left outs_left more others side entry next shown other_shown =
@@ -30,34 +30,38 @@ takes_more ins outs ins_left outs_left more others side entry next shown other_s
 
 -- ---- what a side holds behind the records that were read
 
-record More (first : Option Entry) (later : Option Entry → Option Held) (held : Held) : Type 0 where
-  more : List Entry
+record More (first : Option CapturedRecord) (later : Option CapturedRecord → Option CapturedRecords)
+    (held : CapturedRecords) : Type 0 where
+  more : List CapturedRecord
   is : held.records ≡ option_to_list first ++ more
   none : option_to_list first ≡ [] → more ≡ []
   known : IsKnown held.records held.end
-  after : (left : Option Entry) → later left ≡ Some (record { records = option_to_list left ++ more; end = held.end })
+  after : (left : Option CapturedRecord) → later left ≡ Some
+      (record { records = option_to_list left ++ more; end = held.end })
 
-ended : (entries : List Entry) (cut : Bool) → IsKnown entries (Ok cut)
+ended : (entries : List CapturedRecord) (cut : Bool) → IsKnown entries (Ok cut)
 ended entries cut = grind (arith, common_steps, nat_tests)
 
-more_ended : (first : Option Entry) (cut : Bool) → More first
+more_ended : (first : Option CapturedRecord) (cut : Bool) → More first
     (λ left. Some (record { records = option_to_list left; end = Ok cut }))
     (record { records = option_to_list first; end = Ok cut })
 more_ended first cut = grind (arith, common_steps, nat_tests, append-nil, option_to_list, ended)
 
-more_by : (cut : Option Bool) (records : Records) (text : Option (List ℕ)) (first : Option Entry) (held : Held) →
+more_by : (cut : Option Bool) (records : Records) (text : Option (List ℕ)) (first : Option CapturedRecord)
+    (held : CapturedRecords) →
     (first ≡ None → IsSome cut)
     → holds_by cut (option_to_list first) (option_map (held_in records (option_to_list first)) text) ≡ Some held
     → More first (λ left. holds_by cut (option_to_list left) (option_map (held_in records (option_to_list left)) text))
     held
 more_by cut records text first held told is = grind (arith, common_steps, nat_tests, option_to_list, more_ended)
 
-told_by : (cut : Option Bool) (known : Option Held) → IsSome cut → holds_by cut [] known
+told_by : (cut : Option Bool) (known : Option CapturedRecords) → IsSome cut → holds_by cut [] known
     ≡ Some (record { records = []; end = Ok (unwrap_or cut false) })
 told_by cut known some = grind (arith, common_steps, nat_tests)
 
 module _ {R : Type 0} {G : Ghosts R} where
-  more_of : (stream : Stream R G) (first : Option Entry) → (first ≡ None → IsSome stream.cut) → (held : Held) →
+  more_of : (stream : Stream R G) (first : Option CapturedRecord) → (first ≡ None → IsSome stream.cut) →
+      (held : CapturedRecords) →
       stream_holds stream first ≡ Some held → More first (stream_holds stream) held
   more_of stream first told held is = grind (arith, common_steps, nat_tests, more_by)
 
@@ -67,7 +71,8 @@ module _ {R : Type 0} {G : Ghosts R} where
 
 -- ---- both sides
 
-stays_both : (c : ℕ) (a b : Option Held) (d : ℕ) (x y : Option Held) → d ≡ c → Stays a x → Stays b y →
+stays_both : (c : ℕ) (a b : Option CapturedRecords) (d : ℕ) (x y : Option CapturedRecords) → d ≡ c → Stays a x →
+    Stays b y →
     Stays (both_hold c a b) (both_hold d x y)
 stays_both c a b d x y clock p q = grind (arith, common_steps, nat_tests)
 
@@ -77,9 +82,11 @@ follows_after x y z xs stays follows = grind (arith, common_steps, nat_tests)
 stays_is : {X : Type 0} (x y : Option X) (a : X) → Stays x y → y ≡ Some a → IfSome x (λ b. b ≡ a)
 stays_is x y a stays is = grind (arith, common_steps, nat_tests)
 
-takes_one : (ins outs ins_left outs_left : Option Entry) (clock now : ℕ) (input : Arrival) (a b : Option Held)
-    (x y : Option Entry → Option Held)
-    → ((held : Held) → a ≡ Some held → More ins x held) → ((held : Held) → b ≡ Some held → More outs y held)
+takes_one : (ins outs ins_left outs_left : Option CapturedRecord) (clock now : ℕ) (input : Arrival)
+    (a b : Option CapturedRecords)
+    (x y : Option CapturedRecord → Option CapturedRecords)
+    → ((held : CapturedRecords) → a ≡ Some held → More ins x held) →
+    ((held : CapturedRecords) → b ≡ Some held → More outs y held)
     → TakesFirst ins outs clock input ins_left outs_left now
     → Follows (both_hold clock a b) (input ∷ []) (both_hold now (x ins_left) (y outs_left))
 takes_one ins outs ins_left outs_left clock now input None b x y first second taken = tt
@@ -87,8 +94,8 @@ takes_one ins outs ins_left outs_left clock now input (Some a) None x y first se
 takes_one ins outs ins_left outs_left clock now input (Some a) (Some b) x y first second taken =
     let p = first a refl in
     let q = second b refl in
-    let rest : List Entry = option_to_list ins_left ++ p.more in
-    let others : List Entry = option_to_list outs_left ++ q.more in
+    let rest : List CapturedRecord = option_to_list ins_left ++ p.more in
+    let others : List CapturedRecord = option_to_list outs_left ++ q.more in
     let whole = takes_more (option_to_list ins) (option_to_list outs) (option_to_list ins_left)
     (option_to_list outs_left) p.more q.more taken.side taken.entry taken.taken p.none q.none in
     let all : Takes a.records b.records (Some (taken.side, taken.entry)) rest others =
@@ -97,17 +104,17 @@ takes_one ins outs ins_left outs_left clock now input (Some a) (Some b) x y firs
     rw (p.after ins_left, q.after outs_left, taken.input_is, clock_is)
     (hands_until a.end b.end a.records b.records rest others clock taken.side taken.entry p.known q.known all)
 
-fault_inside : (clock : ℕ) (a b : Option Held) (fault : CaptureFault) →
+fault_inside : (clock : ℕ) (a b : Option CapturedRecords) (fault : CaptureFault) →
     IfSome a (λ held. held ≡ record { records = []; end = Err fault })
     → IfSome (both_hold clock a b) (λ inputs. inputs ≡ at_fault Inside fault)
 fault_inside clock a b fault is = grind (arith, common_steps, nat_tests)
 
-outside_at : (end : Result Bool CaptureFault) (records : List Entry) (clock : ℕ) (fault : CaptureFault) →
+outside_at : (end : Result Bool CaptureFault) (records : List CapturedRecord) (clock : ℕ) (fault : CaptureFault) →
     IsKnown records end → inputs_from end (Err fault) records clock [] ≡ at_fault Outside fault
 outside_at end records clock fault known = grind (arith, common_steps, nat_tests)
 
-fault_outside : (clock : ℕ) (a b x : Option Held) (fault : CaptureFault) → Stays a x →
-    ((held : Held) → x ≡ Some held → IsKnown held.records held.end)
+fault_outside : (clock : ℕ) (a b x : Option CapturedRecords) (fault : CaptureFault) → Stays a x →
+    ((held : CapturedRecords) → x ≡ Some held → IsKnown held.records held.end)
     → IfSome b (λ held. held ≡ record { records = []; end = Err fault })
     → IfSome (both_hold clock a b) (λ inputs. inputs ≡ at_fault Outside fault)
 fault_outside clock a b x fault stays known is = grind (arith, common_steps, nat_tests, outside_at)
@@ -157,7 +164,8 @@ module _ {R Q : Type 0} {G : Ghosts R} {H : Ghosts Q} where
       → StopsBy fault (IfSome (inputs_of old) (λ inputs. inputs ≡ at_fault Inside fault))
   stops_inside old fault p = grind (arith, common_steps, nat_tests, StopsBy-then, fault_inside)
 
-  pub stops_outside : (old : MergedStreams R Q G H) (now : Stream R G) (first : Option Entry) (fault : CaptureFault)
+  pub stops_outside : (old : MergedStreams R Q G H) (now : Stream R G) (first : Option CapturedRecord)
+      (fault : CaptureFault)
       → (first ≡ None → IsSome now.cut) → Stays (stream_holds old.inside old.inside_first) (stream_holds now first)
       → StopsBy fault (IfSome (stream_holds old.outside old.outside_first)
       (λ held. held ≡ record { records = []; end = Err fault }))

@@ -9,8 +9,7 @@ follows_none : (x : Option Inputs) → Follows x [] x
 follows_none None = tt
 follows_none (Some x) = refl
 
-follows_more : (x y z : Option Inputs) (xs ys : List Arrival) → Follows x xs y → Follows y ys z →
-    Follows x (xs ++ ys) z
+follows_more : (x y z : Option Inputs) (xs ys : List Arrival) → Follows x xs y → Follows y ys z → Follows x (xs ++ ys) z
 follows_more None y z xs ys first second = tt
 follows_more (Some x) None z xs ys first second = absurd first
 follows_more (Some x) (Some y) None xs ys first second = absurd second
@@ -31,9 +30,8 @@ module _ {R Q : Type 0} {G : Ghosts R} {H : Ghosts Q} where
     },
   )
 
-  pub HandsOut-more : (x y z : MergedStreams R Q G H) (xs ys : List Arrival) →
-      HandsOut x xs y → HandsOut y ys z
-      → HandsOut x (xs ++ ys) z
+  pub HandsOut-more : (x y z : MergedStreams R Q G H) (xs ys : List Arrival) → HandsOut x xs y → HandsOut y ys z →
+      HandsOut x (xs ++ ys) z
   HandsOut-more x y z xs ys first second = (
     (second.0.0 ∙ first.0.0, second.0.1 ∙ first.0.1),
     λ live.
@@ -44,8 +42,6 @@ module _ {R Q : Type 0} {G : Ghosts R} {H : Ghosts Q} where
           inside_count = b.inside_count ∙ a.inside_count;
           outside_count = b.outside_count ∙ a.outside_count;
           timely = All-append IsTimely xs ys a.timely b.timely;
-          takes = follows_more (inputs_of x) (inputs_of y)
-              (inputs_of z) xs ys
-              a.takes b.takes;
+          takes = follows_more (inputs_of x) (inputs_of y) (inputs_of z) xs ys a.takes b.takes;
         },
   )

@@ -1,19 +1,15 @@
 -- The inputs of a run: the records of both captures, merged by arrival time (this product's profile). Captures need not
 -- be sorted.
 use Rattle.std.specs.Prelude.{◌≡◌, ℕ, ◌+◌, ◌≤◌, ◌<◌, ◌↔◌, max, Bool, true, false, List, [], ◌∷◌, map, filter, take, slice_get, Some}
-use Rattle.napt_capture.specs.Contents.{Entry}
+use Rattle.napt_capture.specs.Contents.{CapturedRecord}
 use Rattle.napt_rules.specs.Prelude.{Arrival, Side, Inside, Outside}
 
--- what a record and its input have in common
-pub record Timed : Type 0 where
-  pub time : ℕ
-  pub bytes : List ℕ
+-- what a record and its input have in common: their time and bytes
+abbrev pub of_record : CapturedRecord → ℕ × List ℕ
+of_record entry = (entry.time, entry.bytes)
 
-abbrev pub of_record : Entry → Timed
-of_record entry = record { time = entry.time; bytes = entry.bytes }
-
-abbrev pub of_input : Arrival → Timed
-of_input input = record { time = input.time; bytes = input.bytes }
+abbrev pub of_input : Arrival → ℕ × List ℕ
+of_input input = (input.time, input.bytes)
 
 abbrev pub same_side : Side → Side → Bool
 same_side Inside Inside = true
@@ -41,15 +37,14 @@ reach side place inputs = latest (filter (is_from side) (take (place + 1) inputs
 abbrev pub AreInOrder : List Arrival → Type 0
 AreInOrder inputs =
     (i o : ℕ) (a b : Arrival) → slice_get inputs i ≡ Some a → slice_get inputs o ≡ Some b → a.side ≡ Inside →
-    b.side ≡ Outside
-    → (i < o) ↔ (reach Inside i inputs ≤ reach Outside o inputs)
+    b.side ≡ Outside → (i < o) ↔ (reach Inside i inputs ≤ reach Outside o inputs)
 
 abbrev pub HaveClocks : List Arrival → Type 0
 HaveClocks inputs = (place : ℕ) (input : Arrival) → slice_get inputs place ≡ Some input →
     input.clock ≡ clock_at place inputs
 
 -- each side's inputs are its records in order, and the sides are in order
-pub record IsMerged (insides outsides : List Entry) (inputs : List Arrival) : Type 0 where
+pub record IsMerged (insides outsides : List CapturedRecord) (inputs : List Arrival) : Type 0 where
   pub inside : map of_input (filter (is_from Inside) inputs) ≡ map of_record insides
   pub outside : map of_input (filter (is_from Outside) inputs) ≡ map of_record outsides
   pub order : AreInOrder inputs

@@ -1,6 +1,6 @@
 -- What two captures hand out as they arrive.
 use Rattle.std.specs.Prelude.{◌≡◌, ◌⊎◌, ℕ, ◌+◌, max, Bool, false, All, List, Option, option_to_list, None, Some, IfSome, IsSome, unwrap_or, Result, Ok, Err}
-use Rattle.napt_capture.specs.{declared.{device.Source.Ghosts, fault.CaptureFault.CaptureFault}, Contents.Entry, Text.IsWritable, Capture.failed_reads}
+use Rattle.napt_capture.specs.{declared.{device.Source.Ghosts, fault.CaptureFault.CaptureFault}, Contents.CapturedRecord, Text.IsWritable, Capture.failed_reads}
 use Rattle.napt_capture.specs.{Reading.StopsBy, Records.Asks}
 use Rattle.napt_records.specs.{declared.{stream.Stream.Stream, merged_streams.{MergedStreams.MergedStreams, SideFault.SideFault}}, Output.IsTimely}
 use Rattle.napt_records.specs.{Rests.{Follows, Stays, inputs_of, stream_holds}, Taking.{Takes, at_end, at_fault, input_of}}
@@ -31,7 +31,7 @@ cut_of stream = unwrap_or stream.cut false
 -- WHO IS ASKED
 
 -- the next record is not known, so the source is read
-abbrev pub AsksSource : {R : Type 0} {G : Ghosts R} → Stream R G → Option Entry → Type 0
+abbrev pub AsksSource : {R : Type 0} {G : Ghosts R} → Stream R G → Option CapturedRecord → Type 0
 AsksSource stream first = ((first ≡ None) × (stream.cut ≡ None)) × Asks stream.records
 
 abbrev pub AsksDevice : {R Q : Type 0} {G : Ghosts R} {H : Ghosts Q} → MergedStreams R Q G H → Type 0
@@ -70,8 +70,7 @@ pub record Meets {R Q : Type 0} {G : Ghosts R} {H : Ghosts Q} (old : MergedStrea
     (new : MergedStreams R Q G H) : Type 0 where
   pub inside_count : Counts old.inside (failed_by Inside fault.side fault.fault) new.inside
   pub outside_count : Counts old.outside (failed_by Outside fault.side fault.fault) new.outside
-  pub stops : StopsBy fault.fault (IfSome (inputs_of old)
-      (λ inputs. inputs ≡ at_fault fault.side fault.fault))
+  pub stops : StopsBy fault.fault (IfSome (inputs_of old) (λ inputs. inputs ≡ at_fault fault.side fault.fault))
 
 abbrev pub LooksOrMeets : {R Q : Type 0} {G : Ghosts R} {H : Ghosts Q} → MergedStreams R Q G H →
     Result (Unit {0}) SideFault → MergedStreams R Q G H → Type 0
@@ -79,16 +78,18 @@ LooksOrMeets old (Ok done) new = Looks old new
 LooksOrMeets old (Err fault) new = Meets old fault new
 
 -- the next of the records that were read became an input
-pub record TakesFirst (first other : Option Entry) (clock : ℕ) (input : Arrival) (first_left other_left : Option Entry)
+pub record TakesFirst (first other : Option CapturedRecord) (clock : ℕ) (input : Arrival)
+    (first_left other_left : Option CapturedRecord)
     (now : ℕ) : Type 0 where
   pub side : Side
-  pub entry : Entry
+  pub entry : CapturedRecord
   pub taken : Takes (option_to_list first) (option_to_list other) (Some (side, entry)) (option_to_list first_left)
       (option_to_list other_left)
   pub clock_is : now ≡ max clock entry.time
   pub input_is : input ≡ input_of side now entry
 
-abbrev pub TakesAny : Option Entry → Option Entry → ℕ → Option Arrival → Option Entry → Option Entry → ℕ → Type 0
+abbrev pub TakesAny : Option CapturedRecord → Option CapturedRecord → ℕ → Option Arrival → Option CapturedRecord →
+    Option CapturedRecord → ℕ → Type 0
 TakesAny first other clock None first_left other_left now = (first ≡ None) × (other ≡ None)
 TakesAny first other clock (Some input) first_left other_left now =
     TakesFirst first other clock input first_left other_left now
@@ -112,8 +113,7 @@ HandsOut old inputs new = AreSame old new × (AreLive old → Goes old inputs ne
 pub record Finishes {R Q : Type 0} {G : Ghosts R} {H : Ghosts Q} (old new : MergedStreams R Q G H) : Type 0 where
   pub inside_count : NoneFailed old.inside new.inside
   pub outside_count : NoneFailed old.outside new.outside
-  pub stops : IfSome (inputs_of old)
-      (λ inputs. inputs ≡ at_end (cut_of new.inside) (Ok (cut_of new.outside)))
+  pub stops : IfSome (inputs_of old) (λ inputs. inputs ≡ at_end (cut_of new.inside) (Ok (cut_of new.outside)))
 
 -- the end was reached, or a fault was returned
 abbrev pub EndsWith : {R Q : Type 0} {G : Ghosts R} {H : Ghosts Q} → MergedStreams R Q G H → Option SideFault →

@@ -2,7 +2,7 @@
 -- input.
 use Rattle.std.specs.Prelude.{ℕ, ◌*◌, ◌<◌, ◌^◌, List, filter_map, zip, Option, Some, None}
 use Rattle.napt_wire.specs.declared.Side.{Side, TheVariants.{Inside, Outside}}
-use Rattle.napt_capture.specs.{Contents.Entry, Text.entry_of_packet}
+use Rattle.napt_capture.specs.{Contents.CapturedRecord, Text.entry_of_packet}
 use Rattle.napt_rules.specs.{declared.Outcome.{Outcome, TheVariants.{ToOutside, ToInside}}, Prelude.Arrival}
 
 -- the packet that an outcome sends to a side
@@ -11,15 +11,13 @@ packet_to Outside (ToOutside packet) = Some packet
 packet_to Inside (ToInside packet) = Some packet
 packet_to side other = None
 
-abbrev pub record_at : ℕ → Option (List ℕ) → Option Entry
+abbrev pub record_at : ℕ → Option (List ℕ) → Option CapturedRecord
 record_at time (Some packet) = Some (entry_of_packet time packet)
 record_at time None = None
 
-abbrev pub record_to : Side → Arrival × Outcome → Option Entry
-record_to side pair = record_at pair.0.time (packet_to side pair.1)
-
-abbrev pub records_to : Side → List Arrival → List Outcome → List Entry
-records_to side arrivals outcomes = filter_map (record_to side) (zip arrivals outcomes)
+abbrev pub records_to : Side → List Arrival → List Outcome → List CapturedRecord
+records_to side arrivals outcomes =
+    filter_map (λ pair. record_at pair.0.time (packet_to side pair.1)) (zip arrivals outcomes)
 
 -- arrival times that fit a record's header
 abbrev pub IsTime : ℕ → Type 0

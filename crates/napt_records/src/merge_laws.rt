@@ -1,5 +1,5 @@
 //! Laws of merging.
-ghost use Rattle.napt_records.specs.MergeLaws.{MergeEnds, MergeIsInOrder, MergeMeets, MergesBefore, MergesFront, MergesWhole, TellsInsideFirst};
+ghost use Rattle.napt_records.specs.MergeLaws.{CapturesCanBeCut, MergeEnds, MergeIsInOrder, MergeMeets, MergesBefore, MergesFront, MergesWhole, TellsInsideFirst};
 
 /// The merged list has each side's records in order, the sides in order, and the clocks.
 pub fn merge_is_in_order()
@@ -16,4 +16,10 @@ pub fn merge_until_fault()
     ensures meets { MergeMeets }
     ensures before { MergesBefore }
     ensures inside_first { TellsInsideFirst }
+{}
+
+/// Behind each front of the merged list both captures can be cut: merging the first parts gives that front, and merging the
+/// rests gives the other inputs. Clocks of those that are below the front's last one count as it, as in a run that goes on.
+pub fn captures_can_be_cut()
+    ensures { CapturesCanBeCut }
 {}

@@ -22,8 +22,7 @@ is_port_for keeps_parity port other =
 -- a number that may stand for a number
 abbrev pub is_number_for : Bool → Protocol → ℕ → ℕ → Bool
 is_number_for keeps_parity Icmp identifier other = true
-is_number_for keeps_parity Tcp port other = is_port_for keeps_parity port other
-is_number_for keeps_parity Udp port other = is_port_for keeps_parity port other
+is_number_for keeps_parity _ port other = is_port_for keeps_parity port other
 
 -- the numbers below a limit, from 0 on
 unfoldable pub numbers_below : ℕ → List ℕ
@@ -82,8 +81,7 @@ block_from false block place = each_one block place
 
 abbrev pub candidates_in_block : Choosing → Block → Protocol → Endpoint → List ℕ
 candidates_in_block choosing block protocol inside =
-    block_from choosing.keeps_parity block
-    (place_in choosing.seed choosing.keeps_parity block.size protocol inside)
+    block_from choosing.keeps_parity block (place_in choosing.seed choosing.keeps_parity block.size protocol inside)
 
 -- those of a host without a block, and of one with it
 abbrev pub candidates : Choosing → Option Block → Protocol → Endpoint → List ℕ

@@ -4,7 +4,7 @@
 use Rattle.std.specs.Prelude.{◌≡◌, ◌≢◌, ℕ, ◌+◌, ◌<◌, ◌≤◌, ◌%◌, nat_lt, Bool, true, List, ◌∷◌, filter, length, Option, Some, None, ◌↔◌}
 use Rattle.std.specs.List.{AllPairs, Contains}
 use Rattle.napt_config.specs.{Rules.IsBlock, declared.settings.{Block.Block, Choosing.Choosing, Seed.Seed}}
-use Rattle.napt_wire.specs.declared.{Endpoint.Endpoint, Protocol.{Protocol, TheVariants.{Icmp, Tcp, Udp}}}
+use Rattle.napt_wire.specs.declared.{Endpoint.Endpoint, Protocol.{Protocol, TheVariants.Icmp}}
 use Rattle.napt_rules.specs.Candidates.{numbers_for, mixed, place_in, candidates}
 
 -- a port that may stand for a port: it is not 0, on the same side of 1024 (REQ-3, a) and, where that is kept, of the
@@ -18,8 +18,7 @@ pub record IsPortFor (keeps_parity : Bool) (port number : ℕ) : Type 0 where
 -- a number that may stand for a number; an identifier may stand for every other (RFC 5508, section 3.1)
 abbrev pub IsNumberFor : Bool → Protocol → ℕ → ℕ → Type 0
 IsNumberFor keeps_parity Icmp identifier number = number < 65536
-IsNumberFor keeps_parity Tcp port number = IsPortFor keeps_parity port number
-IsNumberFor keeps_parity Udp port number = IsPortFor keeps_parity port number
+IsNumberFor keeps_parity _ port number = IsPortFor keeps_parity port number
 
 -- the first candidate: the number itself, which is preserved where it is free; or the one below which there are as
 -- many that may stand for it as the hash says

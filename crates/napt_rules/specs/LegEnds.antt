@@ -13,8 +13,7 @@ ErrorsChangeNothing = (rules : Rules) (address : ℕ) (leg : Leg) (kept : Kept) 
 abbrev pub IsToItsSide : Rules → End → Type 0
 IsToItsSide rules (ToOutside packet) = place_of rules (destination packet).address ≡ None
 IsToItsSide rules (Onward place packet) = place_of rules (destination packet).address ≡ Some place
-IsToItsSide rules (ToInside packet) = Unit {0}
-IsToItsSide rules (Dropped cause) = Unit {0}
+IsToItsSide rules _ = Unit {0}
 
 abbrev pub LegsEndAtTheirSide : Type 0
 LegsEndAtTheirSide = (rules : Rules) (address : ℕ) (leg : Leg) (kept : Kept) →
@@ -24,8 +23,7 @@ LegsEndAtTheirSide = (rules : Rules) (address : ℕ) (leg : Leg) (kept : Kept) �
 abbrev pub is_in_or_dropped : End → Bool
 is_in_or_dropped (ToInside packet) = true
 is_in_or_dropped (Dropped cause) = true
-is_in_or_dropped (ToOutside packet) = false
-is_in_or_dropped (Onward place packet) = false
+is_in_or_dropped _ = false
 
 abbrev pub InStaysIn : Type 0
 InStaysIn = (rules : Rules) (address : ℕ) (leg : Leg) (kept : Kept) → leg.way ≡ Incoming →
@@ -38,12 +36,9 @@ InStaysIn = (rules : Rules) (address : ℕ) (leg : Leg) (kept : Kept) → leg.wa
 abbrev pub IsForeseen : Option ℕ → End → Type 0
 IsForeseen (Some place) (Onward to packet) = to ≡ place
 IsForeseen (Some place) (Dropped cause) = Unit {0}
-IsForeseen (Some place) (ToOutside packet) = ⊥
-IsForeseen (Some place) (ToInside packet) = ⊥
+IsForeseen (Some place) _ = ⊥
 IsForeseen None (Onward to packet) = ⊥
-IsForeseen None (Dropped cause) = Unit {0}
-IsForeseen None (ToOutside packet) = Unit {0}
-IsForeseen None (ToInside packet) = Unit {0}
+IsForeseen None _ = Unit {0}
 
 -- however a packet goes out, whatever the bindings
 abbrev pub Foresees : Rules → List ℕ → Option ℕ → Type 0

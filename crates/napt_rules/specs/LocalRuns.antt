@@ -49,8 +49,7 @@ TranslatorsKeepFrom = (rules : Rules) (state : State) (inputs : List Arrival) (a
     last_clock state.clock inputs ≤ now →
     let course : Course = course_from rules state inputs in
     purge rules.timers now (kept_after_all rules address (legs_at address course.acts)
-    (record { list = of address state.list; at = state.clock })).list
-    ≡ purge rules.timers now (of address course.list)
+    (record { list = of address state.list; at = state.clock })).list ≡ purge rules.timers now (of address course.list)
 
 -- alive or held
 abbrev pub TranslatorsHoldFrom : Type 0
@@ -58,5 +57,4 @@ TranslatorsHoldFrom = (rules : Rules) (state : State) (inputs : List Arrival) (a
     last_clock state.clock inputs ≤ now →
     let course : Course = course_from rules state inputs in
     taken rules.timers now (kept_after_all rules address (legs_at address course.acts)
-    (record { list = of address state.list; at = state.clock })).list
-    ≡ taken rules.timers now (of address course.list)
+    (record { list = of address state.list; at = state.clock })).list ≡ taken rules.timers now (of address course.list)

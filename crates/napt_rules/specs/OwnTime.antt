@@ -1,6 +1,6 @@
 -- A translator by its list and its time: a leg before that time acts at that time, and an error moves neither.
 use Rattle.std.specs.{Prelude.{ℕ, max, List}, List.{fold, scan}}
-use Rattle.napt_wire.specs.{declared.Kind.{Kind, TheVariants.{Udp, Tcp, Echo, ErrorOf}}, Fields.kind}
+use Rattle.napt_wire.specs.{declared.Kind.{Kind, TheVariants.ErrorOf}, Fields.kind}
 use Rattle.napt_config.specs.Rules.{Rules}
 use Rattle.napt_rules.specs.{Bindings.Binding, declared.{Leg.Leg, Answer.Answer}, Legs.{Acted, act}}
 
@@ -10,9 +10,7 @@ pub record Kept : Type 0 where
 
 abbrev pub time_after : Kind → ℕ → ℕ → ℕ
 time_after (ErrorOf inner) at now = at
-time_after Udp at now = now
-time_after (Tcp flags) at now = now
-time_after Echo at now = now
+time_after _ at now = now
 
 abbrev pub kept_act : Rules → ℕ → Leg → Kept → Acted
 kept_act rules address leg kept = act rules address (record leg { now = max leg.now kept.at }) kept.list
@@ -20,8 +18,7 @@ kept_act rules address leg kept = act rules address (record leg { now = max leg.
 abbrev pub kept_after : Rules → ℕ → Leg → Kept → Kept
 kept_after rules address leg kept = record {
   list = (kept_act rules address leg kept).list;
-  at =
-      time_after (kind leg.packet) kept.at (max leg.now kept.at);
+  at = time_after (kind leg.packet) kept.at (max leg.now kept.at);
 }
 
 abbrev pub kept_answer : Rules → ℕ → Leg → Kept → Answer

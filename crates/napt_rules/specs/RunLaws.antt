@@ -45,15 +45,13 @@ TakenAreSound = (rules : Rules) → KeepsRules rules → (state : State) → Tak
     IsSound (pair_of rules) (course_from rules (under rules state) inputs).list
 
 abbrev pub TakenKeepToBlocks : Type 0
-TakenKeepToBlocks = (rules : Rules) → KeepsRules rules → (state : State) → Takes rules state →
-    (inputs : List Arrival) →
+TakenKeepToBlocks = (rules : Rules) → KeepsRules rules → (state : State) → Takes rules state → (inputs : List Arrival) →
     Each (IsInItsBlock rules) (map row (course_from rules (under rules state) inputs).list)
 
 -- no host comes to have more bindings than the quota allows, or than it had
 abbrev pub TakenKeepQuota : Type 0
 TakenKeepQuota = (rules : Rules) (quota : ℕ) → rules.quota ≡ Some quota → (state : State) (inputs : List Arrival)
-    (address host : ℕ) →
-    count_for address host (course_from rules (under rules state) inputs).list
+    (address host : ℕ) → count_for address host (course_from rules (under rules state) inputs).list
     ≤ max quota (count_for address host (under rules state).list)
 
 -- flows last used by a time, no two of one remote

@@ -4,7 +4,7 @@
 -- from inside to an external address goes back inside; echoes are not sent back so here.
 use Rattle.std.specs.Prelude.{ℕ, Bool, true, false, not, ◌&&◌, ◌||◌, cond, List, Option, Some, None, is_some, ok_or, Result, Err}
 use Rattle.napt_wire.specs.declared.{Protocol.TheVariants.Icmp, Side.{Side, TheVariants.{Inside, Outside}}, Way.{Way, TheVariants.{Outgoing, Incoming}}}
-use Rattle.napt_wire.specs.declared.{Cause.{Cause, TheVariants.{Spoofed, NotOurs, Unsupported}}, Kind.{Kind, TheVariants.{Udp, Tcp, Echo, ErrorOf}}}
+use Rattle.napt_wire.specs.declared.{Cause.{Cause, TheVariants.{Spoofed, NotOurs, Unsupported}}, Kind.{Kind, TheVariants.{Echo, ErrorOf}}}
 use Rattle.napt_wire.specs.Fields.{source, destination, kind, local_end}
 use Rattle.napt_config.specs.Rules.{Rules, pair_of, is_inside, place_of}
 use Rattle.napt_rules.specs.Bindings.{same_protocol}
@@ -14,10 +14,9 @@ is_in_pool rules address = is_some (place_of rules address)
 
 -- an echo, or an error about one
 abbrev pub is_about_echo : Kind → Bool
-is_about_echo Udp = false
-is_about_echo (Tcp flags) = false
 is_about_echo Echo = true
 is_about_echo (ErrorOf inner) = same_protocol inner.protocol Icmp
+is_about_echo _ = false
 
 -- the source belongs to the other side
 abbrev pub is_spoofed : Rules → Side → List ℕ → Bool

@@ -17,8 +17,7 @@ is_flow_of remote flow = same_endpoint flow.remote remote
 abbrev pub used : Protocol → Way → Flags → ℕ → Flow → Flow
 used protocol way flags now flow = record {
   remote = flow.remote;
-  marks =
-      cond (is_tcp protocol) (marked flow.marks way flags) flow.marks;
+  marks = cond (is_tcp protocol) (marked flow.marks way flags) flow.marks;
   last = now;
 }
 
@@ -26,8 +25,7 @@ used protocol way flags now flow = record {
 abbrev pub with_flow : Endpoint → ℕ → List Flow → List Flow
 with_flow remote now flows = cond (list_any (is_flow_of remote) flows) flows (flows ++ record {
   remote = remote;
-  marks =
-      no_marks;
+  marks = no_marks;
   last = now;
 } ∷ [])
 

@@ -6,10 +6,10 @@ use Rattle.napt_capture.specs.declared.device.Sink as sink
 use Rattle.napt_capture.specs.declared.device.Source as source
 use Rattle.napt_capture.specs.declared.fault.CaptureFault.{CaptureFault}
 use Rattle.napt_run.specs.Origins.{Origin, ran_by}
-use Rattle.napt_dispatch.specs.{Dispatch.{departed, departed_of}, Passing.{HasCome, timed}, declared.{departures.Departed.Departed, stopped.Stopped.Stopped}}
+use Rattle.napt_dispatch.specs.{Dispatch.{departed, departed_of}, Passing.{HasCome, timed}, declared.{departures.Departed.Departed, faults.PassFault.PassFault}}
 use Rattle.napt_dispatch.specs.declared.workers.Passed.{Passed}
 use Rattle.napt_dispatch.specs.Passing as passing
-use Rattle.napt_dispatch.specs.declared.stopped.Stopped.TheVariants as stops
+use Rattle.napt_dispatch.specs.declared.faults.PassFault.TheVariants as pass_faults
 use Rattle.napt_laws.specs.Dispatching.{IsFront}
 use Rattle.napt_records.specs.{Begun.AreBegun, Counts.AreCountsOf, Merged.{AreLive, EndsWith, HandsOut}, declared.Fault.Fault}
 use Rattle.napt_records.specs.declared.{Fault.TheVariants.{Capture, Run, Write}, merged_streams.MergedStreams.MergedStreams}
@@ -20,9 +20,9 @@ use Rattle.napt_run.specs.{Leaving.{AreSound, FailsToBegin, Takes, Timed}, Loggi
 use Rattle.napt_run.specs.LeavingWithLogs.{AreSettled, FailsEither, IsSamePlace, TakesBoth, legs_in, outcomes_in}
 use Rattle.napt_run.specs.Passed.{EntersBy, EntersFirst, EntersTo, FailsAfter, FailsFirst, PassesBy, PassesHalted, PassesOr, PassesTo, passed_as}
 use Rattle.napt_run.specs.{Runs.{IfHeld, left_of}, Streams.AreTaken, declared.leaving.{Leaving.Leaving, OutputFault.OutputFault}}
-use Rattle.napt_run.specs.declared.{leaving_with_log.{LeavingFault.{LeavingFault, TheVariants.{Output, Log}}, LeavingWithLog.LeavingWithLog}, logging.Halt.Halt}
+use Rattle.napt_run.specs.declared.{leaving_with_log.{LeavingFault.{LeavingFault, TheVariants.{Output, Log}}, LeavingWithLog.LeavingWithLog}, logging.LoggingFault.LoggingFault}
 use Rattle.napt_run.{specs.declared.passing.Totals.Totals, proofs.{Behind.{IfHeld-by, front, taken_is, whole_is}, Fronts.outcomes_of, TraceFronts.{TraceFront, trace_front}}}
-use Rattle.napt_run.specs.declared.logging.Halt.TheVariants as halts
+use Rattle.napt_run.specs.declared.logging.LoggingFault.TheVariants as log_faults
 
 -- WHAT LEAVES
 
@@ -88,7 +88,7 @@ module _ {P A F W V K E : Type 0} {S : sink.Ghosts W} {T : sink.Ghosts V} (tells
   Halted = passing.PassesHalted tells origin.rules origin.state hands ends (TakesBoth enters) (FailsEither enters fails)
       (AreSettled is_settled) from before left after
 
-  abbrev pub RunPasses : Result Passed (Stopped F (LeavingFault E)) → Type 0
+  abbrev pub RunPasses : Result Passed (PassFault F (LeavingFault E)) → Type 0
   RunPasses result = passing.Passes tells origin.rules origin.state hands ends (TakesBoth enters)
       (FailsEither enters fails)
       (AreSettled is_settled) from before left after result
@@ -150,20 +150,20 @@ module _ {P A F W V K E : Type 0} {S : sink.Ghosts W} {T : sink.Ghosts V} (tells
     | inr failed ↦ halted_by p failed.0 failed.1
   ]
 
-  pub passes_by : (result : Result Passed (Stopped F (LeavingFault E))) → RunPasses result →
+  pub passes_by : (result : Result Passed (PassFault F (LeavingFault E))) → RunPasses result →
       PassesBy origin hands ends from before.leaving left after.leaving result
   unfolding passes_to ran_by
   passes_by (Ok passed) p = record { whole = passes_to None p.whole; bindings = p.bindings; leaves = p.leaves }
-  passes_by (Err (stops.Arrival fault)) p = passes_to (Some fault) p
-  passes_by (Err (stops.Departure (Output fault))) p = record {
+  passes_by (Err (pass_faults.Arrival fault)) p = passes_to (Some fault) p
+  passes_by (Err (pass_faults.Departure (Output fault))) p = record {
     inputs = p.inputs;
     went = outcomes_in p.went;
     come = p.come;
     front = outcomes_front tells origin p.inputs p.went p.front;
     failed = output_failed p.went fault p.failed;
   }
-  passes_by (Err (stops.Departure (Log fault))) p = log_failed p.inputs p.went p.come p.front fault p.failed
-  passes_by (Err (stops.Run fault)) p = halted p
+  passes_by (Err (pass_faults.Departure (Log fault))) p = log_failed p.inputs p.went p.come p.front fault p.failed
+  passes_by (Err (pass_faults.Run fault)) p = halted p
 
   -- THE LOG
 
@@ -217,14 +217,14 @@ module _ {P A F W V K E : Type 0} {S : sink.Ghosts W} {T : sink.Ghosts V} (tells
   enters_or_fails p (Output fault) f = inl (enters_first p.inputs p.went p.come p.front (output_entered p.went fault f))
   enters_or_fails p (Log fault) f = inr (fault, fails_first p.inputs p.went p.come p.front fault f)
 
-  pub enters_by : (result : Result Passed (Stopped F (LeavingFault E))) → RunPasses result →
+  pub enters_by : (result : Result Passed (PassFault F (LeavingFault E))) → RunPasses result →
       EntersBy tells origin hands ends enters fails is_settled from before.log.now left after.log.now result
   enters_by (Ok passed) p = enters_to None p.whole
-  enters_by (Err (stops.Arrival fault)) p = enters_to (Some fault) p
-  enters_by (Err (stops.Departure (Output fault))) p =
+  enters_by (Err (pass_faults.Arrival fault)) p = enters_to (Some fault) p
+  enters_by (Err (pass_faults.Departure (Output fault))) p =
       enters_first p.inputs p.went p.come p.front (output_entered p.went fault p.failed)
-  enters_by (Err (stops.Departure (Log fault))) p = fails_first p.inputs p.went p.come p.front fault p.failed
-  enters_by (Err (stops.Run fault)) p = elim p.took [
+  enters_by (Err (pass_faults.Departure (Log fault))) p = fails_first p.inputs p.went p.come p.front fault p.failed
+  enters_by (Err (pass_faults.Run fault)) p = elim p.took [
     | inl took ↦ inl (enters_first p.inputs p.went p.come p.front took.entered)
     | inr failed ↦ enters_or_fails p failed.0 failed.1
   ]
@@ -234,7 +234,7 @@ module _ {P A F W V K E : Type 0} {S : sink.Ghosts W} {T : sink.Ghosts V} (tells
   same_failed : (went : List (ℕ × Departed P)) (fault : LeavingFault E) → Failed went fault → IsSamePlace before after
   same_failed went fault f = grind (arith, common_steps, nat_tests)
 
-  pub same_place : (result : Result Passed (Stopped F (LeavingFault E))) → RunPasses result → IsSamePlace before after
+  pub same_place : (result : Result Passed (PassFault F (LeavingFault E))) → RunPasses result → IsSamePlace before after
   same_place result p = grind (arith, common_steps, nat_tests, same_failed)
 
 -- OVER CAPTURES
@@ -263,7 +263,8 @@ module _ {R Q W V P K E : Type 0} {G : source.Ghosts R} {H : source.Ghosts Q} {S
       FailsOver tells origin enters fails is_settled bytes others old new fault
   fails_over fault e = record { inputs = e.first; front = held e.first e.later e.come; failed = e.failed }
 
-  pub logs_to : (result : Result Totals (Halt E)) → PassesOr open_gate origin from before left after (as_run result) →
+  pub logs_to : (result : Result Totals (LoggingFault E)) →
+      PassesOr open_gate origin from before left after (as_run result) →
       EntersBy tells origin HandsOut EndsWith enters fails is_settled from old left new (passed_as result) →
       LogsTo tells origin enters fails is_settled bytes others old new result
   logs_to (Ok totals) p e = record {
@@ -273,19 +274,19 @@ module _ {R Q W V P K E : Type 0} {G : source.Ghosts R} {H : source.Ghosts Q} {S
     entered = e.entered;
     settled = e.settled;
   }
-  logs_to (Err (halts.Run (Capture side fault))) p e = record {
+  logs_to (Err (log_faults.Run (Capture side fault))) p e = record {
     inputs = e.inputs;
     taken = taken_is open_gate origin from before left after bytes others live begun sound counts side fault e.inputs
         e.came;
     entered = e.entered;
     settled = e.settled;
   }
-  logs_to (Err (halts.Run (Write which fault))) p e = enters_front e
-  logs_to (Err (halts.Run (Run fault))) p e = elim e [
+  logs_to (Err (log_faults.Run (Write which fault))) p e = enters_front e
+  logs_to (Err (log_faults.Run (Run fault))) p e = elim e [
     | inl entered ↦ inl (enters_front entered)
     | inr failed ↦ inr (failed.0, fails_over failed.0 failed.1)
   ]
-  logs_to (Err (halts.Log fault)) p e = fails_over fault e
+  logs_to (Err (log_faults.Log fault)) p e = fails_over fault e
 
 -- BEFORE ANYTHING CAME
 
@@ -295,11 +296,11 @@ module _ {P K E : Type 0} (tells : Passage → P) (origin : Origin) (enters : K 
   -- the headers of the outputs could not be written
   pub unbegun_logs : {W V : Type 0} {S : sink.Ghosts W} {T : sink.Ghosts V} (old new : Leaving W V S T)
       (fault : Fault) → FailsToBegin old fault new →
-      LogsTo tells origin enters fails is_settled inside outside it it (Err (halts.Run fault))
+      LogsTo tells origin enters fails is_settled inside outside it it (Err (log_faults.Run fault))
   unbegun_logs old new fault p = grind (arith, common_steps, nat_tests, front, IfHeld-by)
 
   -- a header of a capture was refused
   pub unread_logs : is_settled it → (side : Side) (fault : CaptureFault) →
       IfHeld inside outside (λ all. AreTaken side fault all []) →
-      LogsTo tells origin enters fails is_settled inside outside it it (Err (halts.Run (Capture side fault)))
+      LogsTo tells origin enters fails is_settled inside outside it it (Err (log_faults.Run (Capture side fault)))
   unread_logs settled side fault taken = grind (arith, common_steps, nat_tests)

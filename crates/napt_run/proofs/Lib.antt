@@ -14,6 +14,7 @@ pub mod Headers
 pub mod Headed
 pub mod Streamed
 pub mod Endings
+pub mod LogTaken
 pub mod Logged
 pub mod LoggedEndings
 pub mod Outputs

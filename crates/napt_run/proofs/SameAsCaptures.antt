@@ -4,7 +4,7 @@ use Rattle.std.{proofs.lemmas.{Grind.common_steps, Bool.{Decides.nat_tests, case
 use Rattle.std.proofs.Common.{◌≡◌, ℕ, inl, inr, Bool, List, take, Option, Some, Result, Ok, Err, refl, sym, ap, ap₂, ◌∙◌, subst}
 use Rattle.napt_wire.specs.declared.Side.{Side}
 use Rattle.napt_wire.specs.declared.Side.TheVariants as sides
-use Rattle.napt_capture.specs.{Capture.{Held, asked_of, captured, contents_by, read_whole, spelling_in}, Contents.{Contents, Entry}}
+use Rattle.napt_capture.specs.{Capture.{CapturedRecords, asked_of, captured, contents_by, read_whole, spelling_in}, Contents.{Contents, CapturedRecord}}
 use Rattle.napt_capture.specs.declared.{TheConstants.MOST_ASKED, fault.CaptureFault.CaptureFault, spelling.Spelling.Spelling}
 use Rattle.napt_run.specs.Origins.{Origin, ran_by}
 use Rattle.napt_records.specs.{declared.{Fault.Fault, merged_streams.{Cuts.Cuts, SideFault.SideFault}}, Report.report_text, Taking.{Inputs, inputs_until}}
@@ -14,12 +14,12 @@ use Rattle.napt_run.specs.{Captures.{Texts, arrivals_of, both_by, texts_from, te
 use Rattle.napt_run.specs.{StreamLaws.{OutputsAreTheSame, ReportsAreTheSame}, Streams.capture_text, declared.captures.Captures.Captures}
 
 -- what a file holds that reads as these contents
-abbrev held_as : Contents → Held
+abbrev held_as : Contents → CapturedRecords
 held_as contents = record { records = contents.records; end = Ok contents.cut }
 
-contents_are : (records : List Entry) (end : Result Bool CaptureFault) (contents : Contents) →
+contents_are : (records : List CapturedRecord) (end : Result Bool CaptureFault) (contents : Contents) →
     contents_by records end ≡ Ok contents
-    → (let held : Held = record { records = records; end = end } in held ≡ held_as contents)
+    → (let held : CapturedRecords = record { records = records; end = end } in held ≡ held_as contents)
 contents_are records end contents is = grind (arith, common_steps, nat_tests)
 
 held_is : (bytes : List ℕ) (contents : Contents) → read_whole bytes ≡ Ok contents → captured bytes ≡ held_as contents
@@ -82,8 +82,8 @@ agree : (origin : Origin) (inside outside : List ℕ) (all : Texts) (cuts : Cuts
     Agree origin inside outside all cuts
 agree origin inside outside all cuts is end =
     let of = of_captures origin (read_whole inside) (read_whole outside) all is in
-    let a : Held = held_as of.captures.inside in
-    let b : Held = held_as of.captures.outside in
+    let a : CapturedRecords = held_as of.captures.inside in
+    let b : CapturedRecords = held_as of.captures.outside in
     let files : files_until inside outside ≡ inputs_until a b = behind_headers inside outside cuts end
     ∙ ap₂ (λ x y. inputs_until x y) (held_is inside of.captures.inside of.inside_is)
     (held_is outside of.captures.outside of.outside_is) in

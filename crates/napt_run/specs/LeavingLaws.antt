@@ -5,7 +5,7 @@ use Rattle.std.{proofs.{Math.{Nat.{lt_of_le_of_lt, le-add_right}, Seq.take-appen
 use Rattle.std.proofs.lemmas.{List.{map-append, Elements.{filter_map-append, All-head, All-tail, All-nil, All-cons}}, Grind.flat_map-append}
 use Rattle.napt_wire.specs.declared.Side.{Side}
 use Rattle.napt_wire.specs.declared.Side.TheVariants as sides
-use Rattle.napt_capture.specs.{declared.{device.Sink.Ghosts, fault.WriteFault.WriteFault}, Contents.Entry, Text.record_text}
+use Rattle.napt_capture.specs.{declared.{device.Sink.Ghosts, fault.WriteFault.WriteFault}, Contents.CapturedRecord, Text.record_text}
 use Rattle.napt_rules.specs.declared.Outcome.{Outcome}
 use Rattle.napt_records.specs.{Output.{packet_to, record_at, IsTime}, Counts.AreCountsOf}
 use Rattle.napt_run.specs.{Outputs.{Breaks, Grows}, Leaving.{Timed, records_text, AreTimes, Takes}, declared.{output.Output.Output, leaving.Leaving.Leaving}}
@@ -15,8 +15,8 @@ use Rattle.napt_run.specs.{Outputs.{Breaks, Grows}, Leaving.{Timed, records_text
 pub records_text-append : (side : Side) (first second : List Timed) → records_text side (first ++ second)
     ≡ records_text side first ++ records_text side second
 records_text-append side first second =
-    let record_of : Timed → Option Entry = λ timed. record_at timed.0 (packet_to side timed.1) in
-    ap (λ (l : List Entry). flat_map record_text l) (filter_map-append record_of first second)
+    let record_of : Timed → Option CapturedRecord = λ timed. record_at timed.0 (packet_to side timed.1) in
+    ap (λ (l : List CapturedRecord). flat_map record_text l) (filter_map-append record_of first second)
     ∙ flat_map-append record_text (filter_map record_of first) (filter_map record_of second)
 
 pub times_first : (first second : List Timed) → AreTimes (first ++ second) → AreTimes first

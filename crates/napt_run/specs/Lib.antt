@@ -22,6 +22,7 @@ pub mod LeavingWithLogs
 pub mod Passed
 pub mod Whole
 pub mod StreamLaws
+pub mod LogOrigins
 pub mod RunningLogs
 pub mod RunningLogLaws
 pub mod LoggedStreams

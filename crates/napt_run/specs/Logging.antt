@@ -7,14 +7,14 @@ use Rattle.napt_laws.specs.Dispatching.{IsFront}
 use Rattle.napt_records.specs.declared.{Fault.{Fault, TheVariants.{Capture, Run, Write}}, merged_streams.Cuts.Cuts}
 use Rattle.napt_rules.specs.Prelude.{Arrival}
 use Rattle.napt_sequential.specs.{Traces.traces_of, declared.{fault.RunFault.TheVariants.Memory, passage.{Passage.Passage, Trace.Trace}}}
-use Rattle.napt_run.specs.{Runs.IfHeld, Streams.AreTaken, declared.{logging.Halt.Halt, passing.Totals.Totals}}
-use Rattle.napt_run.specs.declared.logging.Halt.TheVariants as halts
+use Rattle.napt_run.specs.{Runs.IfHeld, Streams.AreTaken, declared.{logging.LoggingFault.LoggingFault, passing.Totals.Totals}}
+use Rattle.napt_run.specs.declared.logging.LoggingFault.TheVariants as log_faults
 
 -- a fault of the log leaves the outputs as a fault of the run does
-abbrev pub as_run : {T F : Type 0} → Result T (Halt F) → Result T Fault
+abbrev pub as_run : {T F : Type 0} → Result T (LoggingFault F) → Result T Fault
 as_run (Ok given) = Ok given
-as_run (Err (halts.Run fault)) = Err fault
-as_run (Err (halts.Log fault)) = Err (Run Memory)
+as_run (Err (log_faults.Run fault)) = Err fault
+as_run (Err (log_faults.Log fault)) = Err (Run Memory)
 
 -- the time of an input's legs, and what is told of the first and the second
 abbrev pub Legs : Type 0 → Type 0
@@ -58,9 +58,9 @@ module _ {P K E : Type 0} (tells : Passage → P) (origin : Origin) (enters : K 
     pub failed : fails old (legs_told tells origin inputs) fault new
 
   -- where the run failed, the log may have failed too
-  abbrev pub LogsTo : Result Totals (Halt E) → Type 0
+  abbrev pub LogsTo : Result Totals (LoggingFault E) → Type 0
   LogsTo (Ok totals) = EntersAll totals.cuts
-  LogsTo (Err (halts.Run (Capture side fault))) = EntersToFault side fault
-  LogsTo (Err (halts.Run (Write which fault))) = EntersFront
-  LogsTo (Err (halts.Run (Run fault))) = EntersFront ⊎ ((fault : E) × FailsOver fault)
-  LogsTo (Err (halts.Log fault)) = FailsOver fault
+  LogsTo (Err (log_faults.Run (Capture side fault))) = EntersToFault side fault
+  LogsTo (Err (log_faults.Run (Write which fault))) = EntersFront
+  LogsTo (Err (log_faults.Run (Run fault))) = EntersFront ⊎ ((fault : E) × FailsOver fault)
+  LogsTo (Err (log_faults.Log fault)) = FailsOver fault

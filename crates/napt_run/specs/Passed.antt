@@ -3,17 +3,17 @@ use Rattle.std.specs.Prelude.{◌≡◌, ◌⊎◌, ◌^◌, ◌<◌, Bool, List
 use Rattle.napt_capture.specs.declared.device.Sink as sink
 use Rattle.napt_capture.specs.declared.device.Source as source
 use Rattle.napt_run.specs.Origins.{GivesState, Origin, ran_by}
-use Rattle.napt_dispatch.specs.{Dispatch.IsFaultUnder, Passing.HasCome, declared.{stopped.Stopped.Stopped, workers.Passed.Passed}}
-use Rattle.napt_dispatch.specs.declared.stopped.Stopped.TheVariants as stops
+use Rattle.napt_dispatch.specs.{Dispatch.IsFaultUnder, Passing.HasCome, declared.{faults.PassFault.PassFault, workers.Passed.Passed}}
+use Rattle.napt_dispatch.specs.declared.faults.PassFault.TheVariants as pass_faults
 use Rattle.napt_laws.specs.Dispatching.{IsFront}
 use Rattle.napt_records.specs.{Merged.{EndsWith, HandsOut, cut_of}, declared.Fault.{Fault, TheVariants.{Capture, Run, Write}}}
 use Rattle.napt_records.specs.declared.merged_streams.{MergedStreams.MergedStreams, SideFault.SideFault}
 use Rattle.napt_rules.specs.Prelude.{Arrival}
 use Rattle.napt_sequential.specs.{Inputs.Came, declared.passage.Passage.Passage}
 use Rattle.napt_run.specs.{Leaving.{Fails, IsSettled, Takes, Timed}, Logging.{Legs, legs_told}, Runs.left_of, declared.leaving.Leaving.Leaving}
-use Rattle.napt_run.specs.declared.{leaving.OutputFault.OutputFault, leaving_with_log.LeavingFault.{LeavingFault, TheVariants.{Output, Log}}, logging.Halt.Halt}
+use Rattle.napt_run.specs.declared.{leaving.OutputFault.OutputFault, leaving_with_log.LeavingFault.{LeavingFault, TheVariants.{Output, Log}}, logging.LoggingFault.LoggingFault}
 use Rattle.napt_run.specs.declared.passing.Totals.{Totals}
-use Rattle.napt_run.specs.declared.logging.Halt.TheVariants as halts
+use Rattle.napt_run.specs.declared.logging.LoggingFault.TheVariants as log_faults
 
 -- THE OUTPUTS
 
@@ -59,12 +59,12 @@ module _ {A F W V : Type 0} {S : sink.Ghosts W} {T : sink.Ghosts V} (origin : Or
     pub front : IsFront went (left_of origin inputs)
     pub took : Takes before went after ⊎ ((fault : OutputFault) × FailsAfter before went fault after)
 
-  abbrev pub PassesBy : {E : Type 0} → Result Passed (Stopped F (LeavingFault E)) → Type 0
+  abbrev pub PassesBy : {E : Type 0} → Result Passed (PassFault F (LeavingFault E)) → Type 0
   PassesBy (Ok passed) = PassesWell passed
-  PassesBy (Err (stops.Arrival fault)) = PassesTo (Some fault)
-  PassesBy (Err (stops.Departure (Output fault))) = PassesEarly fault
-  PassesBy (Err (stops.Departure (Log fault))) = PassesHalted
-  PassesBy (Err (stops.Run fault)) = PassesHalted
+  PassesBy (Err (pass_faults.Arrival fault)) = PassesTo (Some fault)
+  PassesBy (Err (pass_faults.Departure (Output fault))) = PassesEarly fault
+  PassesBy (Err (pass_faults.Departure (Log fault))) = PassesHalted
+  PassesBy (Err (pass_faults.Run fault)) = PassesHalted
 
 module _ {R Q W V : Type 0} {G : source.Ghosts R} {H : source.Ghosts Q} {S : sink.Ghosts W} {T : sink.Ghosts V}
     (open_gate : Bool) (origin : Origin) (from : MergedStreams R Q G H) (before : Leaving W V S T)
@@ -112,18 +112,20 @@ module _ {P A F K E : Type 0} (tells : Passage → P) (origin : Origin) (hands :
     pub come : HasCome hands ends from (first ++ later) left
     pub failed : fails old (legs_told tells origin first) fault new
 
-  abbrev pub EntersBy : Result Passed (Stopped F (LeavingFault E)) → Type 0
+  abbrev pub EntersBy : Result Passed (PassFault F (LeavingFault E)) → Type 0
   EntersBy (Ok passed) = EntersTo None
-  EntersBy (Err (stops.Arrival fault)) = EntersTo (Some fault)
-  EntersBy (Err (stops.Departure (Output fault))) = EntersFirst
-  EntersBy (Err (stops.Departure (Log fault))) = FailsFirst fault
-  EntersBy (Err (stops.Run fault)) = EntersFirst ⊎ ((fault : E) × FailsFirst fault)
+  EntersBy (Err (pass_faults.Arrival fault)) = EntersTo (Some fault)
+  EntersBy (Err (pass_faults.Departure (Output fault))) = EntersFirst
+  EntersBy (Err (pass_faults.Departure (Log fault))) = FailsFirst fault
+  EntersBy (Err (pass_faults.Run fault)) = EntersFirst ⊎ ((fault : E) × FailsFirst fault)
 
 -- as a run over captures ends, so does the run from their arrivals
-abbrev pub passed_as : {E : Type 0} → Result Totals (Halt E) → Result Passed (Stopped SideFault (LeavingFault E))
+abbrev pub passed_as : {E : Type 0} → Result Totals (LoggingFault E) →
+    Result Passed (PassFault SideFault (LeavingFault E))
 passed_as (Ok totals) = Ok totals.passed
-passed_as (Err (halts.Run (Capture side fault))) = Err (stops.Arrival (record { side = side; fault = fault }))
-passed_as (Err (halts.Run (Write which fault))) =
-    Err (stops.Departure (Output (record { which = which; fault = fault })))
-passed_as (Err (halts.Run (Run fault))) = Err (stops.Run fault)
-passed_as (Err (halts.Log fault)) = Err (stops.Departure (Log fault))
+passed_as (Err (log_faults.Run (Capture side fault))) = Err
+    (pass_faults.Arrival (record { side = side; fault = fault }))
+passed_as (Err (log_faults.Run (Write which fault))) =
+    Err (pass_faults.Departure (Output (record { which = which; fault = fault })))
+passed_as (Err (log_faults.Run (Run fault))) = Err (pass_faults.Run fault)
+passed_as (Err (log_faults.Log fault)) = Err (pass_faults.Departure (Log fault))

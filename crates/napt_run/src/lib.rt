@@ -1,7 +1,7 @@
 //! A run from captures to captures: [`run_captures`] reads both captures whole, runs in memory and then writes;
 //! [`run_streams`] reads, translates and writes as the packets arrive, in bounded memory. If both succeed, they write the
-//! same bytes ([`streams_write_the_same`]). [`resume_captures`] and [`resume_streams`] do so from a state, and give the state
-//! that the run leaves.
+//! same bytes ([`streams_write_the_same`]). [`run_streams_with_log`] writes the log of the run beside. [`resume_captures`],
+//! [`resume_streams`] and [`resume_streams_with_log`] do so from a state, and give the state that the run leaves.
 //!
 //! [`merge`] makes the inputs of a run from the records of both captures. [`run_plain`] takes them through the translators of
 //! all external addresses on one thread; [`run_workers`] does so by [`dispatch`], with one worker thread for each address,
@@ -13,6 +13,7 @@ mod kept;
 mod laws;
 mod leaving;
 mod leaving_with_log;
+mod log_start;
 mod logged_fault;
 mod logged_streams;
 mod logging;
@@ -28,8 +29,9 @@ mod whole;
 
 pub use captures::{resume_captures, run_captures};
 pub use laws::streams_write_the_same;
+pub use log_start::{LogStart, LoggedPassed};
 pub use logged_fault::LoggedFault;
-pub use logged_streams::run_streams_with_log;
+pub use logged_streams::{resume_streams_with_log, run_streams_with_log};
 pub use napt_dispatch::{Passed, Worker, dispatch, run_workers};
 pub use napt_records::{
     EndpointText, Fault, Which, cause_name, merge, merge_is_in_order, protocol_name, report_text,

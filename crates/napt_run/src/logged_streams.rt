@@ -1,19 +1,23 @@
 //! A run over captures as they arrive, with its log.
-ghost use Rattle.std.specs.Prelude.{◌≡◌, ◌-◌, ◌^◌, ◌<◌, [], IfErr, true};
-ghost use Rattle.napt_run.specs.LoggedStreams.{DeviceGetsOr, IsUnderOpenGate, LogGets, LogIsLeft, LoggedExplains, LoggedSays, besides_log, fault_of, reported_of};
-ghost use Rattle.napt_run.specs.{Origins.{opened, origin_of}, RunningLogs.{AreLaws, IsAt}, Streams.{HasRead, IsOfRun, ReportGets}};
+ghost use Rattle.std.specs.Prelude.{◌≡◌, ◌-◌, ◌^◌, ◌<◌, IfErr, IfOk, OnOk, true};
+ghost use Rattle.napt_rules.specs.Prelude.{Takes};
+ghost use Rattle.napt_account.specs.GoingOn.{LogState as Kept, IsFew, IsLogOf};
+ghost use Rattle.napt_run.specs.LoggedStreams.{DeviceGetsOr, DeviceGetsOrFrom, IsKept, IsUnderOpenGate, LogGets, LogGetsText, LogIsLeft, LoggedExplains, LoggedSays, besides_log, fault_of, logged_end, reported_of};
+ghost use Rattle.napt_run.specs.{LogOrigins.{IfTakenUp, texts_from, texts_of}, Origins.origin_of, RunningLogs.{AreLaws, IsReady, logged_by}};
+ghost use Rattle.napt_run.specs.Streams.{HasRead, IsOfRun, LeavesInTheEnd, ReportGets, ReportGetsFrom};
 
+use crate::log_start::{LogStart, LoggedPassed, take_up};
 use crate::logged_fault::LoggedFault;
-use crate::logging::Halt;
+use crate::logging::LoggingFault;
 use crate::output::Output;
 use crate::passing::Totals;
 use crate::reporting::reported;
 use crate::running_log::RunningLog;
 use crate::start::{Setting, Start, unbegun};
-use napt_account::{KnownLog, traces_tell_the_log};
+use napt_account::{LogState, traces_tell_the_log};
 use napt_capture::{Sink, Source};
 use napt_config::Config;
-use napt_log_text::traces_have_the_rows;
+use napt_log_text::{logs_join, traces_have_the_rows};
 use napt_pool::Gate;
 use napt_records::{Fault, Which};
 use std::alloc::Global;
@@ -21,23 +25,25 @@ use std::sync::{Arc, Wait};
 use std::thread::Threads;
 
 /// Why a run whose log is kept failed.
-fn fault_of(halt: Halt<LoggedFault>) -> LoggedFault
+fn fault_of(halt: LoggingFault<LoggedFault>) -> LoggedFault
     ensures { result ≡ fault_of halt }
 {
     match halt {
-        Halt::Run(fault) => LoggedFault::Run(fault),
-        Halt::Log(fault) => fault,
+        LoggingFault::Run(fault) => LoggedFault::Run(fault),
+        LoggingFault::Log(fault) => fault,
     }
 }
 
-/// By the traces of its inputs a log has their rows.
-fn log_laws(config: &Config)
-    ensures { AreLaws config.now }
+/// By the traces of its inputs a log of a state has their rows.
+fn log_laws(start: Start<'_>)
+    requires { Takes start.config.now start.state.now }
+    ensures { (log : Kept) → IsLogOf start.entry.config.now (origin_of start.entry).state log →
+        AreLaws (origin_of start.entry) log }
 {
     traces_tell_the_log();
     traces_have_the_rows();
     // called for its clause alone: a configuration keeps its rules
-    let _pool = config.pool();
+    let _pool = start.config.pool();
 }
 
 impl<T: Threads + Wait + Copy + Send + 'static, G: Gate + Send + Sync + Drop + 'static> Setting<
@@ -59,22 +65,22 @@ impl<T: Threads + Wait + Copy + Send + 'static, G: Gate + Send + Sync + Drop + '
         requires outside { Q.failed outside.old < 2 ^ 64 - 1 }
         requires to_outside { W.failed to_outside.old < 2 ^ 64 - 1 }
         requires to_inside { V.failed to_inside.old < 2 ^ 64 - 1 }
-        requires anew { origin_of self.start ≡ opened self.start.config.now }
-        requires at { IsAt self.start.config.now [] log.old }
-        requires written { log.old.output.written ≡ 0 }
-        ensures to_outside { DeviceGetsOr W.Sink self.entry.start.config.now Which.Outside
+        requires ready { IsReady (origin_of self.start) log.old }
+        ensures to_outside { DeviceGetsOrFrom W.Sink (origin_of self.entry.start) Which.Outside
             (R.remaining inside.old) (Q.remaining outside.old) result
             to_outside.old to_outside.new }
-        ensures to_inside { DeviceGetsOr V.Sink self.entry.start.config.now Which.Inside
+        ensures to_inside { DeviceGetsOrFrom V.Sink (origin_of self.entry.start) Which.Inside
             (R.remaining inside.old) (Q.remaining outside.old) result to_inside.old to_inside.new }
-        ensures log { LogIsLeft self.entry.start.config.now (R.remaining inside.old)
-            (Q.remaining outside.old) result log.old.output log.new.output }
-        ensures says { LoggedSays G.is_open self.entry.start.config.now (R.remaining inside.old)
+        ensures log { LogIsLeft (texts_of (logged_by (origin_of self.entry.start) log.old))
+            (R.remaining inside.old) (Q.remaining outside.old) result log.old.output log.new.output }
+        ensures left { OnOk result (IsKept (origin_of self.entry.start) log.old.log.begun.log
+            (R.remaining inside.old) (Q.remaining outside.old) log.new.left) }
+        ensures says { LoggedSays G.is_open (origin_of self.entry.start) (R.remaining inside.old)
             (Q.remaining outside.old) result }
         ensures readings { (¬ IsOfRun (besides_log result)) → HasRead R.failed Q.failed
             inside.old inside.new outside.old outside.new (besides_log result) }
     {
-        log_laws(self.start.config);
+        log_laws(self.start);
         log.open()?;
         match self.stream(inside, outside, to_outside, to_inside, log) {
             Ok(totals) => {
@@ -93,14 +99,21 @@ impl<T: Threads + Wait + Copy + Send + 'static, G: Gate + Send + Sync + Drop + '
 fn with_report(
     told: Result<Totals, LoggedFault>,
     written: Result<(), Fault>,
-) -> Result<(), LoggedFault>
-    ensures { result ≡ reported_of told written }
+    log: LogState,
+) -> Result<LoggedPassed, LoggedFault>
+    ensures { result ≡ reported_of told written log }
 {
-    match told {
-        Ok(_) => match written {
-            Ok(()) => Ok(()),
-            Err(fault) => Err(LoggedFault::Run(fault)),
-        },
+    let Totals { passed, .. } = told?;
+    written?;
+    Ok(LoggedPassed { passed, log })
+}
+
+/// The result of a run, for those who want nothing of what it leaves.
+fn without_left(run: Result<LoggedPassed, LoggedFault>) -> Result<(), LoggedFault>
+    ensures { result ≡ logged_end run }
+{
+    match run {
+        Ok(_) => Ok(()),
         Err(fault) => Err(fault),
     }
 }
@@ -162,21 +175,101 @@ pub fn run_streams_with_log<
     ensures readings { (¬ IsOfRun (besides_log result)) → HasRead R.failed Q.failed
         inside.old inside.new outside.old outside.new (besides_log result) }
 {
-    let known = KnownLog::begin(alloc, config)?;
     let state = unbegun(alloc);
+    let kept = LogState::none(alloc);
     let start = Start {
         config,
         state: &state,
     };
+    let log_start = LogStart {
+        kept: &kept,
+        is_new: true,
+        each: None,
+        goes_on: false,
+    };
+    logs_join();
+    let run = resume_streams_with_log(
+        rt, alloc, start, log_start, inside, outside, to_outside, to_inside, report, log, gate,
+    );
+    without_left(run)
+}
+
+/// Translates both captures and writes the log of the run as `run_streams_with_log` does, but goes on from a state, as
+/// `resume_streams` does, with what was kept of its log. If that is the log of the state (`LogState::is_of`), its entries go
+/// on, and nothing is told of them; if not, all of them end at the clock of the state, and each binding that lives has a new
+/// one. A log that `is_new` begins with the header and a row for each of its entries; one that is not goes on behind the
+/// text that its device has, with the rows of what is told. Returns, once the report is written, what gives the state that
+/// the run leaves, and what is kept of its log beside it. The texts of a run and of one that goes on from there, the first
+/// with `goes_on`, are that of the run over all packets (`logs_join`). With `each` the text comes in pieces: from where one
+/// begins it is that of the run that goes on there with a new log. `run_streams_with_log` is this from no bindings, at time
+/// 0, with a new log in one piece.
+///
+/// Fails as `run_streams_with_log` does.
+pub fn resume_streams_with_log<
+    T: Threads + Wait + Copy + Send + 'static,
+    R: Source,
+    Q: Source,
+    W: Sink,
+    V: Sink,
+    U: Sink,
+    L: Sink,
+    G: Gate + Send + Sync + Drop + 'static,
+>(
+    rt: &T,
+    alloc: Global,
+    start: Start<'_>,
+    log_start: LogStart<'_>,
+    inside: &mut R,
+    outside: &mut Q,
+    to_outside: &mut W,
+    to_inside: &mut V,
+    report: &mut U,
+    log: &mut L,
+    gate: Arc<G>,
+) -> Result<LoggedPassed, LoggedFault>
+    requires few { IsFew log_start.kept.now }
+    requires taken { Takes start.config.now start.state.now }
+    requires inside { R.failed inside.old < 2 ^ 64 - 1 }
+    requires outside { Q.failed outside.old < 2 ^ 64 - 1 }
+    requires to_outside { W.failed to_outside.old < 2 ^ 64 - 1 }
+    requires to_inside { V.failed to_inside.old < 2 ^ 64 - 1 }
+    requires report { U.failed report.old < 2 ^ 64 - 1 }
+    requires log { L.failed log.old < 2 ^ 64 - 1 }
+    ensures to_outside { DeviceGetsOrFrom W.Sink (origin_of start.entry) Which.Outside
+        (R.remaining inside.old) (Q.remaining outside.old) (logged_end result)
+        to_outside.old to_outside.new }
+    ensures to_inside { DeviceGetsOrFrom V.Sink (origin_of start.entry) Which.Inside
+        (R.remaining inside.old) (Q.remaining outside.old) (logged_end result)
+        to_inside.old to_inside.new }
+    ensures report { ReportGetsFrom U.Sink (origin_of start.entry) (R.remaining inside.old)
+        (Q.remaining outside.old) (besides_log (logged_end result)) report.old report.new }
+    ensures log { IfTakenUp start.entry log_start.entry (λ origin. LogGetsText L.Sink
+        (texts_from start.entry log_start.entry origin) (R.remaining inside.old)
+        (Q.remaining outside.old) (logged_end result) log.old log.new) }
+    ensures left { IfOk result (λ left. LeavesInTheEnd (origin_of start.entry)
+        (R.remaining inside.old) (Q.remaining outside.old) left.passed) }
+    ensures kept { IfTakenUp start.entry log_start.entry (λ origin. IfOk result (λ left.
+        IsKept (origin_of start.entry) origin.log (R.remaining inside.old)
+        (Q.remaining outside.old) left.log)) }
+    ensures fault { IfErr result
+        (LoggedExplains (R.remaining inside.old) (Q.remaining outside.old)) }
+    ensures gate { G.is_open ≡ true → IfErr result IsUnderOpenGate }
+    // Unless the run itself or the log failed, the failed read is the reported one; a failed write may hide it.
+    ensures readings { (¬ IsOfRun (besides_log (logged_end result))) → HasRead R.failed Q.failed
+        inside.old inside.new outside.old outside.new (besides_log (logged_end result)) }
+{
+    let taken = take_up(alloc, start, log_start)?;
     let setting = Setting {
         rt,
         alloc,
         start,
         gate,
     };
-    let mut running = RunningLog::over(alloc, known, Output::over(log));
+    let LogStart { each, goes_on, .. } = log_start;
+    let mut running = RunningLog::over(alloc, taken, each, goes_on, Output::over(log));
     let told = setting.stream_logged(inside, outside, to_outside, to_inside, &mut running);
+    let left = running.take_left();
     let _log = running.into_device();
     let written = reported(alloc, &told, report);
-    with_report(told, written)
+    with_report(told, written, left)
 }

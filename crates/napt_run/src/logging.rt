@@ -79,19 +79,19 @@ impl Logging for Unlogged {
 
 /// Why a run whose log is kept failed.
 #[derive(Drop)]
-pub(crate) enum Halt<F> {
+pub(crate) enum LoggingFault<F> {
     Run(Fault),
     /// The log could not be kept.
     Log(F),
 }
 
-impl<F> From<Fault> for Halt<F> {
+impl<F> From<Fault> for LoggingFault<F> {
     ghost use Rattle.std.specs.Prelude.{◌≡◌};
-    ghost use Rattle.napt_run.specs.declared.logging.Halt.TheVariants as halts;
+    ghost use Rattle.napt_run.specs.declared.logging.LoggingFault.TheVariants as log_faults;
 
-    ghost from_gives = { λ fault halt. halt ≡ halts.Run fault };
+    ghost from_gives = { λ fault halt. halt ≡ log_faults.Run fault };
 
-    fn from(fault: Fault) -> Halt<F> {
-        Halt::Run(fault)
+    fn from(fault: Fault) -> LoggingFault<F> {
+        LoggingFault::Run(fault)
     }
 }

@@ -5,10 +5,10 @@ ghost use Rattle.napt_records.specs.Merged.{EndsWith, HandsOut};
 ghost use Rattle.napt_run.specs.{LeavingWithLogs.IsSamePlace, Logging.as_run, Origins.origin_of, Passed.{EntersBy, PassesBy, PassesOr, passed_as}};
 
 use crate::leaving_with_log::{LeavingFault, LeavingWithLog};
-use crate::logging::{Halt, Logging};
+use crate::logging::{Logging, LoggingFault};
 use crate::start::{Setting, Start};
 use napt_capture::{Sink, Source};
-use napt_dispatch::{Passed, Stopped, run_through};
+use napt_dispatch::{PassFault, Passed, run_through};
 use napt_pool::Gate;
 use napt_records::{Counts, Cuts, Fault, MergedStreams};
 use napt_sequential::Arrivals;
@@ -34,7 +34,7 @@ impl<T: Threads + Wait + Copy + Send + 'static, G: Gate + Send + Sync + Drop + '
         self,
         inputs: &mut A,
         both: &mut LeavingWithLog<'_, '_, '_, W, V, K>,
-    ) -> Result<Passed, Stopped<A::Fault, LeavingFault<K::Fault>>>
+    ) -> Result<Passed, PassFault<A::Fault, LeavingFault<K::Fault>>>
         ensures outputs { PassesBy (origin_of self.entry.start) A.hands A.ends inputs.old
             both.old.leaving inputs.new both.new.leaving result }
         ensures log { EntersBy K.Told.tells (origin_of self.entry.start) A.hands A.ends K.enters
@@ -57,7 +57,7 @@ impl<T: Threads + Wait + Copy + Send + 'static, G: Gate + Send + Sync + Drop + '
         self,
         inputs: &mut MergedStreams<'_, '_, R, Q>,
         both: &mut LeavingWithLog<'_, '_, '_, W, V, K>,
-    ) -> Result<Totals, Halt<K::Fault>>
+    ) -> Result<Totals, LoggingFault<K::Fault>>
         ensures outputs { PassesOr G.is_open (origin_of self.entry.start) inputs.old
             both.old.leaving inputs.new both.new.leaving (as_run result) }
         ensures log { EntersBy K.Told.tells (origin_of self.entry.start) HandsOut EndsWith K.enters
@@ -71,12 +71,14 @@ impl<T: Threads + Wait + Copy + Send + 'static, G: Gate + Send + Sync + Drop + '
                 passed,
                 cuts: inputs.cuts(),
             }),
-            Err(Stopped::Run(fault)) => Err(Halt::Run(Fault::Run(fault))),
-            Err(Stopped::Arrival(stop)) => { Err(Halt::Run(Fault::Capture(stop.side, stop.fault))) }
-            Err(Stopped::Departure(LeavingFault::Output(fault))) => {
-                Err(Halt::Run(Fault::Write(fault.which, fault.fault)))
+            Err(PassFault::Run(fault)) => Err(LoggingFault::Run(Fault::Run(fault))),
+            Err(PassFault::Arrival(stop)) => {
+                Err(LoggingFault::Run(Fault::Capture(stop.side, stop.fault)))
             }
-            Err(Stopped::Departure(LeavingFault::Log(fault))) => Err(Halt::Log(fault)),
+            Err(PassFault::Departure(LeavingFault::Output(fault))) => {
+                Err(LoggingFault::Run(Fault::Write(fault.which, fault.fault)))
+            }
+            Err(PassFault::Departure(LeavingFault::Log(fault))) => Err(LoggingFault::Log(fault)),
         }
     }
 }

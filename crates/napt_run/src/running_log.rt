@@ -1,43 +1,74 @@
 //! The log of a run, written while its outcomes leave.
 
-ghost use Rattle.std.specs.{Prelude.{◌≡◌, ◌++◌, [], ◌∷◌, List, true, IfOk, MatchResult, string_bytes}, Io.KnownBytes.Appends};
-ghost use Rattle.napt_config.specs.Rules.{Rules, KeepsRules};
-ghost use Rattle.napt_rules.specs.Prelude.{Arrival};
-ghost use Rattle.napt_account.specs.{Telling.living_of, TraceLogs.told_in};
-ghost use Rattle.napt_sequential.specs.{Traces.traces, declared.passage.Trace.Trace as Did};
-ghost use Rattle.napt_log_text.specs.Logs.{living_rows, opening_text};
+ghost use Rattle.std.specs.{Prelude.{◌≡◌, [], ◌∷◌, List, true, IfOk, MatchResult, OnOk, string_bytes}, Io.KnownBytes.Appends};
+ghost use Rattle.napt_account.specs.TraceLogs.{told_in};
+ghost use Rattle.napt_sequential.specs.declared.passage.Trace.{Trace as Did};
+ghost use Rattle.napt_run.specs.LogOrigins.{LoggedOrigin};
 
+use crate::log_start::TakenLog;
 use crate::logged_fault::LoggedFault;
-use crate::logging::{Halt, Logging};
+use crate::logging::{Logging, LoggingFault};
 use crate::output::Output;
-use napt_account::{KnownLog, LoggedTrace, traces_tell_the_log};
+use napt_account::{KnownLog, LogState, LoggedTrace};
 use napt_capture::Sink;
-use napt_log_text::{add_entered, add_living, add_opening};
+use napt_log_text::{add_entered, add_living, add_opening, begins_piece};
 use napt_records::Fault;
 use napt_sequential::{Passage, Trace};
 use std::alloc::{AllocError, Global};
+use std::mem;
+use std::num::NonZeroU32;
 
 /// The log of a run, written while its outcomes leave.
 #[derive(Drop)]
 pub(crate) struct RunningLog<'a, 'b, L: Sink> {
     alloc: Global,
     log: KnownLog<'a>,
+    /// How its text begins, until that is written.
+    opening: String,
+    /// How many seconds each of its pieces has, if it has pieces.
+    each: Option<NonZeroU32>,
+    /// Whether another run goes on with it.
+    goes_on: bool,
+    /// What is kept of it, once it is closed.
+    left: LogState,
     pub(crate) output: Output<'b, L>,
 }
 
 impl<'a, 'b, L: Sink> RunningLog<'a, 'b, L> {
-    ghost use Rattle.napt_run.specs.RunningLogs.{Adds, EntersNot, EntersWith, FailsMore, IsAt, IsFlushedAt};
+    ghost use Rattle.napt_run.specs.RunningLogs.{Adds, EntersNot, EntersWith, FailsMore, IsAt, IsFlushedAt, ending_with, left_with, opening_before};
 
     /// A log before its first input, with nothing written yet.
     pub(crate) fn over(
         alloc: Global,
-        log: KnownLog<'a>,
+        taken: TakenLog<'a>,
+        each: Option<NonZeroU32>,
+        goes_on: bool,
         output: Output<'b, L>,
     ) -> RunningLog<'a, 'b, L>
-        ensures log { result.log ≡ log.entry }
+        ensures log { result.log ≡ taken.entry.log }
+        ensures opening { string_bytes result.opening ≡ string_bytes taken.entry.opening }
+        ensures each { result.each ≡ each }
+        ensures goes_on { result.goes_on ≡ goes_on }
         ensures output { result.output ≡ output.entry }
     {
-        RunningLog { alloc, log, output }
+        let TakenLog { log, opening } = taken;
+        RunningLog {
+            alloc,
+            log,
+            opening,
+            each,
+            goes_on,
+            left: LogState::none(alloc),
+            output,
+        }
+    }
+
+    /// Takes out what is kept of it.
+    pub(crate) fn take_left(&mut self) -> LogState
+        ensures left { result ≡ self.old.left }
+        ensures output { self.new.output ≡ self.old.output }
+    {
+        mem::replace(&mut self.left, LogState::none(self.alloc))
     }
 
     /// Gives its device back.
@@ -45,11 +76,7 @@ impl<'a, 'b, L: Sink> RunningLog<'a, 'b, L> {
         ensures name { result.ghost_name ≡ self.entry.output.device.ghost_name }
         ensures value { result.now ≡ self.entry.output.device.now }
     {
-        let RunningLog {
-            alloc: _,
-            log: _,
-            output,
-        } = self;
+        let RunningLog { output, .. } = self;
         let Output {
             device,
             written: _,
@@ -58,27 +85,30 @@ impl<'a, 'b, L: Sink> RunningLog<'a, 'b, L> {
         device
     }
 
-    /// Writes the header and the rows of the redirects, and flushes them.
+    /// Writes how its text begins, and flushes it.
     pub(crate) fn open(&mut self) -> Result<(), LoggedFault>
-        ensures { (rules : Rules) → KeepsRules rules → IsAt rules [] self.old →
-            Adds rules [] (opening_text rules (living_of rules [])) self.old result self.new }
+        ensures { (from : LoggedOrigin) → IsAt from [] self.old →
+            Adds from [] (string_bytes self.old.opening) self.old.output result self.new }
     {
-        let text = self.opening()?;
-        self.put(&text)
+        let opening = mem::replace(&mut self.opening, String::new(self.alloc));
+        self.put(&opening)
     }
 
-    /// Writes the rows of what lives at the end, and flushes them.
+    /// Writes the rows of what lives at the end, unless another run goes on with it, and flushes them. Then what is kept of
+    /// it is at hand.
     pub(crate) fn close(&mut self) -> Result<(), LoggedFault>
-        ensures { (rules : Rules) (inputs : List Arrival) → KeepsRules rules →
-            IsAt rules (traces rules inputs) self.old → Adds rules (traces rules inputs)
-            (living_rows rules (living_of rules inputs)) self.old result self.new }
+        ensures text { (from : LoggedOrigin) (all : List Did) → IsAt from all self.old →
+            Adds from all (ending_with from all) self.old.output result self.new }
+        ensures left { (from : LoggedOrigin) (all : List Did) → IsAt from all self.old →
+            OnOk result (self.new.left ≡ left_with from all) }
     {
+        self.left = self.log.left(self.alloc)?;
         let text = self.ending()?;
         self.put(&text)
     }
 
     /// Flushes what was written before a run failed, if that still goes. If a capture failed, it is flushed already.
-    pub(crate) fn flush_after(&mut self, halt: &Halt<LoggedFault>)
+    pub(crate) fn flush_after(&mut self, halt: &LoggingFault<LoggedFault>)
         ensures same { self.new.output.device.ghost_name ≡ self.old.output.device.ghost_name }
         ensures kept { Appends (L.contents self.old.output.device.now)
             (L.contents self.new.output.device.now) [] }
@@ -86,40 +116,31 @@ impl<'a, 'b, L: Sink> RunningLog<'a, 'b, L> {
             (L.failed self.old.output.device.now) (L.failed self.new.output.device.now) }
         ensures flushed { IsFlushedAt halt.now → self.new.output ≡ self.old.output }
     {
-        if let Halt::Run(Fault::Run(_) | Fault::Write(..)) = halt {
+        if let LoggingFault::Run(Fault::Run(_) | Fault::Write(..)) = halt {
             if !self.output.is_broken {
                 let _flushed = self.output.flush();
             }
         }
     }
 
-    fn opening(&self) -> Result<String, AllocError>
-        ensures { (rules : Rules) → KeepsRules rules → IsAt rules [] self.now → IfOk result
-            (λ text. string_bytes text ≡ opening_text rules (living_of rules [])) }
-    {
-        traces_tell_the_log();
-        let redirects = self.log.living(self.alloc)?;
-        let mut text = String::new(self.alloc);
-        add_opening(self.log.config(), &redirects, &mut text)?;
-        Ok(text)
-    }
-
     fn ending(&self) -> Result<String, AllocError>
-        ensures { (rules : Rules) (inputs : List Arrival) → KeepsRules rules →
-            IsAt rules (traces rules inputs) self.now → IfOk result
-            (λ text. string_bytes text ≡ living_rows rules (living_of rules inputs)) }
+        ensures { (from : LoggedOrigin) (all : List Did) → IsAt from all self.now →
+            IfOk result (λ text. string_bytes text ≡ ending_with from all) }
     {
-        traces_tell_the_log();
-        let living = self.log.living(self.alloc)?;
         let mut text = String::new(self.alloc);
+        if self.goes_on {
+            return Ok(text);
+        }
+        let living = self.log.living(self.alloc)?;
         add_living(self.log.config(), &living, &mut text)?;
         Ok(text)
     }
 
     /// Writes a text, and flushes it.
     fn put(&mut self, text: &str) -> Result<(), LoggedFault>
-        ensures { (rules : Rules) (before : List Did) → IsAt rules before self.old →
-            Adds rules before text.now self.old result self.new }
+        ensures text { (from : LoggedOrigin) (before : List Did) → IsAt from before self.old →
+            Adds from before text.now self.old.output result self.new }
+        ensures left { self.new.left ≡ self.old.left }
     {
         self.output.put_text(text.as_bytes())?;
         Ok(self.output.flush()?)
@@ -128,17 +149,32 @@ impl<'a, 'b, L: Sink> RunningLog<'a, 'b, L> {
     /// Takes the trace of the next input, and returns its rows.
     #[inline(always)]
     fn rows(&mut self, trace: Trace) -> Result<String, LoggedFault>
-        ensures { (rules : Rules) (before : List Did) → IsAt rules before self.old →
+        ensures { (from : LoggedOrigin) (before : List Did) → IsAt from before self.old →
             MatchResult result
-            (λ text. EntersWith rules before trace self.old self.new (string_bytes text))
-            (λ fault. EntersNot before trace self.old fault self.new) }
+            (λ text. EntersWith from before trace self.old self.new (string_bytes text))
+            (λ fault. EntersNot from before trace self.old fault self.new) }
     {
+        let opening = self.piece_opening(trace.now);
         let told = self.log.enter(self.alloc, trace)?;
-        let mut text = String::new(self.alloc);
+        let mut text = opening?;
         if is_quiet(&told) {
             return Ok(text);
         }
         add_entered(self.log.config(), &told, &mut text)?;
+        Ok(text)
+    }
+
+    /// How a piece begins, if one does with the next input, at this time; else no text.
+    #[inline(always)]
+    fn piece_opening(&self, now: u64) -> Result<String, AllocError>
+        ensures { (from : LoggedOrigin) (before : List Did) → IsAt from before self.now →
+            IfOk result (λ text. string_bytes text ≡ opening_before from before now) }
+    {
+        let mut text = String::new(self.alloc);
+        if begins_piece(self.each, self.log.last(), now) {
+            let kept = self.log.left(self.alloc)?;
+            add_opening(self.log.config(), &kept.living, &mut text)?;
+        }
         Ok(text)
     }
 }

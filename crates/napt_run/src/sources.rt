@@ -5,7 +5,7 @@ ghost use Rattle.napt_run.specs.{Captures.failed_readings, Leaving.{AreSound, Is
 ghost use Rattle.napt_run.specs.Streams.{HasRead, IsBehindHeader, IsHeaderFault, IsOfRun};
 
 use crate::leaving_with_log::LeavingWithLog;
-use crate::logging::{Halt, Logging};
+use crate::logging::{Logging, LoggingFault};
 use crate::passing::Totals;
 use crate::start::Setting;
 use napt_capture::{Records, Sink, Source};
@@ -35,7 +35,7 @@ impl<T: Threads + Wait + Copy + Send + 'static, G: Gate + Send + Sync + Drop + '
         inside: &mut R,
         outside: &mut Q,
         both: &mut LeavingWithLog<'_, '_, '_, W, V, K>,
-    ) -> Result<Totals, Halt<K::Fault>>
+    ) -> Result<Totals, LoggingFault<K::Fault>>
         requires inside { R.failed inside.old < 2 ^ 64 - 1 }
         requires outside { Q.failed outside.old < 2 ^ 64 - 1 }
         requires sound { AreSound both.old.leaving }
@@ -67,7 +67,7 @@ impl<T: Threads + Wait + Copy + Send + 'static, G: Gate + Send + Sync + Drop + '
         outside: &mut Q,
         records: BothRecords,
         both: &mut LeavingWithLog<'_, '_, '_, W, V, K>,
-    ) -> Result<Totals, Halt<K::Fault>>
+    ) -> Result<Totals, LoggingFault<K::Fault>>
         requires inside { R.failed inside.old < 2 ^ 64 - 1 }
         requires outside { Q.failed outside.old < 2 ^ 64 - 1 }
         requires sound { AreSound both.old.leaving }

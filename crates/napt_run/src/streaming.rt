@@ -7,7 +7,7 @@ ghost use Rattle.napt_run.specs.Streams.{DeviceGetsFrom, HasRead, IsOfRun};
 
 use crate::leaving::Leaving;
 use crate::leaving_with_log::LeavingWithLog;
-use crate::logging::{Halt, Logging};
+use crate::logging::{Logging, LoggingFault};
 use crate::output::Output;
 use crate::passing::Totals;
 use crate::start::Setting;
@@ -31,7 +31,7 @@ impl<T: Threads + Wait + Copy + Send + 'static, G: Gate + Send + Sync + Drop + '
         to_outside: &mut W,
         to_inside: &mut V,
         log: &mut K,
-    ) -> Result<Totals, Halt<K::Fault>>
+    ) -> Result<Totals, LoggingFault<K::Fault>>
         requires inside { R.failed inside.old < 2 ^ 64 - 1 }
         requires outside { Q.failed outside.old < 2 ^ 64 - 1 }
         requires to_outside { W.failed to_outside.old < 2 ^ 64 - 1 }
@@ -73,7 +73,7 @@ impl<T: Threads + Wait + Copy + Send + 'static, G: Gate + Send + Sync + Drop + '
         inside: &mut R,
         outside: &mut Q,
         both: &mut LeavingWithLog<'_, '_, '_, W, V, K>,
-    ) -> Result<Totals, Halt<K::Fault>>
+    ) -> Result<Totals, LoggingFault<K::Fault>>
         requires inside { R.failed inside.old < 2 ^ 64 - 1 }
         requires outside { Q.failed outside.old < 2 ^ 64 - 1 }
         requires sound { AreSound both.old.leaving }

@@ -5,7 +5,7 @@ ghost use Rattle.napt_records.specs.Faults.{tells_shut_gate};
 ghost use Rattle.napt_run.specs.{Logging.as_run, Origins.origin_of, Runs.passed_if};
 ghost use Rattle.napt_run.specs.Streams.{DeviceGets, DeviceGetsFrom, Explains, HasRead, IsOfRun, LeavesInTheEnd, ReportGets, ReportGetsFrom, ended};
 
-use crate::logging::{Halt, Unlogged};
+use crate::logging::{LoggingFault, Unlogged};
 use crate::passing::Totals;
 use crate::reporting::reported;
 use crate::start::{Setting, Start, unbegun, without_state};
@@ -20,13 +20,13 @@ use std::sync::{Arc, Wait};
 use std::thread::Threads;
 
 /// The result of a run without a log.
-fn unlogged(streamed: Result<Totals, Halt<NoFault>>) -> Result<Totals, Fault>
+fn unlogged(streamed: Result<Totals, LoggingFault<NoFault>>) -> Result<Totals, Fault>
     ensures { result ≡ as_run streamed }
 {
     match streamed {
         Ok(totals) => Ok(totals),
-        Err(Halt::Run(fault)) => Err(fault),
-        Err(Halt::Log(none)) => match none {},
+        Err(LoggingFault::Run(fault)) => Err(fault),
+        Err(LoggingFault::Log(none)) => match none {},
     }
 }
 

@@ -11,7 +11,7 @@ use crate::logging::Unlogged;
 use crate::output::Output;
 use crate::start::Setting;
 use napt_capture::Sink;
-use napt_dispatch::{Passed, Stopped};
+use napt_dispatch::{PassFault, Passed};
 use napt_pool::Gate;
 use napt_records::{Counts, Merged};
 use napt_sequential::RunFault;
@@ -102,9 +102,9 @@ impl<T: Threads + Wait + Copy + Send + 'static, G: Gate + Send + Sync + Drop + '
                 counts: both.leaving.counts,
                 passed,
             }),
-            Err(Stopped::Run(fault)) => Err(fault),
-            Err(Stopped::Arrival(none)) => match none {},
-            Err(Stopped::Departure(_)) => Err(RunFault::Memory),
+            Err(PassFault::Run(fault)) => Err(fault),
+            Err(PassFault::Arrival(none)) => match none {},
+            Err(PassFault::Departure(_)) => Err(RunFault::Memory),
         }
     }
 }

@@ -1,7 +1,8 @@
 //! What no contract says of the calls that `napt` and `stream` make: their workers are on threads of their own and step at the same time,
 //! one that waits holds up no other, and each asks the gate that the call is given.
 
-use crate::captures::{ALL_GOOD, Call, Given, HEADER, Written, captured, push_packet};
+use crate::calls::TestRuntime;
+use crate::captures::{Call, Given, HEADER, Written, captured, push_packet};
 use crate::gates::{Hold, MOST_ASKS, Way};
 use crate::packets::udp;
 use crate::sample_inputs::THREE_ADDRESSES;
@@ -10,16 +11,12 @@ use napt_run::{Fault, LoggedFault, RunFault};
 use napt_samples::hosts::{CLIENT, RESOLVER, SECOND_CLIENT, external, host};
 use napt_samples::settings::TWO_ADDRESSES;
 use napt_wire::Endpoint;
-use std::process::Abort;
-use std::sync::{Arc, Wait};
+use std::sync::Arc;
 use std::test::Fail;
-use std::thread::Threads;
-
-const CALLS: [Call; 2] = [Call::Captures, Call::Streams];
 
 /// What a call writes under a gate, and what the gate counted. The packets come from inside, from and to these endpoints.
-fn under_gate<T: Threads + Wait + AllocGlobal + Copy + Send + 'static>(
-    rt: &T,
+fn under_gate(
+    rt: &impl TestRuntime,
     call: Call,
     settings: &str,
     packets: &[(Endpoint, Endpoint)],
@@ -35,40 +32,44 @@ fn under_gate<T: Threads + Wait + AllocGlobal + Copy + Send + 'static>(
         settings: Some(settings),
         inside: &inside,
         outside: &HEADER,
-        devices: ALL_GOOD,
+        plans: &[],
     };
     let gate = Hold::new(alloc, way)?;
     let written = captured(rt, &given, Arc::try_clone(&gate)?)?;
     Ok((written, gate.count()))
 }
 
+/// Both calls come to their end under a gate that counts so much, with a report that begins so.
+fn assert_ends(
+    rt: &impl TestRuntime,
+    settings: &str,
+    packets: &[(Endpoint, Endpoint)],
+    way: Way,
+    (report, count): (&str, u64),
+) -> Result<(), Fail> {
+    for call in [Call::Captures, Call::Streams] {
+        let (written, counted) = under_gate(rt, call, settings, packets, way)?;
+        assert_eq!(rt; written.answer, Ok(()), "{call:?}");
+        assert!(rt; written.report.starts_with(report.as_bytes()), "{call:?}");
+        assert_eq!(rt; counted, count, "{call:?}");
+    }
+    Ok(())
+}
+
 /// Each of two workers sees the other at its first leg. Workers that step only where the calling thread asks for an answer would not.
 #[test]
 fn workers_of_a_call_meet(rt: HostRuntime) -> Result<(), Fail> {
     let packets = [(CLIENT, RESOLVER), (SECOND_CLIENT, RESOLVER)];
-    for call in CALLS {
-        let (written, met) = under_gate(&rt, call, TWO_ADDRESSES, &packets, Way::Meeting)?;
-        assert_eq!(rt; written.answer, Ok(()), "{call:?}");
-        assert!(rt;
-            written.report.starts_with(b"packets 2\nto outside 2\n"),
-            "{call:?}"
-        );
-        assert_eq!(rt; met, 2, "{call:?}");
-    }
-    Ok(())
+    let end = ("packets 2\nto outside 2\n", 2);
+    assert_ends(&rt, TWO_ADDRESSES, &packets, Way::Meeting, end)
 }
 
 /// While a hairpin waits for its first worker, what goes to others is offered to them.
 #[test]
 fn others_of_a_call_go_on(rt: HostRuntime) -> Result<(), Fail> {
     let packets = [(CLIENT, external(2, 7000)), (host(4, 5000), RESOLVER)];
-    for call in CALLS {
-        let (written, _) = under_gate(&rt, call, THREE_ADDRESSES, &packets, Way::AfterThird)?;
-        assert_eq!(rt; written.answer, Ok(()), "{call:?}");
-        let counts = b"packets 2\nto outside 1\nto inside 0\n";
-        assert!(rt; written.report.starts_with(counts), "{call:?}");
-    }
-    Ok(())
+    let end = ("packets 2\nto outside 1\nto inside 0\n", 0);
+    assert_ends(&rt, THREE_ADDRESSES, &packets, Way::AfterThird, end)
 }
 
 /// The fourth of five packets of 10.0.0.3, whose worker is the second, is asked for a million times. `napt` has then written nothing, and

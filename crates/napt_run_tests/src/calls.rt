@@ -8,9 +8,15 @@ use napt_run::{Input, Run, RunFault, run_plain, run_workers};
 use napt_samples::hosts::SECOND;
 use napt_wire::{Endpoint, Side};
 use std::alloc::{AllocError, Global};
+use std::process::Abort;
 use std::sync::{Arc, Wait};
 use std::test::Fail;
 use std::thread::Threads;
+
+/// What tests of threads need of the runtime.
+pub(crate) trait TestRuntime: Threads + Wait + Abort + AllocGlobal + Copy + Send + 'static {}
+
+impl<R: Threads + Wait + Abort + AllocGlobal + Copy + Send + 'static> TestRuntime for R {}
 
 /// The configuration of settings, with rings of so many slots.
 pub(crate) fn with_rings(alloc: Global, settings: &str, ring: &str) -> Result<Config, Fail> {
@@ -25,8 +31,8 @@ pub(crate) fn plain_run(alloc: Global, settings: &str, inputs: &[Input]) -> Resu
 }
 
 /// A run over workers under a gate, or its fault.
-pub(crate) fn workers_run<R: Threads + Wait + AllocGlobal + Copy + Send + 'static>(
-    rt: &R,
+pub(crate) fn workers_run(
+    rt: &impl TestRuntime,
     settings: &str,
     ring: &str,
     inputs: &[Input],

@@ -3,6 +3,7 @@
 
 ghost use Rattle.std.specs.Prelude.{◌<◌};
 
+use crate::calls::TestRuntime;
 use crate::gates::{Hold, Way};
 use crate::packets::udp;
 use crate::sample_inputs::{THREE_ADDRESSES, thousand_inputs};
@@ -12,57 +13,44 @@ use napt_run::{Fault, LoggedFault, run_captures, run_streams, run_streams_with_l
 use napt_samples::hosts::{RESOLVER, external};
 use std::alloc::{AllocError, Global};
 use std::ops::Range;
-use std::sync::{Arc, Wait};
+use std::sync::Arc;
 use std::test::Fail;
-use std::thread::Threads;
 
-/// What a device does: it moves all that is asked or a byte at a time, and goes wrong at a call, counted from 1, or at none.
-#[derive(Clone, Copy)]
-pub(crate) struct Device {
-    pub(crate) is_slow: bool,
-    pub(crate) call: u64,
-    pub(crate) trouble: Trouble,
+/// A device of a run.
+#[derive(Clone, Copy, PartialEq, Eq)]
+pub(crate) enum Device {
+    Inside,
+    Outside,
+    ToOutside,
+    ToInside,
+    Report,
+    Log,
 }
 
-/// Moves all that is asked, and never goes wrong.
-pub(crate) const GOOD: Device = Device {
-    is_slow: false,
-    call: 0,
-    trouble: Trouble::Fails,
-};
-
-impl Device {
-    pub(crate) fn plan(self) -> Plan
-        ensures { 0 < result.most }
-    {
-        let most = if self.is_slow { 1 } else { usize::MAX };
-        Plan {
-            most,
-            call: self.call,
-            trouble: self.trouble,
-        }
+/// Moves all that is asked, and fails at a call, counted from 1, or at none.
+pub(crate) fn failing(call: u64) -> Plan {
+    Plan {
+        most: usize::MAX,
+        call,
+        trouble: Trouble::Fails,
     }
 }
 
-/// The devices of a run.
-#[derive(Clone, Copy)]
-pub(crate) struct Devices {
-    pub(crate) inside: Device,
-    pub(crate) outside: Device,
-    pub(crate) to_outside: Device,
-    pub(crate) to_inside: Device,
-    pub(crate) report: Device,
-    pub(crate) log: Device,
+/// What a device does: the last that is planned for it, or no call of it goes wrong.
+fn plan_of(plans: &[(Device, Plan)], device: Device) -> Plan
+    ensures { 0 < result.most }
+{
+    let mut found = failing(0);
+    for (planned, plan) in plans {
+        if *planned == device {
+            found = *plan;
+        }
+    }
+    Plan {
+        most: found.most.max(1),
+        ..found
+    }
 }
-
-pub(crate) const ALL_GOOD: Devices = Devices {
-    inside: GOOD,
-    outside: GOOD,
-    to_outside: GOOD,
-    to_inside: GOOD,
-    report: GOOD,
-    log: GOOD,
-};
 
 /// The call that a program makes: `napt` runs over whole captures, `stream` over captures as they come, with a log or without.
 #[derive(Clone, Copy, Debug, PartialEq, Eq)]
@@ -72,19 +60,19 @@ pub(crate) enum Call {
     StreamsWithLog,
 }
 
-/// What a run is given: the call, both captures, and the devices that they and what it writes are on. Without settings it is in the built-in
-/// configuration.
+/// What a run is given: the call, both captures, and what devices do that go wrong or move little at once. Without settings it is in the
+/// built-in configuration.
 #[derive(Clone, Copy)]
 pub(crate) struct Given<'a> {
     pub(crate) call: Call,
     pub(crate) settings: Option<&'a str>,
     pub(crate) inside: &'a [u8],
     pub(crate) outside: &'a [u8],
-    pub(crate) devices: Devices,
+    pub(crate) plans: &'a [(Device, Plan)],
 }
 
 /// What a run answers and writes.
-#[derive(Drop)]
+#[derive(Drop, PartialEq)]
 pub(crate) struct Written {
     pub(crate) answer: Result<(), LoggedFault>,
     pub(crate) to_outside: Vec<u8>,
@@ -106,20 +94,24 @@ fn config_of(alloc: Global, settings: Option<&str>) -> Result<Config, Fail> {
 }
 
 /// What a run over captures answers and writes under a gate.
-pub(crate) fn captured<T: Threads + Wait + AllocGlobal + Copy + Send + 'static>(
-    rt: &T,
+pub(crate) fn captured(
+    rt: &impl TestRuntime,
     given: &Given<'_>,
     gate: Arc<Hold>,
 ) -> Result<Written, Fail> {
     let alloc = rt.alloc();
     let config = config_of(alloc, given.settings)?;
-    let devices = given.devices;
-    let mut inside = Faulty::new(Watched::new(given.inside), devices.inside.plan());
-    let mut outside = Faulty::new(Watched::new(given.outside), devices.outside.plan());
-    let mut to_outside = Faulty::new(Watched::new(Vec::new(alloc)), devices.to_outside.plan());
-    let mut to_inside = Faulty::new(Watched::new(Vec::new(alloc)), devices.to_inside.plan());
-    let mut report = Faulty::new(Watched::new(Vec::new(alloc)), devices.report.plan());
-    let mut log = Faulty::new(Watched::new(Vec::new(alloc)), devices.log.plan());
+    macro_rules! on {
+        ($device:ident, $text:expr) => {
+            Faulty::new(Watched::new($text), plan_of(given.plans, Device::$device))
+        };
+    }
+    let mut inside = on!(Inside, given.inside);
+    let mut outside = on!(Outside, given.outside);
+    let mut to_outside = on!(ToOutside, Vec::new(alloc));
+    let mut to_inside = on!(ToInside, Vec::new(alloc));
+    let mut report = on!(Report, Vec::new(alloc));
+    let mut log = on!(Log, Vec::new(alloc));
     macro_rules! answer_of {
         ($run:ident $($log:expr)?) => {
             $run(
@@ -149,14 +141,15 @@ pub(crate) const HEADER: [u8; 24] = [
     0xd4, 0xc3, 0xb2, 0xa1, 2, 0, 4, 0, 0, 0, 0, 0, 0, 0, 0, 0, 0xff, 0xff, 0, 0, 0x65, 0, 0, 0,
 ];
 
-/// A packet in the first second, at so many microseconds.
+/// A packet at so many microseconds.
 pub(crate) fn push_packet(
     text: &mut Vec<u8>,
     microseconds: u32,
     bytes: &[u8],
 ) -> Result<(), AllocError> {
+    let (seconds, fraction) = (microseconds / 1_000_000, microseconds % 1_000_000);
     let length = (bytes.len() & 0xffff) as u32;
-    for word in [0, microseconds, length, length] {
+    for word in [seconds, fraction, length, length] {
         text.extend_from_slice(&word.to_le_bytes())?;
     }
     text.extend_from_slice(bytes)
@@ -174,11 +167,6 @@ pub(crate) fn sent_in(alloc: Global, times: &Range<u32>) -> Result<Vec<u8>, Allo
     Ok(text)
 }
 
-/// The thousand inputs as a capture of the inside.
-pub(crate) fn thousand_sent(alloc: Global) -> Result<Vec<u8>, AllocError> {
-    sent_in(alloc, &ALL_TIMES)
-}
-
 /// Of a hundred packets of the resolver to the external endpoints of the thousand inputs in turn, one in each 10 ms, at
 /// the times of inside packets, those that arrive at these microseconds.
 pub(crate) fn replies_in(alloc: Global, times: &Range<u32>) -> Result<Vec<u8>, AllocError> {
@@ -194,29 +182,18 @@ pub(crate) fn replies_in(alloc: Global, times: &Range<u32>) -> Result<Vec<u8>, A
 }
 
 /// What a run over both captures writes under a gate, with rings of so many slots.
-fn large_run<T: Threads + Wait + AllocGlobal + Copy + Send + 'static>(
-    rt: &T,
-    ring: &str,
-    gate: Arc<Hold>,
-) -> Result<Written, Fail> {
+fn large_run(rt: &impl TestRuntime, ring: &str, gate: Arc<Hold>) -> Result<Written, Fail> {
     let alloc = rt.alloc();
     let settings = format!(in alloc; "{THREE_ADDRESSES}ring = {ring}\n")?;
-    let (inside, outside) = (thousand_sent(alloc)?, replies_in(alloc, &ALL_TIMES)?);
+    let (inside, outside) = (sent_in(alloc, &ALL_TIMES)?, replies_in(alloc, &ALL_TIMES)?);
     let given = Given {
         call: Call::Captures,
         settings: Some(&settings),
         inside: &inside,
         outside: &outside,
-        devices: ALL_GOOD,
+        plans: &[],
     };
     captured(rt, &given, gate)
-}
-
-fn is_same(written: &Written, wanted: &Written) -> bool {
-    written.answer == wanted.answer
-        && written.to_outside.as_slice() == wanted.to_outside.as_slice()
-        && written.to_inside.as_slice() == wanted.to_inside.as_slice()
-        && written.report.as_slice() == wanted.report.as_slice()
 }
 
 #[test]
@@ -229,10 +206,10 @@ fn same_bytes_of_a_slow_worker(rt: HostRuntime) -> Result<(), Fail> {
     assert!(rt; wanted.report.starts_with(counts));
     for ring in ["1", "64"] {
         let open = large_run(&rt, ring, Hold::new(alloc, Way::Open)?)?;
-        assert!(rt; is_same(&open, &wanted), "ring {ring}");
+        assert!(rt; open == wanted, "ring {ring}");
         let gate = Hold::new(alloc, Way::Slow)?;
         let slow = large_run(&rt, ring, Arc::try_clone(&gate)?)?;
-        assert!(rt; is_same(&slow, &wanted), "ring {ring}, a slow worker");
+        assert!(rt; slow == wanted, "ring {ring}, a slow worker");
         assert!(rt; gate.count() > 1000);
     }
     Ok(())

@@ -4,30 +4,19 @@ ghost use Rattle.std.specs.Prelude.{◌≡◌, length, vec_len, IfOk};
 ghost use Rattle.napt_config.specs.Rules.{KeepsRules};
 ghost use Rattle.napt_dispatch.specs.Dispatch.{started};
 
-use crate::calls::{plain_run, with_rings};
+use crate::calls::{TestRuntime, plain_run, with_rings};
 use crate::gates::{Hold, Way};
 use crate::large::assert_same;
 use crate::sample_inputs::{THREE_ADDRESSES, thousand_inputs};
 use napt_config::Config;
 use napt_pool::{Ended, Pool};
-use napt_run::{Input, Outcome, Untold, Worker, dispatch};
+use napt_run::{Input, Run, Untold, Worker, dispatch};
 use napt_samples::hosts::{SECOND, external};
 use napt_table::Row;
 use napt_translate::Translator;
 use std::alloc::{AllocError, Global};
 use std::marker::PhantomData;
-use std::process::Abort;
-use std::sync::Wait;
 use std::test::Fail;
-use std::thread::Threads;
-
-/// What `dispatch` gave, and the workers that it left.
-#[derive(Drop)]
-struct AfterDispatch {
-    outcomes: Vec<Outcome>,
-    legs: Vec<u64>,
-    ended: Vec<Ended<Worker<Untold>>>,
-}
 
 /// The workers of all external addresses before any leg, in the order of the pool.
 fn workers(alloc: Global, config: &Config) -> Result<Vec<Worker<Untold>>, AllocError>
@@ -47,12 +36,33 @@ fn workers(alloc: Global, config: &Config) -> Result<Vec<Worker<Untold>>, AllocE
     Ok(made)
 }
 
-/// Dispatches at most a thousand inputs to a pool under an open gate, and closes it.
-fn dispatched<R: Threads + Wait + AllocGlobal + Copy + Send + 'static>(
-    rt: &R,
+/// Each of three workers is left with four bindings, those of its own external address, and owes no answer. Together these are all.
+fn assert_left(
+    rt: &impl TestRuntime,
+    ended: &[Ended<Worker<Untold>>],
+    rows: &[Row],
+) -> Result<(), Fail> {
+    let mut left = Vec::new(rt.alloc());
+    assert!(rt; ended.len() == 3);
+    for (last, worker) in [1, 2, 3].iter().zip(ended) {
+        let mut own = worker.machine.translator.bindings(rt.alloc(), SECOND)?;
+        let address = external(*last, 0).address;
+        let are_own = own.iter().all(|row| row.external.address == address);
+        let is_left = are_own && own.len() == 4 && worker.answers.is_empty();
+        assert!(rt; is_left, "203.0.113.{last}");
+        left.append(&mut own)?;
+    }
+    assert_eq!(rt; left.as_slice(), rows);
+    Ok(())
+}
+
+/// At most a thousand inputs come to the run on one thread where they are dispatched to a pool under an open gate, which is closed.
+fn assert_dispatched(
+    rt: &impl TestRuntime,
     config: &Config,
     inputs: &[Input],
-) -> Result<AfterDispatch, Fail> {
+    plain: &Run,
+) -> Result<(), Fail> {
     if inputs.len() > 1000 {
         return Err("at most a thousand inputs".into());
     }
@@ -63,40 +73,9 @@ fn dispatched<R: Threads + Wait + AllocGlobal + Copy + Send + 'static>(
     let told = dispatch(rt, alloc, &mut pool, config, inputs);
     let closed = pool.close(rt, alloc);
     let (outcomes, legs) = told?;
-    Ok(AfterDispatch {
-        outcomes,
-        legs,
-        ended: closed?,
-    })
-}
-
-/// The rows at an external address.
-fn rows_at(alloc: Global, rows: &[Row], address: u32) -> Result<Vec<Row>, AllocError> {
-    let mut found = Vec::new(alloc);
-    for row in rows {
-        if row.external.address == address {
-            found.push(*row)?;
-        }
-    }
-    Ok(found)
-}
-
-/// Each of three workers is left with four bindings, those of its own external address, and owes no answer.
-fn assert_left(
-    rt: &impl Abort,
-    alloc: Global,
-    ended: &[Ended<Worker<Untold>>],
-    now: u64,
-    rows: &[Row],
-) -> Result<(), Fail> {
-    assert!(rt; ended.len() == 3);
-    for (last, worker) in [1, 2, 3].iter().zip(ended) {
-        let own = worker.machine.translator.bindings(alloc, now)?;
-        let wanted = rows_at(alloc, rows, external(*last, 0).address)?;
-        let is_left = own.len() == 4 && own.as_slice() == wanted.as_slice();
-        assert!(rt; is_left && worker.answers.is_empty(), "203.0.113.{last}");
-    }
-    Ok(())
+    assert_same(rt, &outcomes, &plain.outcomes);
+    assert_eq!(rt; legs.as_slice(), [401, 400, 399].as_slice());
+    assert_left(rt, &closed?, &plain.bindings)
 }
 
 #[test]
@@ -106,10 +85,7 @@ fn thousand_inputs_dispatched(rt: HostRuntime) -> Result<(), Fail> {
     let plain = plain_run(alloc, THREE_ADDRESSES, &inputs)?;
     for ring in ["1", "64"] {
         let config = with_rings(alloc, THREE_ADDRESSES, ring)?;
-        let done = dispatched(&rt, &config, &inputs)?;
-        assert_same(&rt, &done.outcomes, &plain.outcomes);
-        assert_eq!(rt; done.legs.as_slice(), [401, 400, 399].as_slice());
-        assert_left(&rt, alloc, &done.ended, SECOND, &plain.bindings)?;
+        assert_dispatched(&rt, &config, &inputs, &plain)?;
     }
     Ok(())
 }

@@ -1,6 +1,6 @@
 //! What no contract says of the cost of a run over captures as they come: packets that come together are flushed together.
 
-use crate::captures::{HEADER, thousand_sent};
+use crate::captures::{ALL_TIMES, HEADER, sent_in};
 use crate::gates::{Hold, Way};
 use crate::sample_inputs::THREE_ADDRESSES;
 use napt_capture::Watched;
@@ -8,10 +8,7 @@ use napt_config::Config;
 use napt_run::run_streams;
 use std::io;
 use std::io::Write;
-use std::process::Abort;
-use std::sync::Wait;
 use std::test::Fail;
-use std::thread::Threads;
 
 /// Takes all that is written, and counts its bytes and how often it is flushed.
 #[derive(Drop)]
@@ -37,16 +34,15 @@ const NOTHING: Counter = Counter {
     flushes: 0,
 };
 
-/// What goes to the outside of the thousand inputs, which come with one read.
-fn counted<T: Threads + Wait + AllocGlobal + Copy + Send + 'static>(
-    rt: &T,
-) -> Result<Counter, Fail> {
+/// Each flush of a file or a pipe is a call of the system: not one for each of the 800 packets to the outside, which come with one read.
+#[test]
+fn packets_that_come_together_are_flushed_together(rt: HostRuntime) -> Result<(), Fail> {
     let alloc = rt.alloc();
     let config = Config::read(alloc, THREE_ADDRESSES.as_bytes())?;
-    let inside = thousand_sent(alloc)?;
+    let inside = sent_in(alloc, &ALL_TIMES)?;
     let mut to_outside = Watched::new(NOTHING);
     run_streams(
-        rt,
+        &rt,
         alloc,
         &config,
         &mut Watched::new(inside.as_slice()),
@@ -56,14 +52,8 @@ fn counted<T: Threads + Wait + AllocGlobal + Copy + Send + 'static>(
         &mut Watched::new(NOTHING),
         Hold::new(alloc, Way::Open)?,
     )?;
-    Ok(to_outside.into_inner())
-}
-
-/// Each flush of a file or a pipe is a call of the system: not one for each of the 800 packets.
-#[test]
-fn packets_that_come_together_are_flushed_together(rt: HostRuntime) -> Result<(), Fail> {
-    let to_outside = counted(&rt)?;
-    assert_eq!(rt; to_outside.bytes, 24 + 800 * 44);
-    assert!(rt; to_outside.flushes < 10, "{} flushes", to_outside.flushes);
+    let Counter { bytes, flushes } = to_outside.into_inner();
+    assert_eq!(rt; bytes, 24 + 800 * 44);
+    assert!(rt; flushes < 10, "{flushes} flushes");
     Ok(())
 }

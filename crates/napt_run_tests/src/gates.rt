@@ -20,6 +20,8 @@ pub(crate) enum Way {
     Meeting,
     /// Worker 0 at its first leg, until worker 2 has entered its own.
     AfterThird,
+    /// No worker; the turn that worker 0 asks for is shown.
+    Shown,
     /// That worker at that turn, for ever; its asks for it are counted.
     Shut(u32, u64),
     /// Both of two workers, for ever, worker 0 only once worker 1 was told no for the last time; the asks of worker 1 are counted.
@@ -64,13 +66,14 @@ impl Hold {
             (&self.second, &self.first)
         };
         own.store(1, Ordering::SeqCst);
-        for _ in 0..MOST_ASKS {
-            if other.load(Ordering::SeqCst) == 1 {
-                self.counted();
-                return;
-            }
-            thread::yield_now();
+        if is_soon(other, 1) {
+            self.counted();
         }
+    }
+
+    /// Waits until worker 0 asks for a turn, or so long that it never does.
+    pub(crate) fn wait_for(&self, turn: u64) {
+        is_soon(&self.first, turn);
     }
 
     /// Whether worker 2 has entered its first leg, where worker 0 asks for its own.
@@ -84,16 +87,17 @@ impl Hold {
         thread::yield_now();
         false
     }
+}
 
-    /// Waits until worker 1 was told no for the last time, or so long that it never is.
-    fn wait_for_second(&self) {
-        for _ in 0..MOST_ASKS {
-            if self.count() == MOST_ASKS {
-                return;
-            }
-            thread::yield_now();
+/// Waits until a count is as great, or so long that it never is: whether it is.
+fn is_soon(count: &AtomicU64, least: u64) -> bool {
+    for _ in 0..MOST_ASKS {
+        if count.load(Ordering::SeqCst) >= least {
+            return true;
         }
+        thread::yield_now();
     }
+    false
 }
 
 impl Gate for Hold {
@@ -112,6 +116,12 @@ impl Gate for Hold {
                 true
             }
             Way::AfterThird => self.is_after_third(worker, turn),
+            Way::Shown => {
+                if worker == 0 {
+                    self.first.store(turn, Ordering::SeqCst);
+                }
+                true
+            }
             Way::Shut(shut, at) => {
                 let is_shut = worker == shut && turn == at;
                 if is_shut {
@@ -123,7 +133,7 @@ impl Gate for Hold {
                 if worker == 1 {
                     self.counted();
                 } else {
-                    self.wait_for_second();
+                    is_soon(&self.count, MOST_ASKS);
                     thread::yield_now();
                 }
                 false

@@ -1,30 +1,12 @@
 //! Large runs on one thread and over workers.
 
-use crate::calls::{plain_run, workers_run};
+use crate::calls::{TestRuntime, plain_run, workers_run};
 use crate::gates::{Hold, Way};
 use crate::sample_inputs::{SIXTEEN_ADDRESSES, THREE_ADDRESSES, all_to_all, thousand_inputs};
 use napt_run::{Input, Outcome};
 use std::process::Abort;
-use std::sync::{Arc, Wait};
+use std::sync::Arc;
 use std::test::Fail;
-use std::thread::Threads;
-
-/// What a run comes to in numbers, where no packet is dropped.
-#[derive(Clone, Copy)]
-pub(crate) struct Numbers<'a> {
-    to_outside: u32,
-    to_inside: u32,
-    bindings: usize,
-    legs: &'a [u64],
-}
-
-/// Of the thousand inputs a fifth are hairpins, and all find their bindings.
-pub(crate) const THOUSAND: Numbers<'static> = Numbers {
-    to_outside: 800,
-    to_inside: 200,
-    bindings: 12,
-    legs: &[401, 400, 399],
-};
 
 /// How many packets went to outside, went to inside and were dropped.
 fn counts(outcomes: &[Outcome]) -> (u32, u32, u32) {
@@ -57,8 +39,8 @@ pub(crate) fn assert_same(rt: &impl Abort, outcomes: &[Outcome], all_wanted: &[O
 
 /// A run over workers under a gate is that on one thread, and has so many legs at each external address. Returns how much the gate
 /// counted.
-pub(crate) fn compared<R: Threads + Wait + Abort + AllocGlobal + Copy + Send + 'static>(
-    rt: &R,
+pub(crate) fn compared(
+    rt: &impl TestRuntime,
     settings: &str,
     ring: &str,
     inputs: &[Input],
@@ -75,39 +57,33 @@ pub(crate) fn compared<R: Threads + Wait + Abort + AllocGlobal + Copy + Send + '
     Ok(gate.count())
 }
 
-/// The run over workers is that on one thread, through rings of each size.
-fn assert_large<R: Threads + Wait + Abort + AllocGlobal + Copy + Send + 'static>(
-    rt: &R,
+/// The run on one thread sends so many packets to the outside and to the inside, drops none, and leaves so many bindings. The run over
+/// workers is that run, through rings of each size, with so many legs at each external address.
+fn assert_large(
+    rt: &impl TestRuntime,
     settings: &str,
     inputs: &[Input],
-    wanted: &Numbers<'_>,
+    (to_outside, to_inside, bindings): (u32, u32, usize),
+    legs: &[u64],
 ) -> Result<(), Fail> {
     let plain = plain_run(rt.alloc(), settings, inputs)?;
-    let went = (wanted.to_outside, wanted.to_inside, 0);
-    assert_eq!(rt;
-        (counts(&plain.outcomes), plain.bindings.len()),
-        (went, wanted.bindings)
-    );
+    assert_eq!(rt; counts(&plain.outcomes), (to_outside, to_inside, 0));
+    assert_eq!(rt; plain.bindings.len(), bindings);
     for ring in ["1", "2", "3", "64", "4096"] {
-        compared(rt, settings, ring, inputs, wanted.legs, Way::Open)?;
+        compared(rt, settings, ring, inputs, legs, Way::Open)?;
     }
     Ok(())
 }
 
+/// A fifth are hairpins, and all find their bindings.
 #[test]
 fn thousand_inputs_through_all_rings(rt: HostRuntime) -> Result<(), Fail> {
-    let inputs = thousand_inputs(rt.alloc())?;
-    assert_large(&rt, THREE_ADDRESSES, &inputs, &THOUSAND)
+    let (inputs, legs) = (thousand_inputs(rt.alloc())?, [401, 400, 399]);
+    assert_large(&rt, THREE_ADDRESSES, &inputs, (800, 200, 12), &legs)
 }
 
 #[test]
 fn sixteen_workers(rt: HostRuntime) -> Result<(), Fail> {
-    let wanted = Numbers {
-        to_outside: 16,
-        to_inside: 256,
-        bindings: 16,
-        legs: &[33; 16],
-    };
     let inputs = all_to_all(rt.alloc())?;
-    assert_large(&rt, SIXTEEN_ADDRESSES, &inputs, &wanted)
+    assert_large(&rt, SIXTEEN_ADDRESSES, &inputs, (16, 256, 16), &[33; 16])
 }

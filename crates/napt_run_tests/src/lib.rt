@@ -1,6 +1,6 @@
-//! Tests of runs, of workers on threads, and of the parts of the program, through what napt_run, napt_capture, napt_pool and
-//! napt_program make public. They are a crate of their own so that the gate does not prove those crates again for them.
-//! The inputs of large runs, `sample_inputs`, are public.
+//! Tests of runs, of workers on threads, of kept logs, and of the parts of the program, through what napt_run, napt_account,
+//! napt_capture, napt_pool and napt_program make public. They are a crate of their own so that the gate does not prove those
+//! crates again for them. The inputs of large runs, `sample_inputs`, are public.
 #![tactic(auto)]
 
 #[cfg(test)]
@@ -20,6 +20,8 @@ mod gates;
 #[cfg(test)]
 mod held;
 #[cfg(test)]
+mod kept_logs;
+#[cfg(test)]
 mod large;
 #[cfg(test)]
 mod merging;
@@ -35,5 +37,3 @@ mod running_logs;
 pub mod sample_inputs;
 #[cfg(test)]
 mod taking;
-#[cfg(test)]
-mod worked;

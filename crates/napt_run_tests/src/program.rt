@@ -6,74 +6,52 @@ use napt_config::ConfigFault;
 use napt_pool::PoolFault;
 use napt_program::{
     Node, Options, Place, Role, Stop, StopLine, is_same, line_at_end, parse_words, status_at_end,
-    stop_line, stop_status,
+    stop_status,
 };
 use napt_records::Fault;
 use napt_sequential::RunFault;
 use napt_wire::Side;
 use std::test::Fail;
 
-fn of_run(fault: RunFault) -> Stop {
-    Stop::Run(Fault::Run(fault))
-}
-
 /// A fault of the capture of a side.
 fn of_capture(side: Side, fault: CaptureFault) -> Stop {
     Stop::Run(Fault::Capture(side, fault))
 }
 
+fn of_run(fault: RunFault) -> Stop {
+    Stop::Run(Fault::Run(fault))
+}
+
+fn of_pool(fault: PoolFault) -> Stop {
+    of_run(RunFault::Pool(fault))
+}
+
 #[test]
 fn stops_have_their_status_and_line(rt: HostRuntime) -> Result<(), Fail> {
-    let rows = [
-        (Stop::Config(ConfigFault::Memory), 3, "napt: config memory"),
-        (
-            of_capture(Side::Inside, CaptureFault::Memory),
-            4,
-            "napt: capture inside memory",
-        ),
-        (
-            of_capture(Side::Outside, CaptureFault::Memory),
-            4,
-            "napt: capture outside memory",
-        ),
-        (
-            of_capture(Side::Inside, CaptureFault::TooLarge),
-            4,
-            "napt: capture inside too-large",
-        ),
-        (
-            of_capture(Side::Outside, CaptureFault::TooLarge),
-            4,
-            "napt: capture outside too-large",
-        ),
-        (
-            of_capture(Side::Outside, CaptureFault::TooLong(u64::MAX)),
-            4,
-            "napt: capture outside too-long 18446744073709551615",
-        ),
-        (Stop::LineMemory, 5, "napt: run memory"),
-        (of_run(RunFault::Memory), 5, "napt: run memory"),
-        (of_run(RunFault::TooMany), 5, "napt: run too-many"),
-        (
-            of_run(RunFault::Pool(PoolFault::Memory)),
-            5,
-            "napt: run memory",
-        ),
-        (
-            of_run(RunFault::Pool(PoolFault::NoThread)),
-            5,
-            "napt: run no-thread",
-        ),
-        (
-            of_run(RunFault::Pool(PoolFault::GateShut(3))),
-            5,
-            "napt: run gate-shut 3",
-        ),
-        (of_run(RunFault::Pool(PoolFault::Ring)), 5, "napt: run ring"),
-    ];
+    macro_rules! rows {
+        ($($status:literal $line:literal $stop:expr;)*) => { [$(($stop, $status, $line)),*] };
+    }
+    let longest = CaptureFault::TooLong(u64::MAX);
+    let rows = rows! {
+        3 "napt: config memory" Stop::Config(ConfigFault::Memory);
+        4 "napt: capture inside memory" of_capture(Side::Inside, CaptureFault::Memory);
+        4 "napt: capture outside memory" of_capture(Side::Outside, CaptureFault::Memory);
+        4 "napt: capture inside too-large" of_capture(Side::Inside, CaptureFault::TooLarge);
+        4 "napt: capture outside too-large" of_capture(Side::Outside, CaptureFault::TooLarge);
+        4 "napt: capture outside too-long 18446744073709551615" of_capture(Side::Outside, longest);
+        5 "napt: run memory" Stop::LineMemory;
+        5 "napt: run memory" of_run(RunFault::Memory);
+        5 "napt: run too-many" of_run(RunFault::TooMany);
+        5 "napt: run memory" of_pool(PoolFault::Memory);
+        5 "napt: run no-thread" of_pool(PoolFault::NoThread);
+        5 "napt: run gate-shut 3" of_pool(PoolFault::GateShut(3));
+        5 "napt: run ring" of_pool(PoolFault::Ring);
+    };
     for (stop, status, line) in &rows {
         assert!(rt; stop_status(stop) == *status, "{line}");
-        assert!(rt; stop_line(rt.alloc(), stop)?.as_str() == *line, "{line}");
+        let (name, stop) = ("napt", *stop);
+        let told = StopLine { name, stop }.to_string(rt.alloc())?;
+        assert!(rt; told.as_str() == *line, "{line}");
     }
     Ok(())
 }
@@ -81,12 +59,13 @@ fn stops_have_their_status_and_line(rt: HostRuntime) -> Result<(), Fail> {
 #[test]
 fn ends_with_status_and_line(rt: HostRuntime) -> Result<(), Fail> {
     let stopped = Err(Stop::File(Role::Report));
-    let line = format!(in rt.alloc(); "{}", StopLine(Stop::File(Role::Report)))?;
-    assert_eq!(rt; line.as_str(), "napt: file report");
+    let (name, stop) = ("napt-stream", Stop::File(Role::Report));
+    let line = StopLine { name, stop }.to_string(rt.alloc())?;
+    assert_eq!(rt; line.as_str(), "napt-stream: file report");
     assert_eq!(rt; (status_at_end(&Ok(())), status_at_end(&stopped)), (0, 6));
-    assert!(rt; line_at_end(true, &Ok(())).is_none());
-    assert!(rt; line_at_end(true, &stopped).is_some());
-    assert!(rt; line_at_end(false, &stopped).is_none());
+    assert!(rt; line_at_end(name, true, &Ok(())).is_none());
+    assert!(rt; line_at_end(name, true, &stopped).is_some());
+    assert!(rt; line_at_end(name, false, &stopped).is_none());
     Ok(())
 }
 
@@ -108,18 +87,9 @@ fn takes_a_line_without_a_name(rt: HostRuntime) -> Result<(), Fail> {
 
 #[test]
 fn tells_one_file(rt: HostRuntime) {
-    let file = Place::There(Node {
-        device: 7,
-        number: 3,
-    });
-    let other = Place::There(Node {
-        device: 8,
-        number: 3,
-    });
-    let folder = Node {
-        device: 7,
-        number: 2,
-    };
+    let node = |device, number| Node { device, number };
+    let (file, other) = (Place::There(node(7, 3)), Place::There(node(8, 3)));
+    let folder = node(7, 2);
     let (new, second_new) = (Place::New(folder, "a"), Place::New(folder, "b"));
     let words = Place::Words("a");
     let rows = [

@@ -1,5 +1,8 @@
 //! A run that goes on from the state that another left.
 
+ghost use Rattle.std.specs.Prelude.{◌≡◌, []};
+
+use crate::calls::TestRuntime;
 use crate::captures::{ALL_TIMES, replies_in, sent_in};
 use crate::gates::{Hold, Way};
 use crate::sample_inputs::THREE_ADDRESSES;
@@ -7,11 +10,9 @@ use napt_capture::Watched;
 use napt_config::Config;
 use napt_run::{Fault, Passed, Start, State, resume_captures, resume_streams};
 use napt_state::take_up;
-use std::alloc::{AllocGlobal, Global};
+use std::alloc::Global;
 use std::ops::Range;
-use std::sync::Wait;
 use std::test::Fail;
-use std::thread::Threads;
 
 /// What a run writes, and the state that it leaves.
 #[derive(Drop)]
@@ -23,8 +24,8 @@ struct Left {
 }
 
 /// The run from a state over the packets of these microseconds.
-fn run_on<T: Threads + Wait + AllocGlobal + Copy + Send + 'static>(
-    rt: &T,
+fn run_on(
+    rt: &impl TestRuntime,
     mut state: State,
     times: &Range<u32>,
     are_whole: bool,
@@ -40,15 +41,12 @@ fn run_on<T: Threads + Wait + AllocGlobal + Copy + Send + 'static>(
     if take_up(alloc, &config, &mut state)?.is_some() {
         return Err(Fail::new("the state is not taken"));
     }
-    let start = Start {
-        config: &config,
-        state: &state,
-    };
     let gate = Hold::new(alloc, Way::Open)?;
     macro_rules! passed_by {
         ($run:ident) => {
             $run(
-                rt, alloc, start, &mut inside, &mut outside, &mut to_outside, &mut to_inside, &mut report, gate,
+                rt, alloc, Start { config: &config, state: &state }, &mut inside, &mut outside, &mut to_outside,
+                &mut to_inside, &mut report, gate,
             )
         };
     }
@@ -65,7 +63,10 @@ fn run_on<T: Threads + Wait + AllocGlobal + Copy + Send + 'static>(
     })
 }
 
-fn nothing(alloc: Global) -> State {
+/// The state in which nothing was sent.
+pub(crate) fn nothing(alloc: Global) -> State
+    ensures { result ≡ record { clock = 0; list = [] } }
+{
     State {
         clock: 0,
         list: Vec::new(alloc),

@@ -1,20 +1,24 @@
-//! A run with its log, over captures as they arrive: the log, written out by hand, and what a log that fails leaves.
-use crate::captures::{ALL_GOOD, Call, Devices, Given, HEADER, Written, captured, push_packet};
-use crate::devices::failing;
-use crate::gates::{Hold, Way};
-use crate::packets::udp;
-use napt_capture::WriteFault;
-use napt_run::LoggedFault;
-use napt_samples::hosts::{CLIENT, RESOLVER};
-use std::alloc::{AllocError, Global};
-use std::process::Abort;
-use std::sync::Wait;
-use std::test::Fail;
-use std::thread::Threads;
+//! A run with its log, over captures as they arrive: the log, written out by hand, also in two parts, and what a log that
+//! fails leaves.
 
-/// 10.0.0.3:7000 stands at port 7000.
-const SETTINGS: &str = "pool = ['203.0.113.1']\ninside = ['10.0.0.0/8']\n\
-[[redirect]]\nprotocol = 'udp'\ninside = '10.0.0.3:7000'\nexternal = 7000\n";
+ghost use Rattle.std.specs.Prelude.{◌≡◌};
+ghost use Rattle.napt_account.specs.GoingOn.{IsFew};
+
+use crate::calls::TestRuntime;
+use crate::captures::{Call, Device, Given, HEADER, Written, captured, failing, push_packet};
+use crate::gates::{Hold, Way};
+use crate::kept_logs::{SETTINGS, kept, no_log};
+use crate::packets::udp;
+use crate::resumed::nothing;
+use napt_account::LogState;
+use napt_capture::{Watched, WriteFault};
+use napt_config::Config;
+use napt_run::{LogStart, LoggedFault, Start, State, resume_streams_with_log};
+use napt_samples::hosts::{CLIENT, RESOLVER};
+use napt_state::take_up;
+use std::alloc::{AllocError, Global};
+use std::num::NonZeroU32;
+use std::test::Fail;
 
 /// The header and the row of the redirect.
 const OPENING: &str =
@@ -31,37 +35,31 @@ const ROWS: &str =
 20000,1970-01-01T00:00:00.000020000Z\n\
 ,,,17,10.0.0.3,7000,203.0.113.1,7000,,1,1,0,0,,\n";
 
-/// Two packets of one host, 10 us and 20 us after the start.
-fn sent_twice(alloc: Global) -> Result<Vec<u8>, AllocError> {
+/// A packet of one host at each of these microseconds.
+fn sent_at(alloc: Global, times: &[u32]) -> Result<Vec<u8>, AllocError> {
     let mut text = Vec::from_slice(alloc, &HEADER)?;
-    for microseconds in [10, 20] {
-        push_packet(&mut text, microseconds, &udp(alloc, CLIENT, RESOLVER)?)?;
+    for microseconds in times {
+        push_packet(&mut text, *microseconds, &udp(alloc, CLIENT, RESOLVER)?)?;
     }
     Ok(text)
 }
 
-/// The run over both packets, with a log that fails at a call, counted from 1, or at none.
-fn run_with<T: Threads + Wait + AllocGlobal + Copy + Send + 'static>(
-    rt: &T,
-    call: u64,
-) -> Result<Written, Fail> {
-    let inside = sent_twice(rt.alloc())?;
+/// The run over two packets under these settings, with a log that fails at a call, counted from 1, or at none.
+fn run_with(rt: &impl TestRuntime, settings: &str, call: u64) -> Result<Written, Fail> {
+    let inside = sent_at(rt.alloc(), &[10, 20])?;
     let given = Given {
         call: Call::StreamsWithLog,
-        settings: Some(SETTINGS),
+        settings: Some(settings),
         inside: &inside,
         outside: &HEADER,
-        devices: Devices {
-            log: failing(call),
-            ..ALL_GOOD
-        },
+        plans: &[(Device::Log, failing(call))],
     };
     captured(rt, &given, Hold::new(rt.alloc(), Way::Open)?)
 }
 
 #[test]
 fn log_of_a_run_as_it_runs(rt: HostRuntime) -> Result<(), Fail> {
-    let left = run_with(&rt, 0)?;
+    let left = run_with(&rt, SETTINGS, 0)?;
     assert_eq!(rt; left.answer, Ok(()));
     assert!(rt; left.log.starts_with(OPENING.as_bytes()));
     assert_eq!(rt; left.log.get(OPENING.len()..), Some(ROWS.as_bytes()));
@@ -70,29 +68,132 @@ fn log_of_a_run_as_it_runs(rt: HostRuntime) -> Result<(), Fail> {
     Ok(())
 }
 
-/// The header of the log is written and flushed before anything else, so nothing is left where that fails.
-#[test]
-fn a_log_that_cannot_be_begun(rt: HostRuntime) -> Result<(), Fail> {
-    for call in [1, 2] {
-        let left = run_with(&rt, call)?;
-        let written = if call == 1 { 0 } else { OPENING.len() as u64 };
-        assert_eq!(rt; left.answer, Err(LoggedFault::Log(WriteFault { written })));
-        assert_eq!(rt; left.log.len() as u64, written);
-        assert!(rt; left.to_outside.is_empty() && left.to_inside.is_empty());
-        assert!(rt; left.report.is_empty());
+/// What a part of a run leaves.
+#[derive(Drop)]
+struct Part {
+    text: Vec<u8>,
+    state: State,
+    kept: LogState,
+}
+
+/// A new log of what was kept, in one piece, with which another run goes on.
+fn new_log(kept: &LogState) -> LogStart<'_>
+    ensures { result.kept ≡ kept.entry }
+{
+    LogStart {
+        kept,
+        is_new: true,
+        each: None,
+        goes_on: true,
     }
+}
+
+/// The run over packets at these microseconds, from a state and with a log.
+fn run_on(
+    rt: &impl TestRuntime,
+    mut state: State,
+    log_start: LogStart<'_>,
+    times: &[u32],
+) -> Result<Part, Fail>
+    requires { IsFew log_start.kept.now }
+{
+    let alloc = rt.alloc();
+    let config = Config::read(alloc, SETTINGS.as_bytes())?;
+    if take_up(alloc, &config, &mut state)?.is_some() {
+        return Err(Fail::new("the state is not taken"));
+    }
+    let start = Start {
+        config: &config,
+        state: &state,
+    };
+    let sent = sent_at(alloc, times)?;
+    let mut inside = Watched::new(sent.as_slice());
+    let mut outside = Watched::new(HEADER.as_slice());
+    let mut to_outside = Watched::new(Vec::new(alloc));
+    let mut to_inside = Watched::new(Vec::new(alloc));
+    let mut report = Watched::new(Vec::new(alloc));
+    let mut log = Watched::new(Vec::new(alloc));
+    let gate = Hold::new(alloc, Way::Open)?;
+    let left = resume_streams_with_log(
+        rt,
+        alloc,
+        start,
+        log_start,
+        &mut inside,
+        &mut outside,
+        &mut to_outside,
+        &mut to_inside,
+        &mut report,
+        &mut log,
+        gate,
+    )?;
+    Ok(Part {
+        text: log.into_inner(),
+        state: left.passed.left(alloc)?,
+        kept: left.log,
+    })
+}
+
+/// A log that is begun, and goes on behind its text: together it is that of one run.
+#[test]
+fn log_of_a_run_in_two_parts(rt: HostRuntime) -> Result<(), Fail> {
+    let alloc = rt.alloc();
+    let none = no_log(alloc);
+    let first = run_on(&rt, nothing(alloc), new_log(&none), &[10])?;
+    let kept = kept(alloc, 2, 1, 300_000_010_000)?;
+    assert_eq!(rt; first.kept.made, kept.made);
+    assert!(rt; first.kept.living == kept.living);
+    let behind = LogStart {
+        is_new: false,
+        goes_on: false,
+        ..new_log(&kept)
+    };
+    let second = run_on(&rt, first.state, behind, &[20])?;
+    assert_eq!(rt; second.kept.made, 2);
+    assert!(rt; second.text.starts_with(b"300000020000,"));
+    let mut text = first.text;
+    text.extend_from_slice(&second.text)?;
+    assert!(rt; text.starts_with(OPENING.as_bytes()));
+    assert_eq!(rt; text.get(OPENING.len()..), Some(ROWS.as_bytes()));
     Ok(())
 }
 
-/// The row of the first packet cannot be written: no packet has left, and there is no report.
+/// Where the clock passes a second a new piece begins, with the text of a run that goes on there with a new log.
 #[test]
-fn a_log_that_fails_at_a_row(rt: HostRuntime) -> Result<(), Fail> {
-    let left = run_with(&rt, 3)?;
-    let written = OPENING.len() as u64;
-    assert_eq!(rt; left.answer, Err(LoggedFault::Log(WriteFault { written })));
-    assert_eq!(rt; left.log.as_slice(), OPENING.as_bytes());
-    assert_eq!(rt; left.to_outside.len(), 24);
-    assert_eq!(rt; left.to_inside.len(), 24);
-    assert!(rt; left.report.is_empty());
+fn log_of_a_run_in_pieces(rt: HostRuntime) -> Result<(), Fail> {
+    let alloc = rt.alloc();
+    let none = no_log(alloc);
+    let kept = kept(alloc, 2, 1, 300_000_010_000)?;
+    let pieces = LogStart {
+        each: NonZeroU32::new(1),
+        ..new_log(&none)
+    };
+    let one = run_on(&rt, nothing(alloc), pieces, &[10, 999_999])?;
+    let both = run_on(&rt, nothing(alloc), pieces, &[10, 1_000_010])?;
+    let first = run_on(&rt, nothing(alloc), new_log(&none), &[10])?;
+    let second = run_on(&rt, first.state, new_log(&kept), &[1_000_010])?;
+    assert_eq!(rt; one.text, first.text);
+    let mut text = first.text;
+    text.extend_from_slice(&second.text)?;
+    assert_eq!(rt; both.text, text);
+    Ok(())
+}
+
+/// The header of the log is written and flushed before anything else. Where that fails, nothing is left; where the row of the first
+/// packet cannot be written, no packet has left. There is no report.
+#[test]
+fn a_log_that_fails(rt: HostRuntime) -> Result<(), Fail> {
+    let opening = OPENING.len();
+    for (call, length, header) in [(1, 0, 0), (2, opening, 0), (3, opening, 24)] {
+        let left = run_with(&rt, SETTINGS, call)?;
+        let written = length as u64;
+        assert_eq!(rt; left.answer, Err(LoggedFault::Log(WriteFault { written })));
+        assert_eq!(rt; Some(left.log.as_slice()), OPENING.as_bytes().get(..length));
+        assert_eq!(rt;
+            (left.to_outside.len(), left.to_inside.len()),
+            (header, header)
+        );
+        assert!(rt; left.report.is_empty());
+    }
     Ok(())
 }

@@ -3,7 +3,7 @@ use Rattle.std.proofs.lemmas.{Grind.common_steps, Bool.Decides.nat_tests}
 use Rattle.std.{proofs.Common.{◌≡◌, ℕ, zero, suc, ◌+◌, max, List, [], ◌∷◌, ◌++◌, length, map, Some, Err, refl, sym, ◌∙◌, ap, arith}, specs.List.slice_get}
 use Rattle.napt_wire.specs.declared.Cause.{Cause}
 use Rattle.napt_config.specs.Rules.{Rules}
-use Rattle.napt_rules.specs.{Prelude.{Binding, admission, Arrival, Course, first_leg, step_as, step, last_clock, State, course_from, ran_from}, declared.Outcome.Outcome}
+use Rattle.napt_rules.specs.{Prelude.{Binding, admission, Arrival, Course, first_leg, step_as, step, last_clock, State, course_from}, declared.Outcome.Outcome}
 use Rattle.napt_laws.{specs.Dispatching.IsFront, proofs.Grown.outcomes_long}
 use Rattle.napt_sequential.specs.{declared.passage.{Passage.TheVariants.Nothing, Trace.Trace}, Steps.{joined, steps_of}}
 use Rattle.napt_sequential.{specs.Traces.{trace_of, traces_from, traces_of}, proofs.Passed.traces_grow}
@@ -89,11 +89,6 @@ refused_trace rules state done rest input number now long clock cause is =
 pub input_there : (done rest : List Arrival) (input : Arrival) (number : ℕ) → length done ≡ number →
     slice_get ((done ++ input ∷ []) ++ rest) number ≡ Some input
 input_there done rest input number long = get_at done input rest number long
-
--- they have the outcomes of the run
-pub steps_ran : (rules : Rules) (state : State) (inputs : List Arrival) →
-    map (λ s. s.outcome) (steps_of rules state inputs) ≡ (ran_from rules state inputs).outcomes
-steps_ran rules state inputs = steps_outcomes rules state inputs
 
 joined_traces : (os : List Outcome) (ts : List Trace) → length os ≡ length ts → map (λ s. s.trace) (joined os ts) ≡ ts
 joined_traces [] [] e = refl

@@ -47,10 +47,6 @@ state_after rules address leg state =
 abbrev pub told_of : {P : Type 0} → (Passage → P) → Timers → Act → Told P
 told_of tells timers a = record { answer = answer_of a; passage = tells (passage_of timers a) }
 
--- after an input at a time
-abbrev pub state_then : ℕ → Course → RunState → RunState
-state_then now course state = record { clock = now; acts = state.acts ++ course.acts; list = course.list }
-
 -- at a place of the pool it told so, and took the translators of any state to those after it
 abbrev pub Takes : Rules → ℕ → Leg → List CountedTranslator → List CountedTranslator → Told Passage → Type 0
 Takes rules place leg before after told = (state : RunState) (address : ℕ) →
@@ -139,10 +135,11 @@ abbrev pub CanTake : Rules → ℕ → ℕ → List CountedTranslator → Type 0
 CanTake rules now more translators = (state : RunState) × AreCountedTranslators rules state translators
     × (state.clock ≤ now) × (length state.acts + more < 2 ^ 64)
 
--- the outcome is the one of a step, and the translators are those of the state after it
+-- the outcome is the one of a step at a time, and the translators are those of the state after it
 abbrev pub Follows : Rules → ℕ → Course → RunState → List CountedTranslator → Outcome → Type 0
-Follows rules now course state translators outcome = (course.outcomes ≡ outcome ∷ [])
-    × AreCountedTranslators rules (state_then now course state) translators
+Follows rules now course state translators outcome =
+    let later : RunState = record { clock = now; acts = state.acts ++ course.acts; list = course.list } in
+    (course.outcomes ≡ outcome ∷ []) × AreCountedTranslators rules later translators
 
 -- the same, and the trace is that of the step
 abbrev pub Steps : Rules → ℕ → Course → RunState → List CountedTranslator → Stepped → Type 0

@@ -6,12 +6,10 @@ use Rattle.napt_sequential.specs.declared.fault.RunFault.TheVariants as faults
 
 -- a fault of a run that has no workers
 abbrev pub IsOneThreadFault : RunFault → Type 0
-IsOneThreadFault faults.Memory = ⊤
-IsOneThreadFault faults.TooMany = ⊤
 IsOneThreadFault (faults.Pool fault) = ⊥
+IsOneThreadFault _ = ⊤
 
 -- whether a fault says that the gate was shut
 abbrev pub is_gate_fault : RunFault → Bool
-is_gate_fault faults.Memory = false
-is_gate_fault faults.TooMany = false
 is_gate_fault (faults.Pool fault) = is_shut fault
+is_gate_fault _ = false

@@ -1,5 +1,5 @@
 -- What contracts see of an input of a run: everything but where it lies in memory. Its number is its place, from 0.
-use Rattle.std.{specs.Prelude.{◌≡◌, List, [], ◌∷◌, ◌++◌, Option, Some, None, Result, Ok, Err}, proofs.Common.{refl, ap, ◌∙◌}}
+use Rattle.std.specs.Prelude.{◌≡◌, List, [], ◌∷◌, Option, Some, None, Result, Ok, Err}
 use Rattle.napt_rules.specs.Prelude.{Arrival}
 
 -- the next input was taken, or none was left
@@ -20,8 +20,3 @@ pub record Came {S F : Type 0} (hands : S → List Arrival → S → Type 0) (en
   pub last : S
   pub handed : hands before inputs last
   pub ended : ends last fault after
-
--- a front of a list, and a front of what is left of it
-pub fronts_join : {X : Type 0} (x y z xs ys : List X) → x ≡ xs ++ y → y ≡ ys ++ z → x ≡ (xs ++ ys) ++ z
-fronts_join x y z [] ys first second = first ∙ second
-fronts_join x y z (a ∷ xs) ys first second = first ∙ ap (λ l. a ∷ l) (fronts_join (xs ++ y) y z xs ys refl second)

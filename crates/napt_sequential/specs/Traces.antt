@@ -21,9 +21,8 @@ gone_through Incoming row = In row
 
 -- through none: a packet of a protocol, no error, from a host was dropped
 abbrev pub lost_by : Option Protocol → ℕ → End → Passage
-lost_by None host end = Nothing
 lost_by (Some protocol) host (ends.Dropped cause) = Dropped (record { protocol = protocol; host = host; cause = cause })
-lost_by (Some protocol) host _ = Nothing
+lost_by _ host _ = Nothing
 
 abbrev pub passage_by : Timers → Way → Option Protocol → ℕ → End → Option Through → Passage
 passage_by timers way protocol host end (Some went) = gone_through way (timed timers went.binding)

@@ -41,8 +41,7 @@ pub trait Arrivals {
 pub enum NoFault {}
 
 impl Arrivals for VecDeque<Input> {
-    ghost use Rattle.std.specs.Prelude.{◌≡◌, false, refl};
-    ghost use Rattle.napt_sequential.specs.Inputs.{fronts_join};
+    ghost use Rattle.std.{specs.Prelude.{◌≡◌, ◌++◌, false, refl}, proofs.Common.{ap, sym, ◌∙◌, append_assoc}};
 
     type Fault = NoFault;
 
@@ -54,7 +53,8 @@ impl Arrivals for VecDeque<Input> {
 
     ghost hands_none = { λ x. refl };
 
-    ghost hands_more = { λ x y z xs ys first second. fronts_join x.items y.items z.items xs ys first second };
+    ghost hands_more = { λ x y z xs ys first second. first ∙ (ap (λ l. xs ++ l) second
+        ∙ sym (append_assoc xs ys z.items)) };
 
     fn asks_device(&self) -> bool
         ensures { result ≡ false }

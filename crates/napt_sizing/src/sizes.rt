@@ -13,7 +13,7 @@ pub mod trials;
 pub mod usage;
 
 use crate::coverage::Coverage;
-use crate::sizes::held::Held;
+use crate::sizes::held::HeldBindings;
 use crate::sizes::lifetimes::Lifetimes;
 use crate::sizes::trials::Trials;
 use crate::sizes::usage::Usage;
@@ -25,7 +25,7 @@ use std::alloc::{AllocError, Global};
 /// The figures of a run so far. They keep counts for each inside host, and something of live and held bindings alone.
 #[derive(Drop)]
 pub struct Sizes {
-    held: Held,
+    held: HeldBindings,
     pub usage: Usage,
     pub trials: Trials,
     pub lifetimes: Lifetimes,
@@ -36,7 +36,7 @@ impl Sizes {
     /// Those of a run before its first packet, which begins with these redirects.
     pub fn of(alloc: Global, config: &Config, opening: &[Listed]) -> Result<Sizes, AllocError> {
         Ok(Sizes {
-            held: Held::of(alloc, config),
+            held: HeldBindings::of(alloc, config),
             usage: Usage::of(alloc, config, opening)?,
             trials: Trials::new(alloc)?,
             lifetimes: Lifetimes::default(),

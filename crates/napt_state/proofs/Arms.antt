@@ -1,73 +1,72 @@
 -- Which line begins with which word.
-use Rattle.std.proofs.Common.{◌≡◌, ℕ, ◌<◌, ◌^◌, Bool, true, false, [], codes, decimal, Option, Some, refl, sym, ap, get_or, arith}
+use Rattle.std.proofs.Common.{◌≡◌, ℕ, ◌+◌, ◌*◌, min, Bool, true, false, [], ◌++◌, codes, length, Option, Some, sym, ◌∙◌, ap, get_or, arith}
+use Rattle.napt_account.specs.declared.log.Listed.{Listed}
 use Rattle.napt_rules.specs.declared.{Flow.Flow, Row.Row}
-use Rattle.napt_state.specs.declared.line.StateLine.{StateLine}
+use Rattle.napt_state.specs.declared.line.{Counts.Counts, StateLine.StateLine}
 use Rattle.napt_state.specs.declared.line.StateLine.TheVariants as lines
-use Rattle.napt_state.specs.StateText.{Text, IsStateLine, binding, flow, end, words_in, binding_words, flow_words, end_words, kind_text, words}
+use Rattle.napt_state.specs.StateText.{Text, IsStateLine, clock, binding, flow, log, entry, end, words_in, clock_words, binding_words, flow_words, log_words, entry_words, end_words, kind_text, words, line_text}
+use Rattle.napt_state.proofs.Lines.{words_read}
 
-abbrev pub head : Text → ℕ
-head text = get_or text 0 0
+-- tells first words apart
+abbrev pub key : Text → ℕ
+key text = min 700 (100 * length text + get_or text 0 0)
 
-abbrev pub first : StateLine → Text
+abbrev first : StateLine → Text
 first is = get_or (words is) 0 []
 
-no_kind : (fixed : Bool) (n : ℕ) → 98 < n → n < 114 → head (kind_text fixed) ≡ n → ⊥
-no_kind true n low high e = omega (arith, low, high, e)
-no_kind false n low high e = omega (arith, low, high, e)
+abbrev pub tag : StateLine → ℕ
+tag (lines.Clock at) = 599
+tag (lines.Binding row last) = 700
+tag (lines.Flow one) = 502
+tag (lines.Log made length) = 408
+tag (lines.Entry listed) = 601
+tag (lines.End counts) = 401
 
-kind_is : (a b : Bool) → head (kind_text a) ≡ head (kind_text b) → b ≡ a
-kind_is true true e = refl
-kind_is false false e = refl
-kind_is true false e = absurd (omega (arith, e))
-kind_is false true e = absurd (omega (arith, e))
+kind_key : (fixed : Bool) → key (kind_text fixed) ≡ 700
+kind_key true = omega arith
+kind_key false = omega arith
+
+tagged : (is : StateLine) → key (first is) ≡ tag is
+tagged (lines.Binding row last) = kind_key row.fixed
+tagged _ = omega arith
+
+-- the word that a line begins with, of a line that is one of a state's
+pub tag_of : (line word name : Text) → word ≡ get_or (words_in line) 0 [] → (is : StateLine) →
+    line_text is ≡ line ++ codes "\n" → word ≡ name → key name ≡ tag is
+tag_of line word name got is text e =
+    ap key (sym e ∙ got ∙ ap (λ ws. get_or ws 0 []) (words_read is line text)) ∙ tagged is
 
 module _ (line : Text) (result : Option StateLine) where
-  pub binding_arm : (fixed : Bool) → ((row : Row) (last : ℕ) → IsStateLine (binding row last) → row.fixed ≡ fixed →
-      words_in line ≡ binding_words row last → result ≡ Some (binding row last)) → (is : StateLine) → IsStateLine is →
-      words_in line ≡ words is → head (kind_text fixed) ≡ head (first is) → result ≡ Some is
-  binding_arm fixed h (lines.Clock clock) fits has e = absurd (no_kind fixed 99 (omega arith) (omega arith) e)
-  binding_arm fixed h (lines.Binding row last) fits has e = h row last fits (kind_is fixed row.fixed e) has
-  binding_arm fixed h (lines.Flow one) fits has e = absurd (no_kind fixed 102 (omega arith) (omega arith) e)
-  binding_arm fixed h (lines.End bindings flows) fits has e = absurd (no_kind fixed 101 (omega arith) (omega arith) e)
+  pub clock_arm : ((at : ℕ) → IsStateLine (clock at) → words_in line ≡ clock_words at → result ≡ Some (clock at)) →
+      (is : StateLine) → IsStateLine is → words_in line ≡ words is → 599 ≡ tag is → result ≡ Some is
+  clock_arm h (lines.Clock at) fits has e = h at fits has
+  clock_arm h _ fits has e = absurd (omega (arith, e))
+
+  pub binding_arm : ((row : Row) (last : ℕ) → IsStateLine (binding row last) →
+      words_in line ≡ binding_words row last → result ≡ Some (binding row last)) →
+      (is : StateLine) → IsStateLine is → words_in line ≡ words is → 700 ≡ tag is → result ≡ Some is
+  binding_arm h (lines.Binding row last) fits has e = h row last fits has
+  binding_arm h _ fits has e = absurd (omega (arith, e))
 
   pub flow_arm : ((one : Flow) → IsStateLine (flow one) → words_in line ≡ flow_words one → result ≡ Some (flow one)) →
-      (is : StateLine) → IsStateLine is → words_in line ≡ words is → 102 ≡ head (first is) → result ≡ Some is
-  flow_arm h (lines.Clock clock) fits has e = absurd (omega (arith, e))
-  flow_arm h (lines.Binding row last) fits has e =
-      absurd (no_kind row.fixed 102 (omega arith) (omega arith) (sym e))
+      (is : StateLine) → IsStateLine is → words_in line ≡ words is → 502 ≡ tag is → result ≡ Some is
   flow_arm h (lines.Flow one) fits has e = h one fits has
-  flow_arm h (lines.End bindings flows) fits has e = absurd (omega (arith, e))
+  flow_arm h _ fits has e = absurd (omega (arith, e))
 
-  pub end_arm : ((bindings flows : ℕ) → IsStateLine (end bindings flows) → words_in line ≡ end_words bindings flows →
-      result ≡ Some (end bindings flows)) → (is : StateLine) → IsStateLine is → words_in line ≡ words is →
-      101 ≡ head (first is) → result ≡ Some is
-  end_arm h (lines.Clock clock) fits has e = absurd (omega (arith, e))
-  end_arm h (lines.Binding row last) fits has e =
-      absurd (no_kind row.fixed 101 (omega arith) (omega arith) (sym e))
-  end_arm h (lines.Flow one) fits has e = absurd (omega (arith, e))
-  end_arm h (lines.End bindings flows) fits has e = h bindings flows fits has
+  pub log_arm : ((made length : ℕ) → IsStateLine (log made length) → words_in line ≡ log_words made length →
+      result ≡ Some (log made length)) →
+      (is : StateLine) → IsStateLine is → words_in line ≡ words is → 408 ≡ tag is → result ≡ Some is
+  log_arm h (lines.Log made length) fits has e = h made length fits has
+  log_arm h _ fits has e = absurd (omega (arith, e))
 
--- a line of a clock
-pub record IsClock (line : Text) (is : StateLine) : Type 0 where
-  pub clock : ℕ
-  pub same : is ≡ lines.Clock clock
-  pub fits : clock < 2 ^ 64
-  pub word : get_or (words_in line) 1 [] ≡ decimal clock
+  pub entry_arm : ((one : Listed) → IsStateLine (entry one) → words_in line ≡ entry_words one →
+      result ≡ Some (entry one)) →
+      (is : StateLine) → IsStateLine is → words_in line ≡ words is → 601 ≡ tag is → result ≡ Some is
+  entry_arm h (lines.Entry one) fits has e = h one fits has
+  entry_arm h _ fits has e = absurd (omega (arith, e))
 
-pub clock_arm : (line : Text) (is : StateLine) → IsStateLine is → words_in line ≡ words is → 99 ≡ head (first is) →
-    IsClock line is
-clock_arm line (lines.Clock clock) fits has e =
-    record { clock = clock; same = refl; fits = fits; word = ap (λ ws. get_or ws 1 []) has }
-clock_arm line (lines.Binding row last) fits has e =
-    absurd (no_kind row.fixed 99 (omega arith) (omega arith) (sym e))
-clock_arm line (lines.Flow one) fits has e = absurd (omega (arith, e))
-clock_arm line (lines.End bindings flows) fits has e = absurd (omega (arith, e))
-
-pub no_arm : (word : Text) (is : StateLine) → word ≡ first is → (word ≡ codes "clock" → ⊥) →
-    (word ≡ codes "binding" → ⊥) → (word ≡ codes "redirect" → ⊥) → (word ≡ codes "flow" → ⊥) →
-    (word ≡ codes "end" → ⊥) → ⊥
-no_arm word (lines.Clock clock) e a b c d f = a e
-no_arm word (lines.Binding row last) e a b c d f =
-    elim row.fixed as (λ v. word ≡ kind_text v → ⊥) [ true ↦ c | false ↦ b ] e
-no_arm word (lines.Flow one) e a b c d f = d e
-no_arm word (lines.End bindings flows) e a b c d f = f e
+  pub end_arm : ((counts : Counts) → IsStateLine (end counts) → words_in line ≡ end_words counts →
+      result ≡ Some (end counts)) →
+      (is : StateLine) → IsStateLine is → words_in line ≡ words is → 401 ≡ tag is → result ≡ Some is
+  end_arm h (lines.End counts) fits has e = h counts fits has
+  end_arm h _ fits has e = absurd (omega (arith, e))

@@ -1,4 +1,6 @@
 pub mod Arms
 pub mod Lines
-pub mod Lists
+pub mod Reading
+pub mod Replay
 pub mod Taken
+pub mod Written

@@ -1,7 +1,7 @@
 -- A line is split into its words again, since no word has a space, and a text into its lines, since no line has a line
 -- feed.
 use Rattle.std.proofs.lemmas.{Grind.common_steps, Bool.Decides.nat_tests}
-use Rattle.std.proofs.Common.{ℕ, zero, suc, ◌≡◌, ◌≢◌, ◌<◌, get_or, ◌==◌, ◌||◌, ◌/◌, ◌%◌, ◌∙◌, Bool, true, false, List, [], ◌∷◌, ◌++◌, codes, decimal, length, Option, Some, IfSome, refl, sym, ap, subst, append_assoc, append-nil, length-append, if◌then◌else◌, arith}
+use Rattle.std.proofs.Common.{ℕ, zero, suc, ◌≡◌, ◌≢◌, ◌<◌, get_or, ◌==◌, ◌||◌, ◌/◌, ◌%◌, ◌∙◌, Bool, true, false, List, [], ◌∷◌, ◌++◌, codes, decimal, length, Option, Some, None, IfSome, refl, sym, ap, subst, append_assoc, append-nil, length-append, if◌then◌else◌, arith}
 use Rattle.std.{proofs.{BufReadLemmas.{take_through-append, drop_through-append}, Math.Seq.get_or-append_seam}, specs.Fmt.{digit_glyph, digits, digits_onto}}
 use Rattle.std.specs.{Io.{BufRead.{take_through, drop_through}, KnownBytes.IsAtEnd}, List.{All, list_any, slice_split}, Net.Text.dotted_text}
 use Rattle.std.proofs.lemmas.{Bool.{both_ways, eqb-false, false_from_ne_true, or_parts}, List.{append_cancel_right, Elements.{All-append, All-cons}}}
@@ -11,7 +11,7 @@ use Rattle.napt_config.specs.Text.{address_text}
 use Rattle.napt_state.specs.declared.line.StateLine.{StateLine}
 use Rattle.napt_state.specs.declared.line.StateLine.TheVariants as lines
 use Rattle.napt_state.specs.Saved.{IsFirst}
-use Rattle.napt_state.specs.StateText.{Text, is_space, words_in, words_text, flag_text, kind_text, protocol_name, words, line_text}
+use Rattle.napt_state.specs.StateText.{Text, is_space, words_in, words_text, flag_text, kind_text, protocol_name, end_text, count_words, words, line_text}
 
 -- what ends a word
 abbrev is_mark : ℕ → Bool
@@ -72,6 +72,10 @@ in_protocol Icmp = refl
 in_protocol Tcp = refl
 in_protocol Udp = refl
 
+in_end : (end : Option ℕ) → has_mark (end_text end) ≡ false
+in_end (Some end) = in_decimal end
+in_end None = refl
+
 abbrev have_marks : List Text → Bool
 have_marks texts = list_any has_mark texts
 
@@ -79,13 +83,18 @@ in_words : (entry : StateLine) → have_marks (words entry) ≡ false
 in_words (lines.Clock clock) = simp (in_decimal)
 in_words (lines.Binding row last) = simp (in_kind, in_protocol, in_address, in_decimal)
 in_words (lines.Flow flow) = simp (in_address, in_decimal, in_flag)
-in_words (lines.End bindings flows) = simp (in_decimal)
+in_words (lines.Log made length) = simp (in_decimal)
+in_words (lines.Entry listed) = simp (in_kind, in_protocol, in_address, in_decimal, in_end)
+in_words (lines.End counts) = elim counts.entries as (λ n. have_marks (codes "end" ∷ decimal counts.bindings
+    ∷ decimal counts.flows ∷ count_words n) ≡ false) [ Some n ↦ simp (in_decimal) | None ↦ simp (in_decimal) ]
 
 many : (entry : StateLine) → 0 < length (words entry)
 many (lines.Clock clock) = omega arith
 many (lines.Binding row last) = omega arith
 many (lines.Flow flow) = omega arith
-many (lines.End bindings flows) = omega arith
+many (lines.Log made length) = omega arith
+many (lines.Entry listed) = omega arith
+many (lines.End counts) = omega arith
 
 -- LINES
 

@@ -1,9 +1,9 @@
 -- What is said of a text that is read.
-use Rattle.std.specs.Prelude.{◌≡◌, ℕ, List, ◌++◌, Option, Some, Result, Ok, Err}
-use Rattle.napt_rules.specs.declared.Flow.{Flow}
+use Rattle.std.specs.Prelude.{◌≡◌, ℕ, ◌^◌, ◌≤◌, List, [], ◌∷◌, ◌++◌, Option, Some, None, Result, Ok, Err}
+use Rattle.napt_rules.specs.{Prelude.Binding, declared.Flow.Flow}
 use Rattle.napt_state.specs.declared.line.StateLine.TheVariants as lines
-use Rattle.napt_state.specs.declared.{line.StateLine.StateLine, saved_state.FlowLines.FlowLines, fault.{StateFault.StateFault, StateReason.{StateReason, TheVariants.{Unread, NotUtf8, Memory}}}}
-use Rattle.napt_state.specs.StateText.{line_text}
+use Rattle.napt_state.specs.declared.{line.StateLine.StateLine, saved.Saved.Saved, fault.{StateFault.StateFault, StateReason.{StateReason, TheVariants.{Unread, NotUtf8, Memory}}}}
+use Rattle.napt_state.specs.StateText.{line_text, lines_between, counts_of, end}
 
 -- a fact, unless a read failed, the reader says that the bytes are not UTF-8, or memory ran out
 abbrev pub unless_for : StateReason → Type 0 → Type 0
@@ -25,11 +25,35 @@ UnlessFailed (Err fault) fact = unless_for fault.reason fact
 abbrev pub IsFirst : StateLine → List ℕ → Option (List ℕ) → Type 0
 IsFirst entry all left = (rest : List ℕ) × (all ≡ line_text entry ++ rest) × (left ≡ Some rest)
 
-abbrev pub IsNoFlow : StateLine → Type 0
-IsNoFlow (lines.Flow flow) = ⊥
-IsNoFlow _ = Unit {0}
+-- counts that a run can go on from
+abbrev pub IsFewLine : StateLine → Type 0
+IsFewLine (lines.Log made length) = made ≤ 2 ^ 61
+IsFewLine (lines.Entry listed) = (listed.entry.sent ≤ 2 ^ 61) × (listed.entry.received ≤ 2 ^ 61)
+IsFewLine _ = Unit {0}
 
--- what was read is these flows and this line
-abbrev pub AreLines : List Flow → StateLine → Result FlowLines StateReason → Type 0
-AreLines flows next (Ok lines) = (lines.flows.items ≡ flows) × (lines.next ≡ next)
-AreLines flows next (Err reason) = ⊥
+-- what is said before the first line behind that of the clock
+abbrev pub begun : ℕ → Saved
+begun clock = record { state = record { clock = clock; list = [] }; log = None }
+
+-- a line is added
+pub record IsAdded (line : StateLine) (old new : Saved) : Type 0 where
+  pub clock : new.state.clock ≡ old.state.clock
+  pub lines : lines_between new ≡ lines_between old ++ line ∷ []
+
+-- the last binding gets one more flow
+pub record IsAddedFlow (flow : Flow) (old new : List Binding) : Type 0 where
+  pub before : List Binding
+  pub last : Binding
+  pub is : old ≡ before ++ last ∷ []
+  pub now : new ≡ before ++ record last { flows = last.flows ++ flow ∷ [] } ∷ []
+
+abbrev pub IsNoEnd : StateLine → Type 0
+IsNoEnd (lines.End counts) = ⊥
+IsNoEnd _ = Unit {0}
+
+-- a text has this line, which is not the last, behind those so far
+pub record CanFollow (line : StateLine) (so_far : Saved) : Type 0 where
+  pub other : IsNoEnd line
+  pub whole : Saved
+  pub more : List StateLine
+  pub split : lines_between whole ++ end (counts_of whole) ∷ [] ≡ lines_between so_far ++ line ∷ more

@@ -29,7 +29,7 @@ pub enum StateReason {
     WordCount,
     /// A flow comes before each binding.
     NoBinding,
-    /// The last line counts other bindings or other flows.
+    /// The last line counts other bindings, other flows or other entries.
     Counts,
     /// Something comes behind the last line.
     BehindEnd,
@@ -47,6 +47,12 @@ pub enum StateWord {
     Number,
     /// A time in ns or a count, below 2^64.
     Count,
+    /// How many entries or packets a log has, at most 2^61.
+    Few,
+    /// The end of an entry, in ns and below 2^128, or `never`.
+    End,
+    /// `binding` or `redirect`.
+    Row,
     /// 0 or 1.
     Mark,
 }
@@ -79,7 +85,9 @@ impl fmt::Display for StateWord {
             StateWord::Kind => "first word",
             StateWord::Protocol => "protocol",
             StateWord::Address => "address",
-            StateWord::Number | StateWord::Count => "number",
+            StateWord::Number | StateWord::Count | StateWord::Few => "number",
+            StateWord::End => "end",
+            StateWord::Row => "kind",
             StateWord::Mark => "mark",
         })
     }

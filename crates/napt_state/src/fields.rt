@@ -1,15 +1,18 @@
 //! The words of a line, as they are written and read.
-ghost use Rattle.std.specs.Prelude.{◌≡◌, ◌+◌, ◌++◌, ◌<◌, ◌^◌, ℕ, [], Bool, Some, OnOk, codes, decimal, slice_index_or, string_bytes};
+ghost use Rattle.std.specs.Prelude.{◌≡◌, ◌+◌, ◌++◌, ◌<◌, ◌≤◌, ◌^◌, ℕ, [], ◌∷◌, Bool, Option, Some, None, IfSome, OnOk, codes, decimal, slice_index_or, string_bytes};
 ghost use Rattle.napt_config.specs.Text.{address_text};
 ghost use Rattle.napt_wire.specs.declared.{Endpoint.Endpoint as End, Protocol.Protocol as Carried};
-ghost use Rattle.napt_rules.specs.declared.Marks.{Marks as Noted};
+ghost use Rattle.napt_rules.specs.declared.{Marks.Marks as Noted, Row.Row as Bound};
 ghost use Rattle.napt_state.specs.StateText as texts;
 
 use itoa::Buffer;
 use napt_config::Address;
-use napt_rules::Marks;
+use napt_rules::{Marks, Row};
 use napt_wire::{Endpoint, Protocol};
 use std::alloc::AllocError;
+
+/// The most entries of a log, and the most packets of one, that a run can count on.
+pub(crate) const MOST: u64 = 1 << 61;
 
 /// Appends a number in decimal. Fails only if memory runs out.
 pub(crate) fn add_number(text: &mut String, number: u64) -> Result<(), AllocError>
@@ -17,6 +20,15 @@ pub(crate) fn add_number(text: &mut String, number: u64) -> Result<(), AllocErro
 {
     let mut digits = Buffer::new();
     text.push_str(digits.format(number))
+}
+
+/// Appends a number in decimal, with a space behind it. Fails only if memory runs out.
+pub(crate) fn add_spaced(text: &mut String, number: u64) -> Result<(), AllocError>
+    ensures { OnOk result (string_bytes text.new
+        ≡ string_bytes text.old ++ texts.spaced (decimal number ∷ [])) }
+{
+    add_number(text, number)?;
+    text.push_str(" ")
 }
 
 /// Appends an address, such as `10.0.0.2`. Fails only if memory runs out.
@@ -37,13 +49,36 @@ fn add_address(text: &mut String, address: u32) -> Result<(), AllocError>
 /// Appends the two words of an endpoint, with a space behind each. Fails only if memory runs out.
 pub(crate) fn add_endpoint(text: &mut String, endpoint: Endpoint) -> Result<(), AllocError>
     ensures { OnOk result (string_bytes text.new ≡ string_bytes text.old
-        ++ (address_text endpoint.address ++ codes " " ++ decimal endpoint.number ++ codes " ")) }
+        ++ texts.spaced (texts.endpoint_words endpoint [])) }
 {
     add_address(text, endpoint.address)?;
     text.push_str(" ")?;
-    add_number(text, u64::from(endpoint.number))?;
+    add_spaced(text, u64::from(endpoint.number))
+}
+
+/// Appends the words of a row, with a space behind each. Fails only if memory runs out.
+pub(crate) fn add_row(text: &mut String, row: &Row) -> Result<(), AllocError>
+    ensures { OnOk result (string_bytes text.new ≡ string_bytes text.old
+        ++ texts.spaced (texts.row_words row.now [])) }
+{
+    text.push_str(if row.fixed { "redirect " } else { "binding " })?;
+    text.push_str(protocol_name(row.protocol))?;
     text.push_str(" ")?;
-    Ok(())
+    add_endpoint(text, row.inside)?;
+    add_endpoint(text, row.external)
+}
+
+/// Appends when an entry ends, with a space behind it. Fails only if memory runs out.
+pub(crate) fn add_end(text: &mut String, end: Option<u128>) -> Result<(), AllocError>
+    ensures { OnOk result (string_bytes text.new
+        ≡ string_bytes text.old ++ texts.spaced (texts.end_text end ∷ [])) }
+{
+    let mut digits = Buffer::new();
+    text.push_str(match end {
+        Some(end) => digits.format(end),
+        None => "never",
+    })?;
+    text.push_str(" ")
 }
 
 /// Appends the words of marks, with a space before each. Fails only if memory runs out.
@@ -85,10 +120,31 @@ pub(crate) fn word(line: &str, place: usize) -> &str
 
 /// The number that the word at a place is.
 pub(crate) fn number(line: &str, place: usize) -> Option<u64>
-    ensures { (number : ℕ) → number < 2 ^ 64 →
+    ensures read { (number : ℕ) → number < 2 ^ 64 →
         slice_index_or (texts.words_in line.now) place [] ≡ decimal number → result ≡ Some number }
+    ensures none { slice_index_or (texts.words_in line.now) place [] ≡ [] → result ≡ None }
 {
     word(line, place).parse::<u64>().ok()
+}
+
+/// The number that the word at a place is, if it is at most `MOST`.
+pub(crate) fn count(line: &str, place: usize) -> Option<u64>
+    ensures read { (number : ℕ) → number ≤ 2 ^ 61 →
+        slice_index_or (texts.words_in line.now) place [] ≡ decimal number → result ≡ Some number }
+    ensures few { IfSome result (λ number. number ≤ 2 ^ 61) }
+{
+    number(line, place).filter(|number| *number <= MOST)
+}
+
+/// The end of an entry that the word at a place is.
+pub(crate) fn end(line: &str, place: usize) -> Option<Option<u128>>
+    ensures { (end : Option ℕ) → texts.IsEnd end →
+        slice_index_or (texts.words_in line.now) place [] ≡ texts.end_text end → result ≡ Some end }
+{
+    match word(line, place) {
+        "never" => Some(None),
+        end => Some(Some(end.parse::<u128>().ok()?)),
+    }
 }
 
 /// The endpoint that the words from a place on are.
@@ -119,6 +175,39 @@ pub(crate) fn protocol(line: &str, place: usize) -> Option<Protocol>
         "udp" => Some(Protocol::Udp),
         _ => None,
     }
+}
+
+/// Whether a row is a redirect, by the word at a place.
+pub(crate) fn is_fixed(line: &str, place: usize) -> Option<bool>
+    ensures { (fixed : Bool) →
+        slice_index_or (texts.words_in line.now) place [] ≡ texts.kind_text fixed →
+        result ≡ Some fixed }
+{
+    match word(line, place) {
+        "binding" => Some(false),
+        "redirect" => Some(true),
+        _ => None,
+    }
+}
+
+/// The row that the six words from a place on are.
+pub(crate) fn row(line: &str, place: usize) -> Option<Row>
+    requires { place < 90 }
+    ensures { (row : Bound) → texts.IsRow row →
+        slice_index_or (texts.words_in line.now) place [] ≡ texts.kind_text row.fixed →
+        slice_index_or (texts.words_in line.now) (place + 1) [] ≡ texts.protocol_name row.protocol →
+        slice_index_or (texts.words_in line.now) (place + 2) [] ≡ address_text row.inside.address →
+        slice_index_or (texts.words_in line.now) (place + 3) [] ≡ decimal row.inside.number →
+        slice_index_or (texts.words_in line.now) (place + 4) [] ≡ address_text row.external.address →
+        slice_index_or (texts.words_in line.now) (place + 5) [] ≡ decimal row.external.number →
+        result ≡ Some row }
+{
+    Some(Row {
+        fixed: is_fixed(line, place)?,
+        protocol: protocol(line, place + 1)?,
+        inside: endpoint(line, place + 2)?,
+        external: endpoint(line, place + 4)?,
+    })
 }
 
 fn flag(line: &str, place: usize) -> Option<bool>

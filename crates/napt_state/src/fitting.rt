@@ -1,38 +1,16 @@
 //! Whether the bindings of a state fit a configuration.
 ghost use Rattle.std.specs.{Prelude.{◌≡◌, ℕ, List, nat_lt, IfOk}, List.list_any};
-ghost use Rattle.napt_rules.specs.{Bindings.Binding as Bound, Opening.{opening, redirected}};
-ghost use Rattle.napt_config.specs.Rules.{pair_of};
+ghost use Rattle.napt_rules.specs.{Bindings.Binding as Bound, Opening.opening};
 ghost use Rattle.napt_rules.specs.Taking as taking;
 ghost use Rattle.napt_state.specs.Taken.{AreOf};
 
 use crate::endpoints::Endpoints;
-use napt_config::{Config, Redirect};
+use napt_account::redirected;
+use napt_config::Config;
 use napt_rules::{Flow, Misfit, Row, State, StateBinding};
 use napt_wire::{Endpoint, Protocol};
 use std::alloc::{AllocError, Global};
 use std::collections::HashSet;
-
-/// The row of a redirect of the configuration.
-fn redirect_row(config: &Config, redirect: Redirect) -> Row
-    ensures { result ≡ (redirected (pair_of config.now) redirect).row }
-{
-    Row {
-        protocol: if redirect.tcp {
-            Protocol::Tcp
-        } else {
-            Protocol::Udp
-        },
-        inside: Endpoint {
-            address: redirect.address,
-            number: redirect.port,
-        },
-        external: Endpoint {
-            address: config.pair(redirect.address),
-            number: redirect.external,
-        },
-        fixed: true,
-    }
-}
 
 /// The endpoints of the configuration's redirects.
 fn redirect_endpoints(alloc: Global, config: &Config) -> Result<Endpoints, AllocError>
@@ -43,7 +21,7 @@ fn redirect_endpoints(alloc: Global, config: &Config) -> Result<Endpoints, Alloc
     let mut left = redirects.len();
     while left > 0 {
         left -= 1;
-        endpoints.insert(&redirect_row(config, redirects[left]))?;
+        endpoints.insert(&redirected(config, redirects[left]))?;
     }
     Ok(endpoints)
 }

@@ -8,6 +8,7 @@ mod fault;
 mod fields;
 mod fitting;
 mod line;
+mod saved;
 mod saved_state;
 mod taking;
 #[cfg(test)]
@@ -16,5 +17,6 @@ mod text;
 mod wrong;
 
 pub use fault::{StateFault, StateReason, StateWord};
+pub use saved::{KeptLog, Saved};
 pub use taking::take_up;
 pub use text::{read_state, write_state};

@@ -1,25 +1,17 @@
 //! The text of a state, read line by line.
-ghost use Rattle.std.specs.{Prelude.{◌≡◌, ◌≢◌, ◌+◌, ◌-◌, ◌^◌, ◌++◌, ◌<◌, min, ℕ, List, [], Ok, Err, Some, None, IfOk, IsOkAnd, length, map, flat_map}, List.All, Io.KnownBytes.IsAtEnd};
-ghost use Rattle.napt_rules.specs.{Prelude.Each, Bindings.Binding as Bound, Sequential.State as Left};
-ghost use Rattle.napt_rules.specs.declared.Flow.{Flow as Used};
+ghost use Rattle.std.specs.{Prelude.{◌≡◌, ◌≢◌, ◌+◌, ◌-◌, ◌^◌, ◌++◌, ◌<◌, min, ℕ, List, [], Ok, Err, Some, None, IfOk, OnOk, IsOk, IfSome, length}, List.All, Io.KnownBytes.IsAtEnd};
+ghost use Rattle.napt_account.specs.GoingOn.{IsFew};
 ghost use Rattle.napt_state.specs.StateText as texts;
-ghost use Rattle.napt_state.specs.Saved as saved;
-ghost use Rattle.napt_state.specs.declared.line.StateLine.{StateLine as Told};
+ghost use Rattle.napt_state.specs.Saved as said;
+ghost use Rattle.napt_state.specs.declared.{line.StateLine.{StateLine as Told}, saved.Saved.{Saved as Left}};
 
 use crate::fault::{StateReason, StateWord};
 use crate::fields;
-use crate::line::StateLine;
+use crate::line::{Counts, StateLine};
+use crate::saved::Saved;
 use crate::wrong::{reason_of, wrong_word};
-use napt_rules::{Flow, State, StateBinding};
 use std::alloc::Global;
 use std::io::{BufRead, ErrorKind};
-
-/// Flows, and the line behind them, which is none of one.
-#[derive(Drop)]
-struct FlowLines {
-    flows: Vec<Flow>,
-    next: StateLine,
-}
 
 /// A text of a state that is read line by line, in the memory of its longest line.
 #[derive(Drop)]
@@ -60,16 +52,17 @@ impl<R: BufRead + Drop> SavedState<R> {
         ensures lines { self.new.lines ≡ min (self.old.lines + 1) (2 ^ 64 - 1) }
         ensures entry { (entry : Told) (rest : List ℕ) → texts.IsStateLine entry →
             R.remaining self.old.reader ≡ Some (texts.line_text entry ++ rest) →
-            saved.UnlessUnread result ((result ≡ Ok (Some entry))
+            said.UnlessUnread result ((result ≡ Ok (Some entry))
             × (R.remaining self.new.reader ≡ Some rest)) }
         ensures exact { (entry : Told) (all : List ℕ) → R.remaining self.old.reader ≡ Some all →
-            result ≡ Ok (Some entry) → saved.IsFirst entry all (R.remaining self.new.reader) }
+            result ≡ Ok (Some entry) → said.IsFirst entry all (R.remaining self.new.reader) }
         ensures end { R.remaining self.old.reader ≡ Some [] →
-            saved.UnlessUnread result (result ≡ Ok None) }
+            said.UnlessUnread result (result ≡ Ok None) }
         ensures none { result ≡ Ok None → IsAtEnd (R.remaining self.old.reader) }
         ensures torn { (torn : List ℕ) → 0 < length torn → All (λ byte. byte ≢ 10) torn →
             R.remaining self.old.reader ≡ Some torn →
-            saved.UnlessUnread result (result ≡ Err StateReason.Torn) }
+            said.UnlessUnread result (result ≡ Err StateReason.Torn) }
+        ensures few { (line : Told) → result ≡ Ok (Some line) → said.IsFewLine line }
     {
         self.line.clear();
         self.lines = self.lines.saturating_add(1);
@@ -104,10 +97,11 @@ impl<R: BufRead + Drop> SavedState<R> {
     fn entry(&mut self) -> Result<StateLine, StateReason>
         ensures entry { (entry : Told) (rest : List ℕ) → texts.IsStateLine entry →
             R.remaining self.old.reader ≡ Some (texts.line_text entry ++ rest) →
-            saved.UnlessUnread result ((result ≡ Ok entry)
+            said.UnlessUnread result ((result ≡ Ok entry)
             × (R.remaining self.new.reader ≡ Some rest)) }
         ensures exact { (all : List ℕ) → R.remaining self.old.reader ≡ Some all →
-            IfOk result (λ entry. saved.IsFirst entry all (R.remaining self.new.reader)) }
+            IfOk result (λ entry. said.IsFirst entry all (R.remaining self.new.reader)) }
+        ensures few { IfOk result said.IsFewLine }
     {
         match self.next()? {
             Some(entry) => Ok(entry),
@@ -115,88 +109,78 @@ impl<R: BufRead + Drop> SavedState<R> {
         }
     }
 
-    /// Reads the lines of flows, and the first line that is none of one.
-    fn flows(&mut self) -> Result<FlowLines, StateReason>
-        ensures read { (flows : List Used) (next : Told) (rest : List ℕ) →
-            Each (λ flow. texts.IsStateLine (texts.flow flow)) flows → texts.IsStateLine next →
-            saved.IsNoFlow next → R.remaining self.old.reader
-            ≡ Some (flat_map texts.line_text (map texts.flow flows)
-            ++ (texts.line_text next ++ rest)) →
-            saved.UnlessUnread result (saved.AreLines flows next result
+    /// Reads the first line, that of a clock.
+    fn clock(&mut self) -> Result<u64, StateReason>
+        ensures read { (clock : ℕ) (rest : List ℕ) → clock < 2 ^ 64 →
+            R.remaining self.old.reader ≡ Some (texts.line_text (texts.clock clock) ++ rest) →
+            said.UnlessUnread result ((result ≡ Ok clock)
             × (R.remaining self.new.reader ≡ Some rest)) }
         ensures exact { (all : List ℕ) → R.remaining self.old.reader ≡ Some all →
-            IfOk result (λ lines. (rest : List ℕ) × (R.remaining self.new.reader ≡ Some rest)
-            × (all ≡ flat_map texts.line_text (map texts.flow lines.flows.items)
-            ++ (texts.line_text lines.next ++ rest))) }
+            IfOk result (λ clock. said.IsFirst (texts.clock clock) all
+            (R.remaining self.new.reader)) }
     {
-        let mut flows = Vec::new(self.alloc);
-        for _ in 0..u64::MAX {
-            match self.entry()? {
-                StateLine::Flow(flow) => flows.push(flow)?,
-                next => return Ok(FlowLines { flows, next }),
-            }
+        match self.entry()? {
+            StateLine::Clock(clock) => Ok(clock),
+            _ => Err(self.misplaced()),
         }
-        Err(StateReason::Memory)
     }
 
-    /// Reads the bindings, each with its flows, and the last line.
-    fn list(&mut self) -> Result<Vec<StateBinding>, StateReason>
-        ensures read { (list : List Bound) (rest : List ℕ) →
-            Each texts.IsStateLine (texts.list_lines list) → R.remaining self.old.reader
-            ≡ Some (flat_map texts.line_text (texts.list_lines list) ++ rest) →
-            saved.UnlessUnread result (IsOkAnd result (λ read. read.items ≡ list)
-            × (R.remaining self.new.reader ≡ Some rest)) }
-        ensures exact { (all : List ℕ) → R.remaining self.old.reader ≡ Some all →
-            IfOk result (λ list. (rest : List ℕ) × (R.remaining self.new.reader ≡ Some rest)
-            × (all ≡ flat_map texts.line_text (texts.list_lines list.items) ++ rest)) }
+    /// The reason of a line that may not stand where it is.
+    fn misplaced(&self) -> StateReason {
+        let kind = fields::word(self.line.as_str(), 0);
+        wrong_word(self.alloc, StateWord::Kind, kind)
+    }
+
+    /// Adds what a line says to what the lines before it say.
+    fn add(&self, saved: &mut Saved, line: StateLine) -> Result<(), StateReason>
+        ensures added { OnOk result (said.IsAdded line saved.old saved.new) }
+        ensures read { said.CanFollow line saved.old → said.UnlessUnread result (IsOk result) }
     {
-        let mut list = Vec::new(self.alloc);
-        let mut flows = 0_u64;
-        let mut next = self.entry()?;
-        for _ in 0..u64::MAX {
-            match next {
-                StateLine::Binding(row, last) => {
-                    let behind = self.flows()?;
-                    let Some(count) = flows.checked_add(behind.flows.len() as u64) else {
-                        return Err(StateReason::Memory);
-                    };
-                    flows = count;
-                    list.push(StateBinding {
-                        row,
-                        last,
-                        flows: behind.flows,
-                    })?;
-                    next = behind.next;
-                }
-                StateLine::End(bindings, count) => {
-                    if bindings == list.len() as u64 && count == flows {
-                        return Ok(list);
-                    }
-                    return Err(StateReason::Counts);
-                }
-                StateLine::Flow(_) => return Err(StateReason::NoBinding),
-                StateLine::Clock(_) => return Err(wrong_word(self.alloc, StateWord::Kind, "clock")),
-            }
+        if saved.add(self.alloc, line)? {
+            return Ok(());
         }
-        Err(StateReason::Memory)
+        match (line, &saved.log) {
+            (StateLine::Flow(_), None) => Err(StateReason::NoBinding),
+            _ => Err(self.misplaced()),
+        }
+    }
+
+    /// Reads the end of a text behind a line with these counts.
+    fn end(&mut self, saved: &Saved, counts: Counts) -> Result<(), StateReason>
+        ensures same { OnOk result (counts ≡ texts.counts_of saved.now) }
+        ensures exact { OnOk result (IsAtEnd (R.remaining self.old.reader)) }
+        ensures read { counts ≡ texts.counts_of saved.now → R.remaining self.old.reader ≡ Some [] →
+            said.UnlessUnread result (IsOk result) }
+    {
+        if counts != Counts::of(&saved.state, saved.log.as_ref())? {
+            return Err(StateReason::Counts);
+        }
+        match self.next()? {
+            None => Ok(()),
+            Some(_) => Err(StateReason::BehindEnd),
+        }
     }
 
     /// Reads the whole text.
-    pub(crate) fn state(&mut self) -> Result<State, StateReason>
-        ensures read { (state : Left) → texts.IsState state →
-            R.remaining self.old.reader ≡ Some (texts.state_text state) →
-            saved.UnlessUnread result (result ≡ Ok state) }
+    pub(crate) fn saved(&mut self) -> Result<Saved, StateReason>
+        ensures read { (whole : Left) → texts.IsSaved whole →
+            R.remaining self.old.reader ≡ Some (texts.saved_text whole) →
+            said.UnlessUnread result (result ≡ Ok whole) }
         ensures exact { (text : List ℕ) → R.remaining self.old.reader ≡ Some text →
-            IfOk result (λ state. text ≡ texts.state_text state) }
+            IfOk result (λ read. text ≡ texts.saved_text read) }
+        ensures few { IfOk result (λ read. IfSome read.log (λ log. IsFew log.log)) }
     {
-        let StateLine::Clock(clock) = self.entry()? else {
-            let kind = fields::word(self.line.as_str(), 0);
-            return Err(wrong_word(self.alloc, StateWord::Kind, kind));
-        };
-        let list = self.list()?;
-        match self.next()? {
-            None => Ok(State { clock, list }),
-            Some(_) => Err(StateReason::BehindEnd),
+        let clock = self.clock()?;
+        let mut saved = Saved::new(self.alloc, clock);
+        for _ in 0..u64::MAX {
+            match self.entry()? {
+                StateLine::End(counts) => {
+                    self.end(&saved, counts)?;
+                    return Ok(saved);
+                }
+                line => self.add(&mut saved, line)?,
+            }
         }
+        Err(StateReason::Memory)
     }
 }

@@ -72,7 +72,7 @@ fn keep_loose(config: &Config, state: &mut State)
 
 /// Removes from a state what goes on under no configuration, or not under this one: redirects, and what has gone at the
 /// state's clock. Of what is left it returns the first binding that does not fit, and why. In linear time. Fails only if
-/// memory runs out.
+/// memory runs out; then too the others are removed.
 pub fn take_up(
     alloc: Global,
     config: &Config,

@@ -1,6 +1,6 @@
 //! A state with a line of each kind is written and read back; damaged texts are refused, with a line that says why.
 
-use crate::{read_state, take_up, write_state};
+use crate::{Saved, read_state, take_up, write_state};
 use napt_config::Config;
 use napt_rules::Misfit;
 use std::alloc::{AllocError, Global};
@@ -15,6 +15,14 @@ const TEXT: &str = "clock 1800000000000000000\n\
     binding icmp 10.0.0.2 7 203.0.113.1 7 18446744073709551615\n\
     end 3 1\n";
 
+const WITH_LOG: &str = "clock 1800000000000000000\n\
+    redirect tcp 10.0.0.9 80 203.0.113.1 8080 0\n\
+    binding udp 10.0.0.2 5001 203.0.113.1 1025 1799999999000000001\n\
+    log 17 2305843009213693953\n\
+    entry 1 redirect tcp 10.0.0.9 80 203.0.113.1 8080 0 never 3 2305843009213693952 7 8\n\
+    entry 17 binding udp 10.0.0.2 5001 203.0.113.1 1025 5 340282366920938463463374607431768211455 1 2 9 10\n\
+    end 2 0 2\n";
+
 const TWO_LINES: &str = "binding udp 10.0.0.2 5001 203.0.113.1 1025 1000000000\n\
     binding udp 10.0.0.2 5002 203.0.113.1 1027 0\n\
     end 2 0\n";
@@ -23,7 +31,7 @@ const TWO_LINES: &str = "binding udp 10.0.0.2 5001 203.0.113.1 1025 1000000000\n
 fn written(alloc: Global, text: &str) -> io::Result<Vec<u8>> {
     let mut written = Vec::new(alloc);
     match read_state(alloc, text.as_bytes()) {
-        Ok(state) => write_state(alloc, &mut written, &state)?,
+        Ok(saved) => write_state(alloc, &mut written, &saved.state, saved.log.as_ref())?,
         Err(fault) => write!(&mut written, "{fault}")?,
     }
     Ok(written)
@@ -31,7 +39,12 @@ fn written(alloc: Global, text: &str) -> io::Result<Vec<u8>> {
 
 #[test]
 fn a_state_is_read_and_written_again(rt: HostRuntime) -> Result<(), Fail> {
-    for text in [TEXT, "clock 0\nend 0 0\n"] {
+    for text in [
+        TEXT,
+        WITH_LOG,
+        "clock 0\nend 0 0\n",
+        "clock 0\nlog 0 0\nend 0 0 0\n",
+    ] {
         assert_eq!(rt; written(rt.alloc(), text)?.as_slice(), text.as_bytes());
     }
     Ok(())
@@ -88,6 +101,44 @@ fn what_is_no_state_is_refused(rt: HostRuntime) -> Result<(), Fail> {
         ("clock 1\nend 1 0\n", "line 2: counts of other lines"),
         ("clock 1\nend 0 1\n", "line 2: counts of other lines"),
         ("clock 1\nend 0 0\nend 0 0\n", "line 3: behind the end"),
+        ("clock 1\nend 0 0 0\n", "line 2: counts of other lines"),
+        (
+            "clock 1\nlog 1 0\nend 0 0\n",
+            "line 3: counts of other lines",
+        ),
+        (
+            "clock 1\nentry 1 binding\n",
+            "line 2: too many words, or too few",
+        ),
+        ("clock 1\nlog 0 0\nlog 0 0\n", "line 3: first word 'log'"),
+        (
+            "clock 1\nlog 0 0\nbinding udp 10.0.0.2 5000 203.0.113.1 1 1\n",
+            "line 3: first word 'binding'",
+        ),
+        (
+            "clock 1\nlog 0 0\nflow 10.0.0.2 5000 1 0 0 0 0 0\n",
+            "line 3: first word 'flow'",
+        ),
+        (
+            "clock 1\nlog 2305843009213693953 0\n",
+            "line 2: number '2305843009213693953'",
+        ),
+        (
+            "clock 1\nentry 1 binding udp 10.0.0.2 5 203.0.113.1 5 1 2 3 4 5 6\n",
+            "line 2: first word 'entry'",
+        ),
+        (
+            "clock 1\nlog 1 0\nentry 1 flow udp 10.0.0.2 5 203.0.113.1 5 1 2 3 4 5 6\n",
+            "line 3: kind 'flow'",
+        ),
+        (
+            "clock 1\nlog 1 0\nentry 1 binding udp 10.0.0.2 5 203.0.113.1 5 1 none 3 4 5 6\n",
+            "line 3: end 'none'",
+        ),
+        (
+            "clock 1\nlog 1 0\nentry 1 binding udp 10.0.0.2 5 203.0.113.1 5 1 2 2305843009213693953 4 5 6\n",
+            "line 3: number '2305843009213693953'",
+        ),
     ];
     for (text, fault) in cases {
         assert_eq!(rt; written(rt.alloc(), text)?.as_slice(), fault.as_bytes());
@@ -114,7 +165,7 @@ const CONFIG: &str = "pool = [\"203.0.113.1\"]\n\
 /// The first reason against a state with these lines behind its clock.
 fn misfit(alloc: Global, lines: &str) -> Result<Option<Misfit>, AllocError> {
     let text = format!(in alloc; "clock 1000000000\n{lines}")?;
-    let Ok(mut state) = read_state(alloc, text.as_bytes()) else {
+    let Ok(Saved { mut state, .. }) = read_state(alloc, text.as_bytes()) else {
         return Err(AllocError);
     };
     let Ok(config) = Config::read(alloc, CONFIG.as_bytes()) else {

@@ -1,14 +1,16 @@
 //! The text of a state, written and read whole.
-ghost use Rattle.std.specs.{Prelude.{◌≡◌, ℕ, List, Option, Some, Ok, OnOk, IfOk, flat_map}, Io.KnownBytes.Appends};
-ghost use Rattle.napt_rules.specs.Sequential.{State as Left};
+ghost use Rattle.std.specs.{Prelude.{◌≡◌, ℕ, List, Option, Some, Ok, OnOk, IfOk, IfSome, flat_map}, Io.KnownBytes.Appends, Option.option_copied};
+ghost use Rattle.napt_account.specs.GoingOn.{IsFew};
+ghost use Rattle.napt_state.specs.declared.saved.Saved.{Saved as Left};
 ghost use Rattle.napt_state.specs.Saved.{UnlessFailed};
 ghost use Rattle.napt_state.specs.StateText as texts;
 
 use crate::fault::StateFault;
-use crate::line::StateLine;
+use crate::line::{Counts, StateLine};
+use crate::saved::{KeptLog, Saved};
 use crate::saved_state::SavedState;
 use napt_rules::{State, StateBinding};
-use std::alloc::{AllocError, Global};
+use std::alloc::Global;
 use std::io;
 use std::io::{BufRead, Write};
 
@@ -38,43 +40,67 @@ fn put_binding<W: Write>(
     Ok(())
 }
 
-/// Writes the text of a state line by line, and flushes it, in the memory of one line. Fails if a write or the flush
-/// fails, or memory runs out; what is written then is not the text of a state.
-pub fn write_state<W: Write>(alloc: Global, writer: &mut W, state: &State) -> io::Result<()>
+/// Writes a log and its entries.
+fn put_log<W: Write>(writer: &mut W, line: &mut String, saved: &KeptLog) -> io::Result<()>
     ensures { OnOk result (Appends (W.contents writer.old) (W.contents writer.new)
-        (texts.state_text state.now)) }
+        (flat_map texts.line_text (texts.log_lines (Some saved.now)))) }
+{
+    put_line(writer, line, &StateLine::Log(saved.log.made, saved.length))?;
+    for listed in &saved.log.living {
+        put_line(writer, line, &StateLine::Entry(*listed))?;
+    }
+    Ok(())
+}
+
+/// Writes a log and its entries, if there is one.
+fn put_any_log<W: Write>(writer: &mut W, line: &mut String, log: Option<&KeptLog>) -> io::Result<()>
+    ensures { OnOk result (Appends (W.contents writer.old) (W.contents writer.new)
+        (flat_map texts.line_text (texts.log_lines (option_copied log.entry)))) }
+{
+    match log {
+        Some(saved) => put_log(writer, line, saved),
+        None => Ok(()),
+    }
+}
+
+/// Writes the text of a state, and of a log left beside it, line by line, and flushes it, in the memory of one line. Fails if
+/// a write or the flush fails, or memory runs out: then the writer may have taken any first bytes of the text.
+pub fn write_state<W: Write>(
+    alloc: Global,
+    writer: &mut W,
+    state: &State,
+    log: Option<&KeptLog>,
+) -> io::Result<()>
+    ensures { OnOk result (Appends (W.contents writer.old) (W.contents writer.new)
+        (texts.saved_text (record { state = state.now; log = option_copied log.entry }))) }
 {
     let mut line = String::new(alloc);
     put_line(writer, &mut line, &StateLine::Clock(state.clock))?;
-    let mut flows = 0_u64;
     for binding in &state.list {
         put_binding(writer, &mut line, binding)?;
-        let Some(count) = flows.checked_add(binding.flows.len() as u64) else {
-            return Err(io::Error::from(AllocError));
-        };
-        flows = count;
     }
-    put_line(
-        writer,
-        &mut line,
-        &StateLine::End(state.list.len() as u64, flows),
-    )?;
+    put_any_log(writer, &mut line, log)?;
+    let counts = Counts::of(state, log)?;
+    put_line(writer, &mut line, &StateLine::End(counts))?;
     writer.flush()
 }
 
-/// Reads the text of a state to its end, in the memory of the state and of one line. Nothing else is taken: no part of a
-/// text, and nothing with anything behind it. The fault is the first one.
-pub fn read_state<R: BufRead + Drop>(alloc: Global, reader: R) -> Result<State, StateFault>
-    ensures read { (state : Left) → texts.IsState state →
-        R.remaining reader ≡ Some (texts.state_text state) → UnlessFailed result (result ≡ Ok state) }
+/// Reads the text of a state, and of a log beside it, to its end, in the memory of both and of one line. Nothing else is
+/// taken: no part of a text, and nothing with anything behind it. The fault is the first one; of the reader, which is
+/// dropped, some first bytes were taken then. `read` says nothing where a read fails, memory runs out or the reader says
+/// that the bytes are not UTF-8, which those of a state's text are.
+pub fn read_state<R: BufRead + Drop>(alloc: Global, reader: R) -> Result<Saved, StateFault>
+    ensures read { (saved : Left) → texts.IsSaved saved →
+        R.remaining reader ≡ Some (texts.saved_text saved) → UnlessFailed result (result ≡ Ok saved) }
     ensures exact { (text : List ℕ) → R.remaining reader ≡ Some text →
-        IfOk result (λ state. text ≡ texts.state_text state) }
+        IfOk result (λ saved. text ≡ texts.saved_text saved) }
+    ensures few { IfOk result (λ saved. IfSome saved.log (λ log. IsFew log.log)) }
 {
-    let mut saved = SavedState::new(alloc, reader);
-    match saved.state() {
-        Ok(state) => Ok(state),
+    let mut text = SavedState::new(alloc, reader);
+    match text.saved() {
+        Ok(saved) => Ok(saved),
         Err(reason) => Err(StateFault {
-            line: saved.line(),
+            line: text.line(),
             reason,
         }),
     }

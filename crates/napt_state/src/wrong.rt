@@ -10,12 +10,17 @@ const SHOWN: usize = 40;
 
 /// The words behind the first one of a line.
 fn words_behind(kind: &str) -> &'static [StateWord] {
-    use StateWord::{Address, Count, Mark, Number, Protocol};
+    use StateWord::{Address, Count, End, Few, Mark, Number, Protocol, Row};
     match kind {
         "clock" => &[Count],
         "binding" | "redirect" => &[Protocol, Address, Number, Address, Number, Count],
         "flow" => &[Address, Number, Count, Mark, Mark, Mark, Mark, Mark],
-        "end" => &[Count, Count],
+        "log" => &[Few, Count],
+        "entry" => &[
+            Count, Row, Protocol, Address, Number, Address, Number, Count, End, Few, Few, Count,
+            Count,
+        ],
+        "end" => &[Count, Count, Count],
         _ => &[],
     }
 }
@@ -34,6 +39,9 @@ fn is_right(kind: StateWord, line: &str, place: usize) -> bool {
         StateWord::Address => word.parse::<Address>().is_ok() && word.split('.').all(is_plain),
         StateWord::Number => word.parse::<u16>().is_ok() && is_plain(word),
         StateWord::Count => word.parse::<u64>().is_ok() && is_plain(word),
+        StateWord::Few => fields::count(line, place).is_some() && is_plain(word),
+        StateWord::End => word == "never" || word.parse::<u128>().is_ok() && is_plain(word),
+        StateWord::Row => word == "binding" || word == "redirect",
         StateWord::Mark => word == "0" || word == "1",
     }
 }
@@ -56,8 +64,9 @@ pub(crate) fn reason_of(alloc: Global, line: &str) -> StateReason {
     if behind.is_empty() {
         return wrong_word(alloc, StateWord::Kind, first);
     }
-    if line.split(' ').count() == behind.len() + 1 {
-        for (before, kind) in behind.iter().enumerate() {
+    let words = line.split(' ').count() - 1;
+    if words == behind.len() || first == "end" && words == 2 {
+        for (before, kind) in behind.iter().take(words).enumerate() {
             if !is_right(*kind, line, before + 1) {
                 return wrong_word(alloc, *kind, fields::word(line, before + 1));
             }

@@ -7,7 +7,7 @@ use Rattle.napt_config.specs.{Rules.IsBlock, declared.settings.{Block.Block, Tim
 use Rattle.napt_wire.specs.declared.{Protocol.{Protocol, TheVariants.{Icmp, Tcp, Udp}}, Endpoint.Endpoint}
 use Rattle.napt_rules.specs.{declared.{Granting.Granting, Row.Row}, Prelude.{Choosing, Each, Binding, is_live, with_live_flows, row, candidates}}
 use Rattle.napt_binding.specs.declared.addresses.Addresses.{Addresses}
-use Rattle.napt_table.specs.{declared.bindings.{keys.ExternalKey.ExternalKey, held.Held.TheInside.Inside}, Counts.{are_counted, count_by, count_in}}
+use Rattle.napt_table.specs.{declared.bindings.{keys.ExternalKey.ExternalKey, binding_index.BindingIndex.TheInside.Inside}, Counts.{are_counted, count_by, count_in}}
 use Rattle.napt_table.specs.{Hosts.{held_for, count_held}, Held.seen, Holdings.{Holdings, held, held_at, count_all, IsNumberOf, HoldsSame, ChangesOne}}
 use Rattle.napt_table.specs.{HeldShown.{holdings_of, number_at, IsHeld}, InUse.{is_in_use, AreByProtocol}, Keys.{key_eq, inside_eq, external_key, inside_key}}
 use Rattle.napt_table.proofs.{InBlock.each_small, Hosts.{count_same, count_changed, count_none, count_few}, Seen.{seen_is, seen_live}}

@@ -2,7 +2,7 @@
 use Rattle.std.specs.Prelude.{◌≡◌, ℕ, ◌+◌, ◌-◌, ◌*◌, ◌/◌, ◌%◌, ◌==◌, ◌≤◌, ◌⊎◌, Bool, true, false, nat_lt, cond, List, ◌++◌, map, Option, Some, None}
 use Rattle.std.specs.List.{range_with_len}
 use Rattle.napt_config.specs.declared.settings.{Block.Block, Seed.Seed}
-use Rattle.napt_wire.specs.declared.{Endpoint.Endpoint, Protocol.{Protocol, TheVariants.{Icmp, Tcp, Udp}}}
+use Rattle.napt_wire.specs.declared.{Endpoint.Endpoint, Protocol.{Protocol, TheVariants.Icmp}}
 use Rattle.napt_rules.specs.Prelude.{mixed}
 use Rattle.napt_table.specs.declared.class.Class.{Class}
 
@@ -26,8 +26,7 @@ port_class false port =
 
 abbrev pub class_of : Bool → Protocol → ℕ → Class
 class_of keeps_parity Icmp identifier = record { least = 0; many = 65536; apart = 1 }
-class_of keeps_parity Tcp port = port_class keeps_parity port
-class_of keeps_parity Udp port = port_class keeps_parity port
+class_of keeps_parity _ port = port_class keeps_parity port
 
 -- a class that can be searched: without gaps, or every other number
 abbrev pub IsSearched : Class → Type 0

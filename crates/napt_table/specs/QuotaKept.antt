@@ -7,7 +7,5 @@ use Rattle.napt_table.specs.{declared.event.Event.Event, Events.played_all}
 -- so whatever happened to a table, no host has more than the quota, or than it began with
 abbrev pub PlayedKeepsQuota : Type 0
 PlayedKeepsQuota = (timers : Timers) (granting : Granting) (quota : ℕ) → granting.quota ≡ Some quota →
-    (inbound : Inbound)
-    (address : ℕ) (events : List (ℕ × Event)) (begun : List Binding) (at host : ℕ) →
-    count_for at host (played_all timers granting inbound address events begun)
-    ≤ max quota (count_for at host begun)
+    (inbound : Inbound) (address : ℕ) (events : List (ℕ × Event)) (begun : List Binding) (at host : ℕ) →
+    count_for at host (played_all timers granting inbound address events begun) ≤ max quota (count_for at host begun)

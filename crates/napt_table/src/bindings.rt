@@ -10,7 +10,7 @@ ghost use Rattle.napt_binding.specs.Ends.{least_timer};
 ghost use Rattle.napt_table.specs.{Held.HeldIsPurgedLater, Holdings.{KeepsSeen, held as held_at_key}, Bindings.{AreDue, AreDueBut, come_up}};
 
 use crate::TimedRow;
-use crate::bindings::held::Held;
+use crate::bindings::binding_index::BindingIndex;
 use crate::bindings::keys::ExternalKey;
 use napt_binding::{IdleTimers, end_of, is_live, until};
 use napt_collections::Due;
@@ -19,7 +19,7 @@ use napt_wire::{Cause, Endpoint, Protocol};
 use std::alloc::{AllocError, Global};
 use std::marker::Model;
 
-mod held;
+mod binding_index;
 mod keys;
 mod numbers_in_use;
 mod places;
@@ -32,7 +32,7 @@ pub(crate) struct Bindings {
     timers: IdleTimers,
     /// The time of the last packet, in ns; before the first that at which it begins.
     at: u64,
-    held: Held,
+    held: BindingIndex,
     /// One entry for each binding that is not fixed, with a time until which it is sure to live.
     due: Due<ExternalKey>,
 }
@@ -54,7 +54,7 @@ impl Model for Bindings {
 
 /// For a binding without a queue entry: removes one that had ended the hold before `at`, queues another.
 fn requeue_or_remove(
-    held: &mut Held,
+    held: &mut BindingIndex,
     due: &mut Due<ExternalKey>,
     timers: IdleTimers,
     at: u64,
@@ -111,7 +111,7 @@ impl Bindings {
         Ok(Bindings {
             timers,
             at,
-            held: Held::new(alloc, address, granting)?,
+            held: BindingIndex::new(alloc, address, granting)?,
             due: Due::new(alloc),
         })
     }

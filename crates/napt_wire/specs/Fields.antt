@@ -56,11 +56,8 @@ number_place Udp Destination = Some 2
 number_place Tcp Source = Some 0
 number_place Tcp Destination = Some 2
 number_place Request Source = Some 4
-number_place Request Destination = None
-number_place Reply Source = None
 number_place Reply Destination = Some 4
-number_place Error Source = None
-number_place Error Destination = None
+number_place _ _ = None
 
 -- the number at a place past `start`, 0 where there is no place
 abbrev pub number_at : ℕ → Option ℕ → List ℕ → ℕ
@@ -99,9 +96,7 @@ inner_at bytes = transport 0 bytes + 8
 abbrev pub protocol_of : Form → Protocol
 protocol_of Udp = protocols.Udp
 protocol_of Tcp = protocols.Tcp
-protocol_of Request = protocols.Icmp
-protocol_of Reply = protocols.Icmp
-protocol_of Error = protocols.Icmp
+protocol_of _ = protocols.Icmp
 
 -- the datagram at a place, as an error that is about it names it
 abbrev pub inner_of : ℕ → List ℕ → Inner
@@ -118,9 +113,8 @@ inner bytes = inner_of (inner_at bytes) bytes
 abbrev pub kind_of : Form → List ℕ → Kind
 kind_of Udp bytes = kinds.Udp
 kind_of Tcp bytes = kinds.Tcp (flags bytes)
-kind_of Request bytes = kinds.Echo
-kind_of Reply bytes = kinds.Echo
 kind_of Error bytes = kinds.ErrorOf (inner bytes)
+kind_of _ bytes = kinds.Echo
 
 unfoldable pub kind : List ℕ → Kind
 kind bytes = kind_of (form_at 0 bytes) bytes
@@ -128,14 +122,10 @@ kind bytes = kind_of (form_at 0 bytes) bytes
 -- The end on the translator's inside for a packet that goes a way: of an error it is the inner
 -- destination of one that goes out, and the inner source of one that comes in.
 abbrev pub local_of : Kind → Way → List ℕ → Endpoint
-local_of kinds.Udp Outgoing bytes = source bytes
-local_of kinds.Udp Incoming bytes = destination bytes
-local_of (kinds.Tcp flags) Outgoing bytes = source bytes
-local_of (kinds.Tcp flags) Incoming bytes = destination bytes
-local_of kinds.Echo Outgoing bytes = source bytes
-local_of kinds.Echo Incoming bytes = destination bytes
 local_of (kinds.ErrorOf inner) Outgoing bytes = inner.destination
 local_of (kinds.ErrorOf inner) Incoming bytes = inner.source
+local_of _ Outgoing bytes = source bytes
+local_of _ Incoming bytes = destination bytes
 
 abbrev pub opposite : Way → Way
 opposite Outgoing = Incoming
@@ -151,31 +141,15 @@ remote_end way bytes = local_of (kind bytes) (opposite way) bytes
 -- a number that a quoted datagram of a protocol can carry
 abbrev pub CanQuote : Protocol → ℕ → Type 0
 CanQuote protocols.Icmp number = Unit {0}
-CanQuote protocols.Tcp number = 0 < number
-CanQuote protocols.Udp number = 0 < number
+CanQuote _ number = 0 < number
 
 -- whether a packet is an ICMP error
 abbrev pub is_error : Kind → Bool
-is_error kinds.Udp = false
-is_error (kinds.Tcp flags) = false
-is_error kinds.Echo = false
 is_error (kinds.ErrorOf inner) = true
+is_error _ = false
 
 -- a number that a packet of a kind can carry: UDP and TCP have no port 0, also in what an error quotes
 abbrev pub CanCarry : Kind → ℕ → Type 0
-CanCarry kinds.Udp number = 0 < number
-CanCarry (kinds.Tcp flags) number = 0 < number
 CanCarry kinds.Echo number = Unit {0}
 CanCarry (kinds.ErrorOf inner) number = CanQuote inner.protocol number
-
-positive_is_quoted : (protocol : Protocol) (number : ℕ) → 0 < number → CanQuote protocol number
-positive_is_quoted protocols.Icmp number h = tt
-positive_is_quoted protocols.Tcp number h = h
-positive_is_quoted protocols.Udp number h = h
-
--- a number that isn't 0 can be carried by every packet
-pub positive_is_carried : (kind : Kind) (number : ℕ) → 0 < number → CanCarry kind number
-positive_is_carried kinds.Udp number h = h
-positive_is_carried (kinds.Tcp flags) number h = h
-positive_is_carried kinds.Echo number h = tt
-positive_is_carried (kinds.ErrorOf inner) number h = positive_is_quoted inner.protocol number h
+CanCarry _ number = 0 < number

@@ -1,6 +1,11 @@
 -- What a `Header` says of the bytes.
-use Rattle.std.specs.Prelude.{◌≡◌, ℕ, List}
-use Rattle.napt_wire.specs.{Fields.{transport, form_at}, Room.HasHeaders, declared.header.Header.Header}
+use Rattle.std.specs.Prelude.{◌≡◌, ℕ, ◌+◌, ◌≤◌, List, length}
+use Rattle.napt_wire.specs.{Fields.{transport, form_at}, declared.header.Header.Header}
+
+-- the datagram at a place has a whole IPv4 header and the first eight bytes of a transport header
+pub record HasHeaders (at : ℕ) (bytes : List ℕ) : Type 0 where
+  pub header : at + 20 ≤ transport at bytes
+  pub transport_start : transport at bytes + 8 ≤ length bytes
 
 -- the headers of the datagram at a place: they are there, and their places and form are what the bytes say
 pub record IsHeader (at : ℕ) (header : Header) (bytes : List ℕ) : Type 0 where

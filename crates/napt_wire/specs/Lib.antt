@@ -6,7 +6,6 @@ pub mod Rewriting
 pub mod Packet
 pub mod Right
 pub mod Rewrite
-pub mod Room
 pub mod Header
 pub mod Laws
 pub mod Prelude

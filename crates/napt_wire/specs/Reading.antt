@@ -17,9 +17,7 @@ is_known protocol = protocol == 1 || protocol == 6 || protocol == 17
 abbrev pub has_ports : Form → Bool
 has_ports Udp = true
 has_ports Tcp = true
-has_ports Request = false
-has_ports Reply = false
-has_ports Error = false
+has_ports _ = false
 
 -- the transport header of a form cannot be: UDP's length field is below 8 or above the bytes that are
 -- there (RFC 768), TCP's data offset is below 5 or points past them (RFC 9293 section 3.1), or they are
@@ -30,9 +28,7 @@ has_bad_transport Udp payload =
 has_bad_transport Tcp payload =
     nat_lt (length payload) 20 || nat_lt (byte_at 12 payload / 16) 5 || nat_lt (length payload)
     (4 * (byte_at 12 payload / 16))
-has_bad_transport Request payload = nat_lt (length payload) 8
-has_bad_transport Reply payload = nat_lt (length payload) 8
-has_bad_transport Error payload = nat_lt (length payload) 8
+has_bad_transport _ payload = nat_lt (length payload) 8
 
 -- ICMP messages that are translated (RFC 792): destination unreachable, time exceeded and parameter
 -- problem; an echo request from inside, and an echo reply from outside
@@ -40,10 +36,9 @@ abbrev pub is_translated : Side → Form → ℕ → Bool
 is_translated side Udp type = true
 is_translated side Tcp type = true
 is_translated Inside Request type = true
-is_translated Outside Request type = false
-is_translated Inside Reply type = false
 is_translated Outside Reply type = true
 is_translated side Error type = type == 3 || type == 11 || type == 12
+is_translated _ _ type = false
 
 -- the datagram that an error quotes went the other way: its echo is a request where the error comes
 -- from outside, and a reply where it comes from inside
@@ -51,10 +46,8 @@ abbrev pub is_quoted : Side → Form → Bool
 is_quoted side Udp = true
 is_quoted side Tcp = true
 is_quoted Outside Request = true
-is_quoted Inside Request = false
-is_quoted Outside Reply = false
 is_quoted Inside Reply = true
-is_quoted side Error = false
+is_quoted _ _ = false
 
 -- the datagram at a place, which an error quotes, is bad (RFC 5508 section 4): too little of it is there,
 -- it is damaged, it is no first fragment, or it isn't one that the receiver of the error sent
@@ -81,8 +74,7 @@ length_checks bytes =
     (nat_lt (length bytes) 20, Truncated)
     ∷ (not (version 0 bytes == 4), NotIpv4)
     ∷ (nat_lt (header_length 0 bytes) 20 || nat_lt (total_length 0 bytes) (header_length 0 bytes), BadHeader)
-    ∷ (nat_lt (length bytes) (total_length 0 bytes), Truncated)
-    ∷ []
+    ∷ (nat_lt (length bytes) (total_length 0 bytes), Truncated) ∷ []
 
 -- the checks on the datagram itself, without what follows its total length: the header checksum, whole
 -- datagrams, the protocol (RFC 791 section 3.1)
@@ -90,24 +82,21 @@ abbrev pub header_checks : List ℕ → List (Bool × Cause)
 header_checks bytes =
     (not (is_right (words (header 0 bytes))), BadChecksum)
     ∷ (has_more 0 bytes || not (fragment_offset 0 bytes == 0), Fragment)
-    ∷ (not (is_known (protocol_number 0 bytes)), Unsupported)
-    ∷ []
+    ∷ (not (is_known (protocol_number 0 bytes)), Unsupported) ∷ []
 
 -- an error's checksum, which is over the whole ICMP message (RFC 792), what it quotes, and the ports there
 abbrev pub error_checks : Side → List ℕ → List (Bool × Cause)
 error_checks side bytes =
     (not (is_right (words (drop (transport 0 bytes) bytes))), BadChecksum)
     ∷ (has_bad_inner side (inner_at bytes) bytes, BadInner)
-    ∷ (has_zero_port (form_at (inner_at bytes) bytes) (transport (inner_at bytes) bytes) bytes, BadPort)
-    ∷ []
+    ∷ (has_zero_port (form_at (inner_at bytes) bytes) (transport (inner_at bytes) bytes) bytes, BadPort) ∷ []
 
 -- the checks on a message of a form behind the two on its header: those of an error, or the ports
 abbrev pub message_checks : Form → Side → List ℕ → List (Bool × Cause)
 message_checks Udp side bytes = (has_zero_port (form_at 0 bytes) (transport 0 bytes) bytes, BadPort) ∷ []
 message_checks Tcp side bytes = (has_zero_port (form_at 0 bytes) (transport 0 bytes) bytes, BadPort) ∷ []
-message_checks Request side bytes = []
-message_checks Reply side bytes = []
 message_checks Error side bytes = error_checks side bytes
+message_checks _ side bytes = []
 
 -- the transport header, the type of an ICMP message, and the message
 abbrev pub body_checks : Side → List ℕ → List (Bool × Cause)
@@ -132,6 +121,5 @@ read_unless (Some cause) packet = Err cause
 -- the packet that the bytes are on their arrival from a side, or why they are refused
 unfoldable pub reading : Side → List ℕ → Result (List ℕ) Cause
 reading side bytes =
-    read_unless
-    (refusal (length_checks bytes ++ header_checks (datagram bytes) ++ body_checks side (datagram bytes)))
+    read_unless (refusal (length_checks bytes ++ header_checks (datagram bytes) ++ body_checks side (datagram bytes)))
     (datagram bytes)

@@ -1,5 +1,5 @@
 -- The words that a `Rewrite` replaces.
-use Rattle.std.specs.Prelude.{List, [], ◌∷◌, ◌++◌, option_to_list}
+use Rattle.std.specs.Prelude.{ℕ, ◌+◌, ◌≤◌, List, [], ◌∷◌, ◌++◌, All, length, option_to_list}
 use Rattle.napt_wire.specs.declared.rewrite.{AddressRewrite.AddressRewrite, Change.Change, ErrorRewrite.ErrorRewrite, Rewrite.Rewrite}
 
 abbrev pub address_changes_of : AddressRewrite → List Change
@@ -10,3 +10,7 @@ changes_of r = option_to_list r.number ++ option_to_list r.transport_check ++ ad
 
 abbrev pub error_changes_of : ErrorRewrite → List Change
 error_changes_of r = changes_of r.quoted ++ r.check ∷ address_changes_of r.address
+
+-- each replaced word is there
+abbrev pub AreThere : List Change → List ℕ → Type 0
+AreThere changes bytes = All (λ (c : Change). c.place + 2 ≤ length bytes) changes

@@ -3,7 +3,7 @@
 use Rattle.std.specs.Prelude.{ℕ, ◌+◌, ◌/◌, ◌%◌, List, [], ◌∷◌, ◌++◌, length, map, Option, Some, None, nat_le, if◌then◌else◌}
 use Rattle.napt_wire.specs.{Bytes.{word_at, put_word}, Checksum.{canon, canon_udp}}
 use Rattle.napt_wire.specs.{Fields.{address, address_place, transport, form_at, number_place, end_at, inner_at}, declared.{Endpoint.Endpoint, Way.Way}}
-use Rattle.napt_wire.specs.declared.{Way.TheVariants.{Outgoing, Incoming}, form.{Form.{Form, TheVariants.{Udp, Tcp, Request, Reply, Error}}, End.End}}
+use Rattle.napt_wire.specs.declared.{Way.TheVariants.{Outgoing, Incoming}, form.{Form.{Form, TheVariants.{Udp, Tcp, Error}}, End.End}}
 use Rattle.napt_wire.specs.declared.{form.End.TheVariants.{Source, Destination}, rewrite.Change.Change}
 
 -- the word at a place becomes another
@@ -34,8 +34,7 @@ abbrev pub address_changes : ℕ → End → ℕ → List ℕ → List Change
 address_changes at end new bytes =
     change bytes (at + 10) (canon (word_at (at + 10) bytes) (address_words (address at end bytes)) (address_words new))
     ∷ change bytes (at + address_place end) (new / 65536)
-    ∷ change bytes (at + address_place end + 2) (new % 65536)
-    ∷ []
+    ∷ change bytes (at + address_place end + 2) (new % 65536) ∷ []
 
 -- The transport checksum of a form, in a transport header that begins at `start`, where an end becomes
 -- another. An ICMP checksum covers the identifier alone. A TCP checksum is written only where it is there,
@@ -47,11 +46,9 @@ checksum_changes Tcp start old new bytes =
     if nat_le (start + 18) (length bytes)
     then change bytes (start + 16) (canon (word_at (start + 16) bytes) (end_words old) (end_words new)) ∷ []
     else []
-checksum_changes Request start old new bytes =
-    change bytes (start + 2) (canon (word_at (start + 2) bytes) (old.number ∷ []) (new.number ∷ [])) ∷ []
-checksum_changes Reply start old new bytes =
-    change bytes (start + 2) (canon (word_at (start + 2) bytes) (old.number ∷ []) (new.number ∷ [])) ∷ []
 checksum_changes Error start old new bytes = []
+checksum_changes _ start old new bytes =
+    change bytes (start + 2) (canon (word_at (start + 2) bytes) (old.number ∷ []) (new.number ∷ [])) ∷ []
 
 -- the number of an end is replaced, if it has one, and the transport checksum that covers it
 abbrev pub number_changes : Option ℕ → Form → ℕ → Endpoint → Endpoint → List ℕ → List Change

@@ -2,7 +2,7 @@
 -- judged by reading, so they are right in each packet.
 use Rattle.std.specs.Prelude.{ℕ, ◌+◌, ◌-◌, Bool, ◌||◌, ◌==◌, List, [], ◌∷◌, ◌++◌, length, take, drop, Option, Some, None, option_map, nat_lt, if◌then◌else◌}
 use Rattle.napt_wire.specs.{Bytes.{word_at, words}, Checksum.is_right, Fields.{address, header_length, total_length, protocol_number, transport, form_at}}
-use Rattle.napt_wire.specs.{Rewriting.address_words, declared.form.Form.{Form, TheVariants.{Udp, Tcp, Request, Reply, Error}}}
+use Rattle.napt_wire.specs.{Rewriting.address_words, declared.form.Form.{Form, TheVariants.{Udp, Tcp, Error}}}
 use Rattle.napt_wire.specs.declared.form.End.TheVariants.{Source, Destination}
 
 -- the pseudo-header that UDP and TCP checksums cover, for a transport header and data of a length: both
@@ -31,15 +31,11 @@ covered_by Tcp at bytes =
     let size : ℕ = message_length at bytes in
     if nat_lt size 18 || nat_lt (length bytes) (transport at bytes + size)
     then None else Some (pseudo_words at size bytes ++ message_words at size bytes)
-covered_by Request at bytes =
-    let size : ℕ = message_length at bytes in
-    if nat_lt size 6 || nat_lt (length bytes) (transport at bytes + size) then None
-    else Some (message_words at size bytes)
-covered_by Reply at bytes =
-    let size : ℕ = message_length at bytes in
-    if nat_lt size 6 || nat_lt (length bytes) (transport at bytes + size) then None
-    else Some (message_words at size bytes)
 covered_by Error at bytes = None
+covered_by _ at bytes =
+    let size : ℕ = message_length at bytes in
+    if nat_lt size 6 || nat_lt (length bytes) (transport at bytes + size) then None
+    else Some (message_words at size bytes)
 
 -- whether the transport checksum of the datagram at a place is right, where it is there with all that it
 -- covers

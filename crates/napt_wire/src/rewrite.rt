@@ -1,9 +1,9 @@
 //! The bytes that change with one end of a datagram.
 
 ghost use Rattle.std.specs.Prelude.{◌≡◌, ◌+◌, ◌/◌, ◌%◌, ◌<◌, ◌≤◌, [], ◌∷◌, length, option_to_list};
-ghost use Rattle.napt_wire.specs.{Bytes.put_word, Fields.inner_at, Header.IsHeader, Rewrite.{address_changes_of, changes_of, error_changes_of}};
+ghost use Rattle.napt_wire.specs.{Bytes.put_word, Fields.inner_at, Header.IsHeader, Rewrite.{address_changes_of, changes_of, error_changes_of, AreThere}};
 ghost use Rattle.napt_wire.specs.Rewriting.{address_changes, change, changed, checksum_changes, end_changes, inner_end, outer_end, reverted_changes, olds, news, address_words, end_words};
-ghost use Rattle.napt_wire.specs.{Checksum.{canon, canon_udp}, Room.AreThere};
+ghost use Rattle.napt_wire.specs.Checksum.{canon, canon_udp};
 
 use crate::bytes::{read_long, read_word, write_word};
 use crate::checksum::{fix_address, fix_check, fix_end, fix_end_udp};

@@ -27,20 +27,25 @@ Where it ends well, each output holds the bytes that napt writes. What differs:
   At a fault of a capture all packets before it have been translated and
   written. Outputs begin with their header whatever comes; the report is written
   at the end alone.
-  The log is that of explain log. Of each packet that is out its rows are in
-  the log. Captures may have any number of bytes and of packets.
+  The log is that of explain log. The rows of each packet that is out are in
+  the log. A log with text is refused, unless --resume names the state that was
+  saved beside it: then the log goes on there. With --log-each it goes on in the
+  file behind FILE.1, FILE.2, .., which are refused without --resume. Captures
+  may have any number of bytes and of packets.
   Where standard error is a terminal, a run of more than two seconds tells there
   the packets read, how many a second, and the bindings held.
 
 Exit status, and the line on standard error that says why: as of napt, with
 ", $name, ": in place of napt: at its beginning. too-large never comes, and too-many
 with a log alone, at packet 4611686018427387904.
-  0  done, without a line
+  0  done, without a line, or with one that says that the log begins a new
+     entry for each binding of the state
   2  ", $name, ": usage
   3  ", $name, ": config WORD
   4  ", $name, ": capture SIDE WORD
   5  ", $name, ": run WORD
   6  ", $name, ": file OPTION
+       of a log with text, or files of it, a line behind it says why
      ", $name, ": write OPTION
   8  ", $name, ": state WORD"
             ),

@@ -6,28 +6,31 @@ use napt_account::{KnownRun, in_order_of_making};
 use napt_config::Config;
 use napt_sequential::Input;
 
-/// `input SIDE NOW BYTES`
-pub(crate) fn input<R: Print>(line: &mut Line<'_, R>) -> Result<Input, Stop> {
-    let side = line.side()?;
-    let time = line.number()?;
-    let bytes = line.bytes()?;
-    println!(line.rt; "taken").map_err(|_| Stop::File)?;
-    Ok(Input {
+/// `input SIDE NOW BYTES`: one more input.
+pub(crate) fn take_input<R: Print>(
+    line: &mut Line<'_, R>,
+    inputs: &mut Vec<Input>,
+) -> Result<(), Stop> {
+    let (side, time) = (line.side()?, line.number()?);
+    let input = Input {
         side,
         time,
         clock: time,
-        bytes,
-    })
+        bytes: line.bytes()?,
+    };
+    println!(line.rt; "taken").map_err(|_| Stop::File)?;
+    inputs.push(input).map_err(|_| Stop::Call)
 }
 
 /// `logged`: which entries the log has ended, made and refused with each input, and what that did to the bindings; the entries that
 /// are left; and all entries, in order of making.
 pub(crate) fn tell_log<R: Print>(
     line: &Line<'_, R>,
-    config: &Config,
+    config: Option<&Config>,
     inputs: &[Input],
 ) -> Result<(), Stop> {
     let (rt, alloc) = (line.rt, line.alloc);
+    let config = config.ok_or(Stop::Usage)?;
     let mut run = KnownRun::begin(alloc, config).map_err(|_| Stop::Call)?;
     let mut listed = Vec::new(alloc);
     for input in inputs {

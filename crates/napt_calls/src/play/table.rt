@@ -1,14 +1,14 @@
 //! The table of one external address.
 
-ghost use Rattle.std.specs.Prelude.{◌≡◌, ◌≤◌, true, IfOk, IfSome};
+ghost use Rattle.std.specs.Prelude.{◌≡◌, ◌≤◌, true, IfSome};
 ghost use Rattle.napt_config.specs.Rules.{IsBlock};
+ghost use Rattle.napt_rules.specs.Prelude.{IsNumber};
 
 use crate::Stop;
 use crate::play::line::{Line, tell};
 use napt_config::{Block, Config};
 use napt_table::{Sent, Table};
-use napt_wire::{Cause, Protocol};
-use std::alloc::Global;
+use napt_wire::Protocol;
 
 /// `table ADDRESS CONFIGURATION`: a table of that address, behind a box: a function that owns one as it stands takes minutes to
 /// prove.
@@ -30,25 +30,24 @@ pub(crate) fn answer<R: Print>(
     if now < table.at() {
         return Err(Stop::Unsent);
     }
+    let (rt, alloc) = (line.rt, line.alloc);
     match call {
-        "outbound" => outbound(line, table, now),
-        "inbound" => inbound(line, table, now),
-        "by_external" => tell(
-            line.rt,
-            &table.by_external(now, line.protocol()?, line.short()?),
-        ),
-        "by_inside" => tell(
-            line.rt,
-            &table.by_inside(now, line.protocol()?, line.endpoint()?),
-        ),
-        "bindings" => tell(
-            line.rt,
-            &table.bindings(line.alloc, now).map_err(|_| Stop::Call)?,
-        ),
-        "count" => {
-            let rows = table.bindings(line.alloc, now).map_err(|_| Stop::Call)?;
-            tell(line.rt, &rows.len())
+        "outbound" => return outbound(line, table, now),
+        "inbound" => return inbound(line, table, now),
+        "by_external" => {
+            let (protocol, number) = (line.protocol()?, line.short()?);
+            return tell(rt, &table.by_external(now, protocol, number));
         }
+        "by_inside" => {
+            let (protocol, inside) = (line.protocol()?, line.endpoint()?);
+            return tell(rt, &table.by_inside(now, protocol, inside));
+        }
+        _ => {}
+    }
+    let rows = table.bindings(alloc, now).map_err(|_| Stop::Call)?;
+    match call {
+        "bindings" => tell(rt, &rows),
+        "count" => tell(rt, &rows.len()),
         _ => Err(Stop::Usage),
     }
 }
@@ -64,37 +63,14 @@ fn keeps_block(block: Option<Block>) -> bool
     first % 2 == 0 && first >= 1024 && size % 2 == 0 && size >= 64 && end <= 65_536
 }
 
-fn send(alloc: Global, table: &mut Table, sent: Sent) -> Result<Result<u16, Cause>, Stop>
-    requires { table.old.at ≤ sent.now }
+/// Whether a number may be that of an endpoint: port 0 may not (RFC 768).
+pub(crate) fn is_number(protocol: Protocol, number: u16) -> bool
+    ensures { result ≡ true → IsNumber protocol number }
 {
-    if !keeps_block(sent.block) {
-        return Err(Stop::Unsent);
+    match protocol {
+        Protocol::Icmp => true,
+        Protocol::Tcp | Protocol::Udp => number != 0,
     }
-    let answer = match sent.protocol {
-        Protocol::Icmp => table.outbound_of(
-            alloc,
-            Sent {
-                protocol: Protocol::Icmp,
-                ..sent
-            },
-        ),
-        _ if sent.inside.number == 0 => return Err(Stop::Unsent),
-        Protocol::Tcp => table.outbound_of(
-            alloc,
-            Sent {
-                protocol: Protocol::Tcp,
-                ..sent
-            },
-        ),
-        Protocol::Udp => table.outbound_of(
-            alloc,
-            Sent {
-                protocol: Protocol::Udp,
-                ..sent
-            },
-        ),
-    };
-    answer.map_err(|_| Stop::Call)
 }
 
 /// `outbound NOW PROTOCOL INSIDE REMOTE FLAGS`, and the first number and the size of the block of the inside host, if it has one.
@@ -109,7 +85,11 @@ fn outbound<R: Print>(line: &mut Line<'_, R>, table: &mut Table, now: u64) -> Re
         flags: line.flags()?,
         block: line.block()?,
     };
-    tell(line.rt, &send(line.alloc, table, sent)?)
+    if !keeps_block(sent.block) || !is_number(sent.protocol, sent.inside.number) {
+        return Err(Stop::Unsent);
+    }
+    let answer = table.outbound_of(line.alloc, sent);
+    tell(line.rt, &answer.map_err(|_| Stop::Call)?)
 }
 
 /// `inbound NOW PROTOCOL NUMBER REMOTE FLAGS`

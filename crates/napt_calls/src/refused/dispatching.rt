@@ -4,18 +4,16 @@ ghost use Rattle.std.specs.Prelude.{◌≡◌, length, vec_len, IfOk};
 ghost use Rattle.napt_config.specs.Rules.{KeepsRules};
 ghost use Rattle.napt_dispatch.specs.Dispatch.{started};
 
-use crate::refused::End;
 use crate::refused::left::{Asked, counted, looked_at};
 use crate::refused::run::{configuration, end_of_run, inputs};
+use crate::refused::{End, System};
 use napt_config::Config;
 use napt_pool::{Pool, PoolFault};
 use napt_run::{Input, Untold, Worker, dispatch};
 use napt_translate::Translator;
 use std::alloc::{AllocError, Global};
 use std::marker::PhantomData;
-use std::rt::Files;
-use std::sync::{Arc, Wait};
-use std::thread::Threads;
+use std::sync::Arc;
 
 /// The workers of all external addresses before any leg, in the order of the pool.
 fn workers(alloc: Global, config: &Config) -> Result<Vec<Worker<Untold>>, AllocError>
@@ -36,13 +34,13 @@ fn workers(alloc: Global, config: &Config) -> Result<Vec<Worker<Untold>>, AllocE
 }
 
 /// Dispatches the inputs to a pool, and closes it.
-fn dispatched<R: Threads + Wait + Copy + Send + 'static>(
-    rt: &R,
-    alloc: Global,
+fn dispatched(
+    rt: &impl System,
     config: &Config,
     inputs: &[Input],
     gate: Arc<Asked>,
 ) -> Result<(), End> {
+    let alloc = rt.alloc();
     let machines = workers(alloc, config)?;
     if inputs.len() != 3 {
         return Err(End::Wrong("other inputs"));
@@ -62,12 +60,10 @@ fn dispatched<R: Threads + Wait + Copy + Send + 'static>(
     }
 }
 
-pub(crate) fn ended<R: Files + AllocGlobal + Threads + Wait + Copy + Send + 'static>(
-    rt: &R,
-) -> Result<(), End> {
+pub(crate) fn ended(rt: &impl System) -> Result<(), End> {
     let alloc = rt.alloc();
     let (config, inputs) = (configuration(alloc)?, inputs(alloc)?);
     let (counts, gate) = counted(alloc)?;
-    let came = dispatched(rt, alloc, &config, &inputs, gate);
+    let came = dispatched(rt, &config, &inputs, gate);
     looked_at(rt, &counts, came)
 }

@@ -3,14 +3,12 @@
 ghost use Rattle.std.specs.Prelude.{◌≡◌, ◌<◌, IfOk, length, vec_len};
 ghost use Rattle.napt_pool.specs.Pools.{starts};
 
-use crate::refused::End;
 use crate::refused::left::{Asked, Counts, counted, looked_at};
+use crate::refused::{End, System};
 use napt_pool::{Ended, Gate, Machine, Pool, PoolFault};
 use std::alloc::{AllocError, Global};
-use std::rt::Files;
+use std::sync::Arc;
 use std::sync::atomic::Ordering;
-use std::sync::{Arc, Wait};
-use std::thread::Threads;
 
 /// How many workers there are.
 const WORKERS: u32 = 3;
@@ -86,12 +84,8 @@ fn end_of(fault: PoolFault) -> End {
 }
 
 /// Starts a pool, fills it and closes it.
-fn filled_and_closed<R: Threads + Wait + Copy + Send + 'static>(
-    rt: &R,
-    alloc: Global,
-    counts: &Arc<Counts>,
-    gate: Arc<Asked>,
-) -> Result<(), End> {
+fn filled_and_closed(rt: &impl System, counts: &Arc<Counts>, gate: Arc<Asked>) -> Result<(), End> {
+    let alloc = rt.alloc();
     let machines = machines(alloc, counts)?;
     let mut pool = Pool::start(rt, alloc, machines, 2, gate).map_err(end_of)?;
     let first = fill(alloc, &mut pool, 0);
@@ -104,11 +98,8 @@ fn filled_and_closed<R: Threads + Wait + Copy + Send + 'static>(
     }
 }
 
-pub(crate) fn ended<R: Files + AllocGlobal + Threads + Wait + Copy + Send + 'static>(
-    rt: &R,
-) -> Result<(), End> {
-    let alloc = rt.alloc();
-    let (counts, gate) = counted(alloc)?;
-    let came = filled_and_closed(rt, alloc, &counts, gate);
+pub(crate) fn ended(rt: &impl System) -> Result<(), End> {
+    let (counts, gate) = counted(rt.alloc())?;
+    let came = filled_and_closed(rt, &counts, gate);
     looked_at(rt, &counts, came)
 }

@@ -1,17 +1,14 @@
-//! Runs through two external addresses: over captures of both sides with a report, and over their inputs on workers and on one
-//! thread; and these inputs, merged.
+//! Two captures, one of each side; runs over their inputs through two external addresses, on workers and on one thread; and these inputs,
+//! merged.
 
-use crate::refused::End;
-use crate::refused::left::{Asked, counted, looked_at};
-use napt_capture::{CaptureFault, Record, Watched, read_capture};
+use crate::refused::left::{counted, looked_at};
+use crate::refused::{End, System};
+use napt_capture::{Record, Watched, read_capture};
 use napt_config::Config;
 use napt_pool::PoolFault;
-use napt_run::{Fault, Input, RunFault, merge, run_captures, run_plain, run_workers};
+use napt_run::{Input, RunFault, merge, run_plain, run_workers};
 use napt_wire::Side;
 use std::alloc::Global;
-use std::rt::Files;
-use std::sync::{Arc, Wait};
-use std::thread::Threads;
 
 const CONFIGURATION: &str =
     "pool = [\"203.0.113.1\", \"203.0.113.2\"]\ninside = [\"10.0.0.0/8\"]\n";
@@ -38,9 +35,6 @@ pub(crate) const OUTSIDE: [u8; 68] = [
     0xcb, 0x00, 0x71, 0x02, 0x00, 0x35, 0x1b, 0x58, 0x00, 0x08, 0x00, 0x00,
 ];
 
-/// How many bytes an output has room for, so that none grows while it is written.
-const ROOM: usize = 4096;
-
 /// What a fault of a run comes to.
 pub(crate) fn end_of_run(fault: RunFault) -> End {
     match fault {
@@ -50,62 +44,9 @@ pub(crate) fn end_of_run(fault: RunFault) -> End {
     }
 }
 
-/// What a fault comes to that came before anything was written.
-fn end_of(fault: Fault) -> End {
-    match fault {
-        Fault::Capture(_, CaptureFault::Memory) => End::Memory,
-        Fault::Run(fault) => end_of_run(fault),
-        _ => End::Wrong("another fault"),
-    }
-}
-
 /// The configuration, before the call.
 pub(crate) fn configuration(alloc: Global) -> Result<Config, End> {
     Config::read(alloc, CONFIGURATION.as_bytes()).map_err(|_| End::Before)
-}
-
-/// Makes the run, through the gate.
-fn ran<R: Threads + Wait + Copy + Send + 'static>(
-    rt: &R,
-    alloc: Global,
-    config: &Config,
-    gate: Arc<Asked>,
-) -> Result<(), End> {
-    let mut to_outside = Watched::new(Vec::with_capacity(alloc, ROOM)?);
-    let mut to_inside = Watched::new(Vec::with_capacity(alloc, ROOM)?);
-    let mut report = Watched::new(Vec::with_capacity(alloc, ROOM)?);
-    let answer = run_captures(
-        rt,
-        alloc,
-        config,
-        &mut Watched::new(INSIDE.as_slice()),
-        &mut Watched::new(OUTSIDE.as_slice()),
-        &mut to_outside,
-        &mut to_inside,
-        &mut report,
-        gate,
-    );
-    let (to_outside, to_inside) = (to_outside.into_inner().len(), to_inside.into_inner().len());
-    let report = report.into_inner().len();
-    match answer {
-        // a packet to the outside, two to inside hosts
-        Ok(()) if to_outside == 68 && to_inside == 112 && report > 0 => Ok(()),
-        Ok(()) => Err(End::Wrong("other outputs")),
-        Err(_) if to_outside > 0 || to_inside > 0 || report > 0 => {
-            Err(End::Wrong("something is written"))
-        }
-        Err(fault) => Err(end_of(fault)),
-    }
-}
-
-pub(crate) fn ended<R: Files + AllocGlobal + Threads + Wait + Copy + Send + 'static>(
-    rt: &R,
-) -> Result<(), End> {
-    let alloc = rt.alloc();
-    let config = configuration(alloc)?;
-    let (counts, gate) = counted(alloc)?;
-    let came = ran(rt, alloc, &config, gate);
-    looked_at(rt, &counts, came)
 }
 
 /// The records of a capture, before the call.
@@ -159,9 +100,7 @@ pub(crate) fn plain_ended(alloc: Global) -> Result<(), End> {
 }
 
 /// The run over workers.
-pub(crate) fn workers_ended<R: Files + AllocGlobal + Threads + Wait + Copy + Send + 'static>(
-    rt: &R,
-) -> Result<(), End> {
+pub(crate) fn workers_ended(rt: &impl System) -> Result<(), End> {
     let alloc = rt.alloc();
     let (config, inputs) = (configuration(alloc)?, inputs(alloc)?);
     let (counts, gate) = counted(alloc)?;

@@ -1,5 +1,6 @@
 //! Packets that go out through a table.
 
+use crate::play::is_number;
 use crate::refused::End;
 use napt_config::Config;
 use napt_table::{Row, Table};
@@ -82,14 +83,10 @@ fn send(alloc: Global, table: &mut Table, packet: Packet) -> Result<Option<u16>,
         remote,
         flags,
     } = packet;
-    if now < table.at() || inside.number == 0 {
+    if now < table.at() || !is_number(protocol, inside.number) {
         return Ok(None);
     }
-    let answer = match protocol {
-        Protocol::Icmp => table.outbound(alloc, now, Protocol::Icmp, inside, remote, flags)?,
-        Protocol::Tcp => table.outbound(alloc, now, Protocol::Tcp, inside, remote, flags)?,
-        Protocol::Udp => table.outbound(alloc, now, Protocol::Udp, inside, remote, flags)?,
-    };
+    let answer = table.outbound(alloc, now, protocol, inside, remote, flags)?;
     Ok(answer.ok())
 }
 

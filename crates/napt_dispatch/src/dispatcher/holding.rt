@@ -5,14 +5,14 @@ ghost use Rattle.napt_dispatch.specs.{Windows.progress_in, Standing.{Noted, Reso
 
 use crate::dispatcher::Dispatcher;
 use crate::dispatcher::progress::Progress;
-use crate::stopped::ImpossibleAnswer;
+use crate::faults::ImpossibleAnswer;
 use napt_sequential::{Telling, Told};
 use napt_translate::{Answer, End, Leg};
 use napt_wire::Way;
 
 /// A leg, or a placeholder for one, that was not offered to its worker yet.
 #[derive(Drop)]
-pub(crate) enum Held {
+pub(crate) enum Pending {
     Ready(Leg),
     /// A placeholder for the second leg of the input with this number (RFC 4787, REQ-9). The answer to the first leg decides
     /// whether there is a second one.

@@ -7,7 +7,7 @@ ghost use Rattle.napt_dispatch.specs.Standing.{waits_behind, IsSizedFor, Continu
 
 use crate::Worker;
 use crate::dispatcher::Dispatcher;
-use crate::stopped::ImpossibleAnswer;
+use crate::faults::ImpossibleAnswer;
 use napt_pool::{Answered, Batch, Gate, OfferRefused, Pool};
 use napt_sequential::{RunFault, Telling, Told};
 use napt_translate::Leg;

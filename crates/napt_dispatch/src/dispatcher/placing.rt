@@ -4,15 +4,15 @@ ghost use Rattle.std.specs.Prelude.{◌≡◌, ◌+◌, ◌<◌, ◌≤◌, ◌�
 ghost use Rattle.napt_wire.specs.{declared.Side.TheVariants.Inside as InsideSide, Fields.destination, Packet.IsPacket, Reading.reading};
 ghost use Rattle.napt_config.specs.Rules.{KeepsRules, place_of};
 ghost use Rattle.napt_rules.specs.Prelude.{way_from, served_at, admission_as};
-ghost use Rattle.napt_dispatch.specs.{declared.dispatcher.holding.Held.TheVariants.Ready, Dispatch.IsDispatchFault};
+ghost use Rattle.napt_dispatch.specs.{declared.dispatcher.holding.Pending.TheVariants.Ready, Dispatch.IsDispatchFault};
 ghost use Rattle.napt_dispatch.specs.{QueueStates.{AllHold, many_held, only_at, place_at}, Windows.{progress_in, refused, IsUnmarked, IsWritten}};
 ghost use Rattle.napt_dispatch.specs.Standing.{journal_of, Admits};
 ghost use Rattle.napt_sequential.specs.declared.passage.Passage.TheVariants.{Nothing as NoPassage};
 
 use crate::dispatcher::Dispatcher;
-use crate::dispatcher::holding::Held;
+use crate::dispatcher::holding::Pending;
 use crate::dispatcher::progress::Progress;
-use crate::stopped::ImpossibleAnswer;
+use crate::faults::ImpossibleAnswer;
 use napt_config::Config;
 use napt_sequential::{Input, RunFault, Telling, places_stand_for_legs, right_answers, way_from};
 use napt_translate::{Leg, onward, route};
@@ -35,7 +35,7 @@ impl<P: Telling> Dispatcher<P> {
             None => Ok(()),
             Some(v) => {
                 self.progress.note_place(number);
-                self.queues.hold(v, Held::Place(number))
+                self.queues.hold(v, Pending::Place(number))
             }
         }
     }
@@ -56,7 +56,7 @@ impl<P: Telling> Dispatcher<P> {
             ≡ journal_of self.old.progress) }
     {
         let number = leg.number;
-        self.queues.hold(w, Held::Ready(leg))?;
+        self.queues.hold(w, Pending::Ready(leg))?;
         self.hold_place(to, number)
     }
 

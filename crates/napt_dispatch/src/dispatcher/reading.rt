@@ -11,7 +11,7 @@ use crate::Worker;
 use crate::departures::Departures;
 use crate::dispatcher::Dispatcher;
 use crate::dispatcher::taking::Until;
-use crate::stopped::Halted;
+use crate::faults::DispatchFault;
 use napt_config::Config;
 use napt_pool::{Gate, Pool};
 use napt_sequential::{Arrivals, Input, RunFault, Telling, way_from};
@@ -88,7 +88,7 @@ impl<P: Telling> Dispatcher<P> {
         pool: &mut Pool<Worker<P>, G>,
         departures: &mut D,
         asks_device: bool,
-    ) -> Result<(), Halted<D::Fault>>
+    ) -> Result<(), DispatchFault<D::Fault>>
         requires sized { IsSizedFor pool.old self.old }
         ensures state { LetsGoUnlessFault P.tells G.is_open D.takes D.fails
             pool.old self.old departures.old pool.new self.new departures.new result }
@@ -130,7 +130,7 @@ impl<P: Telling> Dispatcher<P> {
         config: &Config,
         arrivals: &mut A,
         departures: &mut D,
-    ) -> Result<EndOfInputs<A::Fault>, Halted<D::Fault>>
+    ) -> Result<EndOfInputs<A::Fault>, DispatchFault<D::Fault>>
         requires { Begins config.now pool.old self.old }
         ensures { MatchResult result
             (ReadsToEnd P.tells config.now A.hands A.ends D.takes D.fails D.is_settled pool.old
@@ -163,7 +163,7 @@ impl<P: Telling> Dispatcher<P> {
         config: &Config,
         arrivals: &mut A,
         departures: &mut D,
-    ) -> Result<EndOfInputs<A::Fault>, Halted<D::Fault>>
+    ) -> Result<EndOfInputs<A::Fault>, DispatchFault<D::Fault>>
         requires { Begins config.now pool.old self.old }
         ensures { MatchResult result
             (ReadsAll P.tells config.now A.hands A.ends D.takes D.fails D.is_settled pool.old

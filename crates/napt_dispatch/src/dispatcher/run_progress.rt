@@ -9,7 +9,7 @@ ghost use Rattle.napt_dispatch.specs.{Passing.{HandsOver, FailsOver}, Standing.{
 use crate::departures::{Departed, Departures};
 use crate::dispatcher::progress::{OpenInput, Progress};
 use crate::dispatcher::spares::Spares;
-use crate::stopped::ImpossibleAnswer;
+use crate::faults::ImpossibleAnswer;
 use http_server::Log;
 use napt_sequential::{RunFault, Telling};
 use napt_translate::Leg;

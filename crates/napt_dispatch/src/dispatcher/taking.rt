@@ -8,7 +8,7 @@ ghost use Rattle.napt_dispatch.specs.Standing.{IsSizedFor, ContinuesOr, NotesAll
 use crate::Worker;
 use crate::departures::Departures;
 use crate::dispatcher::Dispatcher;
-use crate::stopped::{Halted, ImpossibleAnswer};
+use crate::faults::{DispatchFault, ImpossibleAnswer};
 use napt_pool::{Answered, Backoff, Gate, Pool, Taken};
 use napt_sequential::{RunFault, Telling, Told};
 use napt_translate::Leg;
@@ -169,14 +169,14 @@ impl<P: Telling> Dispatcher<P> {
         &mut self,
         pool: &Pool<Worker<P>, G>,
         departures: &mut D,
-    ) -> Result<(), Halted<D::Fault>>
+    ) -> Result<(), DispatchFault<D::Fault>>
         requires sized { IsSizedFor pool.now self.old }
         ensures { LetsGoUnlessFault P.tells G.is_open D.takes D.fails
             pool.now self.old departures.old pool.now self.new departures.new result }
     {
         match self.progress.hand_over(departures) {
             Ok(()) => Ok(()),
-            Err(fault) => Err(Halted::Departure(fault)),
+            Err(fault) => Err(DispatchFault::Departure(fault)),
         }
     }
 
@@ -204,7 +204,7 @@ impl<P: Telling> Dispatcher<P> {
         pool: &mut Pool<Worker<P>, G>,
         departures: &mut D,
         until: Until,
-    ) -> Result<(), Halted<D::Fault>>
+    ) -> Result<(), DispatchFault<D::Fault>>
         requires sized { IsSizedFor pool.old self.old }
         ensures state { LetsGoUnlessFault P.tells G.is_open D.takes D.fails
             pool.old self.old departures.old pool.new self.new departures.new result }
@@ -226,7 +226,7 @@ impl<P: Telling> Dispatcher<P> {
         rt: &R,
         pool: &mut Pool<Worker<P>, G>,
         departures: &mut D,
-    ) -> Result<(), Halted<D::Fault>>
+    ) -> Result<(), DispatchFault<D::Fault>>
         requires sized { IsSizedFor pool.old self.old }
         ensures state { LetsGoUnlessFault P.tells G.is_open D.takes D.fails
             pool.old self.old departures.old pool.new self.new departures.new result }
@@ -240,7 +240,7 @@ impl<P: Telling> Dispatcher<P> {
         self.check_left()?;
         match departures.settle() {
             Ok(()) => Ok(()),
-            Err(fault) => Err(Halted::Departure(fault)),
+            Err(fault) => Err(DispatchFault::Departure(fault)),
         }
     }
 

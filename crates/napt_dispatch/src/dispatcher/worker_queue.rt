@@ -5,8 +5,8 @@ ghost use Rattle.napt_rules.specs.Prelude.{Act};
 ghost use Rattle.napt_dispatch.specs.{Dispatch.IsDispatchFault, Standing.{MovesLegs, turned}};
 ghost use Rattle.napt_dispatch.specs.QueueStates.{Holds, count_held, front_of, owed_of, readied, unused, with_offers};
 
-use crate::dispatcher::holding::{Front, Held, Owed};
-use crate::stopped::ImpossibleAnswer;
+use crate::dispatcher::holding::{Front, Owed, Pending};
+use crate::faults::ImpossibleAnswer;
 use napt_sequential::RunFault;
 use napt_translate::Leg;
 use std::alloc::{AllocError, Global};
@@ -27,7 +27,7 @@ pub(crate) struct WorkerQueue {
     /// The first legs not offered yet, oldest first: those of the next message.
     ready: Vec<Leg>,
     /// The legs and placeholders behind these, oldest first.
-    held: VecDeque<Held>,
+    held: VecDeque<Pending>,
 }
 
 impl Model for WorkerQueue {
@@ -66,25 +66,25 @@ impl WorkerQueue {
     /// Holds a leg or a placeholder behind everything held. A leg is one of the next message, unless something is held behind
     /// that, or it has as many as it may.
     #[inline(always)]
-    pub(crate) fn hold(&mut self, held: Held) -> Result<(), AllocError>
+    pub(crate) fn hold(&mut self, held: Pending) -> Result<(), AllocError>
         ensures ok { OnOk result (Holds (held ∷ []) self.old self.new) }
         ensures err { OnErr result (self.new ≡ self.old) }
     {
         match held {
-            Held::Ready(leg) => {
+            Pending::Ready(leg) => {
                 if self.held.len() > 0 || self.ready.len() >= MOST_READY {
-                    return self.hold_behind(Held::Ready(leg));
+                    return self.hold_behind(Pending::Ready(leg));
                 }
                 self.ready.push(leg)?;
                 Ok(())
             }
-            Held::Place(number) => self.hold_behind(Held::Place(number)),
+            Pending::Place(number) => self.hold_behind(Pending::Place(number)),
         }
     }
 
     /// Holds a leg or a placeholder behind everything held, and not in the next message.
     #[inline(never)]
-    fn hold_behind(&mut self, held: Held) -> Result<(), AllocError>
+    fn hold_behind(&mut self, held: Pending) -> Result<(), AllocError>
         ensures ok { OnOk result (self.new
             ≡ record self.old { held = self.old.held ++ held ∷ [] }) }
         ensures err { OnErr result (self.new ≡ self.old) }
@@ -99,8 +99,8 @@ impl WorkerQueue {
     {
         match self.held.front() {
             None => Front::Nothing,
-            Some(Held::Ready(_)) => Front::FirstLeg,
-            Some(Held::Place(number)) => Front::FirstPlace(*number),
+            Some(Pending::Ready(_)) => Front::FirstLeg,
+            Some(Pending::Place(number)) => Front::FirstPlace(*number),
         }
     }
 
@@ -111,8 +111,8 @@ impl WorkerQueue {
     {
         let leg = match self.held.pop_front() {
             None => None,
-            Some(Held::Ready(leg)) => Some(leg),
-            Some(Held::Place(_)) => second,
+            Some(Pending::Ready(leg)) => Some(leg),
+            Some(Pending::Place(_)) => second,
         };
         if let Some(leg) = leg {
             self.ready.push(leg)?;
@@ -199,7 +199,11 @@ fn note_owed(owed: &mut VecDeque<Owed>, legs: &[Leg]) -> Result<(), AllocError>
 }
 
 /// Moves the legs that are held first behind those that are ready, up to the first placeholder, or until `most` are ready.
-fn move_legs(held: &mut VecDeque<Held>, ready: &mut Vec<Leg>, most: usize) -> Result<(), AllocError>
+fn move_legs(
+    held: &mut VecDeque<Pending>,
+    ready: &mut Vec<Leg>,
+    most: usize,
+) -> Result<(), AllocError>
     ensures legs { (acts : List Act) → turned acts ready.new.items held.new.items
         ≡ turned acts ready.old.items held.old.items }
     ensures count { length ready.new.items + length held.new.items
@@ -207,11 +211,11 @@ fn move_legs(held: &mut VecDeque<Held>, ready: &mut Vec<Leg>, most: usize) -> Re
     ensures shorter { length held.new.items ≤ length held.old.items }
 {
     while ready.len() < most {
-        let Some(Held::Ready(_)) = held.front() else {
+        let Some(Pending::Ready(_)) = held.front() else {
             return Ok(());
         };
         ready.reserve(1)?;
-        let Some(Held::Ready(leg)) = held.pop_front() else {
+        let Some(Pending::Ready(leg)) = held.pop_front() else {
             unreachable!();
         };
         ready.push_reserved(leg);

@@ -4,7 +4,7 @@ ghost use Rattle.std.specs.Prelude.{◌≡◌, ◌↔◌, ◌+◌, ◌<◌, ◌�
 ghost use Rattle.napt_dispatch.specs.{Dispatch.IsDispatchFault, Standing.MovesLegsAt};
 ghost use Rattle.napt_dispatch.specs.QueueStates.{AllHold, AnswersAt, count_held, counts_in, front_of, many_held, only_at, queue_of, readied, unused, with_offers, with_queue};
 
-use crate::dispatcher::holding::{Front, Held, Owed};
+use crate::dispatcher::holding::{Front, Owed, Pending};
 use crate::dispatcher::worker_queue::WorkerQueue;
 use napt_sequential::RunFault;
 use napt_translate::Leg;
@@ -64,7 +64,7 @@ impl WorkerQueues {
 
     /// Holds a leg or a placeholder for worker `w`, behind everything held for it.
     #[inline(always)]
-    pub(crate) fn hold(&mut self, w: u32, held: Held) -> Result<(), AllocError>
+    pub(crate) fn hold(&mut self, w: u32, held: Pending) -> Result<(), AllocError>
         requires place { w < length self.old }
         requires room { many_held self.old < 65536 }
         ensures many { length self.new ≡ length self.old }

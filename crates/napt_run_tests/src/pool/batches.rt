@@ -2,16 +2,14 @@
 //! items that come alone.
 
 use super::checked::CheckedPool;
-use super::keeper::Keeper;
-use super::rounds::keepers;
+use super::rounds::{Keepers, keepers};
 use super::watch::{Echo, REFUSED, Says, Watch, so_far};
 use super::watched::{Watched, make_watched};
-use napt_pool::{Answered, Batch, OfferRefused, OpenGate, PoolFault, Taken};
+use crate::calls::TestRuntime;
+use napt_pool::{Answered, Batch, OfferRefused, PoolFault, Taken};
 use std::alloc::{AllocError, Global};
 use std::process::Abort;
-use std::sync::Wait;
 use std::test::Fail;
-use std::thread::Threads;
 
 /// These items in one message.
 pub(super) fn batch(
@@ -26,22 +24,17 @@ pub(super) fn batch(
 }
 
 /// A batch of so many numbers from `from` on.
-fn numbers(
-    rt: &impl Abort,
-    alloc: Global,
-    from: u64,
-    count: u64,
-) -> Result<Batch<u64, u64>, AllocError> {
-    let mut items = Vec::new(alloc);
+fn numbers(rt: &impl TestRuntime, from: u64, count: u64) -> Result<Batch<u64, u64>, AllocError> {
+    let mut items = Vec::new(rt.alloc());
     for k in 0..count {
         items.push(from.saturating_add(k))?;
     }
-    batch(rt, alloc, &items)
+    batch(rt, rt.alloc(), &items)
 }
 
 /// The answers to the next batch, which come together.
-fn together(rt: &impl Abort, pool: &mut CheckedPool<Keeper, OpenGate>) -> Answered<u64, u64> {
-    match pool.take_all_soon(rt, 0) {
+fn together(rt: &impl Abort, pool: &mut Keepers<impl TestRuntime>) -> Answered<u64, u64> {
+    match pool.take_all_soon(0) {
         Ok(Some(Taken::All(answered))) => Some(answered),
         _ => None,
     }
@@ -49,22 +42,16 @@ fn together(rt: &impl Abort, pool: &mut CheckedPool<Keeper, OpenGate>) -> Answer
 }
 
 /// The next answer, which comes alone.
-fn alone(rt: &impl Abort, pool: &mut CheckedPool<Keeper, OpenGate>) -> u64 {
-    match pool.take_all_soon(rt, 0) {
+fn alone(pool: &mut Keepers<impl TestRuntime>) -> Option<u64> {
+    match pool.take_all_soon(0) {
         Ok(Some(Taken::One(answer))) => Some(answer),
         _ => None,
     }
-    .expect(rt, "an answer")
 }
 
 /// The one worker of a pool has kept these items, and is left with these answers.
-fn assert_ended<R: Threads + Abort>(
-    rt: &R,
-    pool: CheckedPool<Keeper, OpenGate>,
-    items: &[u64],
-    answers: &[u64],
-) {
-    let ended = pool.closed(rt);
+fn assert_ended<R: TestRuntime>(rt: &R, pool: Keepers<R>, items: &[u64], answers: &[u64]) {
+    let ended = pool.closed();
     assert_eq!(rt; ended.len(), 1);
     assert_eq!(rt; ended[0].machine.items.as_slice(), items);
     assert_eq!(rt; ended[0].answers.as_slice(), answers);
@@ -76,19 +63,19 @@ fn batches_and_items_are_answered_in_order(rt: HostRuntime) -> Result<(), Fail> 
     let first = batch(&rt, alloc, &[40, 41, 42, 43])?;
     let second = batch(&rt, alloc, &[45, 46])?;
     let mut pool = keepers(&rt, 1, 7)?;
-    pool.give_all(&rt, 0, first);
-    pool.give(&rt, 0, 44);
-    pool.give_all(&rt, 0, second);
-    assert!(rt; matches!(pool.offer(&rt, 0, 47), Err(OfferRefused::Full(47))));
+    pool.give_all(0, first);
+    pool.give(0, 44);
+    pool.give_all(0, second);
+    assert!(rt; matches!(pool.offer(0, 47), Err(OfferRefused::Full(47))));
     // One of the first batch alone, and then what is left of it.
-    assert!(rt; pool.take_soon(&rt, 0) == Ok(Some(0)));
+    assert!(rt; pool.take_soon(0) == Ok(Some(0)));
     for count in 1..5 {
-        assert_eq!(rt; alone(&rt, &mut pool), count);
+        assert_eq!(rt; alone(&mut pool), Some(count));
     }
     let Answered { answers, spent } = together(&rt, &mut pool);
     assert_eq!(rt; answers.as_slice(), [5, 6].as_slice());
     assert!(rt; spent.is_empty() && spent.capacity() >= 2);
-    assert!(rt; matches!(pool.take_all(&rt, 0), Ok(None)));
+    assert!(rt; matches!(pool.take_all(0), Ok(None)));
     assert_ended(&rt, pool, &[40, 41, 42, 43, 44, 45, 46], &[]);
     Ok(())
 }
@@ -96,16 +83,12 @@ fn batches_and_items_are_answered_in_order(rt: HostRuntime) -> Result<(), Fail> 
 /// What `take` left of a batch comes back before what is in the ring.
 #[test]
 fn close_hands_back_the_rest_of_a_batch(rt: HostRuntime) -> Result<(), Fail> {
-    let alloc = rt.alloc();
-    let all = [
-        batch(&rt, alloc, &[7, 8, 9])?,
-        batch(&rt, alloc, &[10, 11])?,
-    ];
+    let first = batch(&rt, rt.alloc(), &[7, 8, 9])?;
+    let second = batch(&rt, rt.alloc(), &[10, 11])?;
     let mut pool = keepers(&rt, 1, 5)?;
-    for more in all {
-        pool.give_all(&rt, 0, more);
-    }
-    assert!(rt; pool.take_soon(&rt, 0) == Ok(Some(0)));
+    pool.give_all(0, first);
+    pool.give_all(0, second);
+    assert!(rt; pool.take_soon(0) == Ok(Some(0)));
     assert_ended(&rt, pool, &[7, 8, 9, 10, 11], &[1, 2, 3, 4]);
     Ok(())
 }
@@ -113,38 +96,30 @@ fn close_hands_back_the_rest_of_a_batch(rt: HostRuntime) -> Result<(), Fail> {
 /// A batch goes whole or not at all, and one of no items takes no slot of a ring.
 #[test]
 fn batch_that_does_not_fit_comes_back(rt: HostRuntime) -> Result<(), Fail> {
-    let alloc = rt.alloc();
-    let two = batch(&rt, alloc, &[8, 9])?;
-    let mut none = Vec::new(alloc);
+    let two = batch(&rt, rt.alloc(), &[8, 9])?;
+    let mut none = Vec::new(rt.alloc());
     for _ in 0..20 {
-        none.push(batch(&rt, alloc, &[])?)?;
+        none.push(batch(&rt, rt.alloc(), &[])?)?;
     }
     let mut pool = keepers(&rt, 1, 2)?;
     for empty in none {
-        pool.give_all(&rt, 0, empty);
+        pool.give_all(0, empty);
     }
-    pool.give(&rt, 0, 7);
-    let Err(OfferRefused::Full(two)) = pool.offer_all(&rt, 0, two) else {
-        pool.closed(&rt);
+    pool.give(0, 7);
+    let Err(OfferRefused::Full(two)) = pool.offer_all(0, two) else {
+        pool.closed();
         return Err("a batch too large was accepted".into());
     };
-    assert!(rt; pool.take_soon(&rt, 0) == Ok(Some(0)));
-    pool.give_all(&rt, 0, two);
+    assert!(rt; pool.take_soon(0) == Ok(Some(0)));
+    pool.give_all(0, two);
     assert_ended(&rt, pool, &[7, 8, 9], &[1, 2]);
     Ok(())
 }
 
 /// Offers a batch, and takes the answers to it as they come.
-fn round<R: Threads + Wait + Abort + AllocGlobal + Copy + Send + 'static>(
-    rt: &R,
-    pool: &mut CheckedPool<Keeper, OpenGate>,
-    from: u64,
-    count: u64,
-) {
-    let more = numbers(rt, rt.alloc(), from, count)
-        .ok()
-        .expect(rt, "a batch");
-    pool.give_all(rt, 0, more);
+fn round<R: TestRuntime>(rt: &R, pool: &mut Keepers<R>, from: u64, count: u64) {
+    let more = numbers(rt, from, count).ok().expect(rt, "a batch");
+    pool.give_all(0, more);
     let answered = together(rt, pool);
     assert_eq!(rt; answered.answers.len() as u64, count);
     for (k, answer) in answered.answers.iter().enumerate() {
@@ -164,7 +139,7 @@ fn batch_rounds(rt: HostRuntime) -> Result<(), Fail> {
                 from = from.saturating_add(count);
             }
         }
-        let ended = pool.closed(&rt);
+        let ended = pool.closed();
         assert_eq!(rt; ended.len(), 1);
         assert_eq!(rt; ended[0].machine.items.len() as u64, from);
         assert!(rt; ended[0].answers.is_empty());
@@ -172,32 +147,32 @@ fn batch_rounds(rt: HostRuntime) -> Result<(), Fail> {
     Ok(())
 }
 
-/// Takes the answers 0, 1, .. of a worker that stops, and returns how many came and why it stopped.
-fn until_stopped(rt: &impl Abort, pool: &mut CheckedPool<Echo, Watch>) -> (u64, Option<PoolFault>) {
+/// Takes the answers 0, 1, .. of a worker that stops for a cause, and returns how many came.
+fn until_stopped(
+    pool: &mut CheckedPool<impl TestRuntime, Echo, Watch>,
+    cause: PoolFault,
+) -> Option<u64> {
     for count in 0..100 {
-        match pool.take_soon(rt, 0) {
-            Ok(Some(answer)) => assert_eq!(rt; answer, count),
-            Ok(None) => return (count, None),
-            Err(fault) => return (count, Some(fault)),
+        match pool.take_soon(0) {
+            Ok(Some(answer)) if answer == count => {}
+            Err(fault) if fault == cause => return Some(count),
+            _ => return None,
         }
     }
-    (100, None)
+    None
 }
 
 /// The gate is shut at a step of a batch: the answers before it come, then why the worker stopped, and it has not made that step.
 #[test]
 fn gate_is_shut_in_a_batch(rt: HostRuntime) -> Result<(), Fail> {
     for shut in 0..4u64 {
-        let four = numbers(&rt, rt.alloc(), 0, 4)?;
+        let four = numbers(&rt, 0, 4)?;
         let Watched { mut pool, watch } = make_watched(&rt, &[false], Says::NoFrom(shut))?;
-        pool.give_all(&rt, 0, four);
-        let (count, told) = until_stopped(&rt, &mut pool);
+        pool.give_all(0, four);
+        let count = until_stopped(&mut pool, PoolFault::GateShut(0));
         let begun = watch.begun(0);
-        let ended = pool.close(&rt).err();
-        assert_eq!(rt; count, shut);
-        assert_eq!(rt; told, Some(PoolFault::GateShut(0)));
-        assert_eq!(rt; ended, Some(PoolFault::GateShut(0)));
-        assert_eq!(rt; begun, Some(shut));
+        pool.assert_close_tells(PoolFault::GateShut(0));
+        assert_eq!(rt; (count, begun), (Some(shut), Some(shut)));
         assert_eq!(rt; so_far(&watch.asks), 1_000_000 + shut);
     }
     Ok(())
@@ -210,12 +185,9 @@ fn gate_is_shut_to_a_batch(rt: HostRuntime) -> Result<(), Fail> {
     let one = batch(&rt, alloc, &[7])?;
     let watch = Watch::new(alloc, 1, Says::NoFrom(0), false)?;
     let machines = Echo::several(alloc, &watch, &[false])?;
-    let mut pool = CheckedPool::start(&rt, alloc, machines, 1, watch)?;
-    pool.give_all(&rt, 0, one);
-    let told = pool.take_soon(&rt, 0).err();
-    let ended = pool.close(&rt).err();
-    assert_eq!(rt; told, Some(PoolFault::GateShut(0)));
-    assert_eq!(rt; ended, Some(PoolFault::GateShut(0)));
+    let mut pool = CheckedPool::start(&rt, machines, 1, watch)?;
+    pool.give_all(0, one);
+    pool.assert_stopped(0, PoolFault::GateShut(0));
     Ok(())
 }
 
@@ -224,11 +196,9 @@ fn gate_is_shut_to_a_batch(rt: HostRuntime) -> Result<(), Fail> {
 fn memory_is_refused_in_a_batch(rt: HostRuntime) -> Result<(), Fail> {
     let four = batch(&rt, rt.alloc(), &[0, 1, REFUSED, 3])?;
     let Watched { mut pool, watch: _ } = make_watched(&rt, &[false], Says::Yes)?;
-    pool.give_all(&rt, 0, four);
-    let (count, told) = until_stopped(&rt, &mut pool);
-    let ended = pool.close(&rt).err();
-    assert_eq!(rt; count, 2);
-    assert_eq!(rt; told, Some(PoolFault::Memory));
-    assert_eq!(rt; ended, Some(PoolFault::Memory));
+    pool.give_all(0, four);
+    let count = until_stopped(&mut pool, PoolFault::Memory);
+    pool.assert_close_tells(PoolFault::Memory);
+    assert_eq!(rt; count, Some(2));
     Ok(())
 }

@@ -4,136 +4,130 @@ ghost use Rattle.std.specs.Prelude.{◌≡◌, length};
 ghost use Rattle.napt_pool.specs.Pools.{starts};
 
 use super::MOST_LOOKS;
+use crate::calls::TestRuntime;
 use napt_pool::{Batch, Ended, Gate, Machine, OfferRefused, Pool, PoolFault, Taken};
-use std::alloc::Global;
-use std::process::Abort;
-use std::sync::{Arc, Wait};
+use std::sync::Arc;
 use std::thread;
-use std::thread::Threads;
 
 /// A pool that stops a test which asks what a caller may not: for no worker, or for a worker that is not there. Its calls promise
 /// nothing, so that the proof of a test is short: the test sees what comes of them when it runs.
-pub(crate) struct CheckedPool<M: Machine, G: Gate> {
-    alloc: Global,
+pub(crate) struct CheckedPool<R, M: Machine, G: Gate> {
+    rt: R,
     pool: Pool<M, G>,
     workers: u32,
     ghost many: { length (starts pool) ≡ workers },
 }
 
-impl<M: Machine, G: Gate> CheckedPool<M, G> {
-    pub(crate) fn offer(
-        &mut self,
-        rt: &impl Abort,
-        w: u32,
-        item: M::Item,
-    ) -> Result<(), OfferRefused<M::Item>> {
-        assert!(rt; w < self.workers);
-        self.pool.offer(self.alloc, w, item)
-    }
-
-    /// Offers an item that is not refused.
-    pub(crate) fn give(&mut self, rt: &impl Abort, w: u32, item: M::Item) {
-        let offered = self.offer(rt, w, item).is_ok();
-        assert!(rt; offered, "the item of worker {w}");
-    }
-
-    pub(crate) fn offer_all(
-        &mut self,
-        rt: &impl Abort,
-        w: u32,
-        batch: Batch<M::Item, M::Answer>,
-    ) -> Result<(), OfferRefused<Batch<M::Item, M::Answer>>> {
-        assert!(rt; w < self.workers);
-        self.pool.offer_all(self.alloc, w, batch)
-    }
-
-    /// Offers a batch that is not refused.
-    pub(crate) fn give_all(&mut self, rt: &impl Abort, w: u32, batch: Batch<M::Item, M::Answer>) {
-        let offered = self.offer_all(rt, w, batch).is_ok();
-        assert!(rt; offered, "the batch of worker {w}");
-    }
-
-    pub(crate) fn take(&mut self, rt: &impl Abort, w: u32) -> Result<Option<M::Answer>, PoolFault> {
-        assert!(rt; w < self.workers);
-        self.pool.take(rt, self.alloc, w)
-    }
-
-    /// Takes until worker `w` has an answer or tells why it stopped.
-    pub(crate) fn take_soon(
-        &mut self,
-        rt: &impl Abort,
-        w: u32,
-    ) -> Result<Option<M::Answer>, PoolFault> {
+/// What a call takes, once that is there; nothing where it has not come for long.
+macro_rules! soon {
+    ($taken:expr) => {{
         for _ in 0..MOST_LOOKS {
-            if let Some(answer) = self.take(rt, w)? {
-                return Ok(Some(answer));
-            }
-            thread::yield_now();
-        }
-        Ok(None)
-    }
-
-    pub(crate) fn take_all(
-        &mut self,
-        rt: &impl Abort,
-        w: u32,
-    ) -> Result<Option<Taken<M::Item, M::Answer>>, PoolFault> {
-        assert!(rt; w < self.workers);
-        self.pool.take_all(rt, self.alloc, w)
-    }
-
-    /// Takes until worker `w` has answers or tells why it stopped.
-    pub(crate) fn take_all_soon(
-        &mut self,
-        rt: &impl Abort,
-        w: u32,
-    ) -> Result<Option<Taken<M::Item, M::Answer>>, PoolFault> {
-        for _ in 0..MOST_LOOKS {
-            if let Some(taken) = self.take_all(rt, w)? {
+            if let Some(taken) = $taken? {
                 return Ok(Some(taken));
             }
             thread::yield_now();
         }
         Ok(None)
+    }};
+}
+
+impl<R: TestRuntime, M: Machine, G: Gate> CheckedPool<R, M, G> {
+    pub(crate) fn offer(&mut self, w: u32, item: M::Item) -> Result<(), OfferRefused<M::Item>> {
+        assert!(self.rt; w < self.workers);
+        self.pool.offer(self.rt.alloc(), w, item)
     }
 
-    pub(crate) fn close(self, rt: &impl Threads) -> Result<Vec<Ended<M>>, PoolFault> {
+    /// Offers an item that is not refused.
+    pub(crate) fn give(&mut self, w: u32, item: M::Item) {
+        let offered = self.offer(w, item).is_ok();
+        assert!(self.rt; offered, "the item of worker {w}");
+    }
+
+    pub(crate) fn offer_all(
+        &mut self,
+        w: u32,
+        batch: Batch<M::Item, M::Answer>,
+    ) -> Result<(), OfferRefused<Batch<M::Item, M::Answer>>> {
+        assert!(self.rt; w < self.workers);
+        self.pool.offer_all(self.rt.alloc(), w, batch)
+    }
+
+    /// Offers a batch that is not refused.
+    pub(crate) fn give_all(&mut self, w: u32, batch: Batch<M::Item, M::Answer>) {
+        let offered = self.offer_all(w, batch).is_ok();
+        assert!(self.rt; offered, "the batch of worker {w}");
+    }
+
+    pub(crate) fn take(&mut self, w: u32) -> Result<Option<M::Answer>, PoolFault> {
+        assert!(self.rt; w < self.workers);
+        self.pool.take(&self.rt, self.rt.alloc(), w)
+    }
+
+    /// Takes until worker `w` has an answer or tells why it stopped.
+    pub(crate) fn take_soon(&mut self, w: u32) -> Result<Option<M::Answer>, PoolFault> {
+        soon!(self.take(w))
+    }
+
+    pub(crate) fn take_all(&mut self, w: u32) -> TakenOr<M> {
+        assert!(self.rt; w < self.workers);
+        self.pool.take_all(&self.rt, self.rt.alloc(), w)
+    }
+
+    /// Takes until worker `w` has answers or tells why it stopped.
+    pub(crate) fn take_all_soon(&mut self, w: u32) -> TakenOr<M> {
+        soon!(self.take_all(w))
+    }
+
+    pub(crate) fn close(self) -> Result<Vec<Ended<M>>, PoolFault> {
         let CheckedPool {
-            alloc,
+            rt,
             pool,
             workers: _,
         } = self;
-        pool.close(rt, alloc)
+        pool.close(&rt, rt.alloc())
     }
 
     /// Closes a pool that has no fault.
-    pub(crate) fn closed<R: Threads + Abort>(self, rt: &R) -> Vec<Ended<M>> {
-        self.close(rt).ok().expect(rt, "close")
+    pub(crate) fn closed(self) -> Vec<Ended<M>> {
+        let rt = self.rt;
+        self.close().ok().expect(&rt, "close")
+    }
+
+    /// Worker `w` tells a fault, and so does the pool as it is closed.
+    pub(crate) fn assert_stopped(mut self, w: u32, fault: PoolFault) {
+        let told = self.take_soon(w).err();
+        assert_eq!(self.rt; told, Some(fault));
+        self.assert_close_tells(fault);
+    }
+
+    /// Closes a pool that has a fault.
+    pub(crate) fn assert_close_tells(self, fault: PoolFault) {
+        let rt = self.rt;
+        assert_eq!(rt; self.close().err(), Some(fault));
     }
 }
 
-impl<M: Machine, G: Gate + Send + Sync + Drop + 'static> CheckedPool<M, G> {
+/// What `take_all` gives.
+type TakenOr<M> = Result<Option<Taken<<M as Machine>::Item, <M as Machine>::Answer>>, PoolFault>;
+
+impl<R: TestRuntime, M: Machine, G: Gate + Send + Sync + Drop + 'static> CheckedPool<R, M, G> {
     /// Starts a thread for each of 1 to 16 machines, with rings for 1 to 4,096 items.
-    pub(crate) fn start<R: Threads + Wait + Abort + Copy + Send + 'static>(
+    pub(crate) fn start(
         rt: &R,
-        alloc: Global,
         machines: Vec<M>,
         capacity: usize,
         gate: Arc<G>,
-    ) -> Result<CheckedPool<M, G>, PoolFault>
+    ) -> Result<CheckedPool<R, M, G>, PoolFault>
     where
         M: 'static,
         M::Item: 'static,
         M::Answer: 'static,
     {
-        let workers = machines.len();
-        assert!(rt; 1 <= workers && workers <= 16);
+        let (rt, many) = (*rt, machines.len());
+        assert!(rt; 1 <= many && many <= 16);
         assert!(rt; 1 <= capacity && capacity <= 4096);
-        let pool = Pool::start(rt, alloc, machines, capacity, gate)?;
-        Ok(CheckedPool {
-            alloc,
-            pool,
-            workers: workers as u32,
-        })
+        let pool = Pool::start(&rt, rt.alloc(), machines, capacity, gate)?;
+        let workers = many as u32;
+        Ok(CheckedPool { rt, pool, workers })
     }
 }

@@ -46,12 +46,4 @@ impl Keeper {
             items: Vec::new(alloc),
         }
     }
-
-    pub(crate) fn several(alloc: Global, count: u32) -> Result<Vec<Keeper>, AllocError> {
-        let mut all = Vec::new(alloc);
-        for _ in 0..count {
-            all.push(Keeper::new(alloc))?;
-        }
-        Ok(all)
-    }
 }

@@ -4,9 +4,9 @@ ghost use Rattle.std.specs.Prelude.{◌≡◌, [], ◌∷◌, map, IfOk};
 
 use super::checked::CheckedPool;
 use super::keeper::Keeper;
+use crate::calls::TestRuntime;
 use napt_pool::{Ended, OfferRefused, OpenGate, Pool, PoolFault};
 use std::alloc::Global;
-use std::process::Abort;
 use std::sync::{Arc, Wait};
 use std::test::Fail;
 use std::thread::Threads;
@@ -48,34 +48,40 @@ fn machines_and_answers_come_back(rt: HostRuntime) -> Result<(), Fail> {
     Ok(())
 }
 
-/// A pool of keepers, where nothing is refused.
-pub(super) fn keepers<R: Threads + Wait + Abort + AllocGlobal + Copy + Send + 'static>(
+/// A pool of keepers.
+pub(super) type Keepers<R> = CheckedPool<R, Keeper, OpenGate>;
+
+/// Starts a pool of keepers, where nothing is refused.
+pub(super) fn keepers<R: TestRuntime>(
     rt: &R,
     workers: u32,
     capacity: u16,
-) -> Result<CheckedPool<Keeper, OpenGate>, Fail> {
+) -> Result<Keepers<R>, Fail> {
     let alloc = rt.alloc();
-    let machines = Keeper::several(alloc, workers)?;
+    let mut machines = Vec::new(alloc);
+    for _ in 0..workers {
+        machines.push(Keeper::new(alloc))?;
+    }
     let gate = Arc::new(alloc, OpenGate)?;
-    Ok(CheckedPool::start(rt, alloc, machines, usize::from(capacity), gate)?)
+    Ok(CheckedPool::start(rt, machines, usize::from(capacity), gate)?)
 }
 
 #[test]
 fn answer_comes(rt: HostRuntime) -> Result<(), Fail> {
     let mut pool = keepers(&rt, 2, 1)?;
-    assert!(rt; pool.take(&rt, 1) == Ok(None));
-    pool.give(&rt, 1, 40);
-    assert!(rt; matches!(pool.offer(&rt, 1, 41), Err(OfferRefused::Full(41))));
-    assert!(rt; pool.take_soon(&rt, 1) == Ok(Some(0)));
-    assert!(rt; pool.take(&rt, 1) == Ok(None));
-    pool.closed(&rt);
+    assert!(rt; pool.take(1) == Ok(None));
+    pool.give(1, 40);
+    assert!(rt; matches!(pool.offer(1, 41), Err(OfferRefused::Full(41))));
+    assert!(rt; pool.take_soon(1) == Ok(Some(0)));
+    assert!(rt; pool.take(1) == Ok(None));
+    pool.closed();
     Ok(())
 }
 
 /// How many items worker `w` takes until it is full. `None` where it is refused for another cause.
-fn fill(rt: &impl Abort, pool: &mut CheckedPool<Keeper, OpenGate>, w: u32) -> Option<u64> {
+fn fill(pool: &mut Keepers<impl TestRuntime>, w: u32) -> Option<u64> {
     for count in 0..10_000 {
-        match pool.offer(rt, w, count) {
+        match pool.offer(w, count) {
             Ok(()) => {}
             Err(OfferRefused::Full(_)) => return Some(count),
             Err(_) => return None,
@@ -85,48 +91,28 @@ fn fill(rt: &impl Abort, pool: &mut CheckedPool<Keeper, OpenGate>, w: u32) -> Op
 }
 
 /// Whether worker `w` answers with this many numbers from `base` on, and then has no more.
-fn empties(
-    rt: &impl Abort,
-    pool: &mut CheckedPool<Keeper, OpenGate>,
-    w: u32,
-    count: u64,
-    base: u64,
-) -> bool {
+fn empties(pool: &mut Keepers<impl TestRuntime>, w: u32, count: u64, base: u64) -> bool {
     for k in 0..count {
-        if pool.take_soon(rt, w) != Ok(Some(base.saturating_add(k))) {
+        if pool.take_soon(w) != Ok(Some(base.saturating_add(k))) {
             return false;
         }
     }
-    pool.take(rt, w) == Ok(None)
+    pool.take(w) == Ok(None)
 }
 
-/// Fills all workers, and then empties them.
-fn round(
-    rt: &impl Abort,
-    pool: &mut CheckedPool<Keeper, OpenGate>,
-    workers: u32,
-    capacity: u64,
-    base: u64,
-) {
-    for w in 0..workers {
-        assert!(rt; fill(rt, pool, w) == Some(capacity), "worker {w}");
-    }
-    for w in 0..workers {
-        assert!(rt; empties(rt, pool, w, capacity, base), "worker {w}");
-    }
-}
-
-fn three_rounds<R: Threads + Wait + Abort + AllocGlobal + Copy + Send + 'static>(
-    rt: &R,
-    workers: u32,
-    capacity: u16,
-) -> Result<(), Fail> {
+/// Fills all workers and then empties them, three times.
+fn three_rounds(rt: &impl TestRuntime, workers: u32, capacity: u16) -> Result<(), Fail> {
     let mut pool = keepers(rt, workers, capacity)?;
     let count = u64::from(capacity);
     for k in 0..3 {
-        round(rt, &mut pool, workers, count, k * count);
+        for w in 0..workers {
+            assert!(rt; fill(&mut pool, w) == Some(count), "worker {w}");
+        }
+        for w in 0..workers {
+            assert!(rt; empties(&mut pool, w, count, k * count), "worker {w}");
+        }
     }
-    let ended = pool.closed(rt);
+    let ended = pool.closed();
     assert_eq!(rt; ended.len(), workers as usize);
     for end in &ended {
         assert_eq!(rt; end.machine.items.len() as u64, 3 * count);
@@ -145,25 +131,17 @@ fn ring_rounds(rt: HostRuntime) -> Result<(), Fail> {
     Ok(())
 }
 
-/// Fills a pool of one worker and closes it at once: its item ring has room for Close beside all items.
-fn close_full<R: Threads + Wait + Abort + AllocGlobal + Copy + Send + 'static>(
-    rt: &R,
-    capacity: u16,
-) -> Result<(), Fail> {
-    let mut pool = keepers(rt, 1, capacity)?;
-    assert!(rt; fill(rt, &mut pool, 0) == Some(u64::from(capacity)));
-    let ended = pool.closed(rt);
-    assert_eq!(rt; ended.len(), 1);
-    assert_eq!(rt; ended[0].answers.len(), usize::from(capacity));
-    Ok(())
-}
-
-/// Most often the worker has not begun when it is closed, so all items are in the ring.
+/// A pool of one worker is filled and closed at once: its item ring has room for Close beside all items. Most often the worker has
+/// not begun when it is closed, so all items are in the ring.
 #[test]
 fn full_pool_closes(rt: HostRuntime) -> Result<(), Fail> {
-    for capacity in [1, 2, 64] {
+    for capacity in [1u16, 2, 64] {
         for _ in 0..50 {
-            close_full(&rt, capacity)?;
+            let mut pool = keepers(&rt, 1, capacity)?;
+            assert!(rt; fill(&mut pool, 0) == Some(u64::from(capacity)));
+            let ended = pool.closed();
+            assert_eq!(rt; ended.len(), 1);
+            assert_eq!(rt; ended[0].answers.len(), usize::from(capacity));
         }
     }
     Ok(())

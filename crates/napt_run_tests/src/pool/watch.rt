@@ -72,12 +72,7 @@ impl Watch {
 
     /// Whether each machine has begun this many steps.
     fn have_begun(&self, count: u64) -> bool {
-        for steps in &self.steps {
-            if steps.load(Ordering::SeqCst) < count {
-                return false;
-            }
-        }
-        true
+        self.steps.iter().all(|steps| so_far(steps) >= count)
     }
 
     /// Waits a while until each machine has begun this many steps: whether it has.
@@ -103,13 +98,7 @@ impl Watch {
 
     /// How many steps a machine has begun.
     pub(crate) fn begun(&self, place: usize) -> Option<u64> {
-        let steps = self.steps.get(place)?;
-        Some(steps.load(Ordering::SeqCst))
-    }
-
-    /// Whether a worker has begun as many steps as it says.
-    fn is_turn(&self, worker: u32, turn: u64) -> bool {
-        self.begun(worker as usize) == Some(turn)
+        self.steps.get(place).map(so_far)
     }
 }
 
@@ -119,7 +108,7 @@ impl Gate for Watch {
     ghost is_open = { false };
 
     fn enter(&self, worker: u32, turn: u64) -> bool {
-        if !self.is_turn(worker, turn) {
+        if self.begun(worker as usize) != Some(turn) {
             self.strange.fetch_add(1, Ordering::SeqCst);
         }
         let asks = self.asks.fetch_add(1, Ordering::SeqCst);

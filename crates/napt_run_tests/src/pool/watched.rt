@@ -3,51 +3,45 @@
 use super::batches::batch;
 use super::checked::CheckedPool;
 use super::watch::{Echo, Says, Watch, so_far};
+use crate::calls::TestRuntime;
 use napt_pool::{OpenGate, PoolFault};
-use std::process::Abort;
-use std::sync::{Arc, Wait};
+use std::sync::Arc;
 use std::test::Fail;
-use std::thread::Threads;
 
 /// A pool of machines, some of which refuse their items, and the watch over it.
-pub(super) struct Watched {
-    pub(super) pool: CheckedPool<Echo, Watch>,
+pub(super) struct Watched<R> {
+    pub(super) pool: CheckedPool<R, Echo, Watch>,
     pub(super) watch: Arc<Watch>,
 }
 
 /// Starts a pool with rings for four items. Where it is refused memory or a thread, it has dropped each machine when it returns: here
 /// nothing is refused, and `tests/refused_calls` refuses each growth in turn, in a program of its own.
-pub(super) fn make_watched<R: Threads + Wait + Abort + AllocGlobal + Copy + Send + 'static>(
+pub(super) fn make_watched<R: TestRuntime>(
     rt: &R,
     refuse: &[bool],
     says: Says,
-) -> Result<Watched, Fail> {
+) -> Result<Watched<R>, Fail> {
     let alloc = rt.alloc();
     let watch = Watch::new(alloc, refuse.len(), says, false)?;
     let machines = Echo::several(alloc, &watch, refuse)?;
-    let started = CheckedPool::start(rt, alloc, machines, 4, Arc::try_clone(&watch)?);
+    let started = CheckedPool::start(rt, machines, 4, Arc::try_clone(&watch)?);
     assert!(rt; started.is_ok() || so_far(&watch.drops) == refuse.len() as u64);
     let pool = started?;
     Ok(Watched { pool, watch })
 }
 
 /// Three items for each worker, whatever the gate: each of the steps saw all other workers in a step of the same number.
-fn step_together<R: Threads + Wait + Abort + AllocGlobal + Copy + Send + 'static>(
-    rt: &R,
-    workers: u32,
-    refuse: &[bool],
-) -> Result<(), Fail> {
+fn step_together(rt: &impl TestRuntime, workers: u32, refuse: &[bool]) -> Result<(), Fail> {
     let alloc = rt.alloc();
     let watch = Watch::new(alloc, refuse.len(), Says::Yes, true)?;
     let machines = Echo::several(alloc, &watch, refuse)?;
-    let gate = Arc::new(alloc, OpenGate)?;
-    let mut pool = CheckedPool::start(rt, alloc, machines, 64, gate)?;
+    let mut pool = CheckedPool::start(rt, machines, 64, Arc::new(alloc, OpenGate)?)?;
     for item in 0..3 {
         for w in 0..workers {
-            pool.give(rt, w, item);
+            pool.give(w, item);
         }
     }
-    pool.closed(rt);
+    pool.closed();
     assert_eq!(rt; so_far(&watch.met), 3 * u64::from(workers));
     Ok(())
 }
@@ -62,71 +56,51 @@ fn steps_meet(rt: HostRuntime) -> Result<(), Fail> {
 #[test]
 fn steps_unasked(rt: HostRuntime) -> Result<(), Fail> {
     let Watched { mut pool, watch } = make_watched(&rt, &[false], Says::Yes)?;
-    pool.give(&rt, 0, 5);
+    pool.give(0, 5);
     let is_seen = watch.is_met(1);
-    pool.closed(&rt);
+    pool.closed();
     assert!(rt; is_seen);
     Ok(())
 }
 
 /// One worker takes four items in order, one by one or two in a message, asks the gate so often, each time with the number of the steps
 /// that it has made, and shows it the size of its machine after each step.
-fn take_turns<R: Threads + Wait + Abort + AllocGlobal + Copy + Send + 'static>(
-    rt: &R,
-    says: Says,
-    are_batches: bool,
-    asks: u64,
-) -> Result<(), Fail> {
-    let (first, second) = (
-        batch(rt, rt.alloc(), &[7, 8])?,
-        batch(rt, rt.alloc(), &[9, 10])?,
-    );
+fn take_turns(rt: &impl TestRuntime, says: Says, are_batches: bool, asks: u64) -> Result<(), Fail> {
+    let alloc = rt.alloc();
+    let (first, second) = (batch(rt, alloc, &[7, 8])?, batch(rt, alloc, &[9, 10])?);
     let Watched { mut pool, watch } = make_watched(rt, &[false], says)?;
     if are_batches {
-        pool.give_all(rt, 0, first);
-        pool.give_all(rt, 0, second);
+        pool.give_all(0, first);
+        pool.give_all(0, second);
     } else {
         for item in 7..11 {
-            pool.give(rt, 0, item);
+            pool.give(0, item);
         }
     }
-    let ended = pool.closed(rt);
+    let ended = pool.closed();
     assert_eq!(rt; ended.len(), 1);
     assert_eq!(rt; ended[0].answers.as_slice(), [7, 8, 9, 10].as_slice());
-    let counts = (
-        so_far(&watch.asks),
-        so_far(&watch.shown),
-        so_far(&watch.strange),
-    );
-    assert_eq!(rt; counts, (asks, 4, 0));
+    let shown = (so_far(&watch.shown), so_far(&watch.strange));
+    assert_eq!(rt; (so_far(&watch.asks), shown), (asks, (4, 0)));
     Ok(())
 }
 
+/// The gate is asked before each step, of a batch too, and again where it says no.
 #[test]
-fn gate_is_asked_before_the_step(rt: HostRuntime) -> Result<(), Fail> {
-    take_turns(&rt, Says::Yes, false, 4)
-}
-
-#[test]
-fn gate_is_asked_before_each_step_of_a_batch(rt: HostRuntime) -> Result<(), Fail> {
-    take_turns(&rt, Says::Yes, true, 4)
-}
-
-#[test]
-fn gate_is_asked_again(rt: HostRuntime) -> Result<(), Fail> {
-    take_turns(&rt, Says::NoFirst, false, 8)?;
-    take_turns(&rt, Says::NoFirst, true, 8)
+fn gate_is_asked_before_each_step(rt: HostRuntime) -> Result<(), Fail> {
+    for are_batches in [false, true] {
+        take_turns(&rt, Says::Yes, are_batches, 4)?;
+        take_turns(&rt, Says::NoFirst, are_batches, 8)?;
+    }
+    Ok(())
 }
 
 #[test]
 fn shut_gate_is_asked_a_million_times(rt: HostRuntime) -> Result<(), Fail> {
     let Watched { mut pool, watch } = make_watched(&rt, &[false; 2], Says::NoTo(1))?;
-    pool.give(&rt, 1, 5);
-    pool.give(&rt, 1, 6);
-    let told = pool.take_soon(&rt, 1).err();
-    let ended = pool.close(&rt).err();
-    assert_eq!(rt; told, Some(PoolFault::GateShut(1)));
-    assert_eq!(rt; ended, Some(PoolFault::GateShut(1)));
+    pool.give(1, 5);
+    pool.give(1, 6);
+    pool.assert_stopped(1, PoolFault::GateShut(1));
     assert_eq!(rt; so_far(&watch.asks), 1_000_000);
     Ok(())
 }
@@ -141,9 +115,9 @@ fn least_fault_is_told(rt: HostRuntime) -> Result<(), Fail> {
     for (worker, refuse, fault) in all {
         let Watched { mut pool, watch } = make_watched(&rt, &refuse, Says::NoTo(worker))?;
         for w in [2, 1, 0] {
-            pool.give(&rt, w, 5);
+            pool.give(w, 5);
         }
-        assert_eq!(rt; pool.close(&rt).err(), Some(fault));
+        pool.assert_close_tells(fault);
         assert_eq!(rt; so_far(&watch.drops), 3);
     }
     Ok(())
@@ -152,14 +126,10 @@ fn least_fault_is_told(rt: HostRuntime) -> Result<(), Fail> {
 #[test]
 fn refused_memory_is_told(rt: HostRuntime) -> Result<(), Fail> {
     let Watched { mut pool, watch: _ } = make_watched(&rt, &[true, false, false], Says::Yes)?;
-    pool.give(&rt, 0, 5);
-    pool.give(&rt, 1, 6);
-    let answer = pool.take_soon(&rt, 1).ok();
-    let told = pool.take_soon(&rt, 0).err();
-    let ended = pool.close(&rt).err();
-    assert!(rt; answer == Some(Some(6)));
-    assert_eq!(rt; told, Some(PoolFault::Memory));
-    assert_eq!(rt; ended, Some(PoolFault::Memory));
+    pool.give(0, 5);
+    pool.give(1, 6);
+    assert!(rt; pool.take_soon(1) == Ok(Some(6)));
+    pool.assert_stopped(0, PoolFault::Memory);
     Ok(())
 }
 
@@ -167,8 +137,8 @@ fn refused_memory_is_told(rt: HostRuntime) -> Result<(), Fail> {
 #[test]
 fn machines_are_dropped(rt: HostRuntime) -> Result<(), Fail> {
     let Watched { mut pool, watch } = make_watched(&rt, &[false; 3], Says::Yes)?;
-    pool.give(&rt, 0, 5);
-    let ended = pool.closed(&rt);
+    pool.give(0, 5);
+    let ended = pool.closed();
     assert_eq!(rt; so_far(&watch.drops), 0);
     assert_eq!(rt; ended.len(), 3);
     assert_eq!(rt; ended[0].answers.as_slice(), [5].as_slice());

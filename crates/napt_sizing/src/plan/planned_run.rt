@@ -2,7 +2,7 @@
 
 use crate::coverage::Coverage;
 use crate::plan::figures::Figures;
-use crate::sizes::held::Held;
+use crate::sizes::held::HeldBindings;
 use crate::sizes::usage::Usage;
 use napt_account::KnownRun;
 use napt_commands::{Exit, Losses, Outside, copied};
@@ -15,7 +15,7 @@ use std::alloc::{AllocError, Global};
 #[derive(Drop)]
 pub struct PlannedRun<'a> {
     run: KnownRun<'a>,
-    held: Held,
+    held: HeldBindings,
     usage: Usage,
     counts: Counts,
     pub losses: Losses,
@@ -29,7 +29,7 @@ impl<'a> PlannedRun<'a> {
         let opening = run.living(alloc)?;
         Ok(PlannedRun {
             run,
-            held: Held::of(alloc, config),
+            held: HeldBindings::of(alloc, config),
             usage: Usage::of(alloc, config, &opening)?,
             counts: Counts::new(),
             losses: Losses::new(alloc, config)?,

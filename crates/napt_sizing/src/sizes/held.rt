@@ -10,7 +10,7 @@ const SECOND: u64 = 1_000_000_000;
 
 /// The bindings that are held, and those that no longer are.
 #[derive(Drop)]
-pub struct Held {
+pub struct HeldBindings {
     /// How long one is held, in ns.
     hold: u64,
     /// The latest time of a packet, in ns.
@@ -23,10 +23,10 @@ pub struct Held {
     pub gone: Vec<Listed>,
 }
 
-impl Held {
+impl HeldBindings {
     /// Before the first packet.
-    pub fn of(alloc: Global, config: &Config) -> Held {
-        Held {
+    pub fn of(alloc: Global, config: &Config) -> HeldBindings {
+        HeldBindings {
             hold: config.timers().hold.saturating_mul(SECOND),
             now: 0,
             held: BTreeMap::new(alloc),

@@ -1,7 +1,16 @@
+use Rattle.std.proofs.{Common.{◌≡◌, true, is_some, ap}, lemmas.Result.err_from_is_err_and}
+use Rattle.napt_program.proofs.StateLemmas.{save_stop}
 use Rattle.napt.proofs.program.run.Goals as goal
 
-pub returns-in-Err : goal.returns-in-Err
-returns-in-Err g c = c.stop_of_run.ensures.stop c.args.streams
+pub returns-in_err-passed : goal.returns-in_err-passed
+returns-in_err-passed g c =
+    let p = err_from_is_err_and c.from_residual-in_err-passed.result c.from_residual-in_err-passed.ensures.1 in
+    rw (p.1, p.2) (c.in_err-passed.ensures c.args.streams)
 
-pub returns : goal.returns
-returns g c = c.saved.ensures c.args.streams
+pub returns-in_err-finish : goal.returns-in_err-finish
+returns-in_err-finish g c =
+    let p = err_from_is_err_and c.from_residual-in_err-finish.result c.from_residual-in_err-finish.ensures.1 in
+    let named : is_some c.args.options.now.files.save ≡ true =
+    cc (c.in_ok-config.ensures.save, ap is_some c.in-Some.is) in
+    rw (p.1, p.2) (save_stop c.args.streams c.args.options.now c.in_err-finish.field-0.0 named
+    c.in_err-finish.ensures.refused)

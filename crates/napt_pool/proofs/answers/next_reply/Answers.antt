@@ -1,6 +1,6 @@
 use Rattle.std.{proofs.Common.{refl, ap, ◌∙◌, [], ◌∷◌, ◌++◌, append-nil}, specs.{Prelude.Some, Vec.Iter.into_iter_items}}
 use Rattle.rtrb.specs.Ring.{received}
-use Rattle.napt_pool.{specs.{Histories.{answers_of, each_reply, heard_but}, declared.message.Reply.TheVariants.{Done, Stopped, Many}}, proofs.Joins.drained}
+use Rattle.napt_pool.{specs.{Histories.{answers_of, each_reply, heard_but}, declared.message.Reply.TheVariants.{Done, Failed, Many}}, proofs.Joins.drained}
 use Rattle.napt_pool.proofs.{Hands.{next_hand, next_taken, came_heard, taken_grown}, Grown.answers_of-append}
 use Rattle.napt_pool.proofs.answers.next_reply.Goals as goal
 
@@ -30,12 +30,12 @@ returns-in-Ok-Many-clause-heard g c =
     (into_iter_items c.next.new.self) (Many c.in-Ok-Many.answered) c.requires.hand (c.in_default.ensures.items ∙ left)
     popped.0 left ∙ ap (λ r. heard_but c.args.answers.now (into_iter_items c.args.at_hand.now) ++ r) (append-nil _)
 
-pub returns-in-Ok-Stopped-clause-stopped : goal.returns-in-Ok-Stopped-clause-stopped
-returns-in-Ok-Stopped-clause-stopped g c =
-    let popped = rw c.in-Ok-Stopped.field-0-is at c.in-Ok-Stopped.ensures.ok in
+pub returns-in-Ok-Failed-clause-stopped : goal.returns-in-Ok-Failed-clause-stopped
+returns-in-Ok-Failed-clause-stopped g c =
+    let popped = rw c.in-Ok-Failed.field-0-is at c.in-Ok-Failed.ensures.ok in
     let left = drained c.next.new.self c.in_default.ensures.cases.1 in
     came_heard (received c.args.answers.now) (received c.pop.new.self) (into_iter_items c.args.at_hand.now)
-    (into_iter_items c.next.new.self) (Stopped c.in-Ok-Stopped.stop) c.requires.hand
+    (into_iter_items c.next.new.self) (Failed c.in-Ok-Failed.stop) c.requires.hand
     (c.in_default.ensures.items ∙ left) popped.0 left
 
 pub returns-in-Ok-Done-clause-some : goal.returns-in-Ok-Done-clause-some
@@ -45,8 +45,8 @@ pub returns-in-Ok-Many-clause-some : goal.returns-in-Ok-Many-clause-some
 returns-in-Ok-Many-clause-some g c =
     taken_grown _ _ c.in-Ok-Many.answered.answers.items (returns-in-Ok-Many-clause-heard g c)
 
-pub returns-in-Ok-Stopped-clause-err : goal.returns-in-Ok-Stopped-clause-err
-returns-in-Ok-Stopped-clause-err g c =
+pub returns-in-Ok-Failed-clause-err : goal.returns-in-Ok-Failed-clause-err
+returns-in-Ok-Failed-clause-err g c =
     let heard = heard_but c.args.answers.now (into_iter_items c.args.at_hand.now) in
-    ap answers_of (returns-in-Ok-Stopped-clause-stopped g c)
-    ∙ answers_of-append heard (Stopped c.in-Ok-Stopped.stop ∷ []) ∙ append-nil (answers_of heard)
+    ap answers_of (returns-in-Ok-Failed-clause-stopped g c)
+    ∙ answers_of-append heard (Failed c.in-Ok-Failed.stop ∷ []) ∙ append-nil (answers_of heard)

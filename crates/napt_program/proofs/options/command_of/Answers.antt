@@ -7,5 +7,5 @@ pub loop-name-preserved : goal.loop-name-preserved
 loop-name-preserved c =
     option_added (λ option. option.0.now) _ c.loop-name.name-index _ (app_of c.loop-name.command)
     (app_of c.in_ok-command.command) c.loop-name-test.true c.loop-name.invariant
-    (c.in_ok-command.ensures.shape c.file_arg.ensures.local
-    ∙ ap (λ (r : Rule). with_rule (app_of c.loop-name.command) r) c.file_arg.ensures.rule)
+    (c.in_ok-command.ensures.shape c.plain_arg.ensures.local
+    ∙ ap (λ (r : Rule). with_rule (app_of c.loop-name.command) r) c.plain_arg.ensures.rule)

@@ -1,26 +1,31 @@
-use Rattle.std.proofs.Common.{[], rules, ◌∙◌, ap, sym}
+use Rattle.std.proofs.Common.{[], rules, ◌∙◌, option_map, string_bytes, ap, sym}
 use Rattle.clap.specs.Words.{app_of, found_of, rows_of}
-use Rattle.napt_program.{specs.CommandLine.{files_with_log, line_by}, proofs.LineLemmas.{help_line, log_read, mistaken_line, misused_line, taken_line, used_line, version_line}}
+use Rattle.napt_program.{specs.CommandLine.{files, line_by}, proofs.LineLemmas.{help_line, log_read, mistaken_line, misused_line, some_second, taken_line, used_line, version_line, with_log}}
 use Rattle.napt_program.proofs.options.parse_words_for.Goals as goal
 
 pub returns-in-Ok-clause-ok : goal.returns-in-Ok-clause-ok
 returns-in-Ok-clause-ok c =
-    let read = log_read c.args.takes_log (rows_of (found_of c.in-Ok.matches)) _ c.in_ok-files-in-Ok.ensures
-    c.in_ok-log-in-Ok.ensures.value in
+    let read = log_read c.args.takes_log (rows_of (found_of c.in-Ok.matches)) _ _ _ c.in_ok-files-in-Ok.ensures
+    c.in_ok-log-in-Ok.ensures.value c.seconds_in-seconds.ensures.value in
+    let line = with_log c.in_ok-files-in-Ok.files (option_map string_bytes c.in_ok-log-in-Ok.log)
+    c.seconds_in-seconds.result in
+    let used = sym c.is_misused.ensures ∙ c.if-is_misused.false in
     rw (← c.as_slice.ensures.value)
     (taken_line c.args.takes_log (app_of c.in_ok-command.command) _ c.in-Ok.matches c.in_ok-command.ensures
-    c.in-Ok.ensures.matches c.in-Ok.ensures.kinds ∙ ap (line_by []) read
-    ∙ used_line _ (sym c.misuses_state.ensures ∙ c.if-misuses_state.false))
+    c.in-Ok.ensures.matches c.in-Ok.ensures.kinds ∙ ap (line_by []) read ∙ used_line line used
+    ∙ ap (λ s. files (with_log c.in_ok-files-in-Ok.files (option_map string_bytes c.in_ok-log-in-Ok.log) s))
+    (sym (c.above_zero.ensures.same (some_second line used))))
 
-pub returns-then-misuses_state-clause-usage : goal.returns-then-misuses_state-clause-usage
-returns-then-misuses_state-clause-usage c _ =
-    let read = log_read c.args.takes_log (rows_of (found_of c.in-Ok.matches)) _ c.in_ok-files-in-Ok.ensures
-    c.in_ok-log-in-Ok.ensures.value in
+pub returns-then-is_misused-clause-usage : goal.returns-then-is_misused-clause-usage
+returns-then-is_misused-clause-usage c _ =
+    let read = log_read c.args.takes_log (rows_of (found_of c.in-Ok.matches)) _ _ _ c.in_ok-files-in-Ok.ensures
+    c.in_ok-log-in-Ok.ensures.value c.seconds_in-seconds.ensures.value in
+    let line = with_log c.in_ok-files-in-Ok.files (option_map string_bytes c.in_ok-log-in-Ok.log)
+    c.seconds_in-seconds.result in
     rw (← c.as_slice.ensures.value)
     (taken_line c.args.takes_log (app_of c.in_ok-command.command) _ c.in-Ok.matches c.in_ok-command.ensures
     c.in-Ok.ensures.matches c.in-Ok.ensures.kinds ∙ ap (line_by []) read
-    ∙ misused_line (files_with_log (record { files = c.in_ok-files-in-Ok.files; log = c.in_ok-log-in-Ok.log }))
-    (sym c.misuses_state.ensures ∙ c.if-misuses_state.true))
+    ∙ misused_line line (sym c.is_misused.ensures ∙ c.if-is_misused.true))
 
 pub returns-clause-help : goal.returns-clause-help
 returns-clause-help c asked =

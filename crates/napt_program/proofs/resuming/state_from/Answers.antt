@@ -1,4 +1,4 @@
-use Rattle.std.proofs.Common.{◌≡◌, ◌∙◌}
+use Rattle.std.proofs.Common.{◌∙◌}
 use Rattle.napt_program.proofs.StateLemmas.{unread}
 use Rattle.napt_program.proofs.resuming.state_from.Goals as goal
 

@@ -14,6 +14,6 @@ loop-left-preserved c =
       within = omega (arith, c.loop-left.invariant.within);
       are = subst (λ (l : List Binding). AreOf l c.insert.new.self)
           (sym (ap (map r) (drop_before all left _ c.loop-left-test.true c.loop-left.invariant.within)))
-          (are_more (map r (drop left all)) (r (get_or all (left - 1) _)) c.redirect_row.result c.loop-left.endpoints
-          c.insert.new.self c.redirect_row.ensures c.loop-left.invariant.are c.in_ok-insert.ensures);
+          (are_more (map r (drop left all)) (r (get_or all (left - 1) _)) c.redirected.result c.loop-left.endpoints
+          c.insert.new.self c.redirected.ensures c.loop-left.invariant.are c.in_ok-insert.ensures);
     }

@@ -1,6 +1,6 @@
 use Rattle.std.proofs.Common.{◌≡◌, List, IfOk, subst, sym}
 use Rattle.napt_rules.specs.{Bindings.Binding, Taking.misfit_in}
-use Rattle.napt_state.proofs.{Lists.finished, Taken.kept_loose}
+use Rattle.napt_state.proofs.{Taken.kept_loose, Written.finished}
 use Rattle.napt_state.proofs.taking.take_up.Goals as goal
 
 pub returns-clause-misfit : goal.returns-clause-misfit

@@ -1,21 +1,14 @@
-use Rattle.std.{specs.Prelude.{◌≡◌, IfErr, Result, Err}, proofs.Common.subst}
-use Rattle.napt_program.specs.{CommandLine.files_with_log, Command.IsRunStop, declared.stop.Stop.Stop}
+use Rattle.std.proofs.{Common.{is_some, sym, ◌∙◌, ap}, lemmas.Result.err_from_is_err_and}
+use Rattle.napt_program.proofs.StateLemmas.{save_stop}
 use Rattle.stream.proofs.program.run.Goals as goal
-use Rattle.stream.proofs.program.run.Goals.{in-Left, in-Right}
 
--- what holds of the stop of an answer holds of that stop
-of_stop : {A : Type 0} (answer : Result A Stop) (stop : Stop) (P : Stop → Type 0) → answer ≡ Err stop → IfErr answer P
-    → P stop
-of_stop {A} answer stop P is told = subst (λ (it : Result A Stop). IfErr it P) is told
+pub returns-in_err-left : goal.returns-in_err-left
+returns-in_err-left g c =
+    let p = err_from_is_err_and c.from_residual-in_err-left.result c.from_residual-in_err-left.ensures.1 in
+    rw (p.1, p.2) (c.in_err-left.ensures.stop c.args.streams)
 
-pub returns-in-Ok-Some : goal.returns-in-Ok-Some
-returns-in-Ok-Some g c = c.saved.ensures c.args.streams
-
-pub returns : goal.returns
-returns g c =
-    let P : Stop → Type 0 = IsRunStop c.args.streams (files_with_log c.args.options.now) in
-    let told : IfErr c.match-log-3.answer P = elim c.match-log-3.branch [
-      | in-Right w ↦ rw w.answer-is (w.ended-answer.ensures c.args.streams)
-      | in-Left w ↦ rw w.answer-is (w.ended_with_log-answer.ensures c.args.streams)
-    ] in
-    of_stop c.match-log-3.answer c.in-Err.stop P c.in-Err.is told
+pub returns-in_err-finish : goal.returns-in_err-finish
+returns-in_err-finish g c =
+    let p = err_from_is_err_and c.from_residual-in_err-finish.result c.from_residual-in_err-finish.ensures.1 in
+    rw (p.1, p.2) (save_stop c.args.streams c.args.options.now c.in_err-finish.field-0.0
+    (sym c.in_ok-config.ensures.save ∙ ap is_some c.in-Some.is) c.in_err-finish.ensures.refused)

@@ -1,12 +1,15 @@
-use Rattle.std.proofs.Common.{ℕ, List, refl, sym, ap, subst, arith}
-use Rattle.napt_sequential.specs.declared.passage.Trace.{Trace}
-use Rattle.napt_account.{specs.KnownLogs.{IsOpenAfter, taken_in}, proofs.TraceLogs.first_long}
+use Rattle.std.proofs.Common.{false, [], ◌∙◌}
+use Rattle.napt_account.proofs.GoingOn.{taken_anew}
 use Rattle.napt_account.proofs.known_log.KnownLog.begin.Goals as goal
 
-pub invariant_of-result : goal.invariant_of-result
-invariant_of-result c = λ going.
-    let long = first_long c.args.config.now in
-    let few = c.pool-pool.ensures.kept.redirects_few in
-    subst (λ (ts : List Trace). IsOpenAfter c.args.config.now ts 0 0 c.in_ok-entries.entries)
-    (sym (ap (λ (l : List (ℕ × Trace)). taken_in l) c.new.ensures))
-    (record { taken = refl; time = refl; entries = c.in_ok-entries.ensures; few = omega (arith, long, few) })
+pub returns : goal.returns
+returns c =
+    let is = c.in_ok-resumed.ensures in
+    let anew = taken_anew c.args.config.now c.no_state-state.result c.none-kept.result c.no_state-state.ensures
+    c.none-kept.ensures is.log _ is.taken in
+    is.begun ∙ (λ i. record {
+      rules = c.args.config.now;
+      begun = record { clock = (anew.1 i).clock; log = anew.0 i };
+      traces = [];
+      is_stopped = false;
+    })

@@ -1,15 +1,15 @@
 -- A header is the text of no records.
 use Rattle.std.proofs.{lemmas.{Grind.common_steps, Bool.Decides.nat_tests, List.Elements.All-nil}, Common.{◌≡◌, List, [], subst, false, Ok, arith, append-nil}}
-use Rattle.napt_capture.{specs.Prelude.{Held, captured, Entry, IsWritable, file_header, text}, proofs.ReadsBack.{captured_text, length-file_header, read_text}}
+use Rattle.napt_capture.{specs.Prelude.{CapturedRecords, captured, CapturedRecord, IsWritable, file_header, text}, proofs.ReadsBack.{captured_text, length-file_header, read_text}}
 use Rattle.napt_capture.proofs.absent.NoPackets.new.Goals as goal
 
-text_of_none : (let none : List Entry = [] in text none) ≡ file_header
+text_of_none : (let none : List CapturedRecord = [] in text none) ≡ file_header
 unfolding text
 text_of_none = append-nil file_header
 
 pub returns-clause-holds : goal.returns-clause-holds
 returns-clause-holds c =
-    let none : Held = record { records = []; end = Ok false } in
+    let none : CapturedRecords = record { records = []; end = Ok false } in
     subst (λ l. captured l ≡ none) text_of_none (captured_text [] (All-nil IsWritable))
 
 pub returns-clause-reads : goal.returns-clause-reads

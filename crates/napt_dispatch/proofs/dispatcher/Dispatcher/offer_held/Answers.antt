@@ -40,7 +40,6 @@ returns-clause-state g c =
     rw (c.in_ok-ready_all.ensures.many, c.requires.sized) c.requires.place in
     let long = sym c.in_ok-legs.legs.ok.0 ∙ c.in_ok-legs.ensures.len in
     record {
-      starts_stay = c.in_ok-send.ensures.starts;
       grows = grows_offered c.args.w c.args.pool.now c.send.new.pool c.requires.place c.in_ok-send.ensures.starts
           c.in_ok-legs.legs.items c.in_ok-send.ensures.takes c.in_ok-send.ensures.accepted;
       sized = c.offer_ready.ensures.many ∙ (c.in_ok-ready_all.ensures.many

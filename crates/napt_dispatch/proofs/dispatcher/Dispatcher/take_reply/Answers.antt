@@ -9,7 +9,6 @@ returns-in_ok-note-in-Some-One-clause-state g c =
     notes_more c.args.w c.in-Some-One.answer c.args.self.now c.note.new.self inside
     c.in_ok-note-in-Some-One.ensures.noted [] c.args.self.now (notes_none c.args.w c.args.self.now) in
     record {
-      starts_stay = c.in_ok-take_all.ensures.starts;
       grows = grows_taken c.args.w c.args.pool.now c.take_all.new.self c.requires.place c.in_ok-take_all.ensures.starts
           (c.in-Some-One.answer ∷ []) c.in_ok-take_all.ensures.accepts
           (rw (c.in-Some-One.is, c.in-Some-One.field-0-is) at c.in_ok-take_all.ensures.some);
@@ -22,7 +21,6 @@ returns-in_ok-note-in-Some-One-clause-state g c =
 
 pub returns-in_ok-note_all-in-Some-All-clause-state : goal.returns-in_ok-note_all-in-Some-All-clause-state
 returns-in_ok-note_all-in-Some-All-clause-state g c = record {
-  starts_stay = c.in_ok-take_all.ensures.starts;
   grows = grows_taken c.args.w c.args.pool.now c.take_all.new.self c.requires.place c.in_ok-take_all.ensures.starts
       c.in-Some-All.answered.answers.items c.in_ok-take_all.ensures.accepts
       (rw (c.in-Some-All.is, c.in-Some-All.field-0-is) at c.in_ok-take_all.ensures.some);

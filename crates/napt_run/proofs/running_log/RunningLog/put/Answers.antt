@@ -2,8 +2,8 @@ use Rattle.std.proofs.{Common.{List, ℕ, [], subst, append-nil}, lemmas.Result.
 use Rattle.napt_run.specs.{LeavingLaws.breaks_more, Outputs.{Breaks, Grows}}
 use Rattle.napt_run.proofs.running_log.RunningLog.put.Goals as goal
 
-pub returns-in_err-flush : goal.returns-in_err-flush
-returns-in_err-flush g c rules inputs at =
+pub returns-in_err-flush-clause-text : goal.returns-in_err-flush-clause-text
+returns-in_err-flush-clause-text g c from inputs at =
     let p = err_from_is_err_and c.from_residual-in_err-flush.result c.from_residual-in_err-flush.ensures.1 in
     let grown = subst (λ (l : List ℕ). Grows c.args.self.now.output l c.put_text.new.self) c.as_bytes.ensures.value
     c.in_ok-put_text.ensures.ok in

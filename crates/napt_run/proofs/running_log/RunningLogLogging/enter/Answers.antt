@@ -7,21 +7,21 @@ pub returns-in_err-text : goal.returns-in_err-text
 returns-in_err-text g c =
     let trace : Trace = record { now = c.args.now; first = c.args.first; second = c.args.second } in
     let p = err_from_is_err_and c.from_residual.result c.from_residual.ensures.1 in
-    rw (p.1, p.2) (λ rules before at. enter_failed rules before c.args.self.now trace c.in_err-text.field-0.0
-    c.rows.new.self (c.in_err-text.ensures rules before at))
+    rw (p.1, p.2) (λ from before at. enter_failed from before c.args.self.now trace c.in_err-text.field-0.0
+    c.rows.new.self (c.in_err-text.ensures from before at))
 
 pub returns-then-is_empty : goal.returns-then-is_empty
-returns-then-is_empty g c rules before at =
+returns-then-is_empty g c from before at =
     let none = nil_from_length c.as_bytes-rows.result.now
     (eqb-true _ 0 (sym c.is_empty.ensures ∙ c.if-is_empty.true)) in
-    enter_written rules before c.args.self.now
+    enter_written from before c.args.self.now
     (record { now = c.args.now; first = c.args.first; second = c.args.second }) c.rows.new.self c.rows.new.self.output _
-    [] at (c.in_ok-text.ensures rules before at) (sym none ∙ c.as_bytes-rows.ensures.value)
+    [] at (c.in_ok-text.ensures from before at) (sym none ∙ c.as_bytes-rows.ensures.value)
     (grows_none c.rows.new.self.output)
 
 pub returns : goal.returns
-returns g c rules before at =
-    enter_written rules before c.args.self.now
+returns g c from before at =
+    enter_written from before c.args.self.now
     (record { now = c.args.now; first = c.args.first; second = c.args.second }) c.rows.new.self c.put_text.new.self _
-    c.as_bytes-rows.result.now at (c.in_ok-text.ensures rules before at) c.as_bytes-rows.ensures.value
+    c.as_bytes-rows.result.now at (c.in_ok-text.ensures from before at) c.as_bytes-rows.ensures.value
     c.in_ok-put_text.ensures.ok

@@ -27,7 +27,7 @@ returns-in_default-read-clause-entry g c entry rest fits left =
     let read = line_read _ _ _ _ _ _ c.clear.ensures.bytes c.in-Ok.ensures.bytes left c.in-Ok.ensures.rest
     (line_text-ended entry) in
     let is = subst (IsCut _) c.in-Some.is (strip_suffix_char 10 _ _ c.strip_suffix.ensures.cases (lit< tt)) in
-    let found = c.read.ensures entry fits (sym read.0 ∙ sym c.as_str.ensures.value ∙ is) in
+    let found = c.read.ensures.read entry fits (sym read.0 ∙ sym c.as_str.ensures.value ∙ is) in
     absurd (none-some _ (sym c.in_default-read.is ∙ found))
 
 pub returns-in_default-read-clause-torn : goal.returns-in_default-read-clause-torn
@@ -53,7 +53,7 @@ returns-then-eq-clause-entry g c entry rest fits left =
     let read = line_read _ _ _ _ _ _ c.clear.ensures.bytes c.in-Ok.ensures.bytes left c.in-Ok.ensures.rest
     (line_text-ended entry) in
     let is = subst (IsCut _) c.in-Some.is (strip_suffix_char 10 _ _ c.strip_suffix.ensures.cases (lit< tt)) in
-    let found = c.read.ensures entry fits (sym read.0 ∙ sym c.as_str.ensures.value ∙ is) in
+    let found = c.read.ensures.read entry fits (sym read.0 ∙ sym c.as_str.ensures.value ∙ is) in
     (ap Ok (sym c.in-Some-read.is ∙ found), read.1)
 
 -- what is written after all, where memory sufficed
@@ -78,7 +78,7 @@ returns-else-eq-clause-entry g c entry rest fits left =
     let read = line_read _ _ _ _ _ _ c.clear.ensures.bytes c.in-Ok.ensures.bytes left c.in-Ok.ensures.rest
     (line_text-ended entry) in
     let is = subst (IsCut _) c.in-Some.is (strip_suffix_char 10 _ _ c.strip_suffix.ensures.cases (lit< tt)) in
-    let found = c.read.ensures entry fits (sym read.0 ∙ sym c.as_str.ensures.value ∙ is) in
+    let found = c.read.ensures.read entry fits (sym read.0 ∙ sym c.as_str.ensures.value ∙ is) in
     let both : Some c.in-Some-read.entry ≡ Some entry = sym c.in-Some-read.is ∙ found in
     let same : c.in-Some-read.entry ≡ entry = cc in
     let again = sufficed c.add_to.result c.add_to.ensures (sym c.is_err.ensures.value ∙ c.if-is_err.false) in

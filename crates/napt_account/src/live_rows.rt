@@ -1,0 +1,74 @@
+//! The bindings of a state that live under a configuration, as a log has them.
+
+ghost use Rattle.std.specs.Prelude.{◌≡◌, [], ◌∷◌, map, filter, not, true, false, IfOk, OnOk, option_to_list};
+ghost use Rattle.napt_rules.specs.Prelude.{Takes, flows_share, is_live, opening, purge, under, with_live_flows};
+ghost use Rattle.napt_config.specs.Rules.{KeepsRules};
+ghost use Rattle.napt_table.specs.TimedRows.{timed};
+
+use crate::log::redirected;
+use napt_binding::{IdleTimers, end_of, from_state};
+use napt_config::Config;
+use napt_rules::{State, StateBinding};
+use napt_table::TimedRow;
+use std::alloc::{AllocError, Global};
+
+/// The bindings that live at the clock of a state under a configuration: its redirects, and then those of the state that
+/// are no redirects.
+pub(crate) fn live_rows(
+    alloc: Global,
+    config: &Config,
+    state: &State,
+) -> Result<Vec<TimedRow>, AllocError>
+    requires { Takes config.now state.now }
+    ensures { IfOk result (λ live. live.items ≡ map (timed config.now.timers)
+        (purge config.now.timers state.now.clock (under config.now state.now).list)) }
+{
+    let timers = IdleTimers::of(config);
+    let mut live = redirects(alloc, config)?;
+    for binding in &state.list {
+        if let Some(timed) = live_row(alloc, binding, timers, state.clock)? {
+            live.push(timed)?;
+        }
+    }
+    Ok(live)
+}
+
+/// The redirects of a configuration.
+fn redirects(alloc: Global, config: &Config) -> Result<Vec<TimedRow>, AllocError>
+    ensures all { IfOk result (λ made. made.items
+        ≡ map (timed config.now.timers) (opening config.now)) }
+    ensures kept { OnOk result (KeepsRules config.now) }
+{
+    let mut made = Vec::new(alloc);
+    for redirect in config.redirects() {
+        made.push(TimedRow {
+            row: redirected(config, *redirect),
+            end: None,
+        })?;
+    }
+    Ok(made)
+}
+
+/// A binding of a state, if it is no redirect and lives at a time, in ns.
+fn live_row(
+    alloc: Global,
+    binding: &StateBinding,
+    timers: IdleTimers,
+    now: u64,
+) -> Result<Option<TimedRow>, AllocError>
+    requires { binding.now.row.fixed ≡ false → is_live timers now binding.now ≡ true →
+        flows_share (with_live_flows timers now binding.now).flows ≡ false }
+    ensures { IfOk result (λ made. option_to_list made ≡ map (timed timers)
+        (purge timers now (filter (λ b. not b.row.fixed) (binding.now ∷ [])))) }
+{
+    if binding.row.fixed {
+        return Ok(None);
+    }
+    let Some(binding) = from_state(alloc, binding, timers, now)? else {
+        return Ok(None);
+    };
+    Ok(Some(TimedRow {
+        row: binding.row.row(),
+        end: end_of(&binding, timers),
+    }))
+}

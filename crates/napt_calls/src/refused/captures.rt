@@ -1,0 +1,221 @@
+//! A run over captures that are read whole, or as they come: with a growth of memory refused, and with each call of each device refused
+//! in turn.
+
+ghost use Rattle.std.specs.Prelude.{◌<◌};
+
+use crate::refused::left::{Asked, counted, looked_at};
+use crate::refused::run::{INSIDE, OUTSIDE, configuration, end_of_run};
+use crate::refused::{End, System};
+use napt_capture::{CaptureFault, Faulty, Plan, Trouble, Watched};
+use napt_config::Config;
+use napt_records::{Fault, Which};
+use napt_run::{run_captures, run_streams};
+use napt_wire::Side;
+use std::sync::Arc;
+
+/// How many bytes an output has room for, so that none grows while it is written.
+const ROOM: usize = 4096;
+
+/// How many bytes a device moves at once.
+const AT_ONCE: usize = 16;
+
+/// The most calls that a device has in a run.
+const MOST_CALLS: u64 = 200;
+
+/// A device of the run.
+#[derive(Clone, Copy, PartialEq, Eq)]
+enum Device {
+    Inside,
+    Outside,
+    ToOutside,
+    ToInside,
+    Report,
+}
+
+/// The call of a device that goes wrong, counted from 1; none where it is 0.
+#[derive(Clone, Copy)]
+struct Refusal {
+    device: Device,
+    call: u64,
+    trouble: Trouble,
+}
+
+impl Refusal {
+    /// What a device does.
+    fn plan(self, device: Device) -> Plan
+        ensures { 0 < result.most }
+    {
+        let call = if self.device == device { self.call } else { 0 };
+        Plan {
+            most: AT_ONCE,
+            call,
+            trouble: self.trouble,
+        }
+    }
+}
+
+/// What a run answers and writes.
+#[derive(Drop)]
+struct Made {
+    answer: Result<(), Fault>,
+    to_outside: Vec<u8>,
+    to_inside: Vec<u8>,
+    report: Vec<u8>,
+}
+
+/// Makes the run, through the gate.
+fn make_run(
+    rt: &impl System,
+    config: &Config,
+    are_whole: bool,
+    refusal: Refusal,
+    gate: Arc<Asked>,
+) -> Result<Made, End> {
+    let alloc = rt.alloc();
+    macro_rules! on {
+        ($device:ident, $text:expr) => {
+            Faulty::new(Watched::new($text), refusal.plan(Device::$device))
+        };
+    }
+    let mut inside = on!(Inside, INSIDE.as_slice());
+    let mut outside = on!(Outside, OUTSIDE.as_slice());
+    let mut to_outside = on!(ToOutside, Vec::with_capacity(alloc, ROOM)?);
+    let mut to_inside = on!(ToInside, Vec::with_capacity(alloc, ROOM)?);
+    let mut report = on!(Report, Vec::with_capacity(alloc, ROOM)?);
+    macro_rules! answer_of {
+        ($run:ident) => {
+            $run(
+                rt, alloc, config, &mut inside, &mut outside, &mut to_outside, &mut to_inside, &mut report, gate,
+            )
+        };
+    }
+    let answer = if are_whole {
+        answer_of!(run_captures)
+    } else {
+        answer_of!(run_streams)
+    };
+    Ok(Made {
+        answer,
+        to_outside: to_outside.into_inner().into_inner(),
+        to_inside: to_inside.into_inner().into_inner(),
+        report: report.into_inner().into_inner(),
+    })
+}
+
+/// No call goes wrong.
+const NONE: Refusal = Refusal {
+    device: Device::Inside,
+    call: 0,
+    trouble: Trouble::Fails,
+};
+
+/// Makes the run, and looks at what it leaves.
+fn tried(
+    rt: &impl System,
+    config: &Config,
+    are_whole: bool,
+    refusal: Refusal,
+) -> Result<Made, End> {
+    let (counts, gate) = counted(rt.alloc())?;
+    let run = make_run(rt, config, are_whole, refusal, gate);
+    looked_at(rt, &counts, run)
+}
+
+/// The run, and what it leaves: outputs that are whole. Where memory or a thread was refused they are empty after whole captures, and
+/// else begin as the whole ones.
+pub(crate) fn ended(rt: &impl System, are_whole: bool) -> Result<(), End> {
+    let config = configuration(rt.alloc())?;
+    let run = tried(rt, &config, are_whole, NONE)?;
+    // a packet to the outside, two to inside hosts
+    let (whole, written) = ((68, 112), (run.to_outside.len(), run.to_inside.len()));
+    let most = if are_whole { (0, 0) } else { whole };
+    match run.answer {
+        Ok(()) if written == whole && !run.report.is_empty() => Ok(()),
+        Ok(()) => Err(End::Wrong("other outputs")),
+        Err(_) if written.0 > most.0 || written.1 > most.1 || !run.report.is_empty() => {
+            Err(End::Wrong("too much is written"))
+        }
+        Err(Fault::Capture(_, CaptureFault::Memory)) => Err(End::Memory),
+        Err(Fault::Run(fault)) => Err(end_of_run(fault)),
+        Err(_) => Err(End::Wrong("another fault")),
+    }
+}
+
+/// Refuses each call of each device in turn, while the captures come: no thread is left, each output begins as that of the whole run, and
+/// the fault names the device, and how much of an output is written.
+pub(crate) fn devices_ended(rt: &impl System) -> Result<(), End> {
+    let config = configuration(rt.alloc())?;
+    let whole = tried(rt, &config, false, NONE)?;
+    for device in [
+        Device::Inside,
+        Device::Outside,
+        Device::ToOutside,
+        Device::ToInside,
+        Device::Report,
+    ] {
+        sweep(rt, &config, device, &whole)?;
+    }
+    Ok(())
+}
+
+/// Refuses each call of a device in turn.
+fn sweep(rt: &impl System, config: &Config, device: Device, whole: &Made) -> Result<(), End> {
+    for call in 1..MOST_CALLS {
+        let mut is_over = false;
+        for trouble in [Trouble::Fails, Trouble::TakesNone] {
+            // a capture that ends earlier is another capture
+            let is_source = matches!(device, Device::Inside | Device::Outside);
+            if is_source && trouble == Trouble::TakesNone {
+                continue;
+            }
+            let refusal = Refusal {
+                device,
+                call,
+                trouble,
+            };
+            let run = tried(rt, config, false, refusal)?;
+            is_over = is_over || trouble == Trouble::Fails && run.answer == Ok(());
+            judge(device, &run, whole)?;
+        }
+        if is_over {
+            return Ok(());
+        }
+    }
+    Err(End::Wrong("a device has no end of calls"))
+}
+
+/// Whether a run in which one call of a device went wrong ended as it should.
+fn judge(device: Device, run: &Made, whole: &Made) -> Result<(), End> {
+    let begins = whole.to_outside.starts_with(&run.to_outside)
+        && whole.to_inside.starts_with(&run.to_inside)
+        && whole.report.starts_with(&run.report);
+    if !begins {
+        return Err(End::Wrong("an output is no front"));
+    }
+    let is_right = match (run.answer, device) {
+        (Ok(()), _) => is_whole(run, whole),
+        (Err(Fault::Capture(side, CaptureFault::Read)), Device::Inside) => side == Side::Inside,
+        (Err(Fault::Capture(side, CaptureFault::Read)), Device::Outside) => side == Side::Outside,
+        (Err(Fault::Write(Which::Outside, fault)), Device::ToOutside) => {
+            fault.written == run.to_outside.len() as u64
+        }
+        (Err(Fault::Write(Which::Inside, fault)), Device::ToInside) => {
+            fault.written == run.to_inside.len() as u64
+        }
+        (Err(Fault::Write(Which::Report, fault)), Device::Report) => {
+            fault.written == run.report.len() as u64
+        }
+        _ => false,
+    };
+    match is_right {
+        true if run.report.is_empty() || device == Device::Report || run.answer == Ok(()) => Ok(()),
+        true => Err(End::Wrong("a report is begun")),
+        false => Err(End::Wrong("another fault")),
+    }
+}
+
+fn is_whole(run: &Made, whole: &Made) -> bool {
+    run.to_outside.len() == whole.to_outside.len()
+        && run.to_inside.len() == whole.to_inside.len()
+        && run.report.len() == whole.report.len()
+}

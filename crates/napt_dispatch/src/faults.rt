@@ -1,0 +1,65 @@
+//! Why a run from arrivals to departures ended early.
+
+ghost use Rattle.std.specs.Prelude.{◌≡◌};
+ghost use Rattle.napt_pool.specs.declared.fault.PoolFault.TheVariants.{Ring};
+ghost use Rattle.napt_sequential.specs.declared.fault.RunFault.TheVariants.{Pool};
+ghost use Rattle.napt_dispatch.specs.declared.faults.PassFault.TheVariants as pass_faults;
+ghost use Rattle.napt_dispatch.specs.declared.faults.DispatchFault.TheVariants as dispatch_faults;
+
+use napt_pool::PoolFault;
+use napt_sequential::RunFault;
+
+/// Why a run ended before its arrivals did, or before every outcome had left.
+#[derive(Drop)]
+pub enum PassFault<A, D> {
+    /// The run itself failed.
+    Run(RunFault),
+    /// The arrivals failed.
+    Arrival(A),
+    /// The departures failed.
+    Departure(D),
+}
+
+impl<A, D> From<RunFault> for PassFault<A, D> {
+    ghost from_gives = { λ fault stopped. stopped ≡ pass_faults.Run fault };
+
+    fn from(fault: RunFault) -> PassFault<A, D> {
+        PassFault::Run(fault)
+    }
+}
+
+/// An answer, or a number of answers, that no worker gives. It is reported as `RunFault::Pool(PoolFault::Ring)`.
+#[derive(Clone, Copy)]
+pub(crate) struct ImpossibleAnswer;
+
+impl From<ImpossibleAnswer> for RunFault {
+    ghost from_gives = { λ _ fault. fault ≡ Pool Ring };
+
+    fn from(_answer: ImpossibleAnswer) -> RunFault {
+        RunFault::Pool(PoolFault::Ring)
+    }
+}
+
+/// Why dispatching ended before every outcome had left.
+#[derive(Drop)]
+pub(crate) enum DispatchFault<D> {
+    Run(RunFault),
+    /// The departures failed.
+    Departure(D),
+}
+
+impl<D> From<RunFault> for DispatchFault<D> {
+    ghost from_gives = { λ fault halted. halted ≡ dispatch_faults.Run fault };
+
+    fn from(fault: RunFault) -> DispatchFault<D> {
+        DispatchFault::Run(fault)
+    }
+}
+
+impl<D> From<ImpossibleAnswer> for DispatchFault<D> {
+    ghost from_gives = { λ _ halted. halted ≡ dispatch_faults.Run (Pool Ring) };
+
+    fn from(answer: ImpossibleAnswer) -> DispatchFault<D> {
+        DispatchFault::Run(RunFault::from(answer))
+    }
+}

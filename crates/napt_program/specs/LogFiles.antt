@@ -1,0 +1,41 @@
+-- Which text of a log a run goes on with.
+use Rattle.std.specs.{Prelude.{◌≡◌, ◌⊎◌, ◌==◌, ◌&&◌, nat_eq, nat_lt, not, ℕ, Bool, List, [], ◌∷◌, length, Option, Some, None, if◌then◌else◌}, List.{list_any, starts_with}}
+use Rattle.napt_log_text.specs.Rows.{header}
+use Rattle.napt_program.specs.declared.{log_file.TheConstants.MOST_TORN, log_pieces.LogPieces.LogPieces, stop.{LogRefusal.LogRefusal, Stop.Stop, TheConstants.MEMORY}}
+use Rattle.napt_program.specs.declared.role.Role.TheVariants as role
+use Rattle.napt_program.specs.declared.stop.LogRefusal.TheVariants as refusal
+use Rattle.napt_program.specs.declared.stop.Stop.TheVariants as stop
+
+abbrev pub is_line_feed : ℕ → Bool
+is_line_feed byte = byte == 10
+
+-- what is behind the last whole row
+abbrev pub is_torn : List ℕ → Bool
+is_torn end = nat_lt (length end) MOST_TORN && not (list_any is_line_feed end)
+
+-- a state tells of so many bytes, and these are the log's from the last of them on: that one has to end a row, and what
+-- is behind it to be a part of one
+abbrev pub refusal_at : ℕ → List ℕ → Option LogRefusal
+refusal_at told [] = Some (refusal.Another told)
+refusal_at told (byte ∷ behind) =
+    if not (is_line_feed byte) then Some (refusal.Another told)
+    else (if is_torn behind then None else Some (refusal.Longer told))
+
+-- the number of the piece at hand
+abbrev pub piece_of : {R F A : Type 0} → LogPieces R F A → ℕ
+piece_of pieces = pieces.number
+
+-- bytes begin a new piece: they begin with the header, and the piece at hand has text
+abbrev pub begins_piece : {R F A : Type 0} → LogPieces R F A → List ℕ → Bool
+begins_piece pieces bytes = pieces.has_text && starts_with nat_eq bytes header
+
+-- what is kept of the text: nothing, or what the state tells of
+abbrev pub IsKept : Option ℕ → ℕ → Type 0
+IsKept told kept = (kept ≡ 0) ⊎ (told ≡ Some kept)
+
+-- the text is refused, or could not be read
+abbrev pub IsLogStop : Stop → Type 0
+IsLogStop (stop.LogFile why) = Unit {0}
+IsLogStop (stop.File role.Log) = Unit {0}
+IsLogStop (stop.Run fault) = stop.Run fault ≡ MEMORY
+IsLogStop other = ⊥

@@ -1,0 +1,190 @@
+//! The log in pieces: the files FILE.1, FILE.2 and so on, each of which begins with the header.
+
+ghost use Rattle.std.specs.{Prelude.{◌≡◌, ◌<◌, IfErr, IfOk, None, false, true}, Io.{KnownBytes.WriteAppends, WritesAtMost}};
+ghost use Rattle.napt_program.specs.LogFiles.{IsLogStop, begins_piece, piece_of};
+
+use crate::devices::BUFFERED;
+use crate::log_file::bytes_to_keep;
+use crate::role::Role;
+use crate::stop::{LogRefusal, Stop, unread};
+use napt_log_text::header;
+use std::alloc::{AllocError, Global};
+use std::fs::{File, OpenFile};
+use std::io::{BufWriter, ErrorKind, Write};
+use std::rt::Files;
+use std::{fs, io};
+
+/// The file of the piece that is written. The pieces before it stay as they are, and the system keeps them.
+#[derive(Drop)]
+pub struct LogPieces<'r, R: Files> {
+    rt: &'r R,
+    /// The path of the log, which the number of a piece follows.
+    path: String,
+    number: u64,
+    piece: BufWriter<R::File>,
+    /// Whether the piece has text.
+    has_text: bool,
+}
+
+impl<'r, R: Files + AllocGlobal> LogPieces<'r, R> {
+    /// Creates the next piece of the log at a path behind the one of this number. Fails with the log's role, and, as a run
+    /// does, if memory runs out.
+    pub(crate) fn behind(rt: &'r R, path: &str, last: u64) -> Result<LogPieces<'r, R>, Stop>
+        ensures number { IfOk result (λ pieces. last < piece_of pieces) }
+        ensures stop { IfErr result IsLogStop }
+    {
+        let path = String::from_str(rt.alloc(), path)?;
+        let (number, piece) = piece_behind(rt, &path, last).map_err(|error| unread(
+            &error,
+            Role::Log,
+        ))?;
+        Ok(LogPieces {
+            rt,
+            path,
+            number,
+            piece,
+            has_text: false,
+        })
+    }
+
+    /// Whether these bytes begin a new piece: they begin with the header, and the piece has text.
+    fn begins_piece(&self, bytes: &[u8]) -> bool
+        ensures { result ≡ begins_piece self.now bytes.now }
+    {
+        self.has_text && bytes.starts_with(header().as_bytes())
+    }
+
+    /// Makes the system keep the piece, and creates the next.
+    fn go_on(&mut self) -> io::Result<()>
+        ensures { IfOk result (λ _. piece_of self.old < piece_of self.new) }
+    {
+        self.piece.flush()?;
+        self.piece.get_ref().sync_all()?;
+        let (number, piece) = piece_behind(self.rt, &self.path, self.number)?;
+        self.number = number;
+        self.piece = piece;
+        self.has_text = false;
+        Ok(())
+    }
+
+    /// How many bytes the last piece has once the run has ended, and the system keeps them.
+    pub(crate) fn synced_length(mut self) -> io::Result<u64> {
+        self.piece.flush()?;
+        let file = self.piece.get_ref();
+        file.sync_all()?;
+        Ok(file.metadata()?.len())
+    }
+}
+
+impl<'r, R: Files + AllocGlobal> Write for LogPieces<'r, R> {
+    fn write(&mut self, bytes: &[u8]) -> io::Result<usize>
+        ensures bound { WritesAtMost result bytes.now }
+        ensures bytes { WriteAppends None None result bytes.now }
+        ensures begins { begins_piece self.old bytes.now ≡ true →
+            IfOk result (λ _. piece_of self.old < piece_of self.new) }
+        ensures text { IfOk result (λ count. 0 < count → self.new.has_text ≡ true) }
+        ensures stays { begins_piece self.old bytes.now ≡ false →
+            piece_of self.new ≡ piece_of self.old }
+    {
+        if self.begins_piece(bytes) {
+            self.go_on()?;
+        }
+        let count = self.piece.write(bytes)?;
+        self.has_text = self.has_text || count > 0;
+        Ok(count)
+    }
+
+    fn flush(&mut self) -> io::Result<()>
+        ensures { piece_of self.new ≡ piece_of self.old }
+    {
+        self.piece.flush()
+    }
+}
+
+/// Creates the first piece behind a number that is not there, and returns its number too.
+fn piece_behind<R: Files + AllocGlobal>(
+    rt: &R,
+    path: &str,
+    last: u64,
+) -> io::Result<(u64, BufWriter<R::File>)>
+    ensures { IfOk result (λ made. last < made.0) }
+{
+    for before in last..u64::MAX {
+        let number = before + 1;
+        let name = name_of(rt.alloc(), path, number)?;
+        match File::create_new(rt, &name) {
+            Ok(file) => {
+                let piece = BufWriter::with_capacity(rt.alloc(), BUFFERED, file)?;
+                return Ok((number, piece));
+            }
+            Err(error) if error.kind() == ErrorKind::AlreadyExists => {}
+            Err(error) => return Err(error),
+        }
+    }
+    Err(io::Error::from(ErrorKind::AlreadyExists))
+}
+
+fn name_of(alloc: Global, path: &str, number: u64) -> Result<String, AllocError> {
+    format!(in alloc; "{path}.{number}")
+}
+
+/// The greatest number of a piece that is there of the log at a path, 0 if there is none. `told` is how many bytes the state says
+/// that the last one has, `None` if the run begins anew. Changes nothing.
+///
+/// Fails with the log's role if the state is to be saved in the place of a piece, with `Stop::LogFile` if the run begins anew where
+/// a piece is, or may not go on with the last one, with the log's role if that or its folder cannot be read, and, as a run does, if
+/// memory runs out.
+pub(crate) fn last_piece<R: Files + AllocGlobal>(
+    rt: &R,
+    path: &str,
+    save: Option<&String>,
+    told: Option<u64>,
+) -> Result<u64, Stop>
+    ensures anew { told ≡ None → IfOk result (λ last. last ≡ 0) }
+    ensures stop { IfErr result IsLogStop }
+{
+    if let Some(save) = save {
+        if number_in(save, path) > 0 {
+            return Err(Stop::File(Role::Log));
+        }
+    }
+    let last = greatest_number(rt, path).map_err(|error| unread(&error, Role::Log))?;
+    if last == 0 {
+        return Ok(0);
+    }
+    if told.is_none() {
+        return Err(Stop::LogFile(LogRefusal::Anew));
+    }
+    bytes_to_keep(rt, &name_of(rt.alloc(), path, last)?, told)?;
+    Ok(last)
+}
+
+/// The greatest number of a piece in the folder of the log. Fails if that cannot be read, or the path has no name.
+fn greatest_number<R: Files + AllocGlobal>(rt: &R, path: &str) -> io::Result<u64> {
+    let (folder, name) = path.rsplit_once('/').unwrap_or((".", path));
+    if name.is_empty() {
+        return Err(io::Error::from(ErrorKind::InvalidFilename));
+    }
+    let folder = if folder.is_empty() { "/" } else { folder };
+    let mut greatest = 0;
+    for entry in fs::read_dir(&rt, folder)? {
+        match entry {
+            Ok(entry) => greatest = number_in(entry.file_name(), name).max(greatest),
+            // a name that is not UTF-8 is none of a piece
+            Err(error) if error.kind() == ErrorKind::InvalidFilename => {}
+            Err(error) => return Err(error),
+        }
+    }
+    Ok(greatest)
+}
+
+/// The number in the name of a piece of the log, 0 if it is none: in decimal, without a sign or zeros before it.
+fn number_in(piece: &str, log: &str) -> u64 {
+    let number = piece
+        .strip_prefix(log)
+        .and_then(|rest| rest.strip_prefix('.'));
+    match number {
+        Some(digits) if !digits.starts_with(['+', '0']) => digits.parse().unwrap_or(0),
+        _ => 0,
+    }
+}

@@ -1,0 +1,12 @@
+use Rattle.std.proofs.Common.{◌≡◌, ◌++◌, All, map, filter}
+use Rattle.napt_rules.specs.Prelude.{is_live, row}
+use Rattle.napt_table.specs.Listing.{held_rows, IsSmall}
+use Rattle.napt_table.proofs.bindings.binding_index.BindingIndex.rows.Given as goal
+
+-- the rows that were made and those that are left are those of what is held
+abbrev pub invariant-loop-binding : goal.invariant-loop-binding
+invariant-loop-binding l = record {
+  rest : l.made.items ++ map row (filter (is_live l.timers l.now) l.binding-iterator)
+      ≡ held_rows l.timers l.now l.self;
+  small : All IsSmall l.made.items;
+}

@@ -1,8 +1,0 @@
-use Rattle.std.proofs.Common.{◌∙◌}
-use Rattle.napt_table.proofs.Ends.{choice_held}
-use Rattle.napt_table.proofs.bindings.held.Held.choose.Goals as goal
-
-pub returns : goal.returns
-returns c = rw (← c.self.view_is) (c.choose.ensures
-    ∙ choice_held c.self.inside c.self.invariant c.self.inside.granting.choosing
-    c.args.block c.requires c.args.protocol c.args.inside)

@@ -1,0 +1,367 @@
+//! What is held of the bindings of one external address: those that live, and those that have ended and are not removed
+//! yet.
+
+ghost use Rattle.std.specs.Prelude.{◌≡◌, ◌<◌, ◌^◌, not, Some, None, Ok, Err, OnOk, OnErr, IfOk, IfSome, All, cond, find, slice_get};
+ghost use Rattle.std.specs.Option.{option_copied, option_map, is_some};
+ghost use Rattle.napt_config.specs.Rules.{IsBlock};
+ghost use Rattle.napt_wire.specs.declared.Cause.TheVariants.{NoBinding};
+ghost use Rattle.napt_binding.specs.Entering.{entered, left_by};
+
+use crate::bindings::keys::{ExternalKey, InsideKey, inside_key, key_of};
+use crate::bindings::numbers_in_use::NumbersInUse;
+use crate::bindings::places::Places;
+use crate::host_counts::HostCounts;
+use indexmap::IndexMap;
+use napt_binding::{Binding, Flows, IdleTimers, is_live, send, take_in, to_state};
+use napt_config::Block;
+use napt_rules::{Granting, Inbound, Received, Row, Sent, StateBinding};
+use napt_wire::{Cause, Endpoint, Protocol};
+use std::alloc::{AllocError, Global};
+use std::collections::HashMap;
+use std::marker::Model;
+
+/// The bindings that are held, found by either end. Contracts see them by the key of their external number, with their
+/// address, how numbers are granted, and how many more fit.
+#[derive(Drop)]
+pub(crate) struct BindingIndex {
+    /// The external address.
+    address: u32,
+    granting: Granting,
+    by_number: IndexMap<ExternalKey, Binding>,
+    /// Where in `by_number` a number's binding may be.
+    places: Places,
+    /// The external number for an inside endpoint.
+    by_inside: HashMap<InsideKey, u16>,
+    /// Those in use by a binding.
+    numbers: NumbersInUse,
+    /// Under a quota, how many bindings each inside host has.
+    hosts: HostCounts,
+}
+
+impl Model for BindingIndex {
+    ghost use Rattle.napt_table.specs.Holdings.{Holdings};
+
+    ghost Value = { Holdings };
+
+    ghost use Rattle.napt_table.specs.HeldShown.{holdings_of, IsHeld};
+
+    ghost view = { holdings_of };
+
+    ghost invariant = { IsHeld };
+}
+
+impl BindingIndex {
+    ghost use Rattle.napt_collections.specs.Sets.{IsFirstAbsent};
+    ghost use Rattle.napt_rules.specs.Prelude.{Binding, candidates, reaches};
+    ghost use Rattle.napt_table.specs.Keys.{key_eq, key_of};
+    ghost use Rattle.napt_table.specs.declared.bindings.keys.ExternalKey.{ExternalKey as Key};
+    ghost use Rattle.napt_table.specs.Holdings.{held, held_at, count_all, IsNumberOf, IsNamed, IsAbsent, IsSamePlace, HoldsSame};
+
+    /// Nothing is held. It takes memory for the numbers in use.
+    pub(crate) fn new(
+        alloc: Global,
+        address: u32,
+        granting: Granting,
+    ) -> Result<BindingIndex, AllocError>
+        ensures address { IfOk result (λ all. all.address ≡ address) }
+        ensures granting { IfOk result (λ all. all.granting ≡ granting) }
+        ensures none { IfOk result (λ all. (key : Key) → held all key ≡ None) }
+    {
+        Ok(BindingIndex {
+            address,
+            granting,
+            by_number: IndexMap::new(alloc),
+            places: Places::new(alloc),
+            by_inside: HashMap::new(alloc),
+            numbers: NumbersInUse::new(alloc)?,
+            hosts: HostCounts::new(alloc, granting.quota.is_some()),
+        })
+    }
+
+    /// Law: each binding is at the address, under its own protocol and number. It does nothing when it runs.
+    pub(crate) fn keep_names(&self)
+        ensures { IsNamed self.now }
+    {
+        let _ = &self.address;
+    }
+
+    /// The external address.
+    pub(crate) fn address(&self) -> u32
+        ensures { result ≡ self.now.address }
+    {
+        self.address
+    }
+
+    /// How many bindings it holds.
+    pub(crate) fn size(&self) -> u64 {
+        self.by_number.len() as u64
+    }
+
+    /// The binding with the number.
+    pub(crate) fn get(&self, key: ExternalKey) -> Option<&Binding>
+        ensures { option_copied result ≡ held self.now key }
+    {
+        self.by_number.get(&key)
+    }
+
+    /// The binding with the number, and its place: the one that was noted, if the binding there has the number.
+    #[inline(always)]
+    pub(crate) fn find(&self, key: ExternalKey) -> Option<(usize, &Binding)>
+        ensures value { option_map (λ found. found.1.now) result ≡ held self.now key }
+        ensures entry { IfSome result (λ found.
+            slice_get self.now.entries found.0 ≡ Some (key, found.1.now)) }
+    {
+        let place = self.places.noted(key);
+        match self.by_number.get_index(place) {
+            Some((_, binding)) if key_of(binding) == key => Some((place, binding)),
+            _ => match self.by_number.get_full(&key) {
+                Some((place, _, binding)) => Some((place, binding)),
+                None => None,
+            },
+        }
+    }
+
+    /// The number of the inside endpoint's binding.
+    pub(crate) fn number_of(&self, protocol: Protocol, inside: Endpoint) -> Option<u16>
+        ensures { IsNumberOf self.now protocol inside result }
+    {
+        match self.by_inside.get(&inside_key(protocol, inside)) {
+            Some(number) => Some(*number),
+            None => None,
+        }
+    }
+
+    /// The first candidate for an inside endpoint, of a host with this block or none, that no binding has; `None` if each
+    /// has one.
+    pub(crate) fn choose(
+        &self,
+        block: Option<Block>,
+        protocol: Protocol,
+        inside: Endpoint,
+    ) -> Option<u16>
+        requires { IfSome block IsBlock }
+        ensures { result ≡ find (λ n. not (is_some (held_at self.now protocol n)))
+            (candidates self.now.granting.choosing block protocol inside) }
+    {
+        self.numbers
+            .choose(self.granting.choosing, block, protocol, inside)
+    }
+
+    /// The least number of the protocol from 1 on that no binding has; `None` if each has one.
+    pub(crate) fn least_free(&self, protocol: Protocol) -> Option<u16>
+        ensures { IsFirstAbsent (λ n. is_some (held_at self.now protocol n)) 1 (2 ^ 16) result }
+    {
+        self.numbers.least_free(protocol)
+    }
+
+    /// Whether the host has all the bindings that the quota allows.
+    pub(crate) fn reaches(&self, host: u32) -> bool
+        ensures { result ≡ reaches self.now.granting.quota (count_all self.now host) }
+    {
+        let Some(quota) = self.granting.quota else {
+            return false;
+        };
+        let count = self.hosts.count(host);
+        usize::from(quota) <= count
+    }
+
+    /// Makes room for one more binding of the protocol.
+    pub(crate) fn reserve(&mut self, protocol: Protocol) -> Result<(), AllocError>
+        ensures same { HoldsSame self.old self.new }
+        ensures room { OnOk result (0 < self.new.room) }
+    {
+        let places = &mut self.places;
+        places.reserve(protocol)?;
+        self.by_number.reserve(1)?;
+        let hosts = &mut self.hosts;
+        hosts.reserve()?;
+        self.by_inside.reserve(1)?;
+        Ok(())
+    }
+
+    /// Adds a binding, for which there is room and whose ends are free.
+    pub(crate) fn insert(&mut self, binding: Binding)
+        requires room { 0 < self.old.room }
+        requires at { binding.row.external.address ≡ self.old.address }
+        requires free { held self.old (key_of binding) ≡ None }
+        requires absent { IsAbsent self.old binding.row.protocol binding.row.inside }
+        ensures place { IsSamePlace self.old self.new }
+        ensures held { (key : Key) → held self.new key ≡ cond (key_eq (key_of binding) key)
+            (Some binding) (held self.old key) }
+    {
+        let key = key_of(&binding);
+        let inside = inside_key(binding.row.protocol(), binding.row.inside());
+        let hosts = &mut self.hosts;
+        hosts.put(&binding);
+        match self.by_inside.insert(inside, key.number) {
+            Ok(_) => {}
+            Err(_) => unreachable!(),
+        }
+        let place = self.by_number.len();
+        match self.by_number.insert(key, binding) {
+            Ok(_) => {}
+            Err(_) => unreachable!(),
+        }
+        let places = &mut self.places;
+        places.note(&self.by_number, place);
+        let numbers = &mut self.numbers;
+        numbers.put(key);
+    }
+
+    /// Removes the binding with the number.
+    pub(crate) fn remove(&mut self, key: ExternalKey)
+        ensures place { IsSamePlace self.old self.new }
+        ensures held { (other : Key) → held self.new other ≡ cond (key_eq key other) None
+            (held self.old other) }
+        ensures room { 0 < self.old.room → 0 < self.new.room }
+    {
+        let Some((place, _, binding)) = self.by_number.swap_remove_full(&key) else {
+            return;
+        };
+        let places = &mut self.places;
+        places.note(&self.by_number, place);
+        self.by_inside
+            .remove(&inside_key(binding.row.protocol(), binding.row.inside()));
+        let hosts = &mut self.hosts;
+        hosts.take(&binding);
+        let numbers = &mut self.numbers;
+        numbers.take(key);
+    }
+}
+
+impl BindingIndex {
+    ghost use Rattle.napt_rules.specs.Prelude.{Binding};
+    ghost use Rattle.napt_table.specs.Held.{seen};
+    ghost use Rattle.napt_table.specs.Keys.{external_key};
+    ghost use Rattle.napt_table.specs.Holdings.{held, held_at, AreUsedUpTo, HoldsSame, ChangesOne, WentOut};
+
+    /// Sends a packet out through the live binding of its inside endpoint, if there is one; returns its number. If
+    /// memory is refused nothing that is held changes.
+    pub(crate) fn send(
+        &mut self,
+        alloc: Global,
+        timers: IdleTimers,
+        packet: Sent,
+    ) -> Result<Option<u16>, AllocError>
+        requires { AreUsedUpTo packet.now self.old }
+        ensures went { IfOk result (WentOut timers packet self.old self.new) }
+        ensures refused { OnErr result (HoldsSame self.old self.new) }
+    {
+        let protocol = packet.protocol;
+        let number = match self.by_inside.get(&inside_key(protocol, packet.inside)) {
+            Some(number) => *number,
+            None => return Ok(None),
+        };
+        let Some((place, binding)) = self.find(ExternalKey { number, protocol }) else {
+            return Ok(None);
+        };
+        if !is_live(binding, timers, packet.now) {
+            return Ok(None);
+        }
+        let Some(binding) = self.by_number.get_index_mut(place) else {
+            return Ok(None);
+        };
+        send(binding, alloc, timers, packet)?;
+        Ok(Some(number))
+    }
+
+    /// Begins the binding with the number anew, with these flows. Its ends stay.
+    pub(crate) fn renew(&mut self, key: ExternalKey, last: u64, flows: Flows)
+        ensures one { ChangesOne key self.old self.new }
+        ensures left { (b : Binding) → held self.old key ≡ Some b →
+            held self.new key ≡ Some (record b { last = last; flows = flows }) }
+    {
+        let Some((place, _)) = self.find(key) else {
+            return;
+        };
+        let Some(binding) = self.by_number.get_index_mut(place) else {
+            return;
+        };
+        binding.last = last;
+        binding.flows = flows;
+    }
+
+    /// Takes in a packet: the inside endpoint of the live binding with its number, if it lets the remote in; else
+    /// `NoBinding` or `Filtered`. It takes no memory.
+    pub(crate) fn receive(
+        &mut self,
+        timers: IdleTimers,
+        inbound: Inbound,
+        packet: Received,
+    ) -> Result<Endpoint, Cause>
+        requires { AreUsedUpTo packet.now self.old }
+        ensures one { ChangesOne (external_key packet.protocol packet.number) self.old self.new }
+        ensures absent { seen timers packet.now (held_at self.old packet.protocol packet.number)
+            ≡ None →
+            (result ≡ Err NoBinding) × (held_at self.new packet.protocol packet.number
+            ≡ held_at self.old packet.protocol packet.number) }
+        ensures found { (b : Binding) →
+            seen timers packet.now (held_at self.old packet.protocol packet.number) ≡ Some b →
+            (result ≡ entered inbound packet b)
+            × (held_at self.new packet.protocol packet.number ≡ Some (left_by inbound packet b)) }
+    {
+        let key = ExternalKey {
+            number: packet.number,
+            protocol: packet.protocol,
+        };
+        let Some((place, binding)) = self.find(key) else {
+            return Err(Cause::NoBinding);
+        };
+        if !is_live(binding, timers, packet.now) {
+            return Err(Cause::NoBinding);
+        }
+        let Some(binding) = self.by_number.get_index_mut(place) else {
+            return Err(Cause::NoBinding);
+        };
+        take_in(binding, timers, inbound, packet)
+    }
+}
+
+impl BindingIndex {
+    ghost use Rattle.std.specs.{List.IsDistinct, Map.{keys_of, values_of}};
+    ghost use Rattle.napt_rules.specs.Prelude.{purge};
+    ghost use Rattle.napt_binding.specs.Slots.{AreDistinct};
+    ghost use Rattle.napt_table.specs.{Keys.key_eq, Listing.{held_rows, AreRead}};
+
+    /// The rows of the bindings that are live at `now` (ns), in no order.
+    pub(crate) fn rows(
+        &self,
+        alloc: Global,
+        timers: IdleTimers,
+        now: u64,
+    ) -> Result<Vec<Row>, AllocError>
+        ensures rows { IfOk result (λ made. made.items ≡ held_rows timers now self.now) }
+        ensures read { OnOk result (AreRead timers now self.now) }
+    {
+        let mut made = Vec::new(alloc);
+        let held = self.by_number.as_slice();
+        for binding in held.values() {
+            if is_live(binding, timers, now) {
+                made.push(binding.row.row())?;
+            }
+        }
+        Ok(made)
+    }
+
+    /// The bindings that are live at `ago` (ns), as a state has them, in no order.
+    pub(crate) fn left(
+        &self,
+        alloc: Global,
+        timers: IdleTimers,
+        ago: u64,
+    ) -> Result<Vec<StateBinding>, AllocError>
+        ensures bindings { IfOk result (λ made. made.items
+            ≡ purge timers ago (values_of self.now.entries)) }
+        ensures distinct { IfOk result (λ made. All (λ b. AreDistinct b.flows) made.items) }
+        ensures unique { OnOk result (IsDistinct key_eq (keys_of self.now.entries)) }
+    {
+        let mut made = Vec::new(alloc);
+        let held = self.by_number.as_slice();
+        for binding in held.values() {
+            if is_live(binding, timers, ago) {
+                made.push(to_state(alloc, binding, timers, ago)?)?;
+            }
+        }
+        Ok(made)
+    }
+}

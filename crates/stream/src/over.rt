@@ -1,0 +1,235 @@
+//! A run over open files, with its log if one is named.
+
+ghost use Rattle.std.specs.Prelude.{◌≡◌, ◌-◌, ◌^◌, ◌<◌, ◌&&◌, IfErr, IfOk, None, Some, if◌then◌else◌, is_some, option_map, true};
+ghost use Rattle.napt_account.specs.GoingOn.{IsFew};
+ghost use Rattle.napt_program.specs.{CommandLine.files_with_log, Command.{IsRunStop, IsUnderOpenGate}, Devices.{AreOutputsFresh, IsFreshLog}, declared.streams.Streams.Streams};
+ghost use Rattle.napt_capture.specs.Watched.{failed_of};
+ghost use Rattle.napt_account.specs.Prelude.{Takes};
+ghost use Rattle.napt_run.specs.LoggedStreams.{IsUnderOpenGate as IsLoggedUnderOpenGate};
+
+use crate::watched::Watched as Gate;
+use either::Either;
+use napt_account::LogState;
+use napt_capture::Source;
+use napt_config::Config;
+use napt_program::{
+    Call, Host, LogDevice, LogOutput, LogPieces, MEMORY, OptionsWithLog, Outputs, Stop, stop_of_run,
+};
+use napt_run::{
+    Fault, LogStart, LoggedFault, LoggedPassed, Passed, Start, State, resume_streams,
+    resume_streams_with_log,
+};
+use napt_state::KeptLog;
+use std::alloc::Global;
+use std::fs::OpenFile;
+use std::io::Write;
+use std::rt::Files;
+use std::sync::Arc;
+
+/// What a run goes on from.
+#[derive(Drop)]
+pub struct Run<'a> {
+    pub options: &'a OptionsWithLog,
+    pub config: &'a Config,
+    pub state: &'a State,
+    /// What was kept of its log.
+    pub kept: &'a LogState,
+    pub gate: Arc<Gate>,
+}
+
+/// The devices that both captures are read from.
+#[derive(Drop)]
+pub struct Captures<A, B> {
+    pub inside: A,
+    pub outside: B,
+}
+
+/// What a run leaves.
+#[derive(Drop)]
+pub struct Left {
+    pub passed: Passed,
+    /// Its log, if it has one and the state is to be saved.
+    pub log: Option<KeptLog>,
+}
+
+impl<'a> Run<'a> {
+    /// Says on standard error if the log, where there is one, begins new entries for the bindings of the state, because those
+    /// that were kept are not theirs.
+    pub fn tell_new_entries<R: Eprint + AllocGlobal>(&self, rt: &R, call: Call) -> Result<(), Stop>
+        requires { Takes self.now.config.now self.now.state.now }
+        ensures { IfErr result (λ stop. stop ≡ MEMORY) }
+    {
+        let (state, kept) = (self.state, self.kept);
+        if self.options.log.is_none() || state.list.is_empty() {
+            return Ok(());
+        }
+        let fits = kept.is_of(rt.alloc(), self.config, state)?;
+        if !fits {
+            call.tell_new_entries(rt, rt.alloc(), state.clock)?;
+        }
+        Ok(())
+    }
+
+    /// Runs over the captures into the outputs, and into the log if there is one. Fails as the run does, and if the log could
+    /// not be written.
+    pub fn over<R: Host, A: Source, B: Source, T: Write + Drop, F: Write + OpenFile + Drop>(
+        self,
+        rt: &R,
+        captures: &mut Captures<A, B>,
+        outputs: &mut Outputs<T, F>,
+        log: Option<LogOutput<LogDevice<Either<T, F>, LogPieces<'_, R>>>>,
+    ) -> Result<Left, Stop>
+        requires taken { Takes self.config.now self.state.now }
+        requires few { IsFew self.kept.now }
+        requires inside { A.failed captures.old.inside < 2 ^ 64 - 1 }
+        requires outside { B.failed captures.old.outside < 2 ^ 64 - 1 }
+        requires outputs { AreOutputsFresh outputs.old }
+        requires log { IsFreshLog log }
+        requires named { is_some log ≡ is_some self.options.now.log }
+        ensures kept { IfOk result (λ left. is_some left.log
+            ≡ (is_some log.entry && is_some self.entry.options.now.files.save)) }
+        ensures stop { (streams : Streams) → IfErr result
+            (IsRunStop streams (files_with_log self.entry.options.now)) }
+    {
+        let is_saved = self.options.files.save.is_some();
+        let Some(mut log) = log else {
+            let passed = self.without_log(rt, captures, outputs)?;
+            return Ok(Left { passed, log: None });
+        };
+        let LoggedPassed { passed, log: left } = self.with_log(rt, captures, outputs, &mut log)?;
+        let log = kept_if_saved(is_saved, left, log)?;
+        Ok(Left { passed, log })
+    }
+
+    fn without_log<R: Host, A: Source, B: Source, T: Write + Drop, F: Write + OpenFile + Drop>(
+        self,
+        rt: &R,
+        captures: &mut Captures<A, B>,
+        outputs: &mut Outputs<T, F>,
+    ) -> Result<Passed, Stop>
+        requires taken { Takes self.config.now self.state.now }
+        requires inside { A.failed captures.old.inside < 2 ^ 64 - 1 }
+        requires outside { B.failed captures.old.outside < 2 ^ 64 - 1 }
+        requires outputs { AreOutputsFresh outputs.old }
+        ensures { (streams : Streams) → IfErr result
+            (IsRunStop streams (files_with_log self.entry.options.now)) }
+    {
+        let answer = resume_streams(
+            rt,
+            rt.alloc(),
+            Start {
+                config: self.config,
+                state: self.state,
+            },
+            &mut captures.inside,
+            &mut captures.outside,
+            &mut outputs.to_outside,
+            &mut outputs.to_inside,
+            &mut outputs.report,
+            self.gate,
+        );
+        ended(self.options, answer)
+    }
+
+    fn with_log<R: Host, A: Source, B: Source, T: Write + Drop, F: Write + OpenFile + Drop>(
+        self,
+        rt: &R,
+        captures: &mut Captures<A, B>,
+        outputs: &mut Outputs<T, F>,
+        log: &mut LogOutput<LogDevice<Either<T, F>, LogPieces<'_, R>>>,
+    ) -> Result<LoggedPassed, Stop>
+        requires taken { Takes self.config.now self.state.now }
+        requires few { IsFew self.kept.now }
+        requires inside { A.failed captures.old.inside < 2 ^ 64 - 1 }
+        requires outside { B.failed captures.old.outside < 2 ^ 64 - 1 }
+        requires outputs { AreOutputsFresh outputs.old }
+        requires log { failed_of log.old.device ≡ 0 }
+        requires named { is_some self.options.now.log ≡ true }
+        ensures { (streams : Streams) → IfErr result
+            (IsRunStop streams (files_with_log self.entry.options.now)) }
+    {
+        let (start, log_start) = self.starts(log.is_new);
+        let answer = resume_streams_with_log(
+            rt,
+            rt.alloc(),
+            start,
+            log_start,
+            &mut captures.inside,
+            &mut captures.outside,
+            &mut outputs.to_outside,
+            &mut outputs.to_inside,
+            &mut outputs.report,
+            &mut log.device,
+            self.gate,
+        );
+        ended_with_log(self.options, answer)
+    }
+
+    /// What the run goes on from, and its log, which has text or is new.
+    fn starts(&self, is_new: bool) -> (Start<'a>, LogStart<'a>)
+        ensures config { result.0.config ≡ self.now.config }
+        ensures state { result.0.state ≡ self.now.state }
+        ensures kept { result.1.kept ≡ self.now.kept }
+        ensures is_new { result.1.is_new ≡ is_new }
+        ensures goes_on { result.1.goes_on ≡ is_some self.now.options.now.files.save }
+        ensures each { result.1.each ≡ self.now.options.now.log_each }
+    {
+        let start = Start {
+            config: self.config,
+            state: self.state,
+        };
+        let log_start = LogStart {
+            kept: self.kept,
+            is_new,
+            goes_on: self.options.files.save.is_some(),
+            each: self.options.log_each,
+        };
+        (start, log_start)
+    }
+}
+
+/// What is kept of a log that was written, beside a state that is saved. Fails with `Stop::Log`.
+fn kept_if_saved<T: Write + Drop, F: Write + OpenFile + Drop, R: Files + AllocGlobal>(
+    is_saved: bool,
+    left: LogState,
+    log: LogOutput<LogDevice<Either<T, F>, LogPieces<'_, R>>>,
+) -> Result<Option<KeptLog>, Stop>
+    ensures kept { IfOk result (λ kept. option_map (λ k. k.log) kept
+        ≡ if is_saved then Some left else None) }
+    ensures stop { IfErr result (λ stop. stop ≡ Stop.Log) }
+{
+    if !is_saved {
+        return Ok(None);
+    }
+    let length = log.synced_length()?;
+    Ok(Some(KeptLog { log: left, length }))
+}
+
+/// How the program ends after a run without a log.
+fn ended(options: &OptionsWithLog, answer: Result<Passed, Fault>) -> Result<Passed, Stop>
+    requires { IfErr answer (λ fault. IsUnderOpenGate (Stop.Run fault)) }
+    ensures { (streams : Streams) → IfErr result
+        (IsRunStop streams (files_with_log options.now)) }
+{
+    match answer {
+        Ok(passed) => Ok(passed),
+        Err(fault) => Err(stop_of_run(options, fault)),
+    }
+}
+
+/// How the program ends after a run with a log.
+fn ended_with_log(
+    options: &OptionsWithLog,
+    answer: Result<LoggedPassed, LoggedFault>,
+) -> Result<LoggedPassed, Stop>
+    requires run { IfErr answer IsLoggedUnderOpenGate }
+    requires log { is_some options.now.log ≡ true }
+    ensures { (streams : Streams) → IfErr result
+        (IsRunStop streams (files_with_log options.now)) }
+{
+    match answer {
+        Ok(passed) => Ok(passed),
+        Err(LoggedFault::Run(fault)) => Err(stop_of_run(options, fault)),
+        Err(LoggedFault::Log(_)) => Err(Stop::Log),
+    }
+}
