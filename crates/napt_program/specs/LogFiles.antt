@@ -26,8 +26,8 @@ abbrev pub piece_of : {R F A : Type 0} → LogPieces R F A → ℕ
 piece_of pieces = pieces.number
 
 -- bytes begin a new piece: they begin with the header, and the piece at hand has text
-abbrev pub begins_piece : {R F A : Type 0} → LogPieces R F A → List ℕ → Bool
-begins_piece pieces bytes = pieces.has_text && starts_with nat_eq bytes header
+abbrev pub needs_new_piece : {R F A : Type 0} → LogPieces R F A → List ℕ → Bool
+needs_new_piece pieces bytes = pieces.has_text && starts_with nat_eq bytes header
 
 -- what is kept of the text: nothing, or what the state tells of
 abbrev pub IsKept : Option ℕ → ℕ → Type 0

@@ -1,7 +1,7 @@
 //! The log in pieces: the files FILE.1, FILE.2 and so on, each of which begins with the header.
 
 ghost use Rattle.std.specs.{Prelude.{◌≡◌, ◌<◌, IfErr, IfOk, None, false, true}, Io.{KnownBytes.WriteAppends, WritesAtMost}};
-ghost use Rattle.napt_program.specs.LogFiles.{IsLogStop, begins_piece, piece_of};
+ghost use Rattle.napt_program.specs.LogFiles.{IsLogStop, needs_new_piece, piece_of};
 
 use crate::devices::BUFFERED;
 use crate::log_file::bytes_to_keep;
@@ -48,8 +48,8 @@ impl<'r, R: Files + AllocGlobal> LogPieces<'r, R> {
     }
 
     /// Whether these bytes begin a new piece: they begin with the header, and the piece has text.
-    fn begins_piece(&self, bytes: &[u8]) -> bool
-        ensures { result ≡ begins_piece self.now bytes.now }
+    fn needs_new_piece(&self, bytes: &[u8]) -> bool
+        ensures { result ≡ needs_new_piece self.now bytes.now }
     {
         self.has_text && bytes.starts_with(header().as_bytes())
     }
@@ -80,13 +80,13 @@ impl<'r, R: Files + AllocGlobal> Write for LogPieces<'r, R> {
     fn write(&mut self, bytes: &[u8]) -> io::Result<usize>
         ensures bound { WritesAtMost result bytes.now }
         ensures bytes { WriteAppends None None result bytes.now }
-        ensures begins { begins_piece self.old bytes.now ≡ true →
+        ensures begins { needs_new_piece self.old bytes.now ≡ true →
             IfOk result (λ _. piece_of self.old < piece_of self.new) }
         ensures text { IfOk result (λ count. 0 < count → self.new.has_text ≡ true) }
-        ensures stays { begins_piece self.old bytes.now ≡ false →
+        ensures stays { needs_new_piece self.old bytes.now ≡ false →
             piece_of self.new ≡ piece_of self.old }
     {
-        if self.begins_piece(bytes) {
+        if self.needs_new_piece(bytes) {
             self.go_on()?;
         }
         let count = self.piece.write(bytes)?;
