@@ -1,5 +1,5 @@
 -- Which text of a log a run goes on with.
-use Rattle.std.specs.{Prelude.{◌≡◌, ◌⊎◌, ◌==◌, ◌&&◌, nat_eq, nat_lt, not, ℕ, Bool, List, [], ◌∷◌, length, Option, Some, None, if◌then◌else◌}, List.{list_any, starts_with}}
+use Rattle.std.specs.{Prelude.{◌≡◌, ◌≢◌, ◌⊎◌, ◌<◌, ◌^◌, ◌==◌, ◌&&◌, nat_eq, nat_lt, not, ℕ, Bool, List, [], ◌∷◌, ◌++◌, codes, decimal, length, Option, Some, None, if◌then◌else◌}, List.{list_any, starts_with}}
 use Rattle.napt_log_text.specs.Rows.{header}
 use Rattle.napt_program.specs.declared.{log_file.TheConstants.MOST_TORN, log_pieces.LogPieces.LogPieces, stop.{LogRefusal.LogRefusal, Stop.Stop, TheConstants.MEMORY}}
 use Rattle.napt_program.specs.declared.role.Role.TheVariants as role
@@ -20,6 +20,14 @@ refusal_at told [] = Some (refusal.Another told)
 refusal_at told (byte ∷ behind) =
     if not (is_line_feed byte) then Some (refusal.Another told)
     else (if is_torn behind then None else Some (refusal.Longer told))
+
+-- the name of the piece with a number: the path of the log, a dot and the number
+abbrev pub piece_name : List ℕ → ℕ → List ℕ
+piece_name log number = log ++ (codes "." ++ decimal number)
+
+-- no piece of the log has this name
+abbrev pub IsOfNoPiece : List ℕ → List ℕ → Type 0
+IsOfNoPiece log name = (number : ℕ) → 0 < number → number < 2 ^ 64 → name ≢ piece_name log number
 
 -- the number of the piece at hand
 abbrev pub piece_of : {R F A : Type 0} → LogPieces R F A → ℕ

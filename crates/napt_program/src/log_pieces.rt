@@ -1,7 +1,7 @@
 //! The log in pieces: the files FILE.1, FILE.2 and so on, each of which begins with the header.
 
-ghost use Rattle.std.specs.{Prelude.{◌≡◌, ◌<◌, IfErr, IfOk, None, false, true}, Io.{KnownBytes.WriteAppends, WritesAtMost}};
-ghost use Rattle.napt_program.specs.LogFiles.{IsLogStop, needs_new_piece, piece_of};
+ghost use Rattle.std.specs.{Prelude.{◌≡◌, ℕ, ◌<◌, ◌^◌, ◌&&◌, IfErr, IfOk, IfSome, None, decimal, false, nat_lt, slice_index, string_bytes, true}, Io.{KnownBytes.WriteAppends, WritesAtMost}};
+ghost use Rattle.napt_program.specs.LogFiles.{IsLogStop, IsOfNoPiece, needs_new_piece, piece_name, piece_of};
 
 use crate::devices::BUFFERED;
 use crate::log_file::bytes_to_keep;
@@ -124,7 +124,9 @@ fn piece_behind<R: Files + AllocGlobal>(
     Err(io::Error::from(ErrorKind::AlreadyExists))
 }
 
-fn name_of(alloc: Global, path: &str, number: u64) -> Result<String, AllocError> {
+fn name_of(alloc: Global, path: &str, number: u64) -> Result<String, AllocError>
+    ensures { IfOk result (λ name. string_bytes name ≡ piece_name path.now number) }
+{
     format!(in alloc; "{path}.{number}")
 }
 
@@ -141,6 +143,8 @@ pub(crate) fn last_piece<R: Files + AllocGlobal>(
     told: Option<u64>,
 ) -> Result<u64, Stop>
     ensures anew { told ≡ None → IfOk result (λ last. last ≡ 0) }
+    ensures save { IfOk result (λ _.
+        IfSome save.entry (λ it. IsOfNoPiece path.now (string_bytes it.now))) }
     ensures stop { IfErr result IsLogStop }
 {
     if let Some(save) = save {
@@ -178,13 +182,35 @@ fn greatest_number<R: Files + AllocGlobal>(rt: &R, path: &str) -> io::Result<u64
     Ok(greatest)
 }
 
-/// The number in the name of a piece of the log, 0 if it is none: in decimal, without a sign or zeros before it.
-fn number_in(piece: &str, log: &str) -> u64 {
-    let number = piece
-        .strip_prefix(log)
-        .and_then(|rest| rest.strip_prefix('.'));
-    match number {
-        Some(digits) if !digits.starts_with(['+', '0']) => digits.parse().unwrap_or(0),
+/// The number in the name of a piece of the log, 0 if it is the name of none.
+fn number_in(piece: &str, log: &str) -> u64
+    ensures is { 0 < result → piece.now ≡ piece_name log.now result }
+    ensures each { (number : ℕ) → 0 < number → number < 2 ^ 64
+        → piece.now ≡ piece_name log.now number → result ≡ number }
+{
+    let Some(rest) = piece.strip_prefix(log) else {
+        return 0;
+    };
+    match rest.strip_prefix('.') {
+        Some(digits) => number_of(digits),
+        None => 0,
+    }
+}
+
+/// The number in decimal digits without a sign or zeros before it, 0 if the text is none.
+fn number_of(text: &str) -> u64
+    ensures is { 0 < result → text.now ≡ decimal result }
+    ensures each { (number : ℕ) → 0 < number → number < 2 ^ 64 → text.now ≡ decimal number
+        → result ≡ number }
+{
+    match text.parse() {
+        Ok(number) if begins_with_1_to_9(text) => number,
         _ => 0,
     }
+}
+
+fn begins_with_1_to_9(text: &str) -> bool
+    ensures { result ≡ nat_lt 48 (slice_index text.now 0) && nat_lt (slice_index text.now 0) 58 }
+{
+    matches!(text.as_bytes().first(), Some(b'1'..=b'9'))
 }
