@@ -8,7 +8,7 @@ mod files;
 mod losses;
 mod outside;
 mod page;
-mod passed;
+mod passing;
 mod plain_run;
 mod seconds;
 mod sorted;
@@ -21,7 +21,7 @@ pub use crate::files::{opened, tell_failed, tell_unwritten, text_at, unexplained
 pub use crate::losses::{Losses, SourceKind, destination_of, source_of};
 pub use crate::outside::{Outside, copied};
 pub use crate::page::Page;
-pub use crate::passed::{Consumer, Ending, Passing, take_all};
+pub use crate::passing::{Consumer, Ending, Passing, take_all};
 pub use crate::seconds::Seconds;
 pub use crate::sorted::Sorted;
 pub use crate::start::RunStart;

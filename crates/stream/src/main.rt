@@ -2,11 +2,11 @@
 #![tactic(auto)]
 
 mod counted;
+mod counting_gate;
 mod manual;
 mod over;
 mod program;
 mod progress;
-mod watched;
 
 use napt_program::{Call, Streams};
 use std::process::ExitCode;

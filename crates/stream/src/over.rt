@@ -7,7 +7,7 @@ ghost use Rattle.napt_capture.specs.Watched.{failed_of};
 ghost use Rattle.napt_account.specs.Prelude.{Takes};
 ghost use Rattle.napt_run.specs.LoggedStreams.{IsUnderOpenGate as IsLoggedUnderOpenGate};
 
-use crate::watched::Watched as Gate;
+use crate::counting_gate::CountingGate;
 use either::Either;
 use napt_account::LogState;
 use napt_capture::Source;
@@ -34,12 +34,12 @@ pub struct Run<'a> {
     pub state: &'a State,
     /// What was kept of its log.
     pub kept: &'a LogState,
-    pub gate: Arc<Gate>,
+    pub gate: Arc<CountingGate>,
 }
 
 /// The devices that both captures are read from.
 #[derive(Drop)]
-pub struct Captures<A, B> {
+pub struct CaptureDevices<A, B> {
     pub inside: A,
     pub outside: B,
 }
@@ -75,7 +75,7 @@ impl<'a> Run<'a> {
     pub fn over<R: Host, A: Source, B: Source, T: Write + Drop, F: Write + OpenFile + Drop>(
         self,
         rt: &R,
-        captures: &mut Captures<A, B>,
+        captures: &mut CaptureDevices<A, B>,
         outputs: &mut Outputs<T, F>,
         log: Option<LogOutput<LogDevice<Either<T, F>, LogPieces<'_, R>>>>,
     ) -> Result<Left, Stop>
@@ -104,7 +104,7 @@ impl<'a> Run<'a> {
     fn without_log<R: Host, A: Source, B: Source, T: Write + Drop, F: Write + OpenFile + Drop>(
         self,
         rt: &R,
-        captures: &mut Captures<A, B>,
+        captures: &mut CaptureDevices<A, B>,
         outputs: &mut Outputs<T, F>,
     ) -> Result<Passed, Stop>
         requires taken { Takes self.config.now self.state.now }
@@ -134,7 +134,7 @@ impl<'a> Run<'a> {
     fn with_log<R: Host, A: Source, B: Source, T: Write + Drop, F: Write + OpenFile + Drop>(
         self,
         rt: &R,
-        captures: &mut Captures<A, B>,
+        captures: &mut CaptureDevices<A, B>,
         outputs: &mut Outputs<T, F>,
         log: &mut LogOutput<LogDevice<Either<T, F>, LogPieces<'_, R>>>,
     ) -> Result<LoggedPassed, Stop>

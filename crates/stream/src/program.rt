@@ -5,10 +5,10 @@ ghost use Rattle.std.specs.Prelude.{◌≡◌, IfErr, OnOk, map, string_bytes};
 ghost use Rattle.napt_program.specs.{CommandLine.{files_with_log, line_with_log}, Command.{IsLineStop, IsRunStop, IsTaken, IsUnderOpenGate}};
 
 use crate::counted::Counted;
+use crate::counting_gate::CountingGate;
 use crate::manual::{INSTALLED, OWN};
-use crate::over::{Captures, Run};
+use crate::over::{CaptureDevices, Run};
 use crate::progress::Progress;
-use crate::watched::Watched;
 use napt_program::{
     Call, Devices, Host, MEMORY, Opened, OptionsWithLog, Stop, Streams, answer_line, open,
     parse_words_with_log, words,
@@ -71,7 +71,7 @@ fn run<R: Host + Clock>(
     } = devices;
     let gate = gate(rt.alloc(), config.pool().len())?;
     let progress = Progress::of(rt, again(&gate)?, call);
-    let mut captures = Captures {
+    let mut captures = CaptureDevices {
         inside: Counted::over(inside, &progress),
         outside: Counted::over(outside, &progress),
     };
@@ -95,15 +95,15 @@ fn run<R: Host + Clock>(
 }
 
 /// The gate of a run with this many workers, which watches them and always opens. Fails, as a run does, if memory runs out.
-fn gate(alloc: Global, workers: usize) -> Result<Arc<Watched>, Stop>
+fn gate(alloc: Global, workers: usize) -> Result<Arc<CountingGate>, Stop>
     ensures { IfErr result (λ stop. stop ≡ MEMORY) }
 {
-    let watched = Watched::new(alloc, workers)?;
-    Arc::new(alloc, watched).map_err(|_| MEMORY)
+    let counting = CountingGate::new(alloc, workers)?;
+    Arc::new(alloc, counting).map_err(|_| MEMORY)
 }
 
 /// The same gate, for one more owner. Fails, as a run does, if memory runs out.
-fn again(gate: &Arc<Watched>) -> Result<Arc<Watched>, Stop>
+fn again(gate: &Arc<CountingGate>) -> Result<Arc<CountingGate>, Stop>
     ensures { IfErr result (λ stop. stop ≡ MEMORY) }
 {
     gate.clone().map_err(|_| MEMORY)

@@ -1,6 +1,6 @@
 //! How far a run is, for people at a terminal.
 
-use crate::watched::Watched;
+use crate::counting_gate::CountingGate;
 use napt_program::Call;
 use std::cell::Cell;
 use std::sync::Arc;
@@ -39,7 +39,7 @@ impl Mark {
 pub struct Progress<'r, R> {
     rt: &'r R,
     name: &'static str,
-    gate: Arc<Watched>,
+    gate: Arc<CountingGate>,
     /// When the run began; none if progress is not reported.
     began: Option<Instant>,
     packets: Cell<u64>,
@@ -56,7 +56,7 @@ impl<'r, R> Progress<'r, R> {
 
 impl<'r, R: Eprint + Clock> Progress<'r, R> {
     /// Of a run that begins now. If no terminal is there, nothing is reported.
-    pub fn of(rt: &'r R, gate: Arc<Watched>, call: Call) -> Progress<'r, R> {
+    pub fn of(rt: &'r R, gate: Arc<CountingGate>, call: Call) -> Progress<'r, R> {
         let began = if call.at_terminal {
             Instant::now(rt).ok()
         } else {

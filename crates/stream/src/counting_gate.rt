@@ -13,14 +13,14 @@ struct Count {
 
 /// A gate that always says yes, and counts the bindings of all workers.
 #[derive(Drop)]
-pub struct Watched {
+pub struct CountingGate {
     /// One for each worker.
     counts: Vec<Count>,
 }
 
-impl Watched {
+impl CountingGate {
     /// For this many workers.
-    pub fn new(alloc: Global, workers: usize) -> Result<Watched, AllocError> {
+    pub fn new(alloc: Global, workers: usize) -> Result<CountingGate, AllocError> {
         let mut counts = Vec::with_capacity(alloc, workers)?;
         for _ in 0..workers {
             counts.push(Count {
@@ -28,7 +28,7 @@ impl Watched {
                 _rest: [0; 15],
             })?;
         }
-        Ok(Watched { counts })
+        Ok(CountingGate { counts })
     }
 
     /// How many bindings all workers hold, each after its latest packet.
@@ -41,7 +41,7 @@ impl Watched {
     }
 }
 
-impl Gate for Watched {
+impl Gate for CountingGate {
     ghost use Rattle.std.specs.Prelude.{true};
 
     ghost is_open = { true };
