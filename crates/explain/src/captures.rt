@@ -2,16 +2,16 @@
 
 ghost use Rattle.std.specs.Prelude.{◌-◌, ◌^◌, ◌<◌};
 
-use crate::flaws::{Flaws, StepBack};
-use crate::options::Options;
-use crate::reading::Written;
-use crate::refused;
-use napt_capture::{CaptureFault, Records, Source};
+use crate::flaws::{ConfigAdvice, StepBack};
+use crate::options::ExplainOptions;
+use crate::reading::WrittenOutput;
+use crate::refusals;
+use napt_capture::{CaptureFault, RecordReader, Source};
 use napt_commands::{Consumer, Exit};
-use napt_display::reasons::Splitting;
+use napt_display::reasons::SplitAdvice;
 use napt_program::Stop;
-use napt_records::{Fault, MergedStreams, SideFault, Stream};
-use napt_sequential::{Arrivals, Input};
+use napt_records::{Fault, RecordStream, SideFault, StreamMerger};
+use napt_sequential::{Input, InputSource};
 use napt_wire::Side;
 use std::alloc::Global;
 use std::io;
@@ -25,41 +25,41 @@ const HEADER: u64 = 24;
 
 /// The beginning of a capture, and what reads on.
 #[derive(Drop)]
-pub struct Begun<D> {
+pub struct StartedCaptures<D> {
     pub head: Vec<u8>,
     pub reader: BufReader<D>,
 }
 
 /// A capture past its header, whose beginning is kept.
 #[derive(Drop)]
-pub struct Opened<'a, S: Source> {
+pub struct OpenCaptures<'a, S: Source> {
     head: &'a [u8],
-    stream: Stream<'a, S>,
+    stream: RecordStream<'a, S>,
 }
 
 /// Explains which captures are refused.
 #[derive(Clone, Copy)]
-pub struct Refusing<'a> {
-    pub options: &'a Options<'a>,
+pub struct RefusedRun<'a> {
+    pub options: &'a ExplainOptions<'a>,
     /// The configuration.
-    pub written: &'a Written,
+    pub written: &'a WrittenOutput,
 }
 
-impl Refusing<'_> {
+impl RefusedRun<'_> {
     /// Reads the beginning of a side's capture. A refusal is explained.
     pub fn begin<R: Eprint + AllocGlobal, D: Read + Drop>(
         self,
         rt: &R,
         side: Side,
         device: D,
-    ) -> Result<Begun<D>, Exit> {
+    ) -> Result<StartedCaptures<D>, Exit> {
         let mut head = Vec::new(rt.alloc());
         let mut reader = match BufReader::with_capacity(rt.alloc(), BUFFERED, device) {
             Ok(reader) => reader,
             Err(_) => return Err(self.refuse(rt, side, &head, CaptureFault::Memory, None)),
         };
         let error = match reader.by_ref().take(HEADER).read_to_end(&mut head) {
-            Ok(_) => return Ok(Begun { head, reader }),
+            Ok(_) => return Ok(StartedCaptures { head, reader }),
             Err(error) => error,
         };
         let fault = match error.kind() {
@@ -76,13 +76,13 @@ impl Refusing<'_> {
         side: Side,
         head: &'a [u8],
         source: &'a mut S,
-    ) -> Result<Opened<'a, S>, Exit>
+    ) -> Result<OpenCaptures<'a, S>, Exit>
         requires { S.failed source.old < 2 ^ 64 - 1 }
     {
-        match Records::open(rt.alloc(), source) {
-            Ok(records) => Ok(Opened {
+        match RecordReader::open(rt.alloc(), source) {
+            Ok(records) => Ok(OpenCaptures {
                 head,
-                stream: Stream::new(source, records),
+                stream: RecordStream::new(source, records),
             }),
             Err(fault) => Err(self.refuse(rt, side, head, fault, None)),
         }
@@ -120,40 +120,40 @@ impl Refusing<'_> {
             Side::Outside => (options.outside.name(), options.files.outside.as_ref()),
         };
         let inside = self.written.prefixes(rt.alloc())?;
-        let splitting = Splitting {
+        let splitting = SplitAdvice {
             command: options.split,
             capture: path.map(|path| path.as_str()).filter(|path| *path != "-"),
             inside: &inside,
         };
-        refused::tell_capture(rt, name, head, fault, splitting)
+        refusals::tell_capture(rt, name, head, fault, splitting)
     }
 }
 
 /// The packets of both captures, in the order in which `napt` takes them.
 #[derive(Drop)]
-pub struct Captures<'r, 'i, 'o, A: Source, B: Source> {
-    refusing: Refusing<'r>,
+pub struct CaptureInputs<'r, 'i, 'o, A: Source, B: Source> {
+    refusing: RefusedRun<'r>,
     inside_head: &'i [u8],
     outside_head: &'o [u8],
-    packets: MergedStreams<'i, 'o, A, B>,
+    packets: StreamMerger<'i, 'o, A, B>,
     back: StepBack,
 }
 
-impl<'r, 'i, 'o, A: Source, B: Source> Captures<'r, 'i, 'o, A, B> {
+impl<'r, 'i, 'o, A: Source, B: Source> CaptureInputs<'r, 'i, 'o, A, B> {
     /// Those of captures past their headers, of a run that starts at this time, in ns.
     pub fn of(
         alloc: Global,
-        refusing: Refusing<'r>,
+        refusing: RefusedRun<'r>,
         clock: u64,
-        inside: Opened<'i, A>,
-        outside: Opened<'o, B>,
-    ) -> Captures<'r, 'i, 'o, A, B> {
+        inside: OpenCaptures<'i, A>,
+        outside: OpenCaptures<'o, B>,
+    ) -> CaptureInputs<'r, 'i, 'o, A, B> {
         let (inside_head, outside_head) = (inside.head, outside.head);
-        Captures {
+        CaptureInputs {
             refusing,
             inside_head,
             outside_head,
-            packets: MergedStreams::new(alloc, inside.stream, outside.stream),
+            packets: StreamMerger::new(alloc, inside.stream, outside.stream),
             back: StepBack::from_state(clock),
         }
     }
@@ -202,9 +202,9 @@ impl<'r, 'i, 'o, A: Source, B: Source> Captures<'r, 'i, 'o, A, B> {
     }
 
     /// What they show against themselves, once their end is reached.
-    pub fn flaws(&self) -> Flaws {
+    pub fn flaws(&self) -> ConfigAdvice {
         let cuts = self.packets.cuts();
-        Flaws {
+        ConfigAdvice {
             inside: cuts.inside,
             outside: cuts.outside,
             holds: self.refusing.options.outside,
@@ -214,7 +214,7 @@ impl<'r, 'i, 'o, A: Source, B: Source> Captures<'r, 'i, 'o, A, B> {
 
     /// Lets go of them.
     pub fn close(self) {
-        let Captures { packets, .. } = self;
+        let CaptureInputs { packets, .. } = self;
         let _ = packets.into_streams();
     }
 

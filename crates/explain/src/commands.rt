@@ -87,15 +87,15 @@ const RESUMED: &str =
 
 /// The words of a call, the program's name first, and then always a command.
 #[derive(Drop)]
-pub struct Words {
+pub struct CommandTexts {
     pub list: Vec<String>,
     /// Whether they named it: else it is `show`, and the outputs of `napt` and the log of `stream` are options too.
     is_named: bool,
 }
 
-impl Words {
+impl CommandTexts {
     /// The words given, with `show` where they begin with an option, or are none.
-    pub fn of(alloc: Global, given: Vec<String>) -> Result<Words, AllocError> {
+    pub fn of(alloc: Global, given: Vec<String>) -> Result<CommandTexts, AllocError> {
         let is_named = given.get(1).is_some_and(|word| is_name(word));
         let mut list = Vec::new(alloc);
         for word in given {
@@ -104,7 +104,7 @@ impl Words {
                 list.push(String::from_str(alloc, FIRST)?)?;
             }
         }
-        Ok(Words { list, is_named })
+        Ok(CommandTexts { list, is_named })
     }
 
     /// The first option among them that is a command now, and how that is called.

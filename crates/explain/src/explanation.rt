@@ -1,14 +1,17 @@
 //! What is asked for of a run, as it goes on.
 
-use crate::flaws::Flaws;
-use crate::options::{Form, Options};
-use crate::progress::Progress;
-use napt_account::{KnownRun, Listed, ResumedRun};
-use napt_attribution::{Asked, Holders, LogFile, begin_log};
-use napt_commands::{Consumer, Ending, Exit, Page, Passing, RunStart, tell_warning};
+use crate::flaws::ConfigAdvice;
+use crate::options::{ExplainOptions, OutputForm};
+use crate::progress::ExplainProgress;
+use napt_account::{LogEntry, RunFromState, TrackedRun};
+use napt_attribution::{HolderRequest, Holders, LogFile, begin_log};
+use napt_commands::{Consumer, Exit, Page, RunEnd, RunPacket, RunStart, tell_warning};
 use napt_config::Config;
-use napt_lines::{Choice, FromOutside, Line, Lines, Only, Replies, Unmatched};
-use napt_log_text::Moment;
+use napt_lines::{
+    OutsideSummary, PacketLine, PacketLines, PacketSelection, Replies, SinglePacket,
+    UnmatchedSelection,
+};
+use napt_log_text::TimeStamp;
 use napt_rules::Row;
 use napt_sequential::Input;
 use napt_sizing::{Sizes, tell_sizes};
@@ -20,9 +23,9 @@ use std::rt::Files;
 #[derive(Drop)]
 enum View<'a, W> {
     /// The lines of packets, and the summary.
-    Lines(Lines),
+    Lines(PacketLines),
     /// The line of one packet, and its bindings.
-    Only(Only),
+    Only(SinglePacket),
     /// An object for each packet.
     Objects,
     /// The answers to requests.
@@ -34,12 +37,12 @@ enum View<'a, W> {
 /// What is asked for of a run, as it goes on. `W` is a file.
 #[derive(Drop)]
 pub struct Explanation<'a, 'b, W> {
-    options: &'a Options<'a>,
-    running: KnownRun<'a>,
+    options: &'a ExplainOptions<'a>,
+    running: TrackedRun<'a>,
     told: View<'a, W>,
-    outside: FromOutside<'b>,
-    unmatched: Unmatched,
-    progress: Progress,
+    outside: OutsideSummary<'b>,
+    unmatched: UnmatchedSelection,
+    progress: ExplainProgress,
     page: Page,
     /// How many packets there were, the time from which the run goes on, and the latest time so far, in ns.
     packets: u64,
@@ -51,34 +54,34 @@ pub struct Explanation<'a, 'b, W> {
 #[derive(Clone, Copy)]
 struct Before<'a> {
     /// The entries that ended where the run goes on.
-    ended: &'a [Listed],
+    ended: &'a [LogEntry],
     /// The entries of its bindings, in the order of their numbers.
-    living: &'a [Listed],
+    living: &'a [LogEntry],
 }
 
 /// What is told of a run before the first packet.
 fn begin_told<'a, R: Files + Print + Eprint + AllocGlobal>(
     rt: &R,
-    options: &'a Options<'a>,
-    asked: &'a [Asked],
+    options: &'a ExplainOptions<'a>,
+    asked: &'a [HolderRequest],
     config: &Config,
     before: Before<'_>,
 ) -> Result<View<'a, R::File>, Exit> {
     let alloc = rt.alloc();
     Ok(match (options.form, options.choice.only) {
-        (Form::Objects, _) => View::Objects,
-        (Form::Log(path), _) => {
+        (OutputForm::Objects, _) => View::Objects,
+        (OutputForm::Log(path), _) => {
             let is_held = options.is_of_gateway();
             View::Log(begin_log(rt, path, is_held, config, before.living)?)
         }
-        (Form::Holders(_) | Form::Requests(_), _) => {
+        (OutputForm::Holders(_) | OutputForm::Requests(_), _) => {
             let mut holders = Holders::of(alloc, asked)?;
             holders.take(before.ended)?;
             View::Holders(holders)
         }
-        (Form::Sizes, _) => View::Sizes(Sizes::of(alloc, config, before.living)?),
-        (_, Some(number)) => View::Only(Only::new(number)),
-        (_, None) => View::Lines(Lines::new(options.choice)),
+        (OutputForm::Sizes, _) => View::Sizes(Sizes::of(alloc, config, before.living)?),
+        (_, Some(number)) => View::Only(SinglePacket::new(number)),
+        (_, None) => View::Lines(PacketLines::new(options.choice)),
     })
 }
 
@@ -88,9 +91,9 @@ impl<'a, W: Write + Drop> View<'a, W> {
         &mut self,
         rt: &R,
         config: &Config,
-        choice: Choice,
+        choice: PacketSelection,
         text: &mut String,
-        line: Line<'_>,
+        line: PacketLine<'_>,
     ) -> Result<(), Exit> {
         let alloc = rt.alloc();
         match self {
@@ -109,7 +112,7 @@ impl<'a, W: Write + Drop> View<'a, W> {
     }
 
     /// The live bindings, if they are to be printed in the order of the report.
-    fn rows(&self, alloc: Global, running: &KnownRun<'_>) -> Result<Vec<Row>, AllocError> {
+    fn rows(&self, alloc: Global, running: &TrackedRun<'_>) -> Result<Vec<Row>, AllocError> {
         match self {
             View::Lines(_) => running.bindings(alloc),
             _ => Ok(Vec::new(alloc)),
@@ -121,8 +124,8 @@ impl<'a, W: Write + Drop> View<'a, W> {
         self,
         rt: &R,
         page: &mut Page,
-        ending: &Ending<'_>,
-        outside: &FromOutside<'_>,
+        ending: &RunEnd<'_>,
+        outside: &OutsideSummary<'_>,
     ) -> Result<(), Exit> {
         match self {
             View::Lines(lines) => lines.tell(rt, page, ending, outside),
@@ -138,28 +141,28 @@ impl<'a, W: Write + Drop> View<'a, W> {
 /// What is asked for of a run under a configuration, before the first packet. The packets from outside may be replies.
 pub fn begin_explanation<'a, 'b, R: Files + Print + Eprint + AllocGlobal>(
     rt: &R,
-    options: &'a Options<'a>,
+    options: &'a ExplainOptions<'a>,
     start: &RunStart<'a>,
-    asked: &'a [Asked],
+    asked: &'a [HolderRequest],
     replies: Option<Replies<'b>>,
 ) -> Result<Explanation<'a, 'b, R::File>, Exit> {
     let (alloc, config) = (rt.alloc(), start.config());
-    let ResumedRun { run, ended, made } = start.known_run(alloc)?;
+    let RunFromState { run, ended, made } = start.known_run(alloc)?;
     // what was kept goes on where nothing of it ends and nothing is made in its place
     let goes_on = ended.is_empty() && made.is_empty();
     let before = Before {
         ended: &ended,
         living: if goes_on { &start.log().living } else { &made },
     };
-    if let Form::Log(_) = options.form {
+    if let OutputForm::Log(_) = options.form {
         tell_new_entries(rt, start)?;
     }
     Ok(Explanation {
         options,
         told: begin_told(rt, options, asked, config, before)?,
-        outside: FromOutside::new(alloc, config, replies)?,
-        unmatched: Unmatched::of(options.choice, before.living),
-        progress: Progress::of(rt),
+        outside: OutsideSummary::new(alloc, config, replies)?,
+        unmatched: UnmatchedSelection::of(options.choice, before.living),
+        progress: ExplainProgress::of(rt),
         page: Page::new(alloc),
         packets: 0,
         first: start.clock(),
@@ -175,7 +178,7 @@ fn tell_new_entries<R: Eprint + AllocGlobal>(
 ) -> Result<(), AllocError> {
     if start.begins_entries(rt.alloc())? {
         let mut date = String::new(rt.alloc());
-        Moment(u128::from(start.clock())).add_date(&mut date)?;
+        TimeStamp(u128::from(start.clock())).add_date(&mut date)?;
         let _ = eprintln!(rt;
             "explain: the log begins a new entry for each binding of the state, at {date}"
         );
@@ -188,7 +191,7 @@ impl<'a, 'b, W: Write + Drop> Explanation<'a, 'b, W> {
     pub fn end<R: Files + Print + Eprint + AllocGlobal>(
         self,
         rt: &R,
-        flaws: Flaws,
+        flaws: ConfigAdvice,
     ) -> Result<(), Exit> {
         let Explanation {
             options,
@@ -209,7 +212,7 @@ impl<'a, 'b, W: Write + Drop> Explanation<'a, 'b, W> {
             return Err(outside.remotes.tell_astray(rt));
         }
         tell_warning(rt, options.outside, None, &outside.losses);
-        let ending = Ending {
+        let ending = RunEnd {
             config: running.config(),
             packets,
             first,
@@ -235,7 +238,7 @@ impl<R: Files + Print + Eprint + AllocGlobal, W: Write + Drop> Consumer<R>
                 return Err(Exit::from(fault));
             }
         };
-        let passing = Passing {
+        let passing = RunPacket {
             number,
             input,
             step: &step,
@@ -243,7 +246,7 @@ impl<R: Files + Print + Eprint + AllocGlobal, W: Write + Drop> Consumer<R>
         self.packets = number;
         self.last = self.last.max(input.clock);
         self.outside.take(config, passing)?;
-        let line = Line::of(passing, self.outside.replies);
+        let line = PacketLine::of(passing, self.outside.replies);
         self.unmatched.take(alloc, line, &step.made)?;
         let choice = self.options.choice;
         self.told

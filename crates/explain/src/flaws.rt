@@ -1,7 +1,7 @@
 //! What captures show against themselves.
 
-use crate::options::Form;
-use napt_commands::{Exit, Outside};
+use crate::options::OutputForm;
+use napt_commands::{Exit, OutsideCapture};
 use napt_sequential::Input;
 
 /// What is printed about a capture that ends inside a record.
@@ -12,20 +12,20 @@ const SECOND: u64 = 1_000_000_000;
 
 /// What captures show against themselves, once their end is reached.
 #[derive(Clone, Copy)]
-pub struct Flaws {
+pub struct ConfigAdvice {
     /// Whether the inside capture ends inside a record. That record is left out.
     pub inside: bool,
     /// The same of the outside capture.
     pub outside: bool,
     /// What the outside capture holds.
-    pub holds: Outside,
+    pub holds: OutsideCapture,
     pub back: StepBack,
 }
 
-impl Flaws {
+impl ConfigAdvice {
     /// Reports each capture that ends inside a record, whose last packet is left out; on standard error unless people
     /// read standard output. A step back in time is always reported there.
-    pub fn tell<R: Print + Eprint>(self, rt: &R, form: Form<'_>) -> Result<(), Exit> {
+    pub fn tell<R: Print + Eprint>(self, rt: &R, form: OutputForm<'_>) -> Result<(), Exit> {
         self.back.tell(rt, form);
         for (side, cut) in [("inside", self.inside), (self.holds.name(), self.outside)] {
             if cut && form.is_for_people() {
@@ -88,7 +88,7 @@ impl StepBack {
     }
 
     /// Reports a step of more than a second; to those who read times any step.
-    fn tell<R: Eprint>(self, rt: &R, form: Form<'_>) {
+    fn tell<R: Eprint>(self, rt: &R, form: OutputForm<'_>) {
         if self.far == 0 || (self.far <= SECOND && !form.has_times()) {
             return;
         }

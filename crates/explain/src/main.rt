@@ -10,35 +10,37 @@ mod captures;
 mod commands;
 mod explanation;
 mod flaws;
-mod following;
+mod follow_command;
 mod manual;
 mod options;
-mod pictured_run;
+mod picture_run;
 mod pictures;
 mod places;
 mod progress;
 mod reading;
-mod refused;
+mod refusals;
 mod scene;
 mod setting;
 
-use crate::commands::Words;
+use crate::commands::CommandTexts;
 use crate::manual::{INSTALLED, OWN};
-use crate::options::{Form, Options, options_of};
-use crate::reading::{Written, answer, configuration, open_captures, read_given, requests_of};
-use crate::setting::Setting;
+use crate::options::{ExplainOptions, OutputForm, options_of};
+use crate::reading::{
+    WrittenOutput, answer, configuration, open_captures, read_given, requests_of,
+};
+use crate::setting::PictureSetting;
 use clap::Error;
 use clap::error::ErrorKind;
 use napt_attribution::{answer_by_blocks, tell_blocks};
 use napt_commands::Exit;
-use napt_program::{Call, Stop, Streams};
+use napt_program::{ProgramCall, StandardStreams, Stop};
 use std::env::Env;
 use std::process::ExitCode;
 use std::rt::Files;
 use std::{env, io};
 
 fn main(rt: HostRuntime) -> ExitCode {
-    let streams = Streams::open_now(&rt);
+    let streams = StandardStreams::open_now(&rt);
     match called(&rt, streams) {
         Ok(()) => ExitCode::SUCCESS,
         Err(stop) => {
@@ -49,8 +51,8 @@ fn main(rt: HostRuntime) -> ExitCode {
 }
 
 /// Does what the command line asks for, under the name that it begins with.
-fn called(rt: &HostRuntime, streams: Streams) -> Result<(), Exit> {
-    let call = Call::of(rt, streams, OWN.name);
+fn called(rt: &HostRuntime, streams: StandardStreams) -> Result<(), Exit> {
+    let call = ProgramCall::of(rt, streams, OWN.name);
     match call.as_called(rt, INSTALLED.name) {
         Ok(call) => explained(rt, streams, call),
         Err(stop) => Err(Exit::As(stop)),
@@ -61,10 +63,10 @@ fn called(rt: &HostRuntime, streams: Streams) -> Result<(), Exit> {
 /// as an error.
 fn explained<R: Env + Files + Input + Print + Eprint + AllocGlobal>(
     rt: &R,
-    streams: Streams,
-    call: Call,
+    streams: StandardStreams,
+    call: ProgramCall,
 ) -> Result<(), Exit> {
-    let words = Words::of(rt.alloc(), arguments(rt)?)?;
+    let words = CommandTexts::of(rt.alloc(), arguments(rt)?)?;
     let manual = call.manual(OWN, INSTALLED);
     if let Some((option, now)) = words.earlier() {
         let name = manual.name;
@@ -115,14 +117,14 @@ fn told<R: Print + Eprint + AllocGlobal>(rt: &R, error: &Error) -> Result<(), Ex
 /// Does what a command asks for.
 fn explained_under<R: Files + Input + Print + Eprint + AllocGlobal>(
     rt: &R,
-    streams: Streams,
-    options: &Options<'_>,
+    streams: StandardStreams,
+    options: &ExplainOptions<'_>,
 ) -> Result<(), Exit> {
     if !options.pieces.is_empty() {
         return answer(rt, streams, options);
     }
     match options.form {
-        Form::Blocks => tell_blocks(rt, streams, &configuration(rt, options)?.config),
+        OutputForm::Blocks => tell_blocks(rt, streams, &configuration(rt, options)?.config),
         _ if options.is_of_gateway() && !options.shows_outside() => {
             told_without_outside(rt, streams, options)
         }
@@ -134,11 +136,11 @@ fn explained_under<R: Files + Input + Print + Eprint + AllocGlobal>(
 /// log, packets from outside have to show that the captured gateway had the numbers of the run: that is reported.
 fn told_without_outside<R: Files + Input + Print + Eprint + AllocGlobal>(
     rt: &R,
-    streams: Streams,
-    options: &Options<'_>,
+    streams: StandardStreams,
+    options: &ExplainOptions<'_>,
 ) -> Result<(), Exit> {
     let written = configuration(rt, options)?;
-    let is_log = matches!(options.form, Form::Log(_));
+    let is_log = matches!(options.form, OutputForm::Log(_));
     if is_log || written.config.block().is_none() {
         let command = if is_log { "log" } else { "who" };
         let _ = eprintln!(rt;
@@ -157,12 +159,12 @@ can be seen whether the gateway had the same numbers, or say --as-napt"
 /// Reads the captures, and the configuration unless it was read, and tells of the run.
 fn explained_run<R: Files + Input + Print + Eprint + AllocGlobal>(
     rt: &R,
-    streams: Streams,
-    options: &Options<'_>,
-    written: Option<Written>,
+    streams: StandardStreams,
+    options: &ExplainOptions<'_>,
+    written: Option<WrittenOutput>,
 ) -> Result<(), Exit> {
     let given = read_given(rt, streams, options, written)?;
     let starts = given.starts(rt, options)?;
     let files = open_captures(rt, options)?;
-    Setting::new(streams, options, &given, &starts).read(rt, files)
+    PictureSetting::new(streams, options, &given, &starts).read(rt, files)
 }

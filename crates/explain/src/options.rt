@@ -1,14 +1,14 @@
 //! What a command is to do, by its arguments.
 
 use crate::manual::INSTALLED;
-use crate::scene::Part;
+use crate::scene::SceneSpan;
 use clap::ArgMatches;
 use napt_account::Party;
 use napt_attribution::{nanoseconds_of, party_of, span_of};
-use napt_commands::{Exit, Outside};
-use napt_lines::Choice;
-use napt_log_text::{Request, Span};
-use napt_program::{Call, Role, Stop};
+use napt_commands::{Exit, OutsideCapture};
+use napt_lines::PacketSelection;
+use napt_log_text::{Request, TimeSpan};
+use napt_program::{FileRole, ProgramCall, Stop};
 use std::alloc::{AllocError, Global};
 use std::num::NonZeroU32;
 
@@ -17,51 +17,51 @@ const NO_FILE: &str = "expected a file";
 
 /// What to explain, and what to print of it.
 #[derive(Drop)]
-pub struct Options<'m> {
+pub struct ExplainOptions<'m> {
     /// The files that `napt` would read and write with these arguments; the capture of replies is the outside one.
-    pub files: napt_program::Options,
+    pub files: napt_program::RunOptions,
     /// The log that `stream` would write with them.
     pub log: Option<&'m str>,
     /// What the outside capture holds.
-    pub outside: Outside,
+    pub outside: OutsideCapture,
     /// What split is called, beside a program that was called as this one was.
     pub split: &'m str,
     /// The pieces of the log that answers requests, if that is not the log of a run.
     pub pieces: Vec<String>,
     /// The configurations of a plan, or the one to compare with.
     pub others: Vec<String>,
-    pub form: Form<'m>,
-    pub choice: Choice,
+    pub form: OutputForm<'m>,
+    pub choice: PacketSelection,
     /// The part of the run that is drawn.
-    pub part: Part,
+    pub part: SceneSpan,
     /// Whether the run that `napt` makes is asked about, whatever numbers the captured gateway had.
     pub is_of_napt: bool,
 }
 
-impl<'m> Options<'m> {
+impl<'m> ExplainOptions<'m> {
     /// The option of a role.
-    pub fn option_of(&self, role: Role) -> &'static str {
+    pub fn option_of(&self, role: FileRole) -> &'static str {
         match role {
-            Role::Config => "--config",
-            Role::Resume => "--resume",
-            Role::Inside => "--inside",
-            Role::Outside => self.outside.option(),
-            Role::ToOutside => "--to-outside",
-            Role::ToInside => "--to-inside",
-            Role::Report => "--report",
-            Role::Save => "--save",
-            Role::Log => "--log",
+            FileRole::Config => "--config",
+            FileRole::Resume => "--resume",
+            FileRole::Inside => "--inside",
+            FileRole::Outside => self.outside.option(),
+            FileRole::ToOutside => "--to-outside",
+            FileRole::ToInside => "--to-inside",
+            FileRole::Report => "--report",
+            FileRole::Save => "--save",
+            FileRole::Log => "--log",
         }
     }
 
     /// The role of the first option that wants a standard stream which another has, the log last.
-    pub fn standard_again(&self) -> Option<Role> {
+    pub fn standard_again(&self) -> Option<FileRole> {
         let files = &self.files;
-        let has_output = files.is_standard(Role::ToOutside)
-            || files.is_stream(Role::ToInside)
-            || files.is_stream(Role::Report);
+        let has_output = files.is_standard(FileRole::ToOutside)
+            || files.is_stream(FileRole::ToInside)
+            || files.is_stream(FileRole::Report);
         match files.standard_again() {
-            None if has_output && self.is_log_stream() => Some(Role::Log),
+            None if has_output && self.is_log_stream() => Some(FileRole::Log),
             again => again,
         }
     }
@@ -77,14 +77,14 @@ impl<'m> Options<'m> {
     /// Whether standard input is the configuration or one of the captures.
     pub fn takes_input(&self) -> bool {
         let files = &self.files;
-        files.is_stream(Role::Config)
-            || files.is_standard(Role::Inside)
-            || files.is_stream(Role::Outside)
+        files.is_stream(FileRole::Config)
+            || files.is_standard(FileRole::Inside)
+            || files.is_stream(FileRole::Outside)
     }
 
     /// Whether packets from outside are there as the gateway got them.
     pub fn shows_outside(&self) -> bool {
-        self.outside == Outside::Packets && self.files.outside.is_some()
+        self.outside == OutsideCapture::Packets && self.files.outside.is_some()
     }
 
     /// Whether no capture is named, and no state from which a run goes on.
@@ -96,12 +96,12 @@ impl<'m> Options<'m> {
     /// Why a state that is named is refused whatever it says, if it is.
     fn why_anew(&self) -> Option<&'static str> {
         match (self.form, self.outside) {
-            (Form::Blocks, _) => Some("blocks are of the configuration alone"),
-            (Form::Sizes | Form::Plans { .. }, _) => {
+            (OutputForm::Blocks, _) => Some("blocks are of the configuration alone"),
+            (OutputForm::Sizes | OutputForm::Plans { .. }, _) => {
                 Some("sizes and plan count from where a run begins anew")
             }
-            (_, Outside::Replies) => Some("replies follow a run that begins anew"),
-            _ if self.files.is_stream(Role::Resume) => Some(NO_FILE),
+            (_, OutsideCapture::Replies) => Some("replies follow a run that begins anew"),
+            _ if self.files.is_stream(FileRole::Resume) => Some(NO_FILE),
             _ => None,
         }
     }
@@ -110,7 +110,7 @@ impl<'m> Options<'m> {
     pub fn is_of_gateway(&self) -> bool {
         let is_asked = matches!(
             self.form,
-            Form::Holders(_) | Form::Requests(_) | Form::Log(_)
+            OutputForm::Holders(_) | OutputForm::Requests(_) | OutputForm::Log(_)
         );
         is_asked && !self.is_of_napt
     }
@@ -120,7 +120,7 @@ impl<'m> Options<'m> {
         let named = self.others.iter().chain(&self.pieces);
         let many = named.filter(|path| path.as_str() == "-").count();
         match self.form {
-            Form::Requests("-") => many.saturating_add(1),
+            OutputForm::Requests("-") => many.saturating_add(1),
             _ => many,
         }
     }
@@ -128,7 +128,7 @@ impl<'m> Options<'m> {
 
 /// What is written.
 #[derive(Clone, Copy)]
-pub enum Form<'m> {
+pub enum OutputForm<'m> {
     /// A line for each packet, the bindings and a summary.
     Lines,
     /// A JSON object for each packet.
@@ -153,12 +153,12 @@ pub enum Form<'m> {
     Followed(&'m str),
 }
 
-impl<'m> Form<'m> {
+impl<'m> OutputForm<'m> {
     /// What names other files that are read.
     pub fn name_of_read(self) -> &'static str {
         match self {
-            Form::Requests(_) => "--requests",
-            Form::Holders(_) => "--from-log",
+            OutputForm::Requests(_) => "--requests",
+            OutputForm::Holders(_) => "--from-log",
             _ => "FILE",
         }
     }
@@ -166,23 +166,26 @@ impl<'m> Form<'m> {
     /// What names the file that is written, and its path, if there is one.
     pub fn written(self) -> Option<(&'static str, &'m str)> {
         match self {
-            Form::Log(Some(path)) => Some(("--to", path)),
-            Form::Picture(path) | Form::Followed(path) => Some(("FILE", path)),
+            OutputForm::Log(Some(path)) => Some(("--to", path)),
+            OutputForm::Picture(path) | OutputForm::Followed(path) => Some(("FILE", path)),
             _ => None,
         }
     }
 
     /// Whether times of packets are in it.
     pub fn has_times(self) -> bool {
-        let is_shown = matches!(self, Form::Lines | Form::Objects | Form::Log(_));
-        is_shown || matches!(self, Form::Holders(_) | Form::Requests(_))
+        let is_shown = matches!(
+            self,
+            OutputForm::Lines | OutputForm::Objects | OutputForm::Log(_)
+        );
+        is_shown || matches!(self, OutputForm::Holders(_) | OutputForm::Requests(_))
     }
 
     /// Whether it is about times that are asked for.
     pub fn asks_times(self) -> bool {
         match self {
-            Form::Holders(request) => request.at.is_some(),
-            Form::Requests(_) => true,
+            OutputForm::Holders(request) => request.at.is_some(),
+            OutputForm::Requests(_) => true,
             _ => false,
         }
     }
@@ -191,7 +194,10 @@ impl<'m> Form<'m> {
     pub fn is_for_people(self) -> bool {
         matches!(
             self,
-            Form::Lines | Form::Plans { is_csv: false } | Form::Sizes | Form::Differences
+            OutputForm::Lines
+                | OutputForm::Plans { is_csv: false }
+                | OutputForm::Sizes
+                | OutputForm::Differences
         )
     }
 }
@@ -200,23 +206,23 @@ impl<'m> Form<'m> {
 /// go on from, or that would be no file.
 pub fn options_of<'m, R: Eprint + AllocGlobal>(
     rt: &R,
-    call: Call,
+    call: ProgramCall,
     command: &str,
     matches: &'m ArgMatches<'_>,
-) -> Result<Options<'m>, Exit> {
+) -> Result<ExplainOptions<'m>, Exit> {
     let alloc = rt.alloc();
     let outside = match matches.get_str("replies") {
-        Some(_) => Outside::Replies,
-        None => Outside::Packets,
+        Some(_) => OutsideCapture::Replies,
+        None => OutsideCapture::Packets,
     };
     let only = matches.get_str("only");
     let host = matches.get_str("host");
-    let choice = Choice {
+    let choice = PacketSelection {
         only: parsed(rt, "--only ", only, only.map(number_of))?,
         host: parsed(rt, "--host ", host, host.map(host_of))?,
         dropped: matches.get_flag("dropped"),
     };
-    let options = Options {
+    let options = ExplainOptions {
         files: files_of(alloc, matches, outside)?,
         log: matches.get_str("log"),
         outside,
@@ -240,12 +246,12 @@ pub fn options_of<'m, R: Eprint + AllocGlobal>(
 fn refuse_states<R: Eprint>(
     rt: &R,
     matches: &ArgMatches<'_>,
-    options: &Options<'_>,
+    options: &ExplainOptions<'_>,
 ) -> Result<(), Exit> {
     if let (Some(path), Some(why)) = (matches.get_str("resume"), options.why_anew()) {
         return Err(wrong(rt, "--resume ", path, why));
     }
-    if options.files.is_stream(Role::Save) {
+    if options.files.is_stream(FileRole::Save) {
         return Err(wrong(rt, "--save ", "-", NO_FILE));
     }
     Ok(())
@@ -255,7 +261,7 @@ fn refuse_states<R: Eprint>(
 fn refuse_pieces<R: Eprint>(
     rt: &R,
     matches: &ArgMatches<'_>,
-    options: &Options<'_>,
+    options: &ExplainOptions<'_>,
 ) -> Result<(), Exit> {
     let Some(each) = matches.get_str("log-each") else {
         return Ok(());
@@ -284,35 +290,35 @@ fn form_of<'m, R: Eprint>(
     rt: &R,
     command: &str,
     matches: &'m ArgMatches<'_>,
-) -> Result<Form<'m>, Exit> {
+) -> Result<OutputForm<'m>, Exit> {
     let file = matches.get_str("file").unwrap_or("");
     let flag = matches.get_flag(if command == "plan" { "csv" } else { "json" });
     Ok(match (command, flag) {
         ("who", _) => return asked_of(rt, matches),
-        ("log", _) => Form::Log(matches.get_str("to")),
-        ("plan", is_csv) => Form::Plans { is_csv },
-        ("sizes", _) => Form::Sizes,
-        ("blocks", _) => Form::Blocks,
-        ("draw", _) => Form::Picture(file),
-        ("compare", _) => Form::Differences,
-        ("follow", _) => Form::Followed(file),
-        (_, false) => Form::Lines,
-        (_, true) => Form::Objects,
+        ("log", _) => OutputForm::Log(matches.get_str("to")),
+        ("plan", is_csv) => OutputForm::Plans { is_csv },
+        ("sizes", _) => OutputForm::Sizes,
+        ("blocks", _) => OutputForm::Blocks,
+        ("draw", _) => OutputForm::Picture(file),
+        ("compare", _) => OutputForm::Differences,
+        ("follow", _) => OutputForm::Followed(file),
+        (_, false) => OutputForm::Lines,
+        (_, true) => OutputForm::Objects,
     })
 }
 
 /// What `who` asks.
-fn asked_of<'m, R: Eprint>(rt: &R, matches: &'m ArgMatches<'_>) -> Result<Form<'m>, Exit> {
+fn asked_of<'m, R: Eprint>(rt: &R, matches: &'m ArgMatches<'_>) -> Result<OutputForm<'m>, Exit> {
     let at = matches.get_str("at");
     let at = parsed(rt, "--at ", at, at.map(moment_of))?;
     let endpoint = matches.get_str("endpoint");
     match parsed(rt, "", endpoint, endpoint.map(host_of))? {
-        Some(party) => Ok(Form::Holders(Request {
+        Some(party) => Ok(OutputForm::Holders(Request {
             protocol: None,
             party,
             at,
         })),
-        None => Ok(Form::Requests(matches.get_str("requests").unwrap_or(""))),
+        None => Ok(OutputForm::Requests(matches.get_str("requests").unwrap_or(""))),
     }
 }
 
@@ -333,9 +339,9 @@ fn paths_of(
 fn files_of(
     alloc: Global,
     matches: &ArgMatches<'_>,
-    outside: Outside,
-) -> Result<napt_program::Options, AllocError> {
-    Ok(napt_program::Options {
+    outside: OutsideCapture,
+) -> Result<napt_program::RunOptions, AllocError> {
+    Ok(napt_program::RunOptions {
         config: file_of(alloc, matches, "config")?,
         resume: file_of(alloc, matches, "resume")?,
         inside: file_of(alloc, matches, "inside")?,
@@ -396,14 +402,14 @@ fn seconds_of(text: &str) -> Result<u64, &'static str> {
     nanoseconds_of(text).ok_or("expected seconds, as 90 or 1.5")
 }
 
-fn moment_of(text: &str) -> Result<Span, &'static str> {
+fn moment_of(text: &str) -> Result<TimeSpan, &'static str> {
     span_of(text).map_err(|no_time| no_time.words(
         "expected seconds since 1970, as 90 or 1.5, or a date, as 2026-11-26T10:02:07Z",
     ))
 }
 
 /// The part of the run that is drawn. An invalid time is reported.
-fn part_of<R: Eprint>(rt: &R, matches: &ArgMatches<'_>) -> Result<Part, Exit> {
+fn part_of<R: Eprint>(rt: &R, matches: &ArgMatches<'_>) -> Result<SceneSpan, Exit> {
     let from = matches.get_str("from");
     let from = parsed(rt, "--from ", from, from.map(seconds_of))?;
     let until = matches.get_str("until");
@@ -412,7 +418,7 @@ fn part_of<R: Eprint>(rt: &R, matches: &ArgMatches<'_>) -> Result<Part, Exit> {
         return Err(wrong(rt, "--until", "", "expected a time behind that of --from"));
     }
     let is_clock = matches.get_flag("clock");
-    Ok(Part {
+    Ok(SceneSpan {
         from,
         until,
         is_clock,

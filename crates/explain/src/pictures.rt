@@ -1,8 +1,8 @@
 //! The picture of a run.
 
-use crate::options::Options;
-use crate::pictured_run::PicturedRun;
-use crate::scene::{Shown, scene_of};
+use crate::options::ExplainOptions;
+use crate::picture_run::PictureRun;
+use crate::scene::{ShownBindings, scene_of};
 use napt_commands::{Exit, RunStart, tell_unwritten, tell_warning};
 use napt_display::picture::drawing_of;
 use napt_sequential::Input;
@@ -14,14 +14,14 @@ use std::rt::Files;
 pub fn draw<R: Files + Eprint + AllocGlobal>(
     rt: &R,
     path: &str,
-    options: &Options<'_>,
+    options: &ExplainOptions<'_>,
     start: &RunStart<'_>,
     inputs: &[Input],
 ) -> Result<(), Exit> {
-    let run = PicturedRun::of(rt.alloc(), start, inputs, options.choice)?;
+    let run = PictureRun::of(rt.alloc(), start, inputs, options.choice)?;
     tell_warning(rt, options.outside, None, &run.losses);
     run.unmatched.tell(rt);
-    let shown = Shown {
+    let shown = ShownBindings {
         config: start.config(),
         inputs,
         run: &run,

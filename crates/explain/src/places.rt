@@ -1,9 +1,9 @@
 //! Prints why a file of the command line cannot be used. `napt_program` has already decided that it cannot, as for
 //! `napt`, but of a log, and of what `explain` writes.
 
-use crate::options::Options;
+use crate::options::ExplainOptions;
 use napt_commands::{Exit, tell_failed, unwritten};
-use napt_program::{Place, Role, Stop, is_same, new_path, place_of, unmade};
+use napt_program::{FileLocation, FileRole, Stop, is_same, new_path, place_of, unmade};
 use std::alloc::AllocError;
 use std::fs::File;
 use std::rt::Files;
@@ -28,23 +28,23 @@ struct Named<'a> {
 /// Prints why the file of a role cannot be used, and returns how `napt` would stop.
 pub fn tell_file<R: Files + Eprint + AllocGlobal>(
     rt: &R,
-    options: &Options<'_>,
-    role: Role,
+    options: &ExplainOptions<'_>,
+    role: FileRole,
 ) -> Exit {
     let (files, option) = (&options.files, options.option_of(role));
     let path = match role {
-        Role::Config | Role::Resume | Role::Log => None,
-        Role::Inside => files.inside.as_ref(),
-        Role::Outside => files.outside.as_ref(),
-        Role::ToOutside => files.to_outside.as_ref(),
-        Role::ToInside => files.to_inside.as_ref(),
-        Role::Report => files.report.as_ref(),
-        Role::Save => files.save.as_ref(),
+        FileRole::Config | FileRole::Resume | FileRole::Log => None,
+        FileRole::Inside => files.inside.as_ref(),
+        FileRole::Outside => files.outside.as_ref(),
+        FileRole::ToOutside => files.to_outside.as_ref(),
+        FileRole::ToInside => files.to_inside.as_ref(),
+        FileRole::Report => files.report.as_ref(),
+        FileRole::Save => files.save.as_ref(),
     };
     match (role, path) {
         (_, None) => {}
-        (Role::Inside | Role::Outside, Some(path)) => tell_input(rt, option, path),
-        (Role::Save, Some(path)) => {
+        (FileRole::Inside | FileRole::Outside, Some(path)) => tell_input(rt, option, path),
+        (FileRole::Save, Some(path)) => {
             if let Err(refused) = tell_saved(rt, options, path) {
                 return Exit::from(refused);
             }
@@ -57,7 +57,7 @@ pub fn tell_file<R: Files + Eprint + AllocGlobal>(
 }
 
 /// Prints that the standard stream for a role is closed, and returns how `napt` would stop.
-pub fn tell_closed<R: Eprint>(rt: &R, role: Role) -> Exit {
+pub fn tell_closed<R: Eprint>(rt: &R, role: FileRole) -> Exit {
     let stream = stream_of(role);
     let _ = eprintln!(rt;
         "explain: {stream} is closed, and stands for --{}",
@@ -67,24 +67,27 @@ pub fn tell_closed<R: Eprint>(rt: &R, role: Role) -> Exit {
 }
 
 /// The standard stream that may stand for a role.
-fn stream_of(role: Role) -> &'static str {
+fn stream_of(role: FileRole) -> &'static str {
     match role {
-        Role::Config | Role::Resume | Role::Inside | Role::Outside => "standard input",
-        Role::ToOutside | Role::ToInside | Role::Report | Role::Save | Role::Log => {
-            "standard output"
-        }
+        FileRole::Config | FileRole::Resume | FileRole::Inside | FileRole::Outside =>
+            "standard input",
+        FileRole::ToOutside
+        | FileRole::ToInside
+        | FileRole::Report
+        | FileRole::Save
+        | FileRole::Log => { "standard output" }
     }
 }
 
 /// Prints that a file is `-` and another has the standard stream, and returns how `napt` would stop. `name` names it.
-pub fn tell_shared<R: Eprint>(rt: &R, name: &str, role: Role) -> Exit {
+pub fn tell_shared<R: Eprint>(rt: &R, name: &str, role: FileRole) -> Exit {
     let stream = stream_of(role);
     let _ = eprintln!(rt; "explain: {name} -: another file is {stream} too");
     Exit::Told(Stop::File(role))
 }
 
 /// Refuses the file that `explain` is to write, if there is one, where it is read too or cannot be created, and prints why.
-pub fn refuse_written<R: Files + Eprint>(rt: &R, options: &Options<'_>) -> Result<(), Exit> {
+pub fn refuse_written<R: Files + Eprint>(rt: &R, options: &ExplainOptions<'_>) -> Result<(), Exit> {
     let Some((name, path)) = options.form.written() else {
         return Ok(());
     };
@@ -100,24 +103,24 @@ pub fn refuse_written<R: Files + Eprint>(rt: &R, options: &Options<'_>) -> Resul
 /// prints why.
 pub fn refuse_log<R: Files + Eprint + AllocGlobal>(
     rt: &R,
-    options: &Options<'_>,
+    options: &ExplainOptions<'_>,
 ) -> Result<(), Exit> {
     let Some(path) = options.log else {
         return Ok(());
     };
-    let option = options.option_of(Role::Log);
+    let option = options.option_of(FileRole::Log);
     if is_saved_at(rt, options, path)? {
         tell_again(rt, option, path, SAVE);
     } else if !tells_output(rt, options, option, path) {
         return Ok(());
     }
-    Err(Exit::Told(Stop::File(Role::Log)))
+    Err(Exit::Told(Stop::File(FileRole::Log)))
 }
 
 /// Whether a state is saved to the file at a path, or by way of it.
 fn is_saved_at<R: Files + AllocGlobal>(
     rt: &R,
-    options: &Options<'_>,
+    options: &ExplainOptions<'_>,
     path: &str,
 ) -> Result<bool, AllocError> {
     let Some(save) = &options.files.save else {
@@ -131,7 +134,7 @@ fn is_saved_at<R: Files + AllocGlobal>(
 /// Prints why a state cannot be saved to a file: what is wrong with that, or with the new file beside it.
 fn tell_saved<R: Files + Eprint + AllocGlobal>(
     rt: &R,
-    options: &Options<'_>,
+    options: &ExplainOptions<'_>,
     path: &str,
 ) -> Result<(), AllocError> {
     let new = new_path(rt.alloc(), path)?;
@@ -147,7 +150,7 @@ fn tell_saved<R: Files + Eprint + AllocGlobal>(
 
 /// Prints that a path is that of a device, a pipe or a folder, if it is, and returns whether it is so. `name` names it.
 fn tells_no_file<R: Files + Eprint>(rt: &R, name: &str, path: &str) -> bool {
-    let is_so = matches!(place_of(rt, path), Place::Aside);
+    let is_so = matches!(place_of(rt, path), FileLocation::Aside);
     if is_so {
         let _ = eprintln!(rt; "explain: {name} {path}: expected a file, no device, pipe or folder");
     }
@@ -162,7 +165,12 @@ fn tell_input<R: Files + Eprint>(rt: &R, option: &str, path: &str) {
 }
 
 /// Prints why an output cannot be created, if it cannot, and returns whether it is so.
-fn tells_output<R: Files + Eprint>(rt: &R, options: &Options<'_>, name: &str, path: &str) -> bool {
+fn tells_output<R: Files + Eprint>(
+    rt: &R,
+    options: &ExplainOptions<'_>,
+    name: &str,
+    path: &str,
+) -> bool {
     match named_again(rt, options, name, path) {
         Some(other) => {
             tell_again(rt, name, path, other);
@@ -194,7 +202,7 @@ fn tell_again<R: Eprint>(rt: &R, name: &str, path: &str, other: &str) {
 /// same file.
 fn named_again<R: Files>(
     rt: &R,
-    options: &Options<'_>,
+    options: &ExplainOptions<'_>,
     name: &str,
     path: &str,
 ) -> Option<&'static str> {
@@ -208,7 +216,7 @@ fn named_again<R: Files>(
 }
 
 /// The same of the file of a state that is saved, which may be that of `--resume`.
-fn saved_again<R: Files>(rt: &R, options: &Options<'_>, path: &str) -> Option<&'static str> {
+fn saved_again<R: Files>(rt: &R, options: &ExplainOptions<'_>, path: &str) -> Option<&'static str> {
     let place = place_of(rt, path);
     let all = all_named(options);
     let again = all
@@ -219,7 +227,7 @@ fn saved_again<R: Files>(rt: &R, options: &Options<'_>, path: &str) -> Option<&'
 
 /// The files of the options of `napt` in their order, but for that of a state that is saved, and the standard streams
 /// that are in use for want of one.
-fn all_named<'a>(options: &'a Options<'_>) -> [Named<'a>; 9] {
+fn all_named<'a>(options: &'a ExplainOptions<'_>) -> [Named<'a>; 9] {
     let files = &options.files;
     [
         Named::of("--config", files.config.as_ref(), INPUT),
@@ -250,7 +258,7 @@ impl<'a> Named<'a> {
     }
 
     /// Whether it is the file at a place.
-    fn is_at<R: Files>(self, rt: &R, place: Place<'_>) -> bool {
+    fn is_at<R: Files>(self, rt: &R, place: FileLocation<'_>) -> bool {
         self.path
             .is_some_and(|other| is_same(place, place_of(rt, other)))
     }

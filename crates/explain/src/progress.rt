@@ -8,15 +8,15 @@ const EACH: u64 = 65_536;
 
 /// The progress of a run.
 #[derive(Clone, Copy)]
-pub struct Progress {
+pub struct ExplainProgress {
     is_told: bool,
 }
 
-impl Progress {
+impl ExplainProgress {
     /// Reports if standard error is a terminal and standard output is not: there the lines themselves show the
     /// progress.
-    pub fn of<R: Files + AllocGlobal>(rt: &R) -> Progress {
-        Progress {
+    pub fn of<R: Files + AllocGlobal>(rt: &R) -> ExplainProgress {
+        ExplainProgress {
             is_told: is_terminal(rt, "/proc/self/fd/2") && !is_terminal(rt, "/proc/self/fd/1"),
         }
     }

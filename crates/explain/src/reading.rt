@@ -1,22 +1,22 @@
 //! Reads the configurations and opens the captures as `napt` does, and explains what it refuses.
 
 ghost use Rattle.std.specs.Prelude.{IfOk, IfSome};
-ghost use Rattle.napt_account.specs.GoingOn.{IsFew};
+ghost use Rattle.napt_account.specs.ResumedLogRuns.{IsFew};
 ghost use Rattle.napt_program.specs.State.{HasFew};
 
-use crate::options::{Form, Options};
+use crate::options::{ExplainOptions, OutputForm};
 use crate::places::{refuse_log, refuse_written, tell_closed, tell_file, tell_shared};
-use crate::refused;
-use napt_account::LogState;
-use napt_attribution::{Asked, answer_by_log, requests_at};
+use crate::refusals;
+use napt_account::SavedLogState;
+use napt_attribution::{HolderRequest, answer_by_log, requests_at};
 use napt_commands::{Exit, RunStart, tell_failed, text_at};
 use napt_config::{Config, ConfigFault};
 use napt_display::reasons::inside_prefixes;
 use napt_program::{
-    InputFiles, MEMORY, Role, Stop, Streams, closed_stream, open_inputs, refuse_unmade,
+    FileRole, InputFiles, MEMORY, StandardStreams, Stop, closed_stream, open_inputs, refuse_unmade,
 };
 use napt_rules::{State, StateBinding};
-use napt_state::{KeptLog, Saved, read_state, take_up};
+use napt_state::{LogPosition, StateFileContents, read_state, take_up};
 use std::alloc::{AllocError, Global};
 use std::fs::File;
 use std::io::BufReader;
@@ -27,16 +27,16 @@ const BUILT_IN_PREFIXES: &str = "10.0.0.0/8 172.16.0.0/12 192.168.0.0/16";
 
 /// What a run needs beside its captures.
 #[derive(Drop)]
-pub struct Given {
-    pub written: Written,
+pub struct GivenLog {
+    pub written: WrittenOutput,
     /// The configurations of a plan, or the one to compare with.
     pub others: Vec<Config>,
-    pub asked: Vec<Asked>,
+    pub asked: Vec<HolderRequest>,
 }
 
 /// Where the run starts, and that of the configuration to compare with.
 #[derive(Drop)]
-pub struct Starts<'a> {
+pub struct RunStarts<'a> {
     pub first: RunStart<'a>,
     pub other: Option<RunStart<'a>>,
 }
@@ -45,10 +45,10 @@ pub struct Starts<'a> {
 /// with the same fault first.
 pub fn read_given<R: Files + Input + Eprint + AllocGlobal>(
     rt: &R,
-    streams: Streams,
-    options: &Options<'_>,
-    written: Option<Written>,
-) -> Result<Given, Exit> {
+    streams: StandardStreams,
+    options: &ExplainOptions<'_>,
+    written: Option<WrittenOutput>,
+) -> Result<GivenLog, Exit> {
     if let Some(role) = closed_stream(streams, &options.files) {
         return Err(tell_closed(rt, role));
     }
@@ -59,30 +59,30 @@ pub fn read_given<R: Files + Input + Eprint + AllocGlobal>(
     };
     let others = other_configurations(rt, options)?;
     let asked = requests_of(rt, options.form)?;
-    Ok(Given {
+    Ok(GivenLog {
         written,
         others,
         asked,
     })
 }
 
-impl Given {
+impl GivenLog {
     /// Where its runs start: from the state of `--resume`, if that is named. What `napt` refuses of it is explained.
     pub fn starts<R: Files + Eprint + AllocGlobal>(
         &self,
         rt: &R,
-        options: &Options<'_>,
-    ) -> Result<Starts<'_>, Exit> {
+        options: &ExplainOptions<'_>,
+    ) -> Result<RunStarts<'_>, Exit> {
         let saved = saved_at(rt, options)?;
         let other = match (options.form, self.others.first()) {
-            (Form::Differences, Some(config)) => {
+            (OutputForm::Differences, Some(config)) => {
                 let saved = copied(rt.alloc(), &saved)?;
                 Some(start_under(rt, options, config, saved)?)
             }
             _ => None,
         };
         let first = start_under(rt, options, &self.written.config, saved)?;
-        Ok(Starts { first, other })
+        Ok(RunStarts { first, other })
     }
 }
 
@@ -90,7 +90,7 @@ impl Given {
 /// emptied: one that could not be is refused as far as that can be known beforehand (`napt_program::unmade`).
 pub fn open_captures<R: Files + Input + Eprint + AllocGlobal>(
     rt: &R,
-    options: &Options<'_>,
+    options: &ExplainOptions<'_>,
 ) -> Result<InputFiles<Box<R::Reader>, R::File>, Exit> {
     let files = explain_file(rt, options, open_inputs(rt, &options.files))?;
     explain_file(rt, options, refuse_unmade(rt, &options.files))?;
@@ -102,10 +102,10 @@ pub fn open_captures<R: Files + Input + Eprint + AllocGlobal>(
 /// Answers requests by a saved log, under the configuration if one is named. What is refused is explained.
 pub fn answer<R: Files + Input + Print + Eprint + AllocGlobal>(
     rt: &R,
-    streams: Streams,
-    options: &Options<'_>,
+    streams: StandardStreams,
+    options: &ExplainOptions<'_>,
 ) -> Result<(), Exit> {
-    let has_config = options.files.is_stream(Role::Config);
+    let has_config = options.files.is_stream(FileRole::Config);
     refuse_more_input(rt, options, has_config, "--from-log")?;
     let config = match &options.files.config {
         Some(path) => Some(configuration_at(rt, "--config", path)?),
@@ -116,13 +116,16 @@ pub fn answer<R: Files + Input + Print + Eprint + AllocGlobal>(
 }
 
 /// What the file of `--resume` says, or a state without bindings where none is named. A refusal is explained.
-fn saved_at<R: Files + Eprint + AllocGlobal>(rt: &R, options: &Options<'_>) -> Result<Saved, Exit>
+fn saved_at<R: Files + Eprint + AllocGlobal>(
+    rt: &R,
+    options: &ExplainOptions<'_>,
+) -> Result<StateFileContents, Exit>
     ensures { IfOk result HasFew }
 {
     let alloc = rt.alloc();
     let Some(path) = &options.files.resume else {
         let list = Vec::new(alloc);
-        return Ok(Saved {
+        return Ok(StateFileContents {
             state: State { clock: 0, list },
             log: None,
         });
@@ -131,45 +134,45 @@ fn saved_at<R: Files + Eprint + AllocGlobal>(rt: &R, options: &Options<'_>) -> R
         Ok(file) => file,
         Err(error) => {
             tell_failed(rt, "--resume", path, &error);
-            return Err(Exit::Told(Stop::File(Role::Resume)));
+            return Err(Exit::Told(Stop::File(FileRole::Resume)));
         }
     };
     let reader = BufReader::new(alloc, file).map_err(|_| Exit::As(MEMORY))?;
     match read_state(alloc, reader) {
         Ok(saved) => Ok(saved),
-        Err(fault) => Err(refused::tell_state(rt, path, &fault)),
+        Err(fault) => Err(refusals::tell_state(rt, path, &fault)),
     }
 }
 
 /// Where a run under a configuration starts, from what was saved. A refusal is explained.
 fn start_under<'a, R: Eprint + AllocGlobal>(
     rt: &R,
-    options: &Options<'_>,
+    options: &ExplainOptions<'_>,
     config: &'a Config,
-    saved: Saved,
+    saved: StateFileContents,
 ) -> Result<RunStart<'a>, Exit>
     requires { HasFew saved }
 {
-    let Saved { mut state, log } = saved;
+    let StateFileContents { mut state, log } = saved;
     let log = kept_of(rt.alloc(), log);
     match take_up(rt.alloc(), config, &mut state)? {
         None => Ok(RunStart::new(config, state, log)),
         Some((row, misfit)) => {
             let path = options.files.resume.as_ref();
             let path = path.map_or("", |path| path.as_str());
-            Err(refused::tell_binding(rt, path, row, misfit))
+            Err(refusals::tell_binding(rt, path, row, misfit))
         }
     }
 }
 
 /// What is kept of a log, or nothing.
-fn kept_of(alloc: Global, log: Option<KeptLog>) -> LogState
+fn kept_of(alloc: Global, log: Option<LogPosition>) -> SavedLogState
     requires { IfSome log (λ kept. IsFew kept.log) }
     ensures { IsFew result }
 {
     match log {
         Some(kept) => kept.log,
-        None => LogState {
+        None => SavedLogState {
             made: 0,
             living: Vec::new(alloc),
         },
@@ -177,7 +180,7 @@ fn kept_of(alloc: Global, log: Option<KeptLog>) -> LogState
 }
 
 /// The same without a log, once more.
-fn copied(alloc: Global, saved: &Saved) -> Result<Saved, AllocError>
+fn copied(alloc: Global, saved: &StateFileContents) -> Result<StateFileContents, AllocError>
     ensures { IfOk result HasFew }
 {
     let mut list = Vec::new(alloc);
@@ -188,7 +191,7 @@ fn copied(alloc: Global, saved: &Saved) -> Result<Saved, AllocError>
             flows: Vec::from_slice(alloc, &binding.flows)?,
         })?;
     }
-    Ok(Saved {
+    Ok(StateFileContents {
         state: State {
             clock: saved.state.clock,
             list,
@@ -198,7 +201,7 @@ fn copied(alloc: Global, saved: &Saved) -> Result<Saved, AllocError>
 }
 
 /// Refuses the first option that wants a standard stream which another has, and prints why.
-fn refuse_shared<R: Eprint>(rt: &R, options: &Options<'_>) -> Result<(), Exit> {
+fn refuse_shared<R: Eprint>(rt: &R, options: &ExplainOptions<'_>) -> Result<(), Exit> {
     if let Some(role) = options.standard_again() {
         return Err(tell_shared(rt, options.option_of(role), role));
     }
@@ -214,13 +217,13 @@ fn refuse_shared<R: Eprint>(rt: &R, options: &Options<'_>) -> Result<(), Exit> {
 /// another file has it, and prints why, with what names such a file.
 fn refuse_more_input<R: Eprint>(
     rt: &R,
-    options: &Options<'_>,
+    options: &ExplainOptions<'_>,
     is_taken: bool,
     name: &str,
 ) -> Result<(), Exit> {
     let most = if is_taken { 0 } else { 1 };
     if options.more_from_input() > most {
-        return Err(tell_shared(rt, name, Role::Config));
+        return Err(tell_shared(rt, name, FileRole::Config));
     }
     Ok(())
 }
@@ -228,7 +231,7 @@ fn refuse_more_input<R: Eprint>(
 /// What was opened. If a file was refused, prints why.
 fn explain_file<R: Files + Eprint + AllocGlobal, T: Drop>(
     rt: &R,
-    options: &Options<'_>,
+    options: &ExplainOptions<'_>,
     opened: Result<T, Stop>,
 ) -> Result<T, Exit> {
     match opened {
@@ -240,12 +243,12 @@ fn explain_file<R: Files + Eprint + AllocGlobal, T: Drop>(
 
 /// A configuration, with its text if it has one.
 #[derive(Drop)]
-pub struct Written {
+pub struct WrittenOutput {
     pub config: Config,
     text: Option<Vec<u8>>,
 }
 
-impl Written {
+impl WrittenOutput {
     /// The prefixes of inside hosts, with spaces between them.
     pub fn prefixes(&self, alloc: Global) -> Result<String, AllocError> {
         match &self.text {
@@ -258,13 +261,13 @@ impl Written {
 /// The configuration in the file, or the built-in one if none is named. A refusal is explained.
 pub fn configuration<R: Files + Input + Eprint + AllocGlobal>(
     rt: &R,
-    options: &Options<'_>,
-) -> Result<Written, Exit> {
+    options: &ExplainOptions<'_>,
+) -> Result<WrittenOutput, Exit> {
     if let Some(path) = &options.files.config {
         return written_at(rt, "--config", path);
     }
     match Config::built_in(rt.alloc()) {
-        Ok(config) => Ok(Written { config, text: None }),
+        Ok(config) => Ok(WrittenOutput { config, text: None }),
         Err(_) => Err(Exit::As(Stop::Config(ConfigFault::Memory))),
     }
 }
@@ -272,7 +275,7 @@ pub fn configuration<R: Files + Input + Eprint + AllocGlobal>(
 /// The configurations beside the one of the captures. The first refusal is explained.
 fn other_configurations<R: Files + Input + Eprint + AllocGlobal>(
     rt: &R,
-    options: &Options<'_>,
+    options: &ExplainOptions<'_>,
 ) -> Result<Vec<Config>, Exit> {
     let mut others = Vec::new(rt.alloc());
     for path in &options.others {
@@ -295,29 +298,29 @@ fn written_at<R: Files + Input + Eprint + AllocGlobal>(
     rt: &R,
     name: &str,
     path: &str,
-) -> Result<Written, Exit> {
+) -> Result<WrittenOutput, Exit> {
     let text = text_at(rt, name, path)?;
     let fault = match Config::read(rt.alloc(), &text) {
         Ok(config) => {
-            return Ok(Written {
+            return Ok(WrittenOutput {
                 config,
                 text: Some(text),
             });
         }
         Err(fault) => fault,
     };
-    refused::tell_config(rt, path, &text, fault)?;
+    refusals::tell_config(rt, path, &text, fault)?;
     Err(Exit::Told(Stop::Config(fault)))
 }
 
 /// The requests of a form, none if it has none. A file that is refused is reported.
 pub fn requests_of<R: Files + Input + Eprint + AllocGlobal>(
     rt: &R,
-    form: Form<'_>,
-) -> Result<Vec<Asked>, Exit> {
+    form: OutputForm<'_>,
+) -> Result<Vec<HolderRequest>, Exit> {
     match form {
-        Form::Holders(request) => Ok(vec![in rt.alloc(); Asked::of(request)]?),
-        Form::Requests(path) => requests_at(rt, path),
+        OutputForm::Holders(request) => Ok(vec![in rt.alloc(); HolderRequest::of(request)]?),
+        OutputForm::Requests(path) => requests_at(rt, path),
         _ => Ok(Vec::new(rt.alloc())),
     }
 }

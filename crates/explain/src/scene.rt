@@ -1,11 +1,13 @@
 //! What the picture of a run shows, in the words of the printed lines.
 
-use crate::pictured_run::{PicturedRun, Turn};
+use crate::picture_run::{PictureRun, PictureStep};
 use jiff::Timestamp;
 use napt_account::{Entry, Party};
 use napt_commands::Seconds;
 use napt_config::{Address, Config};
-use napt_display::picture::{BindingKind, DrawnBinding, MOST_BARS, NumberClass, Pass, Scene};
+use napt_display::picture::{
+    BindingKind, DrawnBinding, DrawnPacket, MOST_BARS, NumberClass, Scene,
+};
 use napt_lines::has_party;
 use napt_records::{EndpointText, cause_name, protocol_name};
 use napt_sequential::Input;
@@ -15,18 +17,18 @@ use std::fmt::Write;
 
 /// The run that a picture shows.
 #[derive(Clone, Copy)]
-pub struct Shown<'a> {
+pub struct ShownBindings<'a> {
     pub config: &'a Config,
     pub inputs: &'a [Input],
-    pub run: &'a PicturedRun,
-    pub part: Part,
+    pub run: &'a PictureRun,
+    pub part: SceneSpan,
     /// Only the bindings of this host or endpoint are shown.
     pub host: Option<Party>,
 }
 
 /// The part of a run that a picture shows, in ns since the first packet.
 #[derive(Clone, Copy)]
-pub struct Part {
+pub struct SceneSpan {
     /// If absent, from the first packet.
     pub from: Option<u64>,
     /// If absent, until a little after the last packet.
@@ -35,7 +37,7 @@ pub struct Part {
     pub is_clock: bool,
 }
 
-impl<'a> Shown<'a> {
+impl<'a> ShownBindings<'a> {
     /// The time of the first packet.
     fn zero(self) -> u64 {
         self.inputs.first().map_or(0, |input| input.clock)
@@ -81,7 +83,7 @@ impl<'a> Shown<'a> {
 }
 
 /// The scene of a run.
-pub fn scene_of(alloc: Global, shown: Shown<'_>) -> Result<Scene, AllocError> {
+pub fn scene_of(alloc: Global, shown: ShownBindings<'_>) -> Result<Scene, AllocError> {
     let mut scene = Scene {
         head: head_of(alloc, shown)?,
         from: shown.moment(shown.part.from),
@@ -100,7 +102,7 @@ pub fn scene_of(alloc: Global, shown: Shown<'_>) -> Result<Scene, AllocError> {
 
 /// The line above the picture: how many packets and bindings of the run it shows, and the date of the first packet, from
 /// which times are counted.
-fn head_of(alloc: Global, shown: Shown<'_>) -> Result<String, AllocError> {
+fn head_of(alloc: Global, shown: ShownBindings<'_>) -> Result<String, AllocError> {
     let entries = &shown.run.entries;
     let mut head = String::new(alloc);
     let packets = shown.inputs.len();
@@ -142,7 +144,7 @@ fn add_lanes(alloc: Global, lanes: &mut Vec<String>, config: &Config) -> Result<
 fn add_bindings(
     alloc: Global,
     bindings: &mut Vec<DrawnBinding>,
-    shown: Shown<'_>,
+    shown: ShownBindings<'_>,
 ) -> Result<(), AllocError> {
     let has_bars = shown.has_bars();
     for entry in &shown.run.entries {
@@ -157,7 +159,7 @@ fn add_bindings(
 }
 
 /// A binding without label and title; without a lane if it is not chosen.
-fn binding_of(alloc: Global, shown: Shown<'_>, entry: &Entry) -> DrawnBinding {
+fn binding_of(alloc: Global, shown: ShownBindings<'_>, entry: &Entry) -> DrawnBinding {
     let lane = match shown.config.pool_index(entry.binding.external.address) {
         Some(lane) if has_party(&entry.binding, shown.host) => lane as usize,
         _ => usize::MAX,
@@ -276,7 +278,7 @@ fn title_of(alloc: Global, entry: &Entry, label: &str, zero: u64) -> Result<Stri
 }
 
 /// What each packet did, and a row for each cause for which there are drops.
-fn add_packets(alloc: Global, scene: &mut Scene, turns: &[Turn]) -> Result<(), AllocError> {
+fn add_packets(alloc: Global, scene: &mut Scene, turns: &[PictureStep]) -> Result<(), AllocError> {
     let mut causes = Vec::new(alloc);
     for cause in Cause::ALL {
         if turns.iter().any(|turn| turn.cause == Some(cause)) {
@@ -286,7 +288,7 @@ fn add_packets(alloc: Global, scene: &mut Scene, turns: &[Turn]) -> Result<(), A
                 .push(String::from_str(alloc, cause_name(cause))?)?;
         }
     }
-    let passes = turns.iter().map(|turn| Pass {
+    let passes = turns.iter().map(|turn| DrawnPacket {
         clock: turn.clock,
         out: turn.used.out,
         into: turn.used.into,

@@ -1,17 +1,17 @@
 //! A run over captures, as the command line asks for it.
 
-use crate::captures::{Begun, Captures, Opened, Refusing};
+use crate::captures::{CaptureInputs, OpenCaptures, RefusedRun, StartedCaptures};
 use crate::explanation::begin_explanation;
-use crate::following::follow;
-use crate::options::{Form, Options};
+use crate::follow_command::follow;
+use crate::options::{ExplainOptions, OutputForm};
 use crate::pictures::draw;
-use crate::reading::{Given, Starts};
-use napt_capture::{NoPackets, Source, Watched};
-use napt_commands::{Exit, Outside, RunStart, take_all};
-use napt_lines::{Against, Replies, ends_of};
-use napt_program::{InputFiles, Streams};
+use crate::reading::{GivenLog, RunStarts};
+use napt_capture::{EmptySource, Source, Watched};
+use napt_commands::{Exit, OutsideCapture, RunStart, take_all};
+use napt_lines::{Replies, RunComparison, ends_of};
+use napt_program::{InputFiles, StandardStreams};
 use napt_sequential::Input;
-use napt_sizing::Plans;
+use napt_sizing::PlanTable;
 use napt_wire::{Endpoint, Side};
 use std::alloc::{AllocError, Global};
 use std::io::Read;
@@ -19,21 +19,21 @@ use std::rt::Files;
 
 /// What is asked for, and under which configurations.
 #[derive(Clone, Copy)]
-pub struct Setting<'a> {
-    streams: Streams,
-    options: &'a Options<'a>,
-    given: &'a Given,
-    starts: &'a Starts<'a>,
+pub struct PictureSetting<'a> {
+    streams: StandardStreams,
+    options: &'a ExplainOptions<'a>,
+    given: &'a GivenLog,
+    starts: &'a RunStarts<'a>,
 }
 
-impl<'a> Setting<'a> {
+impl<'a> PictureSetting<'a> {
     pub fn new(
-        streams: Streams,
-        options: &'a Options<'a>,
-        given: &'a Given,
-        starts: &'a Starts<'a>,
-    ) -> Setting<'a> {
-        Setting {
+        streams: StandardStreams,
+        options: &'a ExplainOptions<'a>,
+        given: &'a GivenLog,
+        starts: &'a RunStarts<'a>,
+    ) -> PictureSetting<'a> {
+        PictureSetting {
             streams,
             options,
             given,
@@ -41,8 +41,8 @@ impl<'a> Setting<'a> {
         }
     }
 
-    fn refusing(self) -> Refusing<'a> {
-        Refusing {
+    fn refusing(self) -> RefusedRun<'a> {
+        RefusedRun {
             options: self.options,
             written: &self.given.written,
         }
@@ -55,18 +55,20 @@ impl<'a> Setting<'a> {
         files: InputFiles<S, F>,
     ) -> Result<(), Exit> {
         let InputFiles { inside, outside } = files;
-        let Begun { head, reader } = self.refusing().begin(rt, Side::Inside, inside)?;
+        let StartedCaptures { head, reader } = self.refusing().begin(rt, Side::Inside, inside)?;
         let mut source = Watched::new(head.as_slice().chain(reader));
         let inside = self.refusing().open(rt, Side::Inside, &head, &mut source)?;
         match outside {
             Some(outside) => {
-                let Begun { head, reader } = self.refusing().begin(rt, Side::Outside, outside)?;
+                let StartedCaptures { head, reader } = self
+                    .refusing()
+                    .begin(rt, Side::Outside, outside)?;
                 let mut source = Watched::new(head.as_slice().chain(reader));
                 let outside = self.refusing().open(rt, Side::Outside, &head, &mut source)?;
                 self.explain_both(rt, inside, outside)
             }
             None => {
-                let mut source = NoPackets::new();
+                let mut source = EmptySource::new();
                 let outside = self.refusing().open(rt, Side::Outside, &[], &mut source)?;
                 self.explain_both(rt, inside, outside)
             }
@@ -77,11 +79,11 @@ impl<'a> Setting<'a> {
     fn explain_both<R: Files + Print + Eprint + AllocGlobal, A: Source, B: Source>(
         self,
         rt: &R,
-        inside: Opened<'_, A>,
-        outside: Opened<'_, B>,
+        inside: OpenCaptures<'_, A>,
+        outside: OpenCaptures<'_, B>,
     ) -> Result<(), Exit> {
         let clock = self.starts.first.clock();
-        let mut captures = Captures::of(rt.alloc(), self.refusing(), clock, inside, outside);
+        let mut captures = CaptureInputs::of(rt.alloc(), self.refusing(), clock, inside, outside);
         let told = self.explain(rt, &mut captures);
         captures.close();
         told
@@ -91,15 +93,17 @@ impl<'a> Setting<'a> {
     fn explain<R: Files + Print + Eprint + AllocGlobal, A: Source, B: Source>(
         self,
         rt: &R,
-        captures: &mut Captures<'_, '_, '_, A, B>,
+        captures: &mut CaptureInputs<'_, '_, '_, A, B>,
     ) -> Result<(), Exit> {
         if !self.streams.output {
             return Err(Exit::NoOutput);
         }
         match (self.options.form, &self.starts.other) {
-            (Form::Differences, Some(other)) => self.explain_against(rt, captures, other),
-            (Form::Plans { is_csv }, _) => self.explain_plans(rt, captures, is_csv),
-            (Form::Picture(path) | Form::Followed(path), _) => self.write(rt, captures, path),
+            (OutputForm::Differences, Some(other)) => self.explain_against(rt, captures, other),
+            (OutputForm::Plans { is_csv }, _) => self.explain_plans(rt, captures, is_csv),
+            (OutputForm::Picture(path) | OutputForm::Followed(path), _) => self.write(
+                rt, captures, path,
+            ),
             _ => self.explain_run(rt, captures),
         }
     }
@@ -108,12 +112,12 @@ impl<'a> Setting<'a> {
     fn explain_against<R: Print + Eprint + AllocGlobal, A: Source, B: Source>(
         self,
         rt: &R,
-        captures: &mut Captures<'_, '_, '_, A, B>,
+        captures: &mut CaptureInputs<'_, '_, '_, A, B>,
         other: &'a RunStart<'a>,
     ) -> Result<(), Exit> {
         let options = self.options;
         let first = &self.starts.first;
-        let mut against = Against::begin(rt.alloc(), options.choice, first, other)?;
+        let mut against = RunComparison::begin(rt.alloc(), options.choice, first, other)?;
         if options.outside.follows() {
             let inputs = captures.all(rt)?;
             against.follow(rt, options.outside, &inputs)?;
@@ -131,11 +135,11 @@ impl<'a> Setting<'a> {
     fn explain_plans<R: Print + Eprint + AllocGlobal, A: Source, B: Source>(
         self,
         rt: &R,
-        captures: &mut Captures<'_, '_, '_, A, B>,
+        captures: &mut CaptureInputs<'_, '_, '_, A, B>,
         is_csv: bool,
     ) -> Result<(), Exit> {
         let options = self.options;
-        let mut plans = Plans::begin(rt.alloc(), &options.others, &self.given.others)?;
+        let mut plans = PlanTable::begin(rt.alloc(), &options.others, &self.given.others)?;
         if options.outside.follows() {
             let inputs = captures.all(rt)?;
             plans.follow(rt.alloc(), options.outside, &inputs)?;
@@ -150,7 +154,7 @@ impl<'a> Setting<'a> {
     fn explain_run<R: Files + Print + Eprint + AllocGlobal, A: Source, B: Source>(
         self,
         rt: &R,
-        captures: &mut Captures<'_, '_, '_, A, B>,
+        captures: &mut CaptureInputs<'_, '_, '_, A, B>,
     ) -> Result<(), Exit> {
         let (options, start, asked) = (self.options, &self.starts.first, &self.given.asked);
         if !options.outside.follows() {
@@ -172,7 +176,7 @@ impl<'a> Setting<'a> {
     fn write<R: Files + Print + Eprint + AllocGlobal, A: Source, B: Source>(
         self,
         rt: &R,
-        captures: &mut Captures<'_, '_, '_, A, B>,
+        captures: &mut CaptureInputs<'_, '_, '_, A, B>,
         path: &str,
     ) -> Result<(), Exit> {
         let (options, start) = (self.options, &self.starts.first);
@@ -182,7 +186,7 @@ impl<'a> Setting<'a> {
             .inputs_under(rt.alloc(), start.config(), inputs)?;
         captures.flaws().tell(rt, options.form)?;
         match options.form {
-            Form::Picture(_) => draw(rt, path, options, start, &inputs),
+            OutputForm::Picture(_) => draw(rt, path, options, start, &inputs),
             _ => follow(rt, path, options.outside, start, &inputs),
         }
     }
@@ -191,11 +195,13 @@ impl<'a> Setting<'a> {
 /// The inside endpoints that the inputs name, if they are replies of which each may have a line; else none.
 fn named_ends(
     alloc: Global,
-    options: &Options<'_>,
+    options: &ExplainOptions<'_>,
     inputs: &mut [Input],
 ) -> Result<Vec<Option<Endpoint>>, AllocError> {
     match (options.outside, options.form) {
-        (Outside::Replies, Form::Lines | Form::Objects) => ends_of(alloc, inputs),
+        (OutsideCapture::Replies, OutputForm::Lines | OutputForm::Objects) => ends_of(
+            alloc, inputs,
+        ),
         _ => Ok(Vec::new(alloc)),
     }
 }

@@ -3,11 +3,11 @@
 
 mod program;
 
-use napt_program::{Call, Streams};
+use napt_program::{ProgramCall, StandardStreams};
 use std::process::ExitCode;
 
 fn main(rt: HostRuntime) -> ExitCode {
-    let streams = Streams::open_now(&rt);
-    let call = Call::of(&rt, streams, "napt");
+    let streams = StandardStreams::open_now(&rt);
+    let call = ProgramCall::of(&rt, streams, "napt");
     call.ended(&rt, &program::serve(&rt, streams, call))
 }

@@ -1,15 +1,15 @@
 //! What the program does: it reads its words and its configuration, opens the files in a fixed order, and runs over them.
 
 ghost use Rattle.std.specs.Prelude.{◌≡◌, IfErr, OnOk, map, string_bytes};
-ghost use Rattle.napt_rules.specs.Prelude.{Takes};
-ghost use Rattle.napt_program.specs.{CommandLine.{files_with_log, line_of_words}, Command.{IsLineStop, IsRunStop, IsTaken, IsUnderOpenGate}, Devices.AreFresh, declared.streams.Streams.Streams as Known};
+ghost use Rattle.napt_rules.specs.Prelude.{TakesState};
+ghost use Rattle.napt_program.specs.{CommandLine.{files_with_log, line_of_words}, Command.{IsLineStop, IsRunStop, LineIsTaken, IsStopUnderOpenGate}, Devices.AreFresh, declared.streams.StandardStreams.StandardStreams as Known};
 
 use napt_pool::OpenGate;
 use napt_program::{
-    Call, Devices, Host, MEMORY, Opened, OptionsWithLog, Stop, Streams, Tallied, answer_line, open,
-    parse_words, stop_of_run, words,
+    CountedSource, MEMORY, OptionsWithLog, ProgramCall, ProgramHost, RunDevices, RunResources,
+    StandardStreams, Stop, answer_line, open, parse_words, stop_of_run, words,
 };
-use napt_run::{Passed, Start, State, resume_captures};
+use napt_run::{RunOrigin, RunSummary, State, resume_captures};
 use std::alloc::Global;
 use std::io::{Read, Write};
 use std::sync::Arc;
@@ -20,21 +20,25 @@ use std::sync::Arc;
 /// Fails, before any capture is opened, where the words are not understood, where memory runs out for them, where a
 /// standard stream that stands for a file is closed, or where the configuration is refused; else where a file cannot
 /// be opened or created, or the run fails. A shut gate is never told.
-pub fn serve<R: Host>(rt: &R, streams: Streams, call: Call) -> Result<(), Stop>
-    ensures { IfErr result IsUnderOpenGate }
+pub fn serve<R: ProgramHost>(
+    rt: &R,
+    streams: StandardStreams,
+    call: ProgramCall,
+) -> Result<(), Stop>
+    ensures { IfErr result IsStopUnderOpenGate }
 {
     serve_words(rt, streams, call, words(rt)?)
 }
 
 /// The same for these words, the program's name first: where it ends well they are understood, and it stops only by
 /// what they name.
-pub fn serve_words<R: Host>(
+pub fn serve_words<R: ProgramHost>(
     rt: &R,
-    streams: Streams,
-    call: Call,
+    streams: StandardStreams,
+    call: ProgramCall,
     words: Vec<String>,
 ) -> Result<(), Stop>
-    ensures taken { OnOk result (IsTaken (line_of_words (map string_bytes words.items))) }
+    ensures taken { OnOk result (LineIsTaken (line_of_words (map string_bytes words.items))) }
     ensures stop { IfErr result
         (IsLineStop streams (line_of_words (map string_bytes words.items))) }
 {
@@ -52,17 +56,22 @@ pub fn serve_words<R: Host>(
 }
 
 /// Runs over all that the options name, and saves the state that the run leaves, if it is to be saved.
-fn run<R: Host>(rt: &R, streams: Streams, call: Call, options: &OptionsWithLog) -> Result<(), Stop>
+fn run<R: ProgramHost>(
+    rt: &R,
+    streams: StandardStreams,
+    call: ProgramCall,
+    options: &OptionsWithLog,
+) -> Result<(), Stop>
     ensures { IfErr result (IsRunStop streams (files_with_log options.now)) }
 {
-    let Opened {
+    let RunResources {
         config,
         state,
         devices,
         save,
         ..
     } = open(rt, streams, options)?;
-    let start = Start {
+    let start = RunOrigin {
         config: &config,
         state: &state,
     };
@@ -75,26 +84,26 @@ fn run<R: Host>(rt: &R, streams: Streams, call: Call, options: &OptionsWithLog) 
 }
 
 /// Runs over the devices, and tells people at a terminal which captures are cut.
-fn run_over<R: Host, S: Read + Drop, T: Write + Drop, F: Read + Write + Drop>(
+fn run_over<R: ProgramHost, S: Read + Drop, T: Write + Drop, F: Read + Write + Drop>(
     rt: &R,
-    call: Call,
+    call: ProgramCall,
     options: &OptionsWithLog,
-    start: Start<'_>,
-    devices: Devices<S, T, F>,
-) -> Result<Passed, Stop>
-    requires taken { Takes start.config.now start.state.now }
+    start: RunOrigin<'_>,
+    devices: RunDevices<S, T, F>,
+) -> Result<RunSummary, Stop>
+    requires taken { TakesState start.config.now start.state.now }
     requires fresh { AreFresh devices }
     ensures { (streams : Known) → IfErr result
         (IsRunStop streams (files_with_log options.now)) }
 {
-    let Devices {
+    let RunDevices {
         inside,
         outside,
         mut outputs,
     } = devices;
     let gate = gate(rt.alloc())?;
-    let mut inside = Tallied::over(inside, call.at_terminal);
-    let mut outside = Tallied::over(outside, call.at_terminal);
+    let mut inside = CountedSource::over(inside, call.at_terminal);
+    let mut outside = CountedSource::over(outside, call.at_terminal);
     let answer = resume_captures(
         rt,
         rt.alloc(),
@@ -116,7 +125,7 @@ fn run_over<R: Host, S: Read + Drop, T: Write + Drop, F: Read + Write + Drop>(
 }
 
 /// The state that a run leaves. Fails, as a run does, if memory runs out.
-fn state_left(alloc: Global, passed: &Passed) -> Result<State, Stop>
+fn state_left(alloc: Global, passed: &RunSummary) -> Result<State, Stop>
     ensures { IfErr result (λ stop. stop ≡ MEMORY) }
 {
     passed.left(alloc).map_err(|_| MEMORY)

@@ -1,53 +1,53 @@
 -- At each time the log of a whole run names what is live then.
 use Rattle.std.{proofs.Common.{◌≡◌, ℕ, suc, ◌+◌, ◌<◌, ◌≤◌, max, List, [], ◌∷◌, ◌++◌, map, length, refl, sym, ◌∙◌, ap, subst, arith}, specs.Prelude.filter}
 use Rattle.std.specs.List.{list_any, fold}
-use Rattle.napt_rules.specs.Prelude.{Binding, is_live, opening, Arrival, row, Course, ahead, step, run_from, run, last_clock, OpeningIsSound, Apart, Rules, KeepsRules}
-use Rattle.napt_laws.proofs.{Grown.run_append, Turns.run_turn}
-use Rattle.napt_account.specs.{declared.log.Entry.Entry, Log.{begun, logged, log_of, stands_at}}
+use Rattle.napt_rules.specs.Prelude.{Binding, is_live, opening, Arrival, row, RunEffect, effect_then, step, run_from, run, last_clock, OpeningIsSound, AreBindingsApart, Rules, RulesInvariant}
+use Rattle.napt_laws.proofs.{OneMoreInput.run_append, Turns.run_turn}
+use Rattle.napt_account.specs.{declared.log.Entry.Entry, Log.{first_entry, logged, log_of, stands_at}}
 use Rattle.napt_account.specs.Attribution.{IsBeforeNext, has_ends, LogNamesTheHolders, LogListsTheLiving}
 use Rattle.napt_account.proofs.{Lists.{any_seen_of, any_among, filter_seen, filter_agrees, map_twice, each_mapped, each_every}, Books.fold_joined}
 use Rattle.napt_account.proofs.Entries.{Tells, hold, hold_of, living, named, apart_differ, tells_later, named_now, told_turn, past_turn}
 use Rattle.napt_binding.{specs.Ends.{end_of, is_before}, proofs.FirstEnds.ends_are_first}
 
 -- what a list begins with
-begins : (rules : Rules) → KeepsRules rules → (list : List Binding) → Apart (map row list) →
-    Tells rules.timers 0 list (map (begun rules.timers 0) list)
+begins : (rules : Rules) → RulesInvariant rules → (list : List Binding) → AreBindingsApart (map row list) →
+    Tells rules.timers 0 list (map (first_entry rules.timers 0) list)
 begins rules keeps list apart = record {
-  made = each_mapped (λ (e : Entry). e.made ≤ 0) (begun rules.timers 0) list
+  made = each_mapped (λ (e : Entry). e.made ≤ 0) (first_entry rules.timers 0) list
       (each_every (λ (b : Binding). 0 ≤ 0) list (λ b. omega arith));
-  holds = ap (map hold) (filter_seen (λ (e : Entry). is_before 0 e.end) (begun rules.timers 0) list)
-      ∙ (map_twice hold (begun rules.timers 0) (filter (λ b. is_before 0 (end_of rules.timers b)) list)
+  holds = ap (map hold) (filter_seen (λ (e : Entry). is_before 0 e.end) (first_entry rules.timers 0) list)
+      ∙ (map_twice hold (first_entry rules.timers 0) (filter (λ b. is_before 0 (end_of rules.timers b)) list)
       ∙ ap (map (hold_of rules.timers)) (filter_agrees (λ b. is_before 0 (end_of rules.timers b))
       (is_live rules.timers 0) list (λ b. sym (ends_are_first rules.timers keeps.timers 0 b))));
   differ = apart_differ (map row list) apart;
 }
 
 -- acts of inputs that come after a time leave what was named then
-rest_stays : (rules : Rules) → KeepsRules rules → (at number clock : ℕ) (rest : List Arrival) → clock ≤ at →
+rest_stays : (rules : Rules) → RulesInvariant rules → (at number clock : ℕ) (rest : List Arrival) → clock ≤ at →
     IsBeforeNext at rest → (list : List Binding) (entries : List Entry) →
     named at (fold (logged rules.timers) entries (run_from rules number clock rest list).acts) ≡ named at entries
 rest_stays rules keeps at number clock [] le lt list entries = refl
 rest_stays rules keeps at number clock (input ∷ rest) le lt list entries =
     let before : at < input.clock = lt in
     let same : max clock input.clock ≡ max (suc at) input.clock = omega arith in
-    let whole : Course = run_from rules number (suc at) (input ∷ rest) list in
+    let whole : RunEffect = run_from rules number (suc at) (input ∷ rest) list in
     subst (λ (now : ℕ). named at (fold (logged rules.timers) entries
-    (ahead (step rules number now input list)
+    (effect_then (step rules number now input list)
     (run_from rules (number + 1) now rest (step rules number now input list).list)).acts)
     ≡ named at entries) (sym same)
     (past_turn ends_are_first rules keeps.timers at (suc at) (omega arith) list whole.acts
     (last_clock (suc at) (input ∷ rest)) whole.list entries (run_turn rules number (suc at) (input ∷ rest) list))
 
-names_living : OpeningIsSound → (rules : Rules) → KeepsRules rules → (front rest : List Arrival) (at : ℕ) →
+names_living : OpeningIsSound → (rules : Rules) → RulesInvariant rules → (front rest : List Arrival) (at : ℕ) →
     last_clock 0 front ≤ at → IsBeforeNext at rest → named at (log_of rules (front ++ rest)).entries
     ≡ map row (living rules.timers at (run rules front (opening rules)).list)
 unfolding log_of
 names_living opens rules keeps front rest at le lt =
-    let entries : List Entry = map (begun rules.timers 0) (opening rules) in
-    let first : Course = run rules front (opening rules) in
-    let later : Course = run_from rules (length front) (last_clock 0 front) rest first.list in
+    let entries : List Entry = map (first_entry rules.timers 0) (opening rules) in
+    let first : RunEffect = run rules front (opening rules) in
+    let later : RunEffect = run_from rules (length front) (last_clock 0 front) rest first.list in
     let told : List Entry = fold (logged rules.timers) entries first.acts in
-    ap (λ (c : Course). named at (fold (logged rules.timers) entries c.acts))
+    ap (λ (c : RunEffect). named at (fold (logged rules.timers) entries c.acts))
     (run_append rules 0 0 front rest (opening rules) (length front) (omega arith))
     ∙ (ap (named at) (fold_joined (logged rules.timers) first.acts later.acts entries)
     ∙ (rest_stays rules keeps at (length front) (last_clock 0 front) rest le lt first.list told

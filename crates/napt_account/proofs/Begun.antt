@@ -3,22 +3,22 @@ use Rattle.std.proofs.lemmas.{Grind.common_steps, Bool.Decides.nat_tests}
 use Rattle.std.proofs.Common.{◌≡◌, ℕ, ◌+◌, ◌<◌, ◌≤◌, inl, inr, true, false, cond, List, [], ◌∷◌, ◌++◌, length, map, take, get_or, Option, Some, None, refl, sym, ◌∙◌, ap, subst, arith}
 use Rattle.std.{specs.Prelude.filter, proofs.lemmas.{Bool.true≢false, List.{take_all, take_more}, Option.same_Some}}
 use Rattle.napt_rules.specs.Prelude.{Each}
-use Rattle.napt_account.specs.declared.{log.Listed.Listed, open_entries.{Due.Due, ExternalKey.ExternalKey, Open.Open, OpenEntries.OpenEntries}}
-use Rattle.napt_account.specs.{GoingOn.{LogState, filled, kept_at}, LogStates.AreKeyed, Telling.{is_open, numbered}}
-use Rattle.napt_account.specs.OpenEntries.{external_key, external_eq, open_at, listed_at, is_queued, IsIndexed, IsIndexedBut, Shows}
+use Rattle.napt_account.specs.declared.{log.LogEntry.LogEntry, open_entries.{DueEntry.DueEntry, EntryKey.EntryKey, Open.Open, OpenEntries.OpenEntries}}
+use Rattle.napt_account.specs.{ResumedLogRuns.{LogStateModel, filled, kept_at}, LogStates.AreKeyed, LogParts.{is_open, numbered_entries}}
+use Rattle.napt_account.specs.OpenEntries.{entry_key, external_eq, open_at, listed_at, is_queued, IsIndexed, IsIndexedBut, OpenEntriesShow}
 use Rattle.napt_account.proofs.{EndOrder.{has_listed, listed_has}, InOrder.{Has, each_has, filter_has, has_filter, has_left, has_parts}, Keyed.keyed_before}
 use Rattle.napt_account.proofs.OpenEntries.{external_flip, external_itself, indexed_but, open_listed, under}
 
-module _ (ls : List Listed) (keyed : AreKeyed (map (λ l. l.entry.binding) ls)) (many : ℕ) where
+module _ (ls : List LogEntry) (keyed : AreKeyed (map (λ l. l.entry.binding) ls)) (many : ℕ) where
   -- it has the first of them, and no others
   pub record HasFirst (k : ℕ) (all : OpenEntries) : Type 0 where
     pub indexed : IsIndexed all
     pub made : all.made ≡ many
-    pub there : (x : ExternalKey) (l : Listed) → listed_at all x ≡ Some l → Has (take k ls) l
-    pub has : (l : Listed) → Has (take k ls) l → listed_at all (external_key l.entry.binding) ≡ Some l
+    pub there : (x : EntryKey) (l : LogEntry) → listed_at all x ≡ Some l → Has (take k ls) l
+    pub has : (l : LogEntry) → Has (take k ls) l → listed_at all (entry_key l.entry.binding) ≡ Some l
 
-  pub has_none : (all : OpenEntries) → ((x : ExternalKey) → open_at all x ≡ None) →
-      ((d : Due) → is_queued all d ≡ false) → all.made ≡ many → HasFirst 0 all
+  pub has_none : (all : OpenEntries) → ((x : EntryKey) → open_at all x ≡ None) →
+      ((d : DueEntry) → is_queued all d ≡ false) → all.made ≡ many → HasFirst 0 all
   has_none all opens queue made = record {
     indexed = record {
       placed = λ x o at. cc (opens x, at);
@@ -29,23 +29,23 @@ module _ (ls : List Listed) (keyed : AreKeyed (map (λ l. l.entry.binding) ls)) 
     has = λ l h. absurd h;
   }
 
-  module _ (all : List Listed) (same : all ≡ ls) (k : ℕ) (d : Listed) (lt : k < length all) (old new : OpenEntries)
+  module _ (all : List LogEntry) (same : all ≡ ls) (k : ℕ) (d : LogEntry) (lt : k < length all) (old new : OpenEntries)
       (has : HasFirst k old) where
-    abbrev l : Listed
+    abbrev l : LogEntry
     l = get_or all k d
 
     is : l ≡ get_or ls k d
-    is = ap (λ (xs : List Listed). get_or xs k d) same
+    is = ap (λ (xs : List LogEntry). get_or xs k d) same
 
     below : k < length ls
-    below = subst (λ (xs : List Listed). k < length xs) same lt
+    below = subst (λ (xs : List LogEntry). k < length xs) same lt
 
-    abbrev key : ExternalKey
-    key = external_key l.entry.binding
+    abbrev key : EntryKey
+    key = entry_key l.entry.binding
 
-    other : (m : Listed) → Has (take k ls) m → external_eq key (external_key m.entry.binding) ≡ false
-    other m h = external_flip key (external_key m.entry.binding)
-        ∙ subst (λ (n : Listed). external_eq (external_key m.entry.binding) (external_key n.entry.binding) ≡ false)
+    other : (m : LogEntry) → Has (take k ls) m → external_eq key (entry_key m.entry.binding) ≡ false
+    other m h = external_flip key (entry_key m.entry.binding)
+        ∙ subst (λ (n : LogEntry). external_eq (entry_key m.entry.binding) (entry_key n.entry.binding) ≡ false)
         (sym is)
         (keyed_before (λ l. l.entry.binding) ls keyed k d below m h)
 
@@ -60,31 +60,31 @@ module _ (ls : List Listed) (keyed : AreKeyed (map (λ l. l.entry.binding) ls)) 
     but = let none = free (open_at old key) refl in grind (arith, common_steps, indexed_but)
 
     first_next : take (k + 1) ls ≡ take k ls ++ l ∷ []
-    first_next = take_more ls k d below ∙ ap (λ (x : Listed). take k ls ++ x ∷ []) (sym is)
+    first_next = take_more ls k d below ∙ ap (λ (x : LogEntry). take k ls ++ x ∷ []) (sym is)
 
     last : Has (take k ls ++ l ∷ []) l
     last = has_right (take k ls)
       where
-        has_right : (xs : List Listed) → Has (xs ++ l ∷ []) l
+        has_right : (xs : List LogEntry) → Has (xs ++ l ∷ []) l
         has_right [] = inl refl
         has_right (x ∷ xs) = inr (has_right xs)
 
-    pub has_next : new.made ≡ old.made → IsIndexed new → ((x : ExternalKey) → listed_at new x
+    pub has_next : new.made ≡ old.made → IsIndexed new → ((x : EntryKey) → listed_at new x
         ≡ cond (external_eq key x) (Some l) (listed_at old x)) → HasFirst (k + 1) new
     has_next made indexed entries = record {
       indexed = indexed;
       made = made ∙ has.made;
-      there = λ x m at. subst (λ (ms : List Listed). Has ms m) (sym first_next)
+      there = λ x m at. subst (λ (ms : List LogEntry). Has ms m) (sym first_next)
           (elim (external_eq key x) as (λ v. cond v (Some l) (listed_at old x) ≡ Some m → Has (take k ls ++ l ∷ []) m) [
             | true ↦ λ here. subst (Has (take k ls ++ l ∷ [])) (same_Some l m here) last
             | false ↦ λ there. has_left (take k ls) (l ∷ []) m (has.there x m there)
           ] (sym (entries x) ∙ at));
-      has = λ m h. elim (has_parts (take k ls) (l ∷ []) m (subst (λ (ms : List Listed). Has ms m) first_next h)) [
-        | inl first ↦ entries (external_key m.entry.binding)
-            ∙ (ap (λ v. cond v (Some l) (listed_at old (external_key m.entry.binding))) (other m first)
+      has = λ m h. elim (has_parts (take k ls) (l ∷ []) m (subst (λ (ms : List LogEntry). Has ms m) first_next h)) [
+        | inl first ↦ entries (entry_key m.entry.binding)
+            ∙ (ap (λ v. cond v (Some l) (listed_at old (entry_key m.entry.binding))) (other m first)
             ∙ has.has m first)
         | inr one ↦ elim one [
-          | inl same ↦ subst (λ (n : Listed). listed_at new (external_key n.entry.binding) ≡ Some n) same
+          | inl same ↦ subst (λ (n : LogEntry). listed_at new (entry_key n.entry.binding) ≡ Some n) same
               (entries key ∙ ap (λ v. cond v (Some l) (listed_at old key)) (external_itself key))
           | inr none ↦ absurd none
         ]
@@ -92,25 +92,25 @@ module _ (ls : List Listed) (keyed : AreKeyed (map (λ l. l.entry.binding) ls)) 
     }
 
 -- all of them
-pub has_all : (log : LogState) (keyed : AreKeyed (map (λ l. l.entry.binding) log.living)) (k : ℕ) (all : OpenEntries) →
+pub has_all : (log : LogStateModel) (keyed : AreKeyed (map (λ l. l.entry.binding) log.living)) (k : ℕ) (all : OpenEntries) →
     length log.living ≤ k → HasFirst log.living keyed log.made k all → (now most : ℕ) →
     kept_at now (filled log) ≡ log → Each (λ l. (l.entry.sent ≤ most) × (l.entry.received ≤ most)) log.living →
-    Shows now most (filled log) all
+    OpenEntriesShow now most (filled log) all
 has_all log keyed k all past has now most kept few =
     let whole : take k log.living ≡ log.living = take_all k log.living past in
-    let same : filter (is_open now) (numbered (filled log)) ≡ log.living = ap (λ (l : LogState). l.living) kept in
-    let there : (x : ExternalKey) (l : Listed) → listed_at all x ≡ Some l → Has log.living l =
-    λ x l at. subst (λ (ls : List Listed). Has ls l) whole (has.there x l at) in
-    let among : (x : ExternalKey) (l : Listed) → listed_at all x ≡ Some l →
-    Has (numbered (filled log)) l × (is_open now l ≡ true) =
-    λ x l at. filter_has (is_open now) (numbered (filled log)) l
-    (subst (λ (ls : List Listed). Has ls l) (sym same) (there x l at)) in
+    let same : filter (is_open now) (numbered_entries (filled log)) ≡ log.living = ap (λ (l : LogStateModel). l.living) kept in
+    let there : (x : EntryKey) (l : LogEntry) → listed_at all x ≡ Some l → Has log.living l =
+    λ x l at. subst (λ (ls : List LogEntry). Has ls l) whole (has.there x l at) in
+    let among : (x : EntryKey) (l : LogEntry) → listed_at all x ≡ Some l →
+    Has (numbered_entries (filled log)) l × (is_open now l ≡ true) =
+    λ x l at. filter_has (is_open now) (numbered_entries (filled log)) l
+    (subst (λ (ls : List LogEntry). Has ls l) (sym same) (there x l at)) in
     record {
       indexed = has.indexed;
-      made = has.made ∙ sym (ap (λ (l : LogState). l.made) kept);
-      has = λ l at opens. has.has l (subst (λ (ls : List Listed). Has ls l) (sym whole)
-          (subst (λ (ls : List Listed). Has ls l) same
-          (has_filter (is_open now) (numbered (filled log)) l (listed_has (filled log) l at) opens)));
+      made = has.made ∙ sym (ap (λ (l : LogStateModel). l.made) kept);
+      has = λ l at opens. has.has l (subst (λ (ls : List LogEntry). Has ls l) (sym whole)
+          (subst (λ (ls : List LogEntry). Has ls l) same
+          (has_filter (is_open now) (numbered_entries (filled log)) l (listed_has (filled log) l at) opens)));
       there = λ x l at. has_listed (filled log) l (among x l at).0;
       unended = λ x l at. (among x l at).1;
       few = λ x l at. each_has (λ l. (l.entry.sent ≤ most) × (l.entry.received ≤ most)) log.living l few (there x l at);

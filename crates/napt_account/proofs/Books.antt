@@ -5,8 +5,8 @@ use Rattle.std.{specs.{Option.option_map, List.{list_any, fold, slice_get}}, pro
 use Rattle.napt_wire.specs.declared.Way.{Way}
 use Rattle.napt_sequential.specs.declared.passage.Trace.{Trace}
 use Rattle.napt_rules.specs.declared.Row.{Row}
-use Rattle.napt_account.specs.{declared.{log.Entry.Entry, account.{Note.Note, Use.Use}}, Log.{is_of, place_of, through}}
-use Rattle.napt_account.specs.{Book.{after_trace, noted, use_at, use_by_trace}, Uses.used}
+use Rattle.napt_account.specs.{declared.{log.Entry.Entry, account.{LogNote.LogNote, BindingTally.BindingTally}}, Log.{entry_is_of, entry_place, entry_through}}
+use Rattle.napt_account.specs.{LogBook.{after_trace, book_noted, use_at, use_by_trace}, BindingTallies.tally_used}
 
 -- LISTS
 
@@ -77,43 +77,43 @@ any_at p (y ∷ xs) (suc i) x at is = let rest : list_any p xs ≡ true = any_at
 
 -- THE PLACE OF AN OPEN ENTRY
 
-pub no_place : (now : ℕ) (w : Row) (es : List Entry) → list_any (is_of now w) es ≡ false → place_of now w es ≡ None
+pub no_place : (now : ℕ) (w : Row) (es : List Entry) → list_any (entry_is_of now w) es ≡ false → entry_place now w es ≡ None
 no_place now w [] none = refl
-no_place now w (e ∷ es) none = elim (is_of now w e) as (λ v. (v || list_any (is_of now w) es) ≡ false →
-    cond v (Some 0) (option_map suc (place_of now w es)) ≡ None) [
+no_place now w (e ∷ es) none = elim (entry_is_of now w e) as (λ v. (v || list_any (entry_is_of now w) es) ≡ false →
+    cond v (Some 0) (option_map suc (entry_place now w es)) ≡ None) [
       | true ↦ λ h. cc
       | false ↦ λ h. ap (option_map suc) (no_place now w es h)
     ] none
 
 pub first_place : (now : ℕ) (w : Row) (es : List Entry) (i : ℕ) (e : Entry) → slice_get es i ≡ Some e →
-    is_of now w e ≡ true → ((j : ℕ) (f : Entry) → slice_get es j ≡ Some f → is_of now w f ≡ true → j ≡ i) →
-    place_of now w es ≡ Some i
+    entry_is_of now w e ≡ true → ((j : ℕ) (f : Entry) → slice_get es j ≡ Some f → entry_is_of now w f ≡ true → j ≡ i) →
+    entry_place now w es ≡ Some i
 first_place now w [] i e at passed only = cc
 first_place now w (x ∷ es) zero e at passed only =
-    ap (λ v. cond v (Some 0) (option_map suc (place_of now w es))) (ap (is_of now w) (same_Some x e at) ∙ passed)
-first_place now w (x ∷ es) (suc i) e at passed only = elim (is_of now w x) as (λ v. is_of now w x ≡ v →
-    cond v (Some 0) (option_map suc (place_of now w es)) ≡ Some (suc i)) [
+    ap (λ v. cond v (Some 0) (option_map suc (entry_place now w es))) (ap (entry_is_of now w) (same_Some x e at) ∙ passed)
+first_place now w (x ∷ es) (suc i) e at passed only = elim (entry_is_of now w x) as (λ v. entry_is_of now w x ≡ v →
+    cond v (Some 0) (option_map suc (entry_place now w es)) ≡ Some (suc i)) [
       | true ↦ λ h. let never : zero ≡ suc i = only zero x refl h in absurd (omega (arith, never))
       | false ↦ λ h. ap (option_map suc) (first_place now w es i e at passed (λ j f there also.
           let next : suc j ≡ suc i = only (suc j) f there also in omega (arith, next)))
     ] refl
 
-pub map_unmoved : (now : ℕ) (w : Row) (change : Entry → Entry) (es : List Entry) → list_any (is_of now w) es ≡ false →
-    map (through now w change) es ≡ es
-map_unmoved now w change es none = change_none (is_of now w) change es (λ j e at passed.
-    let never : true ≡ false = sym passed ∙ not_at (is_of now w) es none j e at in cc)
+pub map_unmoved : (now : ℕ) (w : Row) (change : Entry → Entry) (es : List Entry) → list_any (entry_is_of now w) es ≡ false →
+    map (entry_through now w change) es ≡ es
+map_unmoved now w change es none = change_none (entry_is_of now w) change es (λ j e at passed.
+    let never : true ≡ false = sym passed ∙ not_at (entry_is_of now w) es none j e at in cc)
 
 -- USES
 
-pub used_there : (way : Way) (es : List Entry) (i : ℕ) (e : Entry) → slice_get es i ≡ Some e → (note : Note) →
-    note ≡ noted (Some e) → used way note (Some i) ≡ used way (noted (slice_get es i)) (Some i)
-used_there way es i e at note is = ap (λ (n : Note). used way n (Some i)) (is ∙ ap noted (sym at))
+pub used_there : (way : Way) (es : List Entry) (i : ℕ) (e : Entry) → slice_get es i ≡ Some e → (note : LogNote) →
+    note ≡ book_noted (Some e) → tally_used way note (Some i) ≡ tally_used way (book_noted (slice_get es i)) (Some i)
+used_there way es i e at note is = ap (λ (n : LogNote). tally_used way n (Some i)) (is ∙ ap book_noted (sym at))
 
-pub any_used : (way : Way) (now : ℕ) (w : Row) (es : List Entry) (u : Use) →
-    Some u ≡ use_at way es (place_of now w es) → list_any (is_of now w) es ≡ true
+pub any_used : (way : Way) (now : ℕ) (w : Row) (es : List Entry) (u : BindingTally) →
+    Some u ≡ use_at way es (entry_place now w es) → list_any (entry_is_of now w) es ≡ true
 any_used way now w es u is = grind (arith, common_steps, nat_tests, no_place)
 
-abbrev pub uses_told : List Entry → List Trace → List Use
+abbrev pub uses_told : List Entry → List Trace → List BindingTally
 uses_told entries [] = []
 uses_told entries (trace ∷ traces) = use_by_trace entries trace ∷ uses_told (after_trace entries trace) traces
 
@@ -121,4 +121,4 @@ pub uses_more : (es : List Entry) (traces : List Trace) (t : Trace) → uses_tol
     ≡ uses_told es traces ++ use_by_trace (fold after_trace es traces) t ∷ []
 uses_more es [] t = refl
 uses_more es (first ∷ traces) t =
-    ap (λ (us : List Use). use_by_trace es first ∷ us) (uses_more (after_trace es first) traces t)
+    ap (λ (us : List BindingTally). use_by_trace es first ∷ us) (uses_more (after_trace es first) traces t)

@@ -5,34 +5,34 @@ use Rattle.std.specs.{Prelude.{filter, not}, Ordering.nat_cmp, List.{AllByRecurs
 use Rattle.std.{specs.{Map.{lookup, keys_of, values_of}, Ordering.is_lt, HashMap.IsUnique}, proofs.lemmas.Bool.{and_parts, and_from, eq-eqb}}
 use Rattle.std.proofs.lemmas.{Map.Keys.IsDistinct-IsPermutation, Option.same_Some}
 use Rattle.napt_rules.specs.Prelude.{Each}
-use Rattle.napt_account.specs.declared.{log.{Entry.Entry, Listed.Listed}, open_entries.{Due.Due, ExternalKey.ExternalKey, Open.Open, OpenEntries.OpenEntries}}
-use Rattle.napt_account.specs.OpenEntries.{external_key, end_key_of, end_key, external_eq, end_cmp, open_at, listed_at, is_queued, is_at, kept, IsIndexed, IsListed, Shows}
-use Rattle.napt_account.specs.Telling.{numbered, is_open, ends_within, ends_first, in_order_of_end}
+use Rattle.napt_account.specs.declared.{log.{Entry.Entry, LogEntry.LogEntry}, open_entries.{DueEntry.DueEntry, EntryKey.EntryKey, Open.Open, OpenEntries.OpenEntries}}
+use Rattle.napt_account.specs.OpenEntries.{entry_key, end_key_of, end_key, external_eq, end_cmp, open_at, listed_at, is_queued, entry_is_at, kept, IsIndexed, EntryIsListed, OpenEntriesShow}
+use Rattle.napt_account.specs.LogParts.{numbered_entries, is_open, ends_within, ends_first, in_order_of_end}
 use Rattle.napt_account.proofs.InOrder.{Has, Differ, InOrder, each_has, has_each, has_left, has_parts, has_filter, filter_has, first_then, is_order, has_number, number_has, numbered_differ}
 use Rattle.napt_account.proofs.{Rising.{rises_numbered, sorted_rising}, Sorted.{has_back, has_moved, sorted_turn}}
 use Rattle.napt_account.proofs.OpenEntries.{due_of, external_is, external_itself, external_flip, same_place, under, listed_open, open_listed}
 
 -- AGAINST THE ENTRIES
 
-pub listed_has : (es : List Entry) (l : Listed) → IsListed es l → Has (numbered es) l
+pub listed_has : (es : List Entry) (l : LogEntry) → EntryIsListed es l → Has (numbered_entries es) l
 listed_has es l at = has_number 1 es at.place l.entry at.there l.number
     (let n : l.number ≡ at.place + 1 = at.number in omega (arith, n))
 
-pub has_listed : (es : List Entry) (l : Listed) → Has (numbered es) l → IsListed es l
+pub has_listed : (es : List Entry) (l : LogEntry) → Has (numbered_entries es) l → EntryIsListed es l
 has_listed es l h = grind (arith, common_steps, number_has)
 
 -- A LIST THAT IS SORTED
 
 -- whether two have one endpoint
-abbrev share : Listed → Listed → Bool
-share l m = external_eq (external_key l.entry.binding) (external_key m.entry.binding)
+abbrev share : LogEntry → LogEntry → Bool
+share l m = external_eq (entry_key l.entry.binding) (entry_key m.entry.binding)
 
 -- what does not come behind another stands before it
-not_behind : (a b : Option ℕ) (m n : ℕ) (l o : Listed) → l.entry.end ≡ a → o.entry.end ≡ b → l.number ≡ m →
+not_behind : (a b : Option ℕ) (m n : ℕ) (l o : LogEntry) → l.entry.end ≡ a → o.entry.end ≡ b → l.number ≡ m →
     o.number ≡ n → m ≢ n → is_lt (end_cmp (end_key_of b n) (end_key_of a m)) ≡ false → ends_first l o ≡ true
 not_behind a b m n l o h k g j p q = grind (arith, common_steps, nat_tests)
 
-sorted_order : (xs : List Listed) → IsSortedByKey end_key end_cmp xs → Differ xs → InOrder xs
+sorted_order : (xs : List LogEntry) → IsSortedByKey end_key end_cmp xs → Differ xs → InOrder xs
 sorted_order = sorted_turn end_key end_cmp ends_first (λ x y. x.number ≢ y.number)
     (λ x y. not_behind x.entry.end y.entry.end x.number y.number x y refl refl refl refl)
     (λ x y z. first_then x.entry.end y.entry.end z.entry.end x.number y.number z.number)
@@ -48,61 +48,61 @@ each_weaker P Q f [] h = tt
 each_weaker P Q f (x ∷ xs) h = (f x h.0, each_weaker P Q f xs h.1)
 
 -- each is at its endpoint
-abbrev pub AreThere : OpenEntries → List Listed → Type 0
-AreThere all xs = (l : Listed) → Has xs l → listed_at all (external_key l.entry.binding) ≡ Some l
+abbrev pub AreThere : OpenEntries → List LogEntry → Type 0
+AreThere all xs = (l : LogEntry) → Has xs l → listed_at all (entry_key l.entry.binding) ≡ Some l
 
 -- no two have one endpoint
-abbrev pub Apart : List Listed → Type 0
+abbrev pub Apart : List LogEntry → Type 0
 Apart = IsDistinct share
 
-apart_differ : (now most : ℕ) (es : List Entry) (all : OpenEntries) → Shows now most es all → (xs : List Listed) →
+apart_differ : (now most : ℕ) (es : List Entry) (all : OpenEntries) → OpenEntriesShow now most es all → (xs : List LogEntry) →
     AreThere all xs → Apart xs → Differ xs
 unfolding IsDistinct
 apart_differ now most es all shows [] there apart = tt
 apart_differ now most es all shows (x ∷ xs) there apart = (
   has_each (λ y. x.number ≢ y.number) xs (λ y h same.
-      let is : x ≡ y = same_place es x y (shows.there (external_key x.entry.binding) x (there x (inl refl)))
-      (shows.there (external_key y.entry.binding) y (there y (inr h))) same in
-      let never : true ≡ false = sym (external_itself (external_key x.entry.binding))
-      ∙ (ap (λ (l : Listed). share x l) is
+      let is : x ≡ y = same_place es x y (shows.there (entry_key x.entry.binding) x (there x (inl refl)))
+      (shows.there (entry_key y.entry.binding) y (there y (inr h))) same in
+      let never : true ≡ false = sym (external_itself (entry_key x.entry.binding))
+      ∙ (ap (λ (l : LogEntry). share x l) is
       ∙ each_has (λ l. share x l ≡ false) xs y (recursion_each (λ l. share x l ≡ false) xs apart.0) h) in cc),
   apart_differ now most es all shows xs (λ l h. there l (inr h)) apart.1,
 )
 
-module _ (now most : ℕ) (es : List Entry) (all : OpenEntries) (shows : Shows now most es all) (xs ys : List Listed)
+module _ (now most : ℕ) (es : List Entry) (all : OpenEntries) (shows : OpenEntriesShow now most es all) (xs ys : List LogEntry)
     (moves : IsPermutation xs ys) (there : AreThere all xs) (apart : Apart xs) where
   pub moved_differ : Differ ys
   moved_differ = apart_differ now most es all shows ys (λ l h. there l (has_back xs ys moves l h))
-      (IsDistinct-IsPermutation share (λ l m. external_flip (external_key l.entry.binding)
-      (external_key m.entry.binding)) xs ys moves apart)
+      (IsDistinct-IsPermutation share (λ l m. external_flip (entry_key l.entry.binding)
+      (entry_key m.entry.binding)) xs ys moves apart)
 
   -- sorted, they are what a list with the same elements is in order of end
-  pub sorted_is : IsSortedByKey end_key end_cmp ys → (zs : List Listed) → Differ zs →
-      ((l : Listed) → Has xs l → Has zs l) → ((l : Listed) → Has zs l → Has xs l) → ys ≡ in_order_of_end zs
+  pub sorted_is : IsSortedByKey end_key end_cmp ys → (zs : List LogEntry) → Differ zs →
+      ((l : LogEntry) → Has xs l → Has zs l) → ((l : LogEntry) → Has zs l → Has xs l) → ys ≡ in_order_of_end zs
   sorted_is sorted zs differ f g = is_order ys zs (sorted_order ys sorted moved_differ) differ
       (λ l h. f l (has_back xs ys moves l h)) (λ l h. has_moved xs ys moves l (g l h))
 
 -- WHAT IS KEPT
 
-abbrev of_open : Open → Listed
+abbrev of_open : Open → LogEntry
 of_open o = o.listed
 
 -- what is found in a list of entries
-found_has : (test : ExternalKey → Bool) (es : List (ExternalKey × Open)) (o : Open) → lookup test es ≡ Some o →
+found_has : (test : EntryKey → Bool) (es : List (EntryKey × Open)) (o : Open) → lookup test es ≡ Some o →
     Has (map of_open (values_of es)) o.listed
 found_has test [] o h = cc
 found_has test (e ∷ es) o h = elim (test e.0) as (λ v. cond v (Some e.1) (lookup test es) ≡ Some o →
     (e.1.listed ≡ o.listed) ⊎ Has (map of_open (values_of es)) o.listed)
     [ true ↦ λ g. inl (ap of_open (same_Some e.1 o g)) | false ↦ λ g. inr (found_has test es o g) ] h
 
-value_at : (P : ExternalKey → Listed → Type 0) (es : List (ExternalKey × Open)) → Each (λ f. P f.0 f.1.listed) es →
-    (l : Listed) → Has (map of_open (values_of es)) l → (x : ExternalKey) × P x l
+value_at : (P : EntryKey → LogEntry → Type 0) (es : List (EntryKey × Open)) → Each (λ f. P f.0 f.1.listed) es →
+    (l : LogEntry) → Has (map of_open (values_of es)) l → (x : EntryKey) × P x l
 value_at P [] each l h = absurd h
 value_at P (e ∷ es) each l (inl is) = (e.0, subst (P e.0) is each.0)
 value_at P (e ∷ es) each l (inr h) = value_at P es each.1 l h
 
 -- each of a list whose keys differ is found
-found_later : (e : ExternalKey × Open) (all es : List (ExternalKey × Open)) →
+found_later : (e : EntryKey × Open) (all es : List (EntryKey × Open)) →
     AllByRecursion (λ k. external_eq e.0 k ≡ false) (keys_of es) →
     Each (λ f. lookup (external_eq f.0) all ≡ Some f.1) es →
     Each (λ f. lookup (external_eq f.0) (e ∷ all) ≡ Some f.1) es
@@ -110,7 +110,7 @@ found_later e all [] apart found = tt
 found_later e all (f ∷ es) apart found =
     grind (arith, common_steps, nat_tests, external_flip, found_later e all es apart.1 found.1)
 
-found_each : (es : List (ExternalKey × Open)) → IsDistinct external_eq (keys_of es) →
+found_each : (es : List (EntryKey × Open)) → IsDistinct external_eq (keys_of es) →
     Each (λ f. lookup (external_eq f.0) es ≡ Some f.1) es
 unfolding IsDistinct
 found_each [] distinct = tt
@@ -119,27 +119,27 @@ found_each (e ∷ es) distinct = (
   found_later e es es distinct.0 (found_each es distinct.1),
 )
 
-values_apart : (e : ExternalKey × Open) (es : List (ExternalKey × Open)) →
-    e.0 ≡ external_key e.1.listed.entry.binding →
-    Each (λ f. f.0 ≡ external_key f.1.listed.entry.binding) es →
+values_apart : (e : EntryKey × Open) (es : List (EntryKey × Open)) →
+    e.0 ≡ entry_key e.1.listed.entry.binding →
+    Each (λ f. f.0 ≡ entry_key f.1.listed.entry.binding) es →
     AllByRecursion (λ k. external_eq e.0 k ≡ false) (keys_of es) →
     AllByRecursion (λ l. share e.1.listed l ≡ false) (map of_open (values_of es))
 values_apart e [] is placed apart = tt
 values_apart e (f ∷ es) is placed apart = grind (arith, common_steps, nat_tests, values_apart e es is placed.1 apart.1)
 
-kept_apart : (es : List (ExternalKey × Open)) → IsDistinct external_eq (keys_of es) →
-    Each (λ f. f.0 ≡ external_key f.1.listed.entry.binding) es → Apart (map of_open (values_of es))
+kept_apart : (es : List (EntryKey × Open)) → IsDistinct external_eq (keys_of es) →
+    Each (λ f. f.0 ≡ entry_key f.1.listed.entry.binding) es → Apart (map of_open (values_of es))
 unfolding IsDistinct
 kept_apart [] distinct placed = tt
 kept_apart (e ∷ es) distinct placed =
     (values_apart e es placed.0 placed.1 distinct.0, kept_apart es distinct.1 placed.1)
 
-module _ (now most : ℕ) (es : List Entry) (all : OpenEntries) (shows : Shows now most es all)
+module _ (now most : ℕ) (es : List Entry) (all : OpenEntries) (shows : OpenEntriesShow now most es all)
     (unique : IsUnique external_eq all.by_external) where
   kept_each : Each (λ f. open_at all f.0 ≡ Some f.1) all.by_external.entries
   kept_each = found_each all.by_external.entries unique
 
-  kept_at : (l : Listed) → Has (kept all) l → (x : ExternalKey) × (listed_at all x ≡ Some l)
+  kept_at : (l : LogEntry) → Has (kept all) l → (x : EntryKey) × (listed_at all x ≡ Some l)
   kept_at = value_at (λ x l. listed_at all x ≡ Some l) all.by_external.entries
       (each_weaker (λ f. open_at all f.0 ≡ Some f.1) (λ f. listed_at all f.0 ≡ Some f.1.listed)
       (λ f at. open_listed all f.0 f.1 at) all.by_external.entries kept_each)
@@ -147,34 +147,34 @@ module _ (now most : ℕ) (es : List Entry) (all : OpenEntries) (shows : Shows n
   kept_there : AreThere all (kept all)
   kept_there l h = grind (arith, common_steps, kept_at, under)
 
-  kept_has : (x : ExternalKey) (l : Listed) → listed_at all x ≡ Some l → Has (kept all) l
+  kept_has : (x : EntryKey) (l : LogEntry) → listed_at all x ≡ Some l → Has (kept all) l
   kept_has x l at =
       let o = listed_open all x l at in
       subst (Has (kept all)) o.2 (found_has (external_eq x) all.by_external.entries o.0 o.1)
 
   kept_alone : Apart (kept all)
   kept_alone = kept_apart all.by_external.entries unique
-      (each_weaker (λ f. open_at all f.0 ≡ Some f.1) (λ f. f.0 ≡ external_key f.1.listed.entry.binding)
+      (each_weaker (λ f. open_at all f.0 ≡ Some f.1) (λ f. f.0 ≡ entry_key f.1.listed.entry.binding)
       (λ f at. (shows.indexed.placed f.0 f.1 at).0) all.by_external.entries kept_each)
 
-  abbrev opens : List Listed
-  opens = filter (is_open now) (numbered es)
+  abbrev opens : List LogEntry
+  opens = filter (is_open now) (numbered_entries es)
 
-  kept_open : (l : Listed) → Has (kept all) l → Has opens l
+  kept_open : (l : LogEntry) → Has (kept all) l → Has opens l
   kept_open l h = let at = kept_at l h in
-      has_filter (is_open now) (numbered es) l (listed_has es l (shows.there at.0 l at.1)) (shows.unended at.0 l at.1)
+      has_filter (is_open now) (numbered_entries es) l (listed_has es l (shows.there at.0 l at.1)) (shows.unended at.0 l at.1)
 
-  open_kept : (l : Listed) → Has opens l → Has (kept all) l
-  open_kept l h = let p = filter_has (is_open now) (numbered es) l h in
-      kept_has (external_key l.entry.binding) l (shows.has l (has_listed es l p.0) p.1)
+  open_kept : (l : LogEntry) → Has opens l → Has (kept all) l
+  open_kept l h = let p = filter_has (is_open now) (numbered_entries es) l h in
+      kept_has (entry_key l.entry.binding) l (shows.has l (has_listed es l p.0) p.1)
 
-  pub list_is : (xs : List Listed) → IsPermutation (kept all) xs → IsSortedByKey end_key end_cmp xs →
+  pub list_is : (xs : List LogEntry) → IsPermutation (kept all) xs → IsSortedByKey end_key end_cmp xs →
       xs ≡ in_order_of_end opens
   list_is xs moves sorted = sorted_is now most es all shows (kept all) xs moves kept_there kept_alone sorted opens
       (numbered_differ (is_open now) es) kept_open open_kept
 
   -- and in order of number
-  pub left_is : (xs : List Listed) → IsPermutation (kept all) xs → IsSortedByKey (λ l. l.number) nat_cmp xs →
+  pub left_is : (xs : List LogEntry) → IsPermutation (kept all) xs → IsSortedByKey (λ l. l.number) nat_cmp xs →
       xs ≡ opens
   left_is xs moves sorted = sorted_rising xs opens sorted
       (moved_differ now most es all shows (kept all) xs moves kept_there kept_alone) (rises_numbered now 1 es)
@@ -184,34 +184,34 @@ module _ (now most : ℕ) (es : List Entry) (all : OpenEntries) (shows : Shows n
 
 -- where no time has come, none has ended
 pub none_due : (now : ℕ) → now < 2 ^ 64 → (all : OpenEntries) → IsIndexed all →
-    ((d : Due) → is_queued all d ≡ true → now < d.at) → (x : ExternalKey) (l : Listed) → listed_at all x ≡ Some l →
+    ((d : DueEntry) → is_queued all d ≡ true → now < d.at) → (x : EntryKey) (l : LogEntry) → listed_at all x ≡ Some l →
     is_open now l ≡ true
 none_due now fits all indexed later x l at =
     let o = listed_open all x l at in
     let early = (indexed.placed x o.0 o.1).1 now in
-    subst (λ (m : Listed). is_open now m ≡ true) o.2 (early (elim (o.0.due) as (λ (due : Option ℕ). o.0.due ≡ due →
+    subst (λ (m : LogEntry). is_open now m ≡ true) o.2 (early (elim (o.0.due) as (λ (due : Option ℕ). o.0.due ≡ due →
     now < unwrap_or due (2 ^ 64)) [
       | None ↦ λ e. fits
       | Some time ↦ λ e. later (record { at = time; key = x })
           (indexed.queued (record { at = time; key = x })
-          ∙ (ap (λ (v : Option Open). is_at (due_of v) time) o.1
-          ∙ (ap (λ due. is_at due time) e ∙ eq-eqb time time refl)))
+          ∙ (ap (λ (v : Option Open). entry_is_at (due_of v) time) o.1
+          ∙ (ap (λ due. entry_is_at due time) e ∙ eq-eqb time time refl)))
     ] refl))
 
 -- WHAT HAS ENDED
 
-has_last : (xs : List Listed) (l m : Listed) → l ≡ m → Has (xs ++ l ∷ []) m
+has_last : (xs : List LogEntry) (l m : LogEntry) → l ≡ m → Has (xs ++ l ∷ []) m
 has_last [] l m is = inl is
 has_last (x ∷ xs) l m is = inr (has_last xs l m is)
 
 -- of what there was at first some is left, and the others have ended
-pub record IsParted (now : ℕ) (first all : OpenEntries) (ended : List Listed) : Type 0 where
+pub record IsParted (now : ℕ) (first all : OpenEntries) (ended : List LogEntry) : Type 0 where
   pub indexed : IsIndexed all
-  pub had : (x : ExternalKey) (l : Listed) → listed_at all x ≡ Some l → listed_at first x ≡ Some l
-  pub stays : (x : ExternalKey) (l : Listed) → listed_at first x ≡ Some l →
+  pub had : (x : EntryKey) (l : LogEntry) → listed_at all x ≡ Some l → listed_at first x ≡ Some l
+  pub stays : (x : EntryKey) (l : LogEntry) → listed_at first x ≡ Some l →
       (listed_at all x ≡ Some l) ⊎ Has ended l
-  pub gone : (l : Listed) → Has ended l → (is_open now l ≡ false)
-      × (listed_at all (external_key l.entry.binding) ≡ None)
+  pub gone : (l : LogEntry) → Has ended l → (is_open now l ≡ false)
+      × (listed_at all (entry_key l.entry.binding) ≡ None)
   pub there : AreThere first ended
   pub apart : Apart ended
 
@@ -219,29 +219,29 @@ pub parted_none : (now : ℕ) (first : OpenEntries) → IsIndexed first → IsPa
 unfolding IsDistinct
 parted_none now first indexed = grind (arith, common_steps, nat_tests)
 
-pub parted_same : (now : ℕ) (first old new : OpenEntries) (ended : List Listed) → IsParted now first old ended →
-    IsIndexed new → ((x : ExternalKey) → listed_at new x ≡ listed_at old x) → IsParted now first new ended
+pub parted_same : (now : ℕ) (first old new : OpenEntries) (ended : List LogEntry) → IsParted now first old ended →
+    IsIndexed new → ((x : EntryKey) → listed_at new x ≡ listed_at old x) → IsParted now first new ended
 parted_same now first old new ended parted indexed same = grind (arith, common_steps, nat_tests)
 
-apart_pushed : (xs : List Listed) (l : Listed) → Apart xs → ((m : Listed) → Has xs m → share m l ≡ false) →
+apart_pushed : (xs : List LogEntry) (l : LogEntry) → Apart xs → ((m : LogEntry) → Has xs m → share m l ≡ false) →
     Apart (xs ++ l ∷ [])
 unfolding IsDistinct
 apart_pushed [] l apart new = (tt, tt)
 apart_pushed (x ∷ xs) l apart new =
     grind (arith, common_steps, nat_tests, apart_pushed xs l apart.1 (λ m h. new m (inr h)))
 
-module _ (now : ℕ) (first old new : OpenEntries) (ended more : List Listed) (parted : IsParted now first old ended)
-    (key : ExternalKey) (l : Listed) (at : listed_at old key ≡ Some l) (over : is_open now l ≡ false)
+module _ (now : ℕ) (first old new : OpenEntries) (ended more : List LogEntry) (parted : IsParted now first old ended)
+    (key : EntryKey) (l : LogEntry) (at : listed_at old key ≡ Some l) (over : is_open now l ≡ false)
     (indexed : IsIndexed new)
-    (left : (x : ExternalKey) → listed_at new x ≡ cond (external_eq key x) None (listed_at old x))
+    (left : (x : EntryKey) → listed_at new x ≡ cond (external_eq key x) None (listed_at old x))
     (pushed : more ≡ ended ++ l ∷ []) where
-  its : key ≡ external_key l.entry.binding
+  its : key ≡ entry_key l.entry.binding
   its = under old parted.indexed key l at
 
-  left_none : (x : ExternalKey) → listed_at old x ≡ None → listed_at new x ≡ None
+  left_none : (x : EntryKey) → listed_at old x ≡ None → listed_at new x ≡ None
   left_none x none = grind (arith, common_steps)
 
-  pushed_has : (m : Listed) → Has more m → Has ended m ⊎ (l ≡ m)
+  pushed_has : (m : LogEntry) → Has more m → Has ended m ⊎ (l ≡ m)
   pushed_has m h = grind (arith, common_steps, nat_tests, has_parts)
 
   pub parted_taken : IsParted now first new more
@@ -249,7 +249,7 @@ module _ (now : ℕ) (first old new : OpenEntries) (ended more : List Listed) (p
     indexed = indexed;
     had = λ x m there. parted.had x m (elim (external_eq key x) as (λ v. cond v None (listed_at old x) ≡ Some m →
         listed_at old x ≡ Some m) [ true ↦ λ h. cc | false ↦ λ h. h ] (sym (left x) ∙ there));
-    stays = λ x m there. subst (λ (xs : List Listed). (listed_at new x ≡ Some m) ⊎ Has xs m) (sym pushed)
+    stays = λ x m there. subst (λ (xs : List LogEntry). (listed_at new x ≡ Some m) ⊎ Has xs m) (sym pushed)
         (elim (parted.stays x m there) [
           | inl here ↦ elim (external_eq key x) as (λ v. external_eq key x ≡ v →
               (listed_at new x ≡ Some m) ⊎ Has (ended ++ l ∷ []) m) [
@@ -260,19 +260,19 @@ module _ (now : ℕ) (first old new : OpenEntries) (ended more : List Listed) (p
           | inr h ↦ inr (has_left ended (l ∷ []) m h)
         ]);
     gone = λ m h. elim (pushed_has m h) [
-      | inl was ↦ let g = parted.gone m was in (g.0, left_none (external_key m.entry.binding) g.1)
-      | inr is ↦ subst (λ (k : Listed). (is_open now k ≡ false)
-          × (listed_at new (external_key k.entry.binding) ≡ None)) is (
+      | inl was ↦ let g = parted.gone m was in (g.0, left_none (entry_key m.entry.binding) g.1)
+      | inr is ↦ subst (λ (k : LogEntry). (is_open now k ≡ false)
+          × (listed_at new (entry_key k.entry.binding) ≡ None)) is (
             over,
-            left (external_key l.entry.binding)
-                ∙ ap (λ v. cond v None (listed_at old (external_key l.entry.binding)))
+            left (entry_key l.entry.binding)
+                ∙ ap (λ v. cond v None (listed_at old (entry_key l.entry.binding)))
                 (ap (external_eq key) (sym its) ∙ external_itself key),
           )
     ];
     there = λ m h. elim (pushed_has m h) [
       | inl was ↦ parted.there m was
-      | inr is ↦ subst (λ (k : Listed). listed_at first (external_key k.entry.binding) ≡ Some k) is
-          (parted.had (external_key l.entry.binding) l (ap (listed_at old) (sym its) ∙ at))
+      | inr is ↦ subst (λ (k : LogEntry). listed_at first (entry_key k.entry.binding) ≡ Some k) is
+          (parted.had (entry_key l.entry.binding) l (ap (listed_at old) (sym its) ∙ at))
     ];
     apart = subst Apart (sym pushed) (apart_pushed ended l parted.apart (λ m h.
         elim (share m l) as (λ v. share m l ≡ v → v ≡ false) [
@@ -283,22 +283,22 @@ module _ (now : ℕ) (first old new : OpenEntries) (ended more : List Listed) (p
         ] refl));
   }
 
-module _ (was now most : ℕ) (es : List Entry) (first all : OpenEntries) (shows : Shows was most es first)
-    (ended : List Listed) (parted : IsParted now first all ended)
-    (left : (x : ExternalKey) (l : Listed) → listed_at all x ≡ Some l → is_open now l ≡ true) where
-  pub ended_is : (xs : List Listed) → IsPermutation ended xs → IsSortedByKey end_key end_cmp xs →
-      xs ≡ in_order_of_end (filter (ends_within was now) (numbered es))
+module _ (was now most : ℕ) (es : List Entry) (first all : OpenEntries) (shows : OpenEntriesShow was most es first)
+    (ended : List LogEntry) (parted : IsParted now first all ended)
+    (left : (x : EntryKey) (l : LogEntry) → listed_at all x ≡ Some l → is_open now l ≡ true) where
+  pub ended_is : (xs : List LogEntry) → IsPermutation ended xs → IsSortedByKey end_key end_cmp xs →
+      xs ≡ in_order_of_end (filter (ends_within was now) (numbered_entries es))
   ended_is xs moves sorted = sorted_is was most es first shows ended xs moves parted.there parted.apart sorted
-      (filter (ends_within was now) (numbered es)) (numbered_differ (ends_within was now) es)
+      (filter (ends_within was now) (numbered_entries es)) (numbered_differ (ends_within was now) es)
       (λ l h.
-      let key : ExternalKey = external_key l.entry.binding in
+      let key : EntryKey = entry_key l.entry.binding in
       let at : listed_at first key ≡ Some l = parted.there l h in
-      has_filter (ends_within was now) (numbered es) l (listed_has es l (shows.there key l at))
+      has_filter (ends_within was now) (numbered_entries es) l (listed_has es l (shows.there key l at))
       (and_from (is_open was l) (not (is_open now l)) (shows.unended key l at) (ap not (parted.gone l h).0)))
       (λ l h.
-      let p = filter_has (ends_within was now) (numbered es) l h in
+      let p = filter_has (ends_within was now) (numbered_entries es) l h in
       let q = and_parts (is_open was l) (not (is_open now l)) p.1 in
-      let key : ExternalKey = external_key l.entry.binding in
+      let key : EntryKey = entry_key l.entry.binding in
       elim (parted.stays key l (shows.has l (has_listed es l p.0) q.0)) [
         | inl here ↦ let never : false ≡ true = sym (ap not (left key l here)) ∙ q.1 in cc
         | inr there ↦ there
@@ -306,6 +306,6 @@ module _ (was now most : ℕ) (es : List Entry) (first all : OpenEntries) (shows
 
 -- AT FIRST
 
-pub none_shows : (all : OpenEntries) → ((x : ExternalKey) → open_at all x ≡ None) →
-    ((d : Due) → is_queued all d ≡ false) → all.made ≡ 0 → Shows 0 0 [] all
+pub none_shows : (all : OpenEntries) → ((x : EntryKey) → open_at all x ≡ None) →
+    ((d : DueEntry) → is_queued all d ≡ false) → all.made ≡ 0 → OpenEntriesShow 0 0 [] all
 none_shows all opens queue made = grind (arith, common_steps, nat_tests)

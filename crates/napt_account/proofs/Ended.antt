@@ -4,9 +4,9 @@ use Rattle.std.proofs.Common.{◌≡◌, ℕ, zero, suc, ◌+◌, ◌≤◌, max
 use Rattle.std.{specs.List.{fold, slice_get}, proofs.lemmas.Option.same_Some}
 use Rattle.napt_config.specs.{Rules.Rules, declared.settings.Timers.Timers}
 use Rattle.napt_binding.{specs.Ends.is_before, proofs.FirstEnds.before_sooner}
-use Rattle.napt_rules.specs.{declared.Leg.Leg, Prelude.{Through, Binding, act, opening, Act, Course, ahead, step, run, run_from, last_clock}}
-use Rattle.napt_laws.proofs.{Grown.run_append, Turns.{InTurn, run_turn}}
-use Rattle.napt_account.{specs.{declared.log.Entry.Entry, Ended.EndedEntriesStay, Log.{begun, logged_by, logged, log_of}}, proofs.Books.fold_joined}
+use Rattle.napt_rules.specs.{declared.Leg.Leg, Prelude.{BindingUse, Binding, act, opening, LegAct, RunEffect, effect_then, step, run, run_from, last_clock}}
+use Rattle.napt_laws.proofs.{OneMoreInput.run_append, Turns.{InTurn, run_turn}}
+use Rattle.napt_account.{specs.{declared.log.Entry.Entry, EndedEntries.EndedEntriesStay, Log.{first_entry, entries_after_leg, logged, log_of}}, proofs.Books.fold_joined}
 
 -- LISTS
 
@@ -28,13 +28,13 @@ pub ended_later : (now later : ℕ) → now ≤ later → (end : Option ℕ) →
     is_before later end ≡ false
 ended_later now later le end ended = grind (arith, common_steps, nat_tests, before_sooner)
 
-leg_leaves : (timers : Timers) (leg : Leg) (went : Option Through) (now : ℕ) → now ≤ leg.now → (entries : List Entry)
+leg_leaves : (timers : Timers) (leg : Leg) (went : Option BindingUse) (now : ℕ) → now ≤ leg.now → (entries : List Entry)
     (i : ℕ) (e : Entry) → slice_get entries i ≡ Some e → is_before now e.end ≡ false →
-    slice_get (logged_by timers leg went entries) i ≡ Some e
+    slice_get (entries_after_leg timers leg went entries) i ≡ Some e
 leg_leaves timers leg went now h entries i e k g =
     grind (arith, common_steps, nat_tests, ended_later, get_joined, get_mapped)
 
-acts_leave : (rules : Rules) (clock : ℕ) (list : List Binding) (acts : List Act) (last : ℕ) (new : List Binding) →
+acts_leave : (rules : Rules) (clock : ℕ) (list : List Binding) (acts : List LegAct) (last : ℕ) (new : List Binding) →
     InTurn rules clock list acts last new → (entries : List Entry) (i : ℕ) (e : Entry) →
     slice_get entries i ≡ Some e → is_before clock e.end ≡ false →
     slice_get (fold (logged rules.timers) entries acts) i ≡ Some e
@@ -50,19 +50,19 @@ acts_leave rules clock list (a ∷ acts) last new turns entries i e at ended =
 pub ended_stay : EndedEntriesStay
 unfolding log_of
 ended_stay rules front next rest place entry at ended =
-    let entries : List Entry = map (begun rules.timers 0) (opening rules) in
-    let first : Course = run rules front (opening rules) in
+    let entries : List Entry = map (first_entry rules.timers 0) (opening rules) in
+    let first : RunEffect = run rules front (opening rules) in
     let told : List Entry = fold (logged rules.timers) entries first.acts in
     let number : ℕ = length front in
     let time : ℕ = max (last_clock 0 front) next.clock in
-    let later : Course = run_from rules number (last_clock 0 front) (next ∷ rest) first.list in
-    let whole : Course = run_from rules number time (next ∷ rest) first.list in
+    let later : RunEffect = run_from rules number (last_clock 0 front) (next ∷ rest) first.list in
+    let whole : RunEffect = run_from rules number time (next ∷ rest) first.list in
     let same : max time next.clock ≡ time = omega arith in
-    ap (λ (c : Course). slice_get (fold (logged rules.timers) entries c.acts) place)
+    ap (λ (c : RunEffect). slice_get (fold (logged rules.timers) entries c.acts) place)
     (run_append rules 0 0 front (next ∷ rest) (opening rules) number (omega arith))
     ∙ (ap (λ (es : List Entry). slice_get es place) (fold_joined (logged rules.timers) first.acts later.acts entries)
     ∙ subst (λ (now : ℕ). slice_get (fold (logged rules.timers) told
-    (ahead (step rules number now next first.list)
+    (effect_then (step rules number now next first.list)
     (run_from rules (number + 1) now rest (step rules number now next first.list).list)).acts) place ≡ Some entry) same
     (acts_leave rules time first.list whole.acts (last_clock time (next ∷ rest)) whole.list
     (run_turn rules number time (next ∷ rest) first.list) told place entry at ended))

@@ -2,12 +2,12 @@
 use Rattle.std.proofs.lemmas.{Grind.common_steps, Bool.Decides.nat_tests}
 use Rattle.std.proofs.Common.{◌≡◌, ℕ, ◌<◌, ◌≤◌, Bool, true, false, ◌&&◌, cond, List, [], ◌∷◌, ◌++◌, map, Option, Some, refl, sym, ◌∙◌, ap, subst, arith, append-nil}
 use Rattle.std.{specs.{Prelude.{filter, find, nat_le}, List.fold}, proofs.lemmas.{Bool.{and_parts, and_from}, Option.same_Some}}
-use Rattle.napt_rules.specs.Prelude.{Through, Binding, Each, change_first, is_live, with_live_flows, purge, row, act, Act, Apart, Way, Outgoing, Incoming, Rules, AreTimers, Timers}
+use Rattle.napt_rules.specs.Prelude.{BindingUse, Binding, Each, change_first, is_live, with_live_flows, purge, row, act, LegAct, AreBindingsApart, Way, Outgoing, Incoming, Rules, AreTimers, Timers}
 use Rattle.napt_rules.{specs.declared.{Row.Row, Leg.Leg}, proofs.{Lists.{each_filter, filter_all}, Life.lived}}
 use Rattle.napt_laws.proofs.Lists.{filter_narrow, find_passes, each_weaker, each_pushed}
-use Rattle.napt_laws.proofs.{Endpoints.{protocol_is, end_is, same_itself, end_itself}, Fresh.{IsFresh, fresh_purged}, Turns.InTurn}
+use Rattle.napt_laws.proofs.{Endpoints.{protocol_is, end_is, same_itself, end_itself}, FreshBindings.{IsFresh, fresh_purged}, Turns.InTurn}
 use Rattle.napt_binding.{specs.Ends.{end_of, is_before, EndsAreFirst}, proofs.FirstEnds.{before_sooner, end_without_dead}}
-use Rattle.napt_account.specs.{declared.log.Entry.Entry, Log.{begun, shares, counted, through, logged_by, logged, stands_at}}
+use Rattle.napt_account.specs.{declared.log.Entry.Entry, Log.{first_entry, shares, counted, entry_through, entries_after_leg, logged, stands_at}}
 use Rattle.napt_account.proofs.Lists.{filter_seen, filter_agrees, filter_agrees_each, filter_joined, map_joined, map_twice, map_agrees, each_mapped, each_shown}
 use Rattle.napt_account.proofs.Moves.{Differ, AllDiffer, differ_kept, differ_act, of_moves}
 
@@ -42,7 +42,7 @@ pub record Tells (timers : Timers) (now : ℕ) (list : List Binding) (entries : 
 
 -- ROWS
 
-pub apart_differ : (rs : List Row) → Apart rs → AllDiffer rs
+pub apart_differ : (rs : List Row) → AreBindingsApart rs → AllDiffer rs
 apart_differ [] h = tt
 apart_differ (r ∷ rs) h = grind (arith, common_steps, nat_tests, each_weaker, apart_differ rs h.1)
 
@@ -88,7 +88,7 @@ counted_made Incoming now end e = refl
 
 module _ (way : Way) (now : ℕ) (r : Row) (end : Option ℕ) (opened : is_before now end ≡ true) where
   abbrev changed : Entry → Entry
-  changed = through now r (counted way now end)
+  changed = entry_through now r (counted way now end)
 
   abbrev hold_changed : Row × Option ℕ → Row × Option ℕ
   hold_changed h = cond (shares r h.0) (h.0, end) h
@@ -201,10 +201,10 @@ module _ (ends : EndsAreFirst) (rules : Rules) (t : AreTimers rules.timers) (add
   own = purge rules.timers leg.now list
 
   -- what entries are beside what lives
-  abbrev Now : List Entry → Option Through → List Binding → Type 0
+  abbrev Now : List Entry → Option BindingUse → List Binding → Type 0
   Now entries went left =
-      Each (λ e. e.made ≤ leg.now) (logged_by rules.timers leg went entries)
-      × Holds rules.timers leg.now left (logged_by rules.timers leg went entries)
+      Each (λ e. e.made ≤ leg.now) (entries_after_leg rules.timers leg went entries)
+      × Holds rules.timers leg.now left (entries_after_leg rules.timers leg went entries)
 
   new_open : (b : Binding) → IsFresh rules.timers leg.now b → is_before leg.now (end_of rules.timers b) ≡ true
   new_open b fresh = sym (ends rules.timers t leg.now b) ∙ fresh.live
@@ -214,7 +214,7 @@ module _ (ends : EndsAreFirst) (rules : Rules) (t : AreTimers rules.timers) (add
 
   pub tells_act : (entries : List Entry) → Tells rules.timers leg.now list entries →
       Tells rules.timers leg.now (act rules address leg list).list
-      (logged_by rules.timers leg (act rules address leg list).through entries)
+      (entries_after_leg rules.timers leg (act rules address leg list).through entries)
   tells_act entries tells =
       let holds : Holds rules.timers leg.now own entries =
       tells.holds ∙ sym (purge_holds rules.timers t leg.now list) in
@@ -226,7 +226,7 @@ module _ (ends : EndsAreFirst) (rules : Rules) (t : AreTimers rules.timers) (add
       found).1 in
       let end : Option ℕ = end_of rules.timers (f b) in
       let opened : is_before leg.now end ≡ true = new_open (f b) new in
-      let change : Entry → Entry = through leg.now (row (f b)) (counted leg.way leg.now end) in (
+      let change : Entry → Entry = entry_through leg.now (row (f b)) (counted leg.way leg.now end) in (
         each_mapped (λ e. e.made ≤ leg.now) change entries
             (each_weaker (λ e. e.made ≤ leg.now) (λ e. (change e).made ≤ leg.now)
             (λ e le. subst (λ (m : ℕ). m ≤ leg.now) (sym (changed_made leg.way leg.now (row (f b)) end opened e)) le)
@@ -237,14 +237,14 @@ module _ (ends : EndsAreFirst) (rules : Rules) (t : AreTimers rules.timers) (add
       ))
       (λ new out is others.
       let change : Entry → Entry = counted leg.way leg.now (end_of rules.timers new) in
-      let entry : Entry = change (begun rules.timers leg.now new) in
+      let entry : Entry = change (first_entry rules.timers leg.now new) in
       let end : entry.end ≡ end_of rules.timers new =
-      counted_end leg.way leg.now (end_of rules.timers new) (begun rules.timers leg.now new) in
+      counted_end leg.way leg.now (end_of rules.timers new) (first_entry rules.timers leg.now new) in
       let opened : is_open leg.now entry ≡ true = ap (is_before leg.now) end ∙ new_open new is in
       let made : entry.made ≡ leg.now =
-      counted_made leg.way leg.now (end_of rules.timers new) (begun rules.timers leg.now new) in
+      counted_made leg.way leg.now (end_of rules.timers new) (first_entry rules.timers leg.now new) in
       let bound : entry.binding ≡ row new =
-      counted_binding leg.way leg.now (end_of rules.timers new) (begun rules.timers leg.now new) in (
+      counted_binding leg.way leg.now (end_of rules.timers new) (first_entry rules.timers leg.now new) in (
         each_pushed (λ e. e.made ≤ leg.now) entries entry tells.made (omega (arith, made)),
         ap (map hold) (filter_joined (is_open leg.now) entries (entry ∷ [])
             ∙ ap (λ v. filter (is_open leg.now) entries ++ cond v (entry ∷ []) []) opened)
@@ -262,17 +262,17 @@ module _ (ends : EndsAreFirst) (rules : Rules) (t : AreTimers rules.timers) (add
 
   -- what was named before the leg's time
   pub past_act : (past : ℕ) → past < leg.now → (entries : List Entry) →
-      named past (logged_by rules.timers leg (act rules address leg list).through entries) ≡ named past entries
+      named past (entries_after_leg rules.timers leg (act rules address leg list).through entries) ≡ named past entries
   past_act past lt entries =
       let fresh : Each (IsFresh rules.timers leg.now) own = fresh_purged rules.timers leg.now list in
       of_moves rules t address leg list
-      (λ went left. named past (logged_by rules.timers leg went entries) ≡ named past entries) refl
+      (λ went left. named past (entries_after_leg rules.timers leg went entries) ≡ named past entries) refl
       (λ p f b found same keeps.
       let new : IsFresh rules.timers leg.now (f b) = keeps b (find_passes p (IsFresh rules.timers leg.now) own b fresh
       found).1 in
       let end : Option ℕ = end_of rules.timers (f b) in
       let opened : is_before leg.now end ≡ true = new_open (f b) new in
-      let change : Entry → Entry = through leg.now (row (f b)) (counted leg.way leg.now end) in
+      let change : Entry → Entry = entry_through leg.now (row (f b)) (counted leg.way leg.now end) in
       ap (map binding_of) (filter_seen (stands_at past) change entries)
       ∙ (map_twice binding_of change (filter (λ e. stands_at past (change e)) entries)
       ∙ (map_agrees (λ e. (change e).binding) binding_of (filter (λ e. stands_at past (change e)) entries)
@@ -283,9 +283,9 @@ module _ (ends : EndsAreFirst) (rules : Rules) (t : AreTimers rules.timers) (add
       ∙ ap (λ v. nat_le e.made past && v)
       (changed_before leg.way leg.now (row (f b)) end opened past (omega arith) e))))))
       (λ new out is others.
-      let entry : Entry = counted leg.way leg.now (end_of rules.timers new) (begun rules.timers leg.now new) in
+      let entry : Entry = counted leg.way leg.now (end_of rules.timers new) (first_entry rules.timers leg.now new) in
       let made : entry.made ≡ leg.now =
-      counted_made leg.way leg.now (end_of rules.timers new) (begun rules.timers leg.now new) in
+      counted_made leg.way leg.now (end_of rules.timers new) (first_entry rules.timers leg.now new) in
       let later : nat_le leg.now past ≡ false = grind (arith, nat_tests) in
       ap (map binding_of) (filter_joined (stands_at past) entries (entry ∷ [])
       ∙ (ap (λ v. filter (stands_at past) entries ++ cond (v && is_before past entry.end) (entry ∷ []) [])
@@ -295,18 +295,18 @@ module _ (ends : EndsAreFirst) (rules : Rules) (t : AreTimers rules.timers) (add
 -- ACTS IN TURN
 
 module _ (ends : EndsAreFirst) (rules : Rules) (t : AreTimers rules.timers) where
-  pub told_turn : (clock : ℕ) (list : List Binding) (acts : List Act) (last : ℕ) (new : List Binding)
+  pub told_turn : (clock : ℕ) (list : List Binding) (acts : List LegAct) (last : ℕ) (new : List Binding)
       (entries : List Entry) → InTurn rules clock list acts last new → Tells rules.timers clock list entries →
       Tells rules.timers last new (fold (logged rules.timers) entries acts)
   told_turn clock list [] last new entries p tells = grind (arith, common_steps, nat_tests, tells_later)
   told_turn clock list (a ∷ acts) last new entries p tells =
       told_turn a.leg.now (act rules a.address a.leg list).list acts last new (logged rules.timers entries a) p.1
-      (subst (λ (went : Option Through). Tells rules.timers a.leg.now (act rules a.address a.leg list).list
-      (logged_by rules.timers a.leg went entries)) (sym p.0.through)
+      (subst (λ (went : Option BindingUse). Tells rules.timers a.leg.now (act rules a.address a.leg list).list
+      (entries_after_leg rules.timers a.leg went entries)) (sym p.0.through)
       (tells_act ends rules t a.address a.leg list entries
       (tells_later ends rules.timers t clock a.leg.now p.0.later list entries tells)))
 
-  pub past_turn : (past clock : ℕ) → past < clock → (list : List Binding) (acts : List Act) (last : ℕ)
+  pub past_turn : (past clock : ℕ) → past < clock → (list : List Binding) (acts : List LegAct) (last : ℕ)
       (new : List Binding) (entries : List Entry) → InTurn rules clock list acts last new →
       named past (fold (logged rules.timers) entries acts) ≡ named past entries
   past_turn past clock lt list [] last new entries p = refl
@@ -314,5 +314,5 @@ module _ (ends : EndsAreFirst) (rules : Rules) (t : AreTimers rules.timers) wher
       let le : clock ≤ a.leg.now = p.0.later in
       past_turn past a.leg.now (omega arith) (act rules a.address a.leg list).list acts last new
       (logged rules.timers entries a) p.1
-      ∙ (ap (λ (went : Option Through). named past (logged_by rules.timers a.leg went entries)) p.0.through
+      ∙ (ap (λ (went : Option BindingUse). named past (entries_after_leg rules.timers a.leg went entries)) p.0.through
       ∙ past_act ends rules t a.address a.leg list past (omega arith) entries)

@@ -4,14 +4,14 @@ use Rattle.std.proofs.Common.{◌≡◌, ℕ, zero, suc, ◌+◌, ◌<◌, ◌�
 use Rattle.std.{specs.{Prelude.{filter, ◌==◌}, List.{fold, slice_get}}, proofs.lemmas.{List.{length-map, Sorted.length_permutation}, Option.same_Some, Grind.flat_map-append}}
 use Rattle.napt_config.specs.{Rules.{Rules, pair_of}, declared.settings.{Redirect.Redirect, Timers.Timers}}
 use Rattle.napt_binding.specs.Ends.{end_of, is_before}
-use Rattle.napt_table.specs.TimedRows.{timed}
-use Rattle.napt_rules.specs.{declared.Leg.Leg, Prelude.{Through, Binding, Each, purge, redirected, row, act, Act, Arrival, Course, run_from, last_clock, State, anew, opening, course_from, left_by, under, behind, RunsGoOn, SavedRunsGoOn}}
+use Rattle.napt_table.specs.TimedRows.{timed_row}
+use Rattle.napt_rules.specs.{declared.Leg.Leg, Prelude.{BindingUse, Binding, Each, purge, redirect_binding, row, act, LegAct, Arrival, RunEffect, run_from, last_clock, State, initial_state, opening, effect_from, next_state, with_redirects, act_behind, RunsGoOn, SavedRunsGoOn}}
 use Rattle.napt_rules.specs.declared.End.{End, TheVariants.{ToOutside, ToInside, Onward, Dropped}}
-use Rattle.napt_laws.proofs.{Grown.{run_append, clock_on}, Opened.redirect_stays, Turns.{InTurn, run_turn}}
-use Rattle.napt_account.specs.{declared.log.{Entry.Entry, Listed.Listed, Shortage.Shortage}, Log.{begun, counted, through, logged_by, logged, shortages, shortage_at, shortage_by, Logged, log_of}}
-use Rattle.napt_account.specs.Telling.{numbered_from, numbered, is_open, ends_within, in_order_of_end, LogPart, told_by, living_of}
-use Rattle.napt_account.specs.GoingOn.{LogState, IsTakenUp, kept_at, gone, entry_by, entries_by, filled, log_begun, log_on, told_between, told_on, log_left, living_from, LogsBegin, UsesBegin, LogGoesOn, LogsGoOn, SavedLogsGoOn}
-use Rattle.napt_account.specs.Uses.{uses_from}
+use Rattle.napt_laws.proofs.{OneMoreInput.{run_append, clock_on}, OpeningList.redirect_stays, Turns.{InTurn, run_turn}}
+use Rattle.napt_account.specs.{declared.log.{Entry.Entry, LogEntry.LogEntry, Shortage.Shortage}, Log.{first_entry, counted, entry_through, entries_after_leg, logged, shortages, shortage_at, shortage_by, Logged, log_of}}
+use Rattle.napt_account.specs.LogParts.{numbered_from, numbered_entries, is_open, ends_within, in_order_of_end, LogDelta, part_told, living_of}
+use Rattle.napt_account.specs.ResumedLogRuns.{LogStateModel, IsTakenUp, kept_at, gone, entry_by, entries_by, filled, log_begun, log_on, told_between, told_on, log_left, living_from, LogsBegin, UsesBegin, LogGoesOn, LogsGoOn, SavedLogsGoOn}
+use Rattle.napt_account.specs.BindingTallies.{uses_from}
 use Rattle.napt_account.proofs.{Books.fold_joined, Ended.ended_later, Lists.map_joined, InOrder.{Has, has_filter, filter_has, has_number, number_has}}
 
 -- ENTRIES THAT ARE ONE AS LONG AS THEY HAVE NOT ENDED
@@ -53,7 +53,7 @@ same_later now later le (x ∷ xs) [] h = absurd h
 same_later now later le (x ∷ xs) (y ∷ ys) h = (one_later now later le x y h.0, same_later now later le xs ys h.1)
 
 -- what has not ended, or ends within some time, is the same of both
-module _ (now : ℕ) (p : Listed → Bool) (opens : (l : Listed) → is_before now l.entry.end ≡ false → p l ≡ false) where
+module _ (now : ℕ) (p : LogEntry → Bool) (opens : (l : LogEntry) → is_before now l.entry.end ≡ false → p l ≡ false) where
   filter_same : (n : ℕ) (xs ys : List Entry) → AreSame now xs ys →
       filter p (numbered_from n xs) ≡ filter p (numbered_from n ys)
   filter_same n [] [] h = refl
@@ -61,12 +61,12 @@ module _ (now : ℕ) (p : Listed → Bool) (opens : (l : Listed) → is_before n
   filter_same n (x ∷ xs) [] h = absurd h
   filter_same n (x ∷ xs) (y ∷ ys) h =
       let rest = filter_same (n + 1) xs ys h.1 in
-      let of : Entry → Listed = λ e. record { number = n; entry = e } in
+      let of : Entry → LogEntry = λ e. record { number = n; entry = e } in
       elim h.0 [
         | inl is ↦
             ap (λ (e : Entry). cond (p (of e)) (of e ∷ filter p (numbered_from (n + 1) xs))
             (filter p (numbered_from (n + 1) xs))) is
-            ∙ ap (λ (l : List Listed). cond (p (of y)) (of y ∷ l) l) rest
+            ∙ ap (λ (l : List LogEntry). cond (p (of y)) (of y ∷ l) l) rest
         | inr ended ↦
             ap (λ v. cond v (of x ∷ filter p (numbered_from (n + 1) xs)) (filter p (numbered_from (n + 1) xs)))
             (opens (of x) ended.0)
@@ -77,10 +77,10 @@ module _ (now : ℕ) (p : Listed → Bool) (opens : (l : Listed) → is_before n
 -- A LEG
 
 module _ (now : ℕ) (wanted : _) (change : Entry → Entry) where
-  one_through : (x y : Entry) → IsSame now x y → IsSame now (through now wanted change x) (through now wanted change y)
-  one_through x y (inl is) = inl (ap (through now wanted change) is)
+  one_through : (x y : Entry) → IsSame now x y → IsSame now (entry_through now wanted change x) (entry_through now wanted change y)
+  one_through x y (inl is) = inl (ap (entry_through now wanted change) is)
   one_through x y (inr ended) =
-      let stays : (e : Entry) → is_before now e.end ≡ false → through now wanted change e ≡ e = λ e h.
+      let stays : (e : Entry) → is_before now e.end ≡ false → entry_through now wanted change e ≡ e = λ e h.
       grind (arith, common_steps, nat_tests) in
       inr (
         ap (λ (e : Entry). is_before now e.end) (stays x ended.0) ∙ ended.0,
@@ -88,7 +88,7 @@ module _ (now : ℕ) (wanted : _) (change : Entry → Entry) where
       )
 
   all_through : (xs ys : List Entry) → AreSame now xs ys →
-      AreSame now (map (through now wanted change) xs) (map (through now wanted change) ys)
+      AreSame now (map (entry_through now wanted change) xs) (map (entry_through now wanted change) ys)
   all_through [] [] h = tt
   all_through [] (y ∷ ys) h = absurd h
   all_through (x ∷ xs) [] h = absurd h
@@ -119,14 +119,14 @@ split_same : (now many : ℕ) (xs ys : List Entry) → AreSplit now many xs ys �
 split_same now many xs ys s =
     rw (s.one_is, s.other_is) (same_joined now s.front s.other s.back s.same)
 
-leg_splits : (timers : Timers) (leg : Leg) (went : Option Through) (many : ℕ) (xs ys : List Entry) →
+leg_splits : (timers : Timers) (leg : Leg) (went : Option BindingUse) (many : ℕ) (xs ys : List Entry) →
     AreSplit leg.now many xs ys →
-    AreSplit leg.now many (logged_by timers leg went xs) (logged_by timers leg went ys)
+    AreSplit leg.now many (entries_after_leg timers leg went xs) (entries_after_leg timers leg went ys)
 leg_splits timers leg None many xs ys s = s
 leg_splits timers leg (Some went) many xs ys s =
     let change : Entry → Entry = counted leg.way leg.now (end_of timers went.binding) in
-    let new : Entry = change (begun timers leg.now went.binding) in
-    let g : Entry → Entry = through leg.now (row went.binding) change in
+    let new : Entry = change (first_entry timers leg.now went.binding) in
+    let g : Entry → Entry = entry_through leg.now (row went.binding) change in
     elim went.made as (λ v. AreSplit leg.now many (cond v (xs ++ new ∷ []) (map g xs))
     (cond v (ys ++ new ∷ []) (map g ys))) [
       | true ↦ record {
@@ -161,7 +161,7 @@ split_later now later many le xs ys s = record {
   long = s.long;
 }
 
-acts_split : (rules : Rules) (clock : ℕ) (list : List Binding) (acts : List Act) (last : ℕ) (new : List Binding) →
+acts_split : (rules : Rules) (clock : ℕ) (list : List Binding) (acts : List LegAct) (last : ℕ) (new : List Binding) →
     InTurn rules clock list acts last new → (many : ℕ) (xs ys : List Entry) → AreSplit clock many xs ys →
     AreSplit last many (fold (logged rules.timers) xs acts) (fold (logged rules.timers) ys acts)
 acts_split rules clock list [] last new turns many xs ys s = split_later clock last many turns.0 xs ys s
@@ -172,7 +172,7 @@ acts_split rules clock list (a ∷ acts) last new turns many xs ys s =
 
 -- WHAT IS KEPT, FILLED
 
-pub by_none : (k : ℕ) (all : List Listed) → ((l : Listed) → Has all l → l.number ≡ k → ⊥) → entry_by k all ≡ gone
+pub by_none : (k : ℕ) (all : List LogEntry) → ((l : LogEntry) → Has all l → l.number ≡ k → ⊥) → entry_by k all ≡ gone
 by_none k [] none = refl
 by_none k (x ∷ all) none =
     elim (x.number == k) as (λ v. (x.number == k) ≡ v → cond v x.entry (entry_by k all) ≡ gone) [
@@ -180,7 +180,7 @@ by_none k (x ∷ all) none =
       | false ↦ λ e. by_none k all (λ l has. none l (inr has))
     ] refl
 
-pub by_some : (k : ℕ) (e : Entry) (all : List Listed) → ((l : Listed) → Has all l → l.number ≡ k → l.entry ≡ e) →
+pub by_some : (k : ℕ) (e : Entry) (all : List LogEntry) → ((l : LogEntry) → Has all l → l.number ≡ k → l.entry ≡ e) →
     Has all (record { number = k; entry = e }) → entry_by k all ≡ e
 by_some k e [] only has = absurd has
 by_some k e (x ∷ all) only has =
@@ -188,7 +188,7 @@ by_some k e (x ∷ all) only has =
       | true ↦ λ is. only x (inl refl) (eqb-true x.number k is)
       | false ↦ λ isnt. elim has [
         | inl here ↦ absurd (true≢false
-            (sym (eq-eqb x.number k (ap (λ (l : Listed). l.number) here)) ∙ isnt))
+            (sym (eq-eqb x.number k (ap (λ (l : LogEntry). l.number) here)) ∙ isnt))
         | inr there ↦ by_some k e all (λ l h. only l (inr h)) there
       ]
     ] refl
@@ -197,13 +197,13 @@ pub never : (t : ℕ) → is_before t gone.end ≡ false
 never t = grind (arith, nat_tests)
 
 module _ (now : ℕ) (entries : List Entry) where
-  abbrev living : List Listed
+  abbrev living : List LogEntry
   living = (kept_at now entries).living
 
-  only_open : (i : ℕ) (e : Entry) → slice_get entries i ≡ Some e → (l : Listed) → Has living l → l.number ≡ 1 + i →
+  only_open : (i : ℕ) (e : Entry) → slice_get entries i ≡ Some e → (l : LogEntry) → Has living l → l.number ≡ 1 + i →
       (l.entry ≡ e) × (is_before now e.end ≡ true)
   only_open i e at l has number =
-      let among = filter_has (is_open now) (numbered entries) l has in
+      let among = filter_has (is_open now) (numbered_entries entries) l has in
       let is = number_has 1 entries l among.0 in
       let place : is.place ≡ i = (let n = is.is in omega (arith, n, number)) in
       let same : l.entry ≡ e = same_Some l.entry e (sym is.there ∙ (ap (slice_get entries) place ∙ at)) in
@@ -213,7 +213,7 @@ module _ (now : ℕ) (entries : List Entry) where
   kept_entry i e at = elim (is_before now e.end) as (λ v. is_before now e.end ≡ v →
       IsSame now e (entry_by (1 + i) living)) [
         | true ↦ λ opens. inl (sym (by_some (1 + i) e living (λ l has n. (only_open i e at l has n).0)
-            (has_filter (is_open now) (numbered entries) _ (has_number 1 entries i e at (1 + i) refl) opens)))
+            (has_filter (is_open now) (numbered_entries entries) _ (has_number 1 entries i e at (1 + i) refl) opens)))
         | false ↦ λ ended. inr (
           ended,
           ap (λ (x : Entry). is_before now x.end) (by_none (1 + i) living (λ l has n.
@@ -221,7 +221,7 @@ module _ (now : ℕ) (entries : List Entry) where
         )
       ] refl
 
-same_filled : (now n : ℕ) (all : List Listed) (entries : List Entry) → ((i : ℕ) (e : Entry) →
+same_filled : (now n : ℕ) (all : List LogEntry) (entries : List Entry) → ((i : ℕ) (e : Entry) →
     slice_get entries i ≡ Some e → IsSame now e (entry_by (n + i) all)) →
     AreSame now entries (entries_by n (length entries) all)
 same_filled now n all [] each = tt
@@ -236,30 +236,30 @@ filled_same now entries = same_filled now 1 (living now entries) entries (kept_e
 
 -- BY LATER NUMBERS
 
-fold_behind : (timers : Timers) (before : ℕ) (acts : List Act) (entries : List Entry) →
-    fold (logged timers) entries (map (behind before) acts) ≡ fold (logged timers) entries acts
+fold_behind : (timers : Timers) (before : ℕ) (acts : List LegAct) (entries : List Entry) →
+    fold (logged timers) entries (map (act_behind before) acts) ≡ fold (logged timers) entries acts
 fold_behind timers before [] entries = refl
 fold_behind timers before (a ∷ acts) entries =
-    ap (λ (es : List Entry). fold (logged timers) es (map (behind before) acts)) (one_behind a.through)
+    ap (λ (es : List Entry). fold (logged timers) es (map (act_behind before) acts)) (one_behind a.through)
     ∙ fold_behind timers before acts (logged timers entries a)
   where
-    one_behind : (went : Option Through) →
-        logged_by timers (behind before a).leg went entries ≡ logged_by timers a.leg went entries
+    one_behind : (went : Option BindingUse) →
+        entries_after_leg timers (act_behind before a).leg went entries ≡ entries_after_leg timers a.leg went entries
     one_behind None = refl
     one_behind (Some went) = refl
 
-shortages_behind : (before : ℕ) (acts : List Act) → shortages (map (behind before) acts) ≡ shortages acts
+shortages_behind : (before : ℕ) (acts : List LegAct) → shortages (map (act_behind before) acts) ≡ shortages acts
 shortages_behind before [] = refl
 shortages_behind before (a ∷ acts) =
-    ap (λ (s : List Shortage). s ++ shortages (map (behind before) acts)) (by_end a.end)
+    ap (λ (s : List Shortage). s ++ shortages (map (act_behind before) acts)) (by_end a.end)
     ∙ ap (λ (s : List Shortage). shortage_at a.leg a.end ++ s) (shortages_behind before acts)
   where
     by_kind : (carried : _) (cause : _) →
-        shortage_by (behind before a).leg carried cause ≡ shortage_by a.leg carried cause
+        shortage_by (act_behind before a).leg carried cause ≡ shortage_by a.leg carried cause
     by_kind None cause = refl
     by_kind (Some protocol) cause = refl
 
-    by_end : (end : End) → shortage_at (behind before a).leg end ≡ shortage_at a.leg end
+    by_end : (end : End) → shortage_at (act_behind before a).leg end ≡ shortage_at a.leg end
     by_end (ToOutside packet) = refl
     by_end (ToInside packet) = refl
     by_end (Onward place packet) = refl
@@ -277,12 +277,12 @@ numbered_back n (x ∷ front) back =
     numbered_back (n + 1) front back ∙ ap (λ (k : ℕ). numbered_from k back) same
 
 made_same : (now many : ℕ) (xs ys : List Entry) → AreSplit now many xs ys →
-    drop many (numbered xs) ≡ drop many (numbered ys)
+    drop many (numbered_entries xs) ≡ drop many (numbered_entries ys)
 made_same now many xs ys s =
     let behind_of : (front list : List Entry) → length front ≡ many → list ≡ front ++ s.back →
-    drop many (numbered list) ≡ numbered_from (1 + many) s.back = λ front list long is.
-    ap (λ (l : List Entry). drop many (numbered l)) is
-    ∙ (ap (λ (k : ℕ). drop k (numbered (front ++ s.back))) (sym long)
+    drop many (numbered_entries list) ≡ numbered_from (1 + many) s.back = λ front list long is.
+    ap (λ (l : List Entry). drop many (numbered_entries l)) is
+    ∙ (ap (λ (k : ℕ). drop k (numbered_entries (front ++ s.back))) (sym long)
     ∙ (numbered_back 1 front s.back ∙ ap (λ (k : ℕ). numbered_from (1 + k) s.back) long)) in
     behind_of s.front xs s.long s.one_is
     ∙ sym (behind_of s.other ys (sym (same_long now s.front s.other s.same) ∙ s.long) s.other_is)
@@ -297,10 +297,10 @@ kept_same now xs ys same =
     }
 
 module _ (rules : Rules) (state : State) (xs ys : List Entry) (same : AreSame state.clock xs ys) where
-  after : (inputs : List Arrival) → (let acts : List Act = (course_from rules state inputs).acts in
+  after : (inputs : List Arrival) → (let acts : List LegAct = (effect_from rules state inputs).acts in
       AreSame (last_clock state.clock inputs) (fold (logged rules.timers) xs acts) (fold (logged rules.timers) ys acts))
   after inputs =
-      let course : Course = course_from rules state inputs in
+      let course : RunEffect = effect_from rules state inputs in
       split_same (last_clock state.clock inputs) (length xs) _ _
       (acts_split rules state.clock state.list course.acts (last_clock state.clock inputs) course.list
       (run_turn rules 0 state.clock inputs state.list) (length xs) xs ys (split_at_end state.clock xs ys same))
@@ -309,10 +309,10 @@ module _ (rules : Rules) (state : State) (xs ys : List Entry) (same : AreSame st
     abbrev was : ℕ
     was = last_clock state.clock before
 
-    abbrev course : Course
-    course = course_from rules state before
+    abbrev course : RunEffect
+    course = effect_from rules state before
 
-    abbrev next : Course
+    abbrev next : RunEffect
     next = run_from rules (length before) was (input ∷ []) course.list
 
     abbrev entries : List Entry → List Entry
@@ -323,7 +323,7 @@ module _ (rules : Rules) (state : State) (xs ys : List Entry) (same : AreSame st
 
     more : (list : List Entry) → (log_on rules state list (before ++ input ∷ [])).entries ≡ later list
     more list =
-        ap (λ (r : Course). fold (logged rules.timers) list r.acts)
+        ap (λ (r : RunEffect). fold (logged rules.timers) list r.acts)
         (run_append rules 0 state.clock before (input ∷ []) state.list (length before) (omega arith))
         ∙ fold_joined (logged rules.timers) course.acts next.acts list
 
@@ -337,20 +337,20 @@ module _ (rules : Rules) (state : State) (xs ys : List Entry) (same : AreSame st
         (split_at_end was (entries xs) (entries ys) e) in
         let lost : List Shortage = (told_on rules state xs before input).refused in
         let whole : List Entry → List Entry = λ list. (log_on rules state list (before ++ input ∷ [])).entries in
-        let made : drop (length (entries xs)) (numbered (whole xs)) ≡ drop (length (entries ys)) (numbered (whole ys)) =
-        ap (λ (l : List Entry). drop (length (entries xs)) (numbered l)) (more xs)
+        let made : drop (length (entries xs)) (numbered_entries (whole xs)) ≡ drop (length (entries ys)) (numbered_entries (whole ys)) =
+        ap (λ (l : List Entry). drop (length (entries xs)) (numbered_entries l)) (more xs)
         ∙ (made_same (last_clock was (input ∷ [])) (length (entries xs)) (later xs) (later ys) split
-        ∙ (ap (λ (n : ℕ). drop n (numbered (later ys))) (same_long was (entries xs) (entries ys) e)
-        ∙ ap (λ (l : List Entry). drop (length (entries ys)) (numbered l)) (sym (more ys)))) in
-        ap (λ (l : List Listed). record {
+        ∙ (ap (λ (n : ℕ). drop n (numbered_entries (later ys))) (same_long was (entries xs) (entries ys) e)
+        ∙ ap (λ (l : List Entry). drop (length (entries ys)) (numbered_entries l)) (sym (more ys)))) in
+        ap (λ (l : List LogEntry). record {
           ended = in_order_of_end l;
-          made = drop (length (entries xs)) (numbered (whole xs));
+          made = drop (length (entries xs)) (numbered_entries (whole xs));
           refused = lost;
         })
         (filter_same was (ends_within was now) (λ l h. ap (λ v. v && not (is_open now l)) h) 1 (entries xs)
         (entries ys) e)
-        ∙ ap (λ (l : List Listed). record {
-          ended = in_order_of_end (filter (ends_within was now) (numbered (entries ys)));
+        ∙ ap (λ (l : List LogEntry). record {
+          ended = in_order_of_end (filter (ends_within was now) (numbered_entries (entries ys)));
           made = l;
           refused = lost;
         }) made
@@ -375,17 +375,17 @@ module _ (now : ℕ) where
       filter (is_open now) (numbered_from n es) ≡ numbered_from n es
   all_open n [] h = refl
   all_open n (e ∷ es) h =
-      let l : Listed = record { number = n; entry = e } in
-      let rest : List Listed = filter (is_open now) (numbered_from (n + 1) es) in
-      ap (λ v. cond v (l ∷ rest) rest) h.0 ∙ ap (λ (ls : List Listed). l ∷ ls) (all_open (n + 1) es h.1)
+      let l : LogEntry = record { number = n; entry = e } in
+      let rest : List LogEntry = filter (is_open now) (numbered_from (n + 1) es) in
+      ap (λ v. cond v (l ∷ rest) rest) h.0 ∙ ap (λ (ls : List LogEntry). l ∷ ls) (all_open (n + 1) es h.1)
 
   none_open : (many n : ℕ) (es : List Entry) → filter (is_open now) (numbered_from n (gones many ++ es))
       ≡ filter (is_open now) (numbered_from (n + many) es)
   none_open zero n es =
       let same : n ≡ n + 0 = omega arith in ap (λ (k : ℕ). filter (is_open now) (numbered_from k es)) same
   none_open (suc many) n es =
-      let l : Listed = record { number = n; entry = gone } in
-      let rest : List Listed = filter (is_open now) (numbered_from (n + 1) (gones many ++ es)) in
+      let l : LogEntry = record { number = n; entry = gone } in
+      let rest : List LogEntry = filter (is_open now) (numbered_from (n + 1) (gones many ++ es)) in
       let same : (n + 1) + many ≡ n + suc many = omega arith in
       ap (λ v. cond v (l ∷ rest) rest) (never now)
       ∙ (none_open many (n + 1) es ∙ ap (λ (k : ℕ). filter (is_open now) (numbered_from k es)) same)
@@ -402,7 +402,7 @@ module _ (now : ℕ) where
 
 -- WHERE A RUN BEGINS ANEW, it has the redirects
 
-pub skipped : (x : Listed) (all : List Listed) (k many : ℕ) → x.number < k →
+pub skipped : (x : LogEntry) (all : List LogEntry) (k many : ℕ) → x.number < k →
     entries_by k many (x ∷ all) ≡ entries_by k many all
 skipped x all k zero lt = refl
 skipped x all k (suc many) lt =
@@ -413,48 +413,48 @@ skipped x all k (suc many) lt =
 all_by : (n : ℕ) (es : List Entry) → entries_by n (length es) (numbered_from n es) ≡ es
 all_by n [] = refl
 all_by n (e ∷ es) =
-    let x : Listed = record { number = n; entry = e } in
-    let all : List Listed = numbered_from (n + 1) es in
+    let x : LogEntry = record { number = n; entry = e } in
+    let all : List LogEntry = numbered_from (n + 1) es in
     ap (λ v. cond v e (entry_by n all) ∷ entries_by (n + 1) (length es) (x ∷ all)) (eq-eqb n n refl)
     ∙ ap (λ (l : List Entry). e ∷ l) (skipped x all (n + 1) (length es) (omega arith) ∙ all_by (n + 1) es)
 
 module _ (timers : Timers) (pair : ℕ → ℕ) where
-  redirects_stay : (rs : List Redirect) → purge timers 0 (map (redirected pair) rs) ≡ map (redirected pair) rs
+  redirects_stay : (rs : List Redirect) → purge timers 0 (map (redirect_binding pair) rs) ≡ map (redirect_binding pair) rs
   redirects_stay [] = refl
   redirects_stay (r ∷ rs) =
-      ap (λ (b : Binding). b ∷ purge timers 0 (map (redirected pair) rs)) (redirect_stays timers 0 pair r)
-      ∙ ap (λ (bs : List Binding). redirected pair r ∷ bs) (redirects_stay rs)
+      ap (λ (b : Binding). b ∷ purge timers 0 (map (redirect_binding pair) rs)) (redirect_stays timers 0 pair r)
+      ∙ ap (λ (bs : List Binding). redirect_binding pair r ∷ bs) (redirects_stay rs)
 
-filled_begun : (rules : Rules) → filled (log_begun rules (anew rules)) ≡ map (begun rules.timers 0) (opening rules)
+filled_begun : (rules : Rules) → filled (log_begun rules (initial_state rules)) ≡ map (first_entry rules.timers 0) (opening rules)
 filled_begun rules =
-    let entries : List Binding → List Entry = map (begun rules.timers 0) in
+    let entries : List Binding → List Entry = map (first_entry rules.timers 0) in
     let none : 0 + length (entries (opening rules)) ≡ length (entries (opening rules)) = omega arith in
-    ap (λ (bs : List Binding). entries_by 1 (0 + length (entries bs)) (numbered (entries bs)))
+    ap (λ (bs : List Binding). entries_by 1 (0 + length (entries bs)) (numbered_entries (entries bs)))
     (redirects_stay rules.timers (pair_of rules) rules.redirects)
-    ∙ (ap (λ (many : ℕ). entries_by 1 many (numbered (entries (opening rules)))) none
+    ∙ (ap (λ (many : ℕ). entries_by 1 many (numbered_entries (entries (opening rules)))) none
     ∙ all_by 1 (entries (opening rules)))
 
 -- THE LAWS
 
 pub logs_begin : LogsBegin
-unfolding log_of told_by
+unfolding log_of part_told
 logs_begin rules before input =
-    ap (λ (es : List Entry). told_on rules (anew rules) es before input) (filled_begun rules)
+    ap (λ (es : List Entry). told_on rules (initial_state rules) es before input) (filled_begun rules)
 
 pub uses_begin : UsesBegin
 uses_begin rules inputs = ap (uses_from rules 0 0 inputs (opening rules)) (filled_begun rules)
 
 pub living_begins : (rules : Rules) (inputs : List Arrival) →
-    living_from rules (anew rules) (log_begun rules (anew rules)) inputs ≡ living_of rules inputs
+    living_from rules (initial_state rules) (log_begun rules (initial_state rules)) inputs ≡ living_of rules inputs
 unfolding log_of living_of
 living_begins rules inputs =
     ap (λ (es : List Entry). in_order_of_end (kept_at (last_clock 0 inputs)
-    (log_on rules (anew rules) es inputs).entries).living) (filled_begun rules)
+    (log_on rules (initial_state rules) es inputs).entries).living) (filled_begun rules)
 
-module _ (rules : Rules) (state then : State) (log : LogState) (first : List Arrival)
+module _ (rules : Rules) (state then : State) (log : LogStateModel) (first : List Arrival)
     (clock : then.clock ≡ last_clock state.clock first)
-    (acts_on : (rest : List Arrival) → (course_from rules state (first ++ rest)).acts
-    ≡ (course_from rules state first).acts ++ map (behind (length first)) (course_from rules then rest).acts) where
+    (acts_on : (rest : List Arrival) → (effect_from rules state (first ++ rest)).acts
+    ≡ (effect_from rules state first).acts ++ map (act_behind (length first)) (effect_from rules then rest).acts) where
   abbrev told : List Entry
   told = (log_on rules state (filled log) first).entries
 
@@ -468,18 +468,18 @@ module _ (rules : Rules) (state then : State) (log : LogState) (first : List Arr
       ≡ (log_on rules then told rest).entries
   entries_on rest =
       ap (fold (logged rules.timers) (filled log)) (acts_on rest)
-      ∙ (fold_joined (logged rules.timers) (course_from rules state first).acts
-      (map (behind (length first)) (course_from rules then rest).acts) (filled log)
-      ∙ fold_behind rules.timers (length first) (course_from rules then rest).acts told)
+      ∙ (fold_joined (logged rules.timers) (effect_from rules state first).acts
+      (map (act_behind (length first)) (effect_from rules then rest).acts) (filled log)
+      ∙ fold_behind rules.timers (length first) (effect_from rules then rest).acts told)
 
   shortages_on : (rest : List Arrival) → (log_on rules state (filled log) (first ++ rest)).shortages
       ≡ (log_on rules state (filled log) first).shortages ++ (log_on rules then told rest).shortages
   shortages_on rest =
       ap shortages (acts_on rest)
-      ∙ (flat_map-append (λ (a : Act). shortage_at a.leg a.end) (course_from rules state first).acts
-      (map (behind (length first)) (course_from rules then rest).acts)
-      ∙ ap (λ (s : List Shortage). shortages (course_from rules state first).acts ++ s)
-      (shortages_behind (length first) (course_from rules then rest).acts))
+      ∙ (flat_map-append (λ (a : LegAct). shortage_at a.leg a.end) (effect_from rules state first).acts
+      (map (act_behind (length first)) (effect_from rules then rest).acts)
+      ∙ ap (λ (s : List Shortage). shortages (effect_from rules state first).acts ++ s)
+      (shortages_behind (length first) (effect_from rules then rest).acts))
 
   told_whole : (rest : List Arrival) (input : Arrival) → told_on rules state (filled log) (first ++ rest) input
       ≡ told_on rules then told rest input
@@ -487,7 +487,7 @@ module _ (rules : Rules) (state then : State) (log : LogState) (first : List Arr
       let s : List Shortage = (log_on rules state (filled log) first).shortages in
       let a : Logged = log_on rules then told rest in
       let b : Logged = log_on rules then told (rest ++ input ∷ []) in
-      let at : ℕ → Logged → Logged → LogPart = λ was earlier later.
+      let at : ℕ → Logged → Logged → LogDelta = λ was earlier later.
       told_between was (max was input.clock) earlier later in
       let before : log_on rules state (filled log) (first ++ rest)
       ≡ record { entries = a.entries; shortages = s ++ a.shortages } =
@@ -509,49 +509,49 @@ module _ (rules : Rules) (state then : State) (log : LogState) (first : List Arr
     told = λ input.
         told_whole rest input
         ∙ (told_same rules then told (filled (kept_at then.clock told)) (filled_same then.clock told) rest input
-        ∙ ap (λ (l : LogState). told_on rules then (filled l) rest input) (sym kept_here));
+        ∙ ap (λ (l : LogStateModel). told_on rules then (filled l) rest input) (sym kept_here));
     left =
         ap (kept_at (last_clock state.clock (first ++ rest))) (entries_on rest)
         ∙ (ap (λ (t : ℕ). kept_at t (log_on rules then told rest).entries) (clocks rest)
         ∙ (kept_same (last_clock then.clock rest) _ _
         (after rules then told (filled (kept_at then.clock told)) (filled_same then.clock told) rest)
-        ∙ ap (λ (l : LogState). log_left rules then l rest) (sym kept_here)));
+        ∙ ap (λ (l : LogStateModel). log_left rules then l rest) (sym kept_here)));
   }
 
 pub logs_go_on : RunsGoOn → LogsGoOn
 logs_go_on go_on rules state log first rest =
-    log_goes_on rules state (left_by rules state first) log first refl (λ xs. (go_on rules state first xs).acts) rest
+    log_goes_on rules state (next_state rules state first) log first refl (λ xs. (go_on rules state first xs).acts) rest
 
 pub saved_logs_go_on : SavedRunsGoOn → SavedLogsGoOn
 saved_logs_go_on go_on rules keeps state saved takes log first rest order =
-    log_goes_on rules (under rules state) (under rules saved) log first order.clock
+    log_goes_on rules (with_redirects rules state) (with_redirects rules saved) log first order.clock
     (λ xs. (go_on rules keeps state saved takes first xs order).acts) rest
 
 -- OF NOTHING THAT WAS KEPT
 
-abbrev nothing : LogState
+abbrev nothing : LogStateModel
 nothing = record { made = 0; living = [] }
 
-none_begun : (timers : Timers) (bs : List Binding) → length (map (timed timers) bs) ≡ 0 →
-    record { made = 0 + length (map (begun timers 0) bs); living = numbered (map (begun timers 0) bs) } ≡ nothing
+none_begun : (timers : Timers) (bs : List Binding) → length (map (timed_row timers) bs) ≡ 0 →
+    record { made = 0 + length (map (first_entry timers 0) bs); living = numbered_entries (map (first_entry timers 0) bs) } ≡ nothing
 none_begun timers [] none = refl
 none_begun timers (b ∷ bs) none = absurd (omega (arith, none))
 
-anew_taken : (rules : Rules) (log : LogState) (say : LogPart) → IsTakenUp rules (anew rules) nothing log say →
-    log ≡ log_begun rules (anew rules)
+anew_taken : (rules : Rules) (log : LogStateModel) (say : LogDelta) → IsTakenUp rules (initial_state rules) nothing log say →
+    log ≡ log_begun rules (initial_state rules)
 anew_taken rules log say up = elim up.decided [
   | inl is ↦ (up.same is).0 ∙ sym (none_begun rules.timers (purge rules.timers 0 (opening rules))
       (length_permutation _ _ is.rows))
   | inr isnt ↦ (up.anew isnt).0
 ]
 
-pub taken_anew : (rules : Rules) (state : State) (kept : LogState) → state ≡ record { clock = 0; list = [] } →
-    kept ≡ nothing → (log : LogState) (say : LogPart) → IsTakenUp rules (under rules state) kept log say →
-    (log ≡ log_begun rules (anew rules)) × (under rules state ≡ anew rules)
+pub taken_anew : (rules : Rules) (state : State) (kept : LogStateModel) → state ≡ record { clock = 0; list = [] } →
+    kept ≡ nothing → (log : LogStateModel) (say : LogDelta) → IsTakenUp rules (with_redirects rules state) kept log say →
+    (log ≡ log_begun rules (initial_state rules)) × (with_redirects rules state ≡ initial_state rules)
 taken_anew rules state kept at none log say up =
-    let same : under rules state ≡ anew rules = ap (under rules) at
+    let same : with_redirects rules state ≡ initial_state rules = ap (with_redirects rules) at
     ∙ ap (λ (bs : List Binding). record { clock = 0; list = bs }) (append-nil (opening rules)) in (
       anew_taken rules log say (subst (λ (s : State). IsTakenUp rules s nothing log say) same
-          (subst (λ (k : LogState). IsTakenUp rules (under rules state) k log say) none up)),
+          (subst (λ (k : LogStateModel). IsTakenUp rules (with_redirects rules state) k log say) none up)),
       same,
     )

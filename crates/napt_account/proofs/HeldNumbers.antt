@@ -5,15 +5,15 @@ use Rattle.std.proofs.Common.{◌≡◌, ℕ, ◌≤◌, Bool, true, false, ◌&
 use Rattle.std.{specs.List.fold, proofs.lemmas.{Bool.{and_parts, and_from}, Option.same_Some}}
 use Rattle.napt_wire.specs.declared.Protocol.TheVariants as protocols
 use Rattle.napt_wire.specs.declared.{Protocol.Protocol, Flags.Flags, Kind.{Kind, TheVariants.{Udp, Tcp, Echo, ErrorOf}}, Way.{Way, TheVariants.{Outgoing, Incoming}}}
-use Rattle.napt_rules.specs.Prelude.{Through, Binding, Each, same_protocol, same_endpoint, is_live, with_live_flows, hold_ago, taken, granting_of, inbound_of, opening, sent_of, received_of, no_flags, served_at, Acted, act, act_out, act_in, act_by, Act, row, AreRowsApart, Apart, IsNumber, IsSound, OpeningIsSound, Inside, source, kind, local_of, local_end, is_error, CanCarry, reading, PacketsCarryNumbers, pair_of, run, last_clock, Rules, KeepsRules, AreTimers, Timers}
-use Rattle.napt_rules.{specs.declared.{Row.Row, Leg.Leg, Sent.Sent, Received.Received}, proofs.Life.lived}
-use Rattle.napt_laws.specs.Held.{Holder, HaveSameEnds, have_same_ends, left_as, holders_after, AreHeldApart as HoldersApart, HeldApart as AllHoldersApart, OneOf, Covers, IsAccounted, AreAccounted}
-use Rattle.napt_laws.proofs.{Accounts.{taken_accounted, out_keeps_accounts, in_keeps_accounts, accounts_begin}, Living.{ago_before, ago_later, purge_taken}}
-use Rattle.napt_laws.proofs.{StepsSound.{purge_stays_sound, out_stays_sound, in_stays_sound}, Held.each_rows, Lists.each_weaker, Turns.{IsServed, InTurn, run_turn}}
+use Rattle.napt_rules.specs.Prelude.{BindingUse, Binding, Each, same_protocol, same_endpoint, is_live, with_live_flows, hold_ago, live_and_held, assignment_rules, inbound_rules, opening, outbound_packet, inbound_packet, no_flags, served_at, LegEffect, act, act_out, act_in, act_by, LegAct, row, AreRowsApart, AreBindingsApart, IsNumber, IsSound, OpeningIsSound, Inside, source, kind, local_of, local_end, is_error, CanCarry, reading, PacketsCarryNumbers, pair_of, run, last_clock, Rules, RulesInvariant, AreTimers, Timers}
+use Rattle.napt_rules.{specs.declared.{Row.Row, Leg.Leg, OutboundPacket.OutboundPacket, InboundPacket.InboundPacket}, proofs.Life.lived}
+use Rattle.napt_laws.specs.HoldTimes.{Holder, HaveSameEnds, have_same_ends, holder_after, holders_after, AreHoldersApart as HoldersApart, HoldersStayApart as AllHoldersApart, HasOne, HolderCoversBinding, IsAccounted, AreBindingsAccounted}
+use Rattle.napt_laws.proofs.{Accounts.{taken_accounted, out_keeps_accounts, in_keeps_accounts, accounts_begin}, SeenElements.{ago_before, ago_later, purge_taken}}
+use Rattle.napt_laws.proofs.{StepsSound.{purge_stays_sound, out_stays_sound, in_stays_sound}, HeldNumbers.each_rows, Lists.each_weaker, Turns.{IsServed, InTurn, run_turn}}
 use Rattle.napt_laws.proofs.Endpoints.{protocol_is, same_itself, end_itself, end_is}
 use Rattle.napt_binding.specs.Ends.{end_of, is_before, EndsAreFirst}
-use Rattle.napt_account.specs.{declared.log.Entry.Entry, Log.{begun, shares, counted, through, logged_by, logged, log_of}}
-use Rattle.napt_account.specs.HeldNumbers.{AreHeldApart, HeldApart, HeldNumbersHaveOneHolder}
+use Rattle.napt_account.specs.{declared.log.Entry.Entry, Log.{first_entry, shares, counted, entry_through, entries_after_leg, logged, log_of}}
+use Rattle.napt_account.specs.HeldNumbers.{AreEntriesApart, EntriesStayApart, HeldNumbersHaveOneHolder}
 use Rattle.napt_account.proofs.{Moves.of_moves, Entries.{counted_end, counted_made, counted_binding}}
 
 -- AN ENTRY AND A HOLDER
@@ -52,11 +52,11 @@ module _ (ends : EndsAreFirst) (timers : Timers) (t : AreTimers timers) (now : �
 
   -- both change, or neither
   like_through : (e : Entry) (h : Holder) → IsLike timers e h → IsOne timers now (row went) h →
-      IsLike timers (through now (row went) change e) (left_as timers now went h)
+      IsLike timers (entry_through now (row went) change e) (holder_after timers now went h)
   like_through e h l one =
       let stands : is_before now e.end ≡ is_live timers now h.binding =
       ap (is_before now) l.end ∙ sym (ends timers t now h.binding) in
-      subst (λ v. IsLike timers (cond (v && shares (row went) e.binding) (change e) e) (left_as timers now went h))
+      subst (λ v. IsLike timers (cond (v && shares (row went) e.binding) (change e) e) (holder_after timers now went h))
       (sym stands) (elim (is_live timers now h.binding) as (λ v. is_live timers now h.binding ≡ v →
       IsLike timers (cond (v && shares (row went) e.binding) (change e) e)
       (cond (v && have_same_ends (row went) (row h.binding)) (record h { binding = went }) h)) [
@@ -101,7 +101,7 @@ module _ (ends : EndsAreFirst) (timers : Timers) (t : AreTimers timers) (now : �
       ] refl)
 
   alike_through : (es : List Entry) (hs : List Holder) → Alike timers es hs → Each (IsOne timers now (row went)) hs →
-      Alike timers (map (through now (row went) change) es) (map (left_as timers now went) hs)
+      Alike timers (map (entry_through now (row went) change) es) (map (holder_after timers now went) hs)
   alike_through [] [] a ones = tt
   alike_through [] (h ∷ hs) a ones = absurd a
   alike_through (e ∷ es) [] a ones = absurd a
@@ -109,7 +109,7 @@ module _ (ends : EndsAreFirst) (timers : Timers) (t : AreTimers timers) (now : �
 
 -- WHO HAS AN ENDPOINT
 
-one_each : (P R : Binding → Type 0) (xs : List Binding) → Each R xs → OneOf P xs → (x : Binding) × (P x) × (R x)
+one_each : (P R : Binding → Type 0) (xs : List Binding) → Each R xs → HasOne P xs → (x : Binding) × (P x) × (R x)
 one_each P R [] e h = absurd h
 one_each P R (x ∷ xs) e (inl h) = (x, h, e.0)
 one_each P R (x ∷ xs) e (inr h) = one_each P R xs e.1 h
@@ -119,7 +119,7 @@ module _ (timers : Timers) (h : Holder) (r : Row) where
   IsRow x = row x ≡ r
 
   -- what covers the holder, and what has the row, are one if they have one external endpoint
-  one_inside : (xs : List Binding) → Apart (map row xs) → OneOf (Covers timers h) xs → OneOf IsRow xs →
+  one_inside : (xs : List Binding) → AreBindingsApart (map row xs) → HasOne (HolderCoversBinding timers h) xs → HasOne IsRow xs →
       r.protocol ≡ (row h.binding).protocol → r.external ≡ (row h.binding).external →
       r.inside ≡ (row h.binding).inside
   one_inside [] apart c o p x = absurd c
@@ -131,7 +131,7 @@ module _ (timers : Timers) (h : Holder) (r : Row) where
       absurd ((far (c.ends.protocol ∙ (sym p ∙ ap (λ (r : Row). r.protocol) (sym is)))).0
       (c.ends.external ∙ (sym x ∙ ap (λ (r : Row). r.external) (sym is))))
   one_inside (b ∷ xs) apart (inr c) (inl o) p x =
-      let (y, is, far) = one_each (Covers timers h) (λ y. AreRowsApart (row b) (row y)) xs
+      let (y, is, far) = one_each (HolderCoversBinding timers h) (λ y. AreRowsApart (row b) (row y)) xs
       (each_rows (AreRowsApart (row b)) xs apart.0) c in
       absurd ((far (ap (λ (r : Row). r.protocol) o ∙ (p ∙ sym is.ends.protocol))).0
       (ap (λ (r : Row). r.external) o ∙ (x ∙ sym is.ends.external)))
@@ -139,13 +139,13 @@ module _ (timers : Timers) (h : Holder) (r : Row) where
 
 -- what is found of what is seen is of the list
 one_found : (p q : Binding → Bool) (f : Binding → Binding) → ((x : Binding) → row (f x) ≡ row x) → (xs : List Binding)
-    (b : Binding) → find p (map f (filter q xs)) ≡ Some b → OneOf (λ x. row x ≡ row b) xs
+    (b : Binding) → find p (map f (filter q xs)) ≡ Some b → HasOne (λ x. row x ≡ row b) xs
 one_found p q f rows [] b e = cc
 one_found p q f rows (x ∷ xs) b e =
     elim (q x) as (λ v. find p (map f (cond v (x ∷ filter q xs) (filter q xs))) ≡ Some b →
-    OneOf (λ x. row x ≡ row b) (x ∷ xs)) [
+    HasOne (λ x. row x ≡ row b) (x ∷ xs)) [
       | true ↦ λ e. elim (p (f x)) as (λ w. cond w (Some (f x)) (find p (map f (filter q xs))) ≡ Some b →
-          OneOf (λ x. row x ≡ row b) (x ∷ xs)) [
+          HasOne (λ x. row x ≡ row b) (x ∷ xs)) [
             | true ↦ λ e. inl (sym (rows x) ∙ ap row (same_Some (f x) b e))
             | false ↦ λ e. inr (one_found p q f rows xs b e)
           ] e
@@ -154,14 +154,14 @@ one_found p q f rows (x ∷ xs) b e =
 
 -- A LEG
 
-module _ (ends : EndsAreFirst) (carry : PacketsCarryNumbers) (rules : Rules) (keeps : KeepsRules rules) (address : ℕ)
+module _ (ends : EndsAreFirst) (carry : PacketsCarryNumbers) (rules : Rules) (keeps : RulesInvariant rules) (address : ℕ)
     (leg : Leg) (list : List Binding) (clock : ℕ) (later : clock ≤ leg.now) (holders : List Holder)
-    (s : IsSound (pair_of rules) list) (a : AreAccounted rules.timers clock list holders) where
+    (s : IsSound (pair_of rules) list) (a : AreBindingsAccounted rules.timers clock list holders) where
   abbrev timers : Timers
   timers = rules.timers
 
   abbrev all : List Binding
-  all = taken timers leg.now list
+  all = live_and_held timers leg.now list
 
   dead : (n m : ℕ) → n ≤ m → (b : Binding) → is_live timers n b ≡ false → is_live timers m b ≡ false
   dead n m le b e = grind (arith, common_steps, true≢false, lived)
@@ -174,28 +174,28 @@ module _ (ends : EndsAreFirst) (carry : PacketsCarryNumbers) (rules : Rules) (ke
       h.binding d)
   later_one h (inr o) = inr o
 
-  on : AreAccounted timers leg.now list holders
+  on : AreBindingsAccounted timers leg.now list holders
   on = grind (arith, common_steps, each_weaker, later_one)
 
-  abbrev Kept : Acted → Type 0
+  abbrev Kept : LegEffect → Type 0
   Kept acted = IsSound (pair_of rules) acted.list
-      × AreAccounted timers leg.now acted.list (holders_after timers leg.now acted.through holders)
+      × AreBindingsAccounted timers leg.now acted.list (holders_after timers leg.now acted.through holders)
 
   kept_out : (protocol : Protocol) (flags : Flags) → address ≡ pair_of rules (source leg.packet).address →
       IsNumber protocol (source leg.packet).number → Kept (act_out rules address leg list protocol flags)
   kept_out protocol flags paired numbered =
-      let packet : Sent = sent_of rules protocol flags leg.now leg.packet in
+      let packet : OutboundPacket = outbound_packet rules protocol flags leg.now leg.packet in
       let block = keeps.blocks (source leg.packet).address in (
-        out_stays_sound (pair_of rules) timers (granting_of rules) address packet list s paired numbered block,
-        out_keeps_accounts (pair_of rules) timers keeps.timers (granting_of rules) address packet list s paired numbered
+        out_stays_sound (pair_of rules) timers (assignment_rules rules) address packet list s paired numbered block,
+        out_keeps_accounts (pair_of rules) timers keeps.timers (assignment_rules rules) address packet list s paired numbered
             block clock later holders a,
       )
 
   kept_in : (protocol : Protocol) (flags : Flags) → Kept (act_in rules address leg list protocol flags)
   kept_in protocol flags =
-      let packet : Received = received_of protocol flags leg.now leg.packet in (
-        in_stays_sound (pair_of rules) timers (inbound_of rules) address packet list s,
-        in_keeps_accounts timers keeps.timers (inbound_of rules) address packet list clock later holders a,
+      let packet : InboundPacket = inbound_packet protocol flags leg.now leg.packet in (
+        in_stays_sound (pair_of rules) timers (inbound_rules rules) address packet list s,
+        in_keeps_accounts timers keeps.timers (inbound_rules rules) address packet list clock later holders a,
       )
 
   kept_goes : (k : Kind) → address ≡ pair_of rules (local_of k Outgoing leg.packet).address →
@@ -220,7 +220,7 @@ module _ (ends : EndsAreFirst) (carry : PacketsCarryNumbers) (rules : Rules) (ke
   kept_by Incoming at read = kept_comes (kind leg.packet)
 
   -- the holders that are live now are those that the list has
-  ones : (b : Binding) → OneOf (λ x. row x ≡ row b) all → (hs : List Holder) →
+  ones : (b : Binding) → HasOne (λ x. row x ≡ row b) all → (hs : List Holder) →
       Each (IsAccounted timers (hold_ago timers leg.now) all) hs → Each (IsOne timers leg.now (row b)) hs
   ones b there [] k = tt
   ones b there (h ∷ hs) k = (
@@ -234,18 +234,18 @@ module _ (ends : EndsAreFirst) (carry : PacketsCarryNumbers) (rules : Rules) (ke
   )
 
   alike_act : (entries : List Entry) → Alike timers entries holders →
-      Alike timers (logged_by timers leg (act rules address leg list).through entries)
+      Alike timers (entries_after_leg timers leg (act rules address leg list).through entries)
       (holders_after timers leg.now (act rules address leg list).through holders)
   alike_act entries alike =
       of_moves rules keeps.timers address leg list (λ went left.
-      Alike timers (logged_by timers leg went entries) (holders_after timers leg.now went holders)) alike
+      Alike timers (entries_after_leg timers leg went entries) (holders_after timers leg.now went holders)) alike
       (λ p f b found same fresh. alike_through ends timers keeps.timers leg.now leg.way (f b) entries holders alike
-      (ones (f b) (subst (λ (r : Row). OneOf (λ x. row x ≡ r) all) (sym (same b))
+      (ones (f b) (subst (λ (r : Row). HasOne (λ x. row x ≡ r) all) (sym (same b))
       (one_found p (is_live timers leg.now) (with_live_flows timers leg.now) (λ x. refl) all b
       (ap (find p) (purge_taken timers leg.now list) ∙ found)))
       holders (taken_accounted timers clock leg.now later list holders a).each))
       (λ new out is others.
-      let e : Entry = begun timers leg.now new in
+      let e : Entry = first_entry timers leg.now new in
       let end : Option ℕ = end_of timers new in
       alike_push timers entries holders (counted leg.way leg.now end e) (record { made = leg.now; binding = new }) alike
       (record {
@@ -262,44 +262,44 @@ module _ (ends : EndsAreFirst) (carry : PacketsCarryNumbers) (rules : Rules) (ke
 
 module _ (ends : EndsAreFirst) (timers : Timers) (t : AreTimers timers) where
   apart_one : (e d : Entry) (h k : Holder) → IsLike timers e h → IsLike timers d k → HoldersApart timers h k →
-      AreHeldApart timers e d
+      AreEntriesApart timers e d
   apart_one e d h k l m apart p x i = grind (arith, common_steps)
 
   apart_each : (e : Entry) (h : Holder) → IsLike timers e h → (es : List Entry) (hs : List Holder) →
-      Alike timers es hs → Each (HoldersApart timers h) hs → Each (AreHeldApart timers e) es
+      Alike timers es hs → Each (HoldersApart timers h) hs → Each (AreEntriesApart timers e) es
   apart_each e h l [] hs alike apart = tt
   apart_each e h l (d ∷ es) [] alike apart = absurd alike
   apart_each e h l (d ∷ es) (k ∷ hs) alike apart =
       (apart_one e d h k l alike.0 apart.0, apart_each e h l es hs alike.1 apart.1)
 
   apart_all : (es : List Entry) (hs : List Holder) → Alike timers es hs → AllHoldersApart timers hs →
-      HeldApart timers es
+      EntriesStayApart timers es
   apart_all [] hs alike apart = tt
   apart_all (e ∷ es) [] alike apart = absurd alike
   apart_all (e ∷ es) (h ∷ hs) alike apart =
       (apart_each e h alike.0 es hs alike.1 apart.0, apart_all es hs alike.1 apart.1)
 
   alike_begun : (bs : List Binding) →
-      Alike timers (map (begun timers 0) bs) (map (λ b. record { made = 0; binding = b }) bs)
+      Alike timers (map (first_entry timers 0) bs) (map (λ b. record { made = 0; binding = b }) bs)
   alike_begun [] = tt
   alike_begun (b ∷ bs) = (
     record { made = refl; ends = record { protocol = refl; external = refl; inside = refl }; end = refl },
     alike_begun bs,
   )
 
-held_turn : EndsAreFirst → PacketsCarryNumbers → (rules : Rules) → KeepsRules rules → (clock : ℕ) (list : List Binding)
-    (acts : List Act) (last : ℕ) (new : List Binding) (entries : List Entry) (holders : List Holder) →
+held_turn : EndsAreFirst → PacketsCarryNumbers → (rules : Rules) → RulesInvariant rules → (clock : ℕ) (list : List Binding)
+    (acts : List LegAct) (last : ℕ) (new : List Binding) (entries : List Entry) (holders : List Holder) →
     InTurn rules clock list acts last new → IsSound (pair_of rules) list →
-    AreAccounted rules.timers clock list holders → Alike rules.timers entries holders →
-    HeldApart rules.timers (fold (logged rules.timers) entries acts)
+    AreBindingsAccounted rules.timers clock list holders → Alike rules.timers entries holders →
+    EntriesStayApart rules.timers (fold (logged rules.timers) entries acts)
 held_turn ends carry rules keeps clock list [] last new entries holders p s a alike =
     apart_all ends rules.timers keeps.timers entries holders alike a.apart
 held_turn ends carry rules keeps clock list (x ∷ acts) last new entries holders p s a alike =
-    let acted : Acted = act rules x.address x.leg list in
+    let acted : LegEffect = act rules x.address x.leg list in
     let kept = kept_act ends carry rules keeps x.address x.leg list clock p.0.later holders s a p.0.served in
     let after : List Holder = holders_after rules.timers x.leg.now acted.through holders in
     held_turn ends carry rules keeps x.leg.now acted.list acts last new (logged rules.timers entries x) after p.1 kept.0
-    kept.1 (subst (λ (went : Option Through). Alike rules.timers (logged_by rules.timers x.leg went entries) after)
+    kept.1 (subst (λ (went : Option BindingUse). Alike rules.timers (entries_after_leg rules.timers x.leg went entries) after)
     (sym p.0.through)
     (alike_act ends carry rules keeps x.address x.leg list clock p.0.later holders s a entries alike))
 
@@ -309,6 +309,6 @@ held_numbers ends carry begins rules keeps inputs =
     let opened : List Binding = opening rules in
     let sound : IsSound (pair_of rules) opened = begins rules keeps in
     held_turn ends carry rules keeps 0 opened (run rules inputs opened).acts (last_clock 0 inputs)
-    (run rules inputs opened).list (map (begun rules.timers 0) opened)
+    (run rules inputs opened).list (map (first_entry rules.timers 0) opened)
     (map (λ b. record { made = 0; binding = b }) opened) (run_turn rules 0 0 inputs opened) sound
     (accounts_begin (pair_of rules) rules.timers 0 opened sound) (alike_begun ends rules.timers keeps.timers opened)

@@ -3,8 +3,8 @@ use Rattle.std.proofs.lemmas.{Grind.common_steps, Bool.Decides.nat_tests}
 use Rattle.std.proofs.Common.{◌≡◌, ◌≢◌, ℕ, zero, suc, ◌+◌, ◌⊎◌, inl, inr, Bool, true, false, ◌&&◌, ◌||◌, cond, List, [], ◌∷◌, ◌++◌, Option, Some, None, refl, sym, ◌∙◌, ap, subst, arith}
 use Rattle.std.{specs.{Prelude.{filter, not, nat_lt}, List.slice_get}, proofs.lemmas.Option.same_Some}
 use Rattle.napt_rules.specs.Prelude.{Each}
-use Rattle.napt_account.specs.declared.log.{Entry.Entry, Listed.Listed}
-use Rattle.napt_account.specs.Telling.{numbered_from, is_sooner, ends_first, placed, in_order_of_end}
+use Rattle.napt_account.specs.declared.log.{Entry.Entry, LogEntry.LogEntry}
+use Rattle.napt_account.specs.LogParts.{numbered_from, is_sooner, ends_first, placed, in_order_of_end}
 
 abbrev pub Has : {X : Type 0} → List X → X → Type 0
 Has [] x = ⊥
@@ -106,15 +106,15 @@ first_then None (Some b) c l m n h g = cc
 first_then None None (Some c) l m n h g = cc
 first_then None None None l m n h g = grind (arith, nat_tests, h, g)
 
-abbrev pub Differ : List Listed → Type 0
+abbrev pub Differ : List LogEntry → Type 0
 Differ = Along (λ x y. x.number ≢ y.number)
 
-abbrev pub InOrder : List Listed → Type 0
+abbrev pub InOrder : List LogEntry → Type 0
 InOrder = InTurn ends_first
 
 -- AN INSERTION
 
-pub placed_has : (l : Listed) (xs : List Listed) (x : Listed) → Has (placed l xs) x → (l ≡ x) ⊎ Has xs x
+pub placed_has : (l : LogEntry) (xs : List LogEntry) (x : LogEntry) → Has (placed l xs) x → (l ≡ x) ⊎ Has xs x
 placed_has l [] x h = h
 placed_has l (y ∷ ys) x h = elim (ends_first l y) as (λ v. Has (cond v (l ∷ y ∷ ys) (y ∷ placed l ys)) x →
     (l ≡ x) ⊎ ((y ≡ x) ⊎ Has ys x)) [
@@ -125,7 +125,7 @@ placed_has l (y ∷ ys) x h = elim (ends_first l y) as (λ v. Has (cond v (l ∷
       ]
     ] h
 
-pub has_placed : (l : Listed) (xs : List Listed) (x : Listed) → (l ≡ x) ⊎ Has xs x → Has (placed l xs) x
+pub has_placed : (l : LogEntry) (xs : List LogEntry) (x : LogEntry) → (l ≡ x) ⊎ Has xs x → Has (placed l xs) x
 has_placed l [] x h = h
 has_placed l (y ∷ ys) x h = elim (ends_first l y) as (λ v. Has (cond v (l ∷ y ∷ ys) (y ∷ placed l ys)) x) [
   | true ↦ h
@@ -135,7 +135,7 @@ has_placed l (y ∷ ys) x h = elim (ends_first l y) as (λ v. Has (cond v (l ∷
   ]
 ]
 
-placed_order : (l : Listed) (xs : List Listed) → InOrder xs → Each (λ y. l.number ≢ y.number) xs → InOrder (placed l xs)
+placed_order : (l : LogEntry) (xs : List LogEntry) → InOrder xs → Each (λ y. l.number ≢ y.number) xs → InOrder (placed l xs)
 placed_order l [] s differ = (tt, tt)
 placed_order l (y ∷ ys) s differ = elim (ends_first l y) as (λ v. ends_first l y ≡ v →
     InOrder (cond v (l ∷ y ∷ ys) (y ∷ placed l ys))) [
@@ -150,7 +150,7 @@ placed_order l (y ∷ ys) s differ = elim (ends_first l y) as (λ v. ends_first 
       )
       | false ↦ λ e. (
         has_each (λ z. ends_first y z ≡ true) (placed l ys) (λ z there. elim (placed_has l ys z there) [
-          | inl is ↦ subst (λ (w : Listed). ends_first y w ≡ true) is
+          | inl is ↦ subst (λ (w : LogEntry). ends_first y w ≡ true) is
               (either l.entry.end y.entry.end l.number y.number differ.0 e)
           | inr also ↦ each_has (λ w. ends_first y w ≡ true) ys z s.0 also
         ]),
@@ -160,25 +160,25 @@ placed_order l (y ∷ ys) s differ = elim (ends_first l y) as (λ v. ends_first 
 
 -- A LIST PUT IN ORDER
 
-pub order_has : (xs : List Listed) (x : Listed) → Has (in_order_of_end xs) x → Has xs x
+pub order_has : (xs : List LogEntry) (x : LogEntry) → Has (in_order_of_end xs) x → Has xs x
 order_has [] x h = h
 order_has (l ∷ xs) x h = elim (placed_has l (in_order_of_end xs) x h)
     [ inl is ↦ inl is | inr there ↦ inr (order_has xs x there) ]
 
-pub has_order : (xs : List Listed) (x : Listed) → Has xs x → Has (in_order_of_end xs) x
+pub has_order : (xs : List LogEntry) (x : LogEntry) → Has xs x → Has (in_order_of_end xs) x
 has_order [] x h = h
 has_order (l ∷ xs) x (inl is) = has_placed l (in_order_of_end xs) x (inl is)
 has_order (l ∷ xs) x (inr there) = has_placed l (in_order_of_end xs) x (inr (has_order xs x there))
 
-pub order_is : (xs : List Listed) → Differ xs → InOrder (in_order_of_end xs)
+pub order_is : (xs : List LogEntry) → Differ xs → InOrder (in_order_of_end xs)
 order_is [] differ = tt
 order_is (l ∷ xs) differ = placed_order l (in_order_of_end xs) (order_is xs differ.1)
     (has_each (λ y. l.number ≢ y.number) (in_order_of_end xs) (λ y there.
     each_has (λ z. l.number ≢ z.number) xs y differ.0 (order_has xs y there)))
 
 -- a list in order with the elements of another is that one put in order
-pub is_order : (xs ys : List Listed) → InOrder xs → Differ ys → ((x : Listed) → Has xs x → Has ys x) →
-    ((x : Listed) → Has ys x → Has xs x) → xs ≡ in_order_of_end ys
+pub is_order : (xs ys : List LogEntry) → InOrder xs → Differ ys → ((x : LogEntry) → Has xs x → Has ys x) →
+    ((x : LogEntry) → Has ys x → Has xs x) → xs ≡ in_order_of_end ys
 is_order xs ys s differ f g = same_turn ends_first
     (λ x y. not_both x.entry.end y.entry.end x.number y.number) xs (in_order_of_end ys) s (order_is ys differ)
     (λ x h. has_order ys x (f x h)) (λ x h. g x (order_has ys x h))
@@ -192,17 +192,17 @@ has_number n (x ∷ es) zero e at m is = grind (arith, common_steps, nat_tests, 
 has_number n (x ∷ es) (suc i) e at m is = inr (has_number (n + 1) es i e at m (omega arith))
 
 -- the place of a number from another on
-pub record IsNumbered (n : ℕ) (es : List Entry) (l : Listed) : Type 0 where
+pub record IsNumbered (n : ℕ) (es : List Entry) (l : LogEntry) : Type 0 where
   pub place : ℕ
   pub is : l.number ≡ n + place
   pub there : slice_get es place ≡ Some l.entry
 
-pub number_has : (n : ℕ) (es : List Entry) (l : Listed) → Has (numbered_from n es) l → IsNumbered n es l
+pub number_has : (n : ℕ) (es : List Entry) (l : LogEntry) → Has (numbered_from n es) l → IsNumbered n es l
 number_has n [] l h = absurd h
 number_has n (x ∷ es) l (inl is) = record {
   place = 0;
-  is = (let same : n ≡ l.number = ap (λ (y : Listed). y.number) is in omega arith);
-  there = ap (λ (y : Listed). Some y.entry) is;
+  is = (let same : n ≡ l.number = ap (λ (y : LogEntry). y.number) is in omega arith);
+  there = ap (λ (y : LogEntry). Some y.entry) is;
 }
 number_has n (x ∷ es) l (inr h) =
     let rest = number_has (n + 1) es l h in
@@ -215,12 +215,12 @@ number_has n (x ∷ es) l (inr h) =
 numbers_differ : (n : ℕ) (es : List Entry) → Differ (numbered_from n es)
 numbers_differ n [] = tt
 numbers_differ n (x ∷ es) = (
-  has_each (λ (y : Listed). n ≢ y.number) (numbered_from (n + 1) es) (λ y there.
+  has_each (λ (y : LogEntry). n ≢ y.number) (numbered_from (n + 1) es) (λ y there.
       let at = number_has (n + 1) es y there in λ same. let is = at.is in absurd (omega (arith, same, is))),
   numbers_differ (n + 1) es,
 )
 
-pub differ_filter : (p : Listed → Bool) (xs : List Listed) → Differ xs → Differ (filter p xs)
+pub differ_filter : (p : LogEntry → Bool) (xs : List LogEntry) → Differ xs → Differ (filter p xs)
 differ_filter p [] h = tt
 differ_filter p (x ∷ xs) h = elim (p x) as (λ v. Differ (cond v (x ∷ filter p xs) (filter p xs))) [
   | true ↦ (
@@ -231,5 +231,5 @@ differ_filter p (x ∷ xs) h = elim (p x) as (λ v. Differ (cond v (x ∷ filter
   | false ↦ differ_filter p xs h.1
 ]
 
-pub numbered_differ : (p : Listed → Bool) (es : List Entry) → Differ (filter p (numbered_from 1 es))
+pub numbered_differ : (p : LogEntry → Bool) (es : List Entry) → Differ (filter p (numbered_from 1 es))
 numbered_differ p es = differ_filter p (numbered_from 1 es) (numbers_differ 1 es)

@@ -7,12 +7,12 @@ use Rattle.std.proofs.lemmas.{List.Sorted.{IsPermutation-map, IsPermutation-sym}
 use denote.Enum.Bare.{sameb}
 use Rattle.napt_wire.specs.{contracts.Protocol.the_type, declared.Protocol.{Protocol, TheVariants.{Udp, Tcp, Icmp}}}
 use Rattle.napt_wire.specs.contracts.ProtocolOrd.TheImpl as protocols
-use Rattle.napt_rules.specs.{declared.Row.Row, Prelude.{Binding, Each, KeepsRules, Rules, State, Takes, is_live, purge, row, under}}
-use Rattle.napt_laws.proofs.Taken.{state_sound}
-use Rattle.napt_table.specs.{declared.TimedRow.TimedRow, TimedRows.timed}
-use Rattle.napt_account.specs.declared.open_entries.ExternalKey.{ExternalKey}
-use Rattle.napt_account.specs.{GoingOn.{IsLogOf, LogState, timed_by}, LogStates.AreKeyed, OpenEntries.{external_cmp, external_eq, external_key}}
-use Rattle.napt_account.specs.contracts.open_entries.ExternalKeyOrd.TheImpl.Laws as laws
+use Rattle.napt_rules.specs.{declared.Row.Row, Prelude.{Binding, Each, RulesInvariant, Rules, State, TakesState, is_live, purge, row, with_redirects}}
+use Rattle.napt_laws.proofs.TakenStates.{state_sound}
+use Rattle.napt_table.specs.{declared.TimedRow.TimedRow, TimedRows.timed_row}
+use Rattle.napt_account.specs.declared.open_entries.EntryKey.{EntryKey}
+use Rattle.napt_account.specs.{ResumedLogRuns.{IsLogOf, LogStateModel, timed_by}, LogStates.AreKeyed, OpenEntries.{external_cmp, external_eq, entry_key}}
+use Rattle.napt_account.specs.contracts.open_entries.EntryKeyOrd.TheImpl.Laws as laws
 use Rattle.napt_account.proofs.{Entries.{apart_differ, rows_purge}, InOrder.{Along, Has, InTurn, same_turn}, Lists.map_twice, Moves.{AllDiffer, Differ, differ_kept}, OpenEntries.{external_flip, external_is}}
 use Rattle.napt_account.proofs.Sorted.{has_back, has_moved, sorted_turn}
 
@@ -30,17 +30,17 @@ protocol_tie Udp Icmp h = cc
 protocol_tie Udp Tcp h = cc
 protocol_tie Udp Udp h = refl
 
-key_tie : (a b : ExternalKey) → external_cmp a b ≡ Equal → external_eq a b ≡ true
+key_tie : (a b : EntryKey) → external_cmp a b ≡ Equal → external_eq a b ≡ true
 key_tie a b h = grind (arith, common_steps, nat_tests, protocol_tie)
 
-abbrev key_of : TimedRow → ExternalKey
-key_of t = external_key t.row
+abbrev key_of : TimedRow → EntryKey
+key_of t = entry_key t.row
 
 abbrev share : Row → Row → Bool
-share a b = external_eq (external_key a) (external_key b)
+share a b = external_eq (entry_key a) (entry_key b)
 
 share_flip : (a b : Row) → share a b ≡ share b a
-share_flip a b = external_flip (external_key a) (external_key b)
+share_flip a b = external_flip (entry_key a) (entry_key b)
 
 abbrev before : TimedRow → TimedRow → Bool
 before t u = is_lt (external_cmp (key_of t) (key_of u))
@@ -113,8 +113,8 @@ keyed_before row (y ∷ xs) keyed (suc k) d lt x (inr h) = keyed_before row xs k
 not_shared : (r s : Row) → Differ r s → share r s ≡ false
 not_shared r s differ = elim (share r s) as (λ v. share r s ≡ v → v ≡ false) [
   | true ↦ λ is.
-      let same : external_key r ≡ external_key s = external_is (external_key r) (external_key s) is in
-      absurd (differ (ap (λ (k : ExternalKey). k.protocol) same)
+      let same : entry_key r ≡ entry_key s = external_is (entry_key r) (entry_key s) is in
+      absurd (differ (ap (λ (k : EntryKey). k.protocol) same)
       (λ i. record { address = (same i).address; number = (same i).number }))
   | false ↦ λ is. refl
 ] refl
@@ -128,20 +128,20 @@ unfolding IsDistinct
 differ_keyed [] h = tt
 differ_keyed (r ∷ rs) h = (keyed_each r rs h.0, differ_keyed rs h.1)
 
-pub live_keyed : (rules : Rules) → KeepsRules rules → (state : State) → Takes rules state →
-    AreKeyed (map (λ t. t.row) (map (timed rules.timers) (purge rules.timers state.clock (under rules state).list)))
+pub live_keyed : (rules : Rules) → RulesInvariant rules → (state : State) → TakesState rules state →
+    AreKeyed (map (λ t. t.row) (map (timed_row rules.timers) (purge rules.timers state.clock (with_redirects rules state).list)))
 live_keyed rules keeps state takes =
-    let list : List Binding = (under rules state).list in
+    let list : List Binding = (with_redirects rules state).list in
     let live : List Binding = purge rules.timers state.clock list in
     let differ : AllDiffer (map row live) = subst AllDiffer (sym (rows_purge rules.timers state.clock list))
     (differ_kept (is_live rules.timers state.clock) list
     (apart_differ (map row list) (state_sound rules keeps state takes).apart)) in
-    subst AreKeyed (sym (map_twice (λ (t : TimedRow). t.row) (timed rules.timers) live))
+    subst AreKeyed (sym (map_twice (λ (t : TimedRow). t.row) (timed_row rules.timers) live))
     (differ_keyed (map row live) differ)
 
 -- and so the entries of a log of it
-pub log_keyed : (rules : Rules) → KeepsRules rules → (state : State) → Takes rules state → (log : LogState) →
-    IsLogOf rules (under rules state) log → AreKeyed (map (λ l. l.entry.binding) log.living)
+pub log_keyed : (rules : Rules) → RulesInvariant rules → (state : State) → TakesState rules state → (log : LogStateModel) →
+    IsLogOf rules (with_redirects rules state) log → AreKeyed (map (λ l. l.entry.binding) log.living)
 log_keyed rules keeps state takes log is =
     subst AreKeyed (map_twice (λ (t : TimedRow). t.row) timed_by log.living)
     (keyed_moved (map (λ t. t.row) (map timed_by log.living)) _

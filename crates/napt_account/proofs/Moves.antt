@@ -1,10 +1,10 @@
 -- What a leg does to the bindings: nothing, a change of one that it found and went through, or a new one.
 use Rattle.std.proofs.Common.{arith, ◌≡◌, ℕ, Bool, true, false, not, cond, List, [], ◌∷◌, ◌++◌, map, filter, Option, Some, None, Result, Ok, Err, refl, sym, ◌∙◌, ap, subst, true≢false}
 use Rattle.std.{proofs.lemmas.{Grind.common_steps, Bool.{Decides.nat_tests, not-true}}, specs.{Prelude.find, List.list_any}}
-use Rattle.napt_rules.specs.Prelude.{Through, Binding, Each, change_first, has_number, is_live, with_live_flows, purge, hold_ago, taken, permits, inbound_of, granting_of, of_source, sent_by, of_others, fresh, out_made, granted_again, out_found, of_destination, received_by, in_found, sent_of, received_of, Acted, act_out, act_in, act_by, act, row, Protocol, Cause, Flags, Way, Outgoing, Kind, kind, Rules, AreTimers}
-use Rattle.napt_rules.specs.declared.{Granting.Granting, Sent.Sent, Received.Received, Row.Row, Leg.Leg}
+use Rattle.napt_rules.specs.Prelude.{BindingUse, Binding, Each, change_first, has_number, is_live, with_live_flows, purge, hold_ago, live_and_held, permits, inbound_rules, assignment_rules, is_of_source, binding_after_out, other_bindings, new_binding, out_made, granted_again, out_found, is_of_destination, binding_after_in, in_found, outbound_packet, inbound_packet, LegEffect, act_out, act_in, act_by, act, row, Protocol, Cause, Flags, Way, Outgoing, Kind, kind, Rules, AreTimers}
+use Rattle.napt_rules.specs.declared.{AssignmentRules.AssignmentRules, OutboundPacket.OutboundPacket, InboundPacket.InboundPacket, Row.Row, Leg.Leg}
 use Rattle.napt_laws.proofs.{Passes.in_passed, Acts.of_act, Lists.{any_none, find_passes, each_weaker, each_pushed, each_kept, each_true}, Endpoints.{has_it, inside_parts}}
-use Rattle.napt_laws.proofs.{Fresh.{IsFresh, sent_fresh, received_fresh}, Held.each_rows, Living.purge_taken, StepRows.{purge_keeps, out_keeps, in_keeps}}
+use Rattle.napt_laws.proofs.{FreshBindings.{IsFresh, sent_fresh, received_fresh}, HeldNumbers.each_rows, SeenElements.purge_taken, StepRows.{purge_keeps, out_keeps, in_keeps}}
 use Rattle.napt_laws.proofs.{StepsLive.{sent_seen, made_is_seen, made_is_fresh, received_seen}, Quotas.granted_is_chosen, StepsSound.chosen_free}
 
 -- two rows of one protocol have not one external endpoint
@@ -79,15 +79,15 @@ module _ (t : Binding → Bool) where
           | false ↦ λ none. each_seen q f same rows xs h.1 none
         ] none
 
-module _ (granting : Granting) (address : ℕ) (packet : Sent) (list : List Binding) (n : ℕ)
+module _ (granting : AssignmentRules) (address : ℕ) (packet : OutboundPacket) (list : List Binding) (n : ℕ)
     (differ : AllDiffer (map row list)) where
   abbrev new : Row
-  new = row (fresh address packet n)
+  new = row (new_binding address packet n)
 
   abbrev IsOther : Binding → Type 0
-  IsOther y = of_source address packet y ≡ false → Differ (row y) new
+  IsOther y = is_of_source address packet y ≡ false → Differ (row y) new
 
-  granted_differ : (held : Option Binding) → find (of_source address packet) list ≡ held →
+  granted_differ : (held : Option Binding) → find (is_of_source address packet) list ≡ held →
       granted_again granting list address packet held ≡ Ok n → Each IsOther list
   granted_differ None is e =
       let unused = chosen_free granting.choosing packet.block list packet.protocol address packet.inside n
@@ -96,44 +96,44 @@ module _ (granting : Granting) (address : ℕ) (packet : Sent) (list : List Bind
       each_weaker (λ y. Differ (row y) new) IsOther (λ y d isnt. d) list (each_rows (λ r. Differ r new) list
       (free_differ new list (any_none has list (not-true (list_any has list) unused))))
   granted_differ (Some b) is e =
-      let found = find_passes (of_source address packet) (λ b. Unit {0}) list b (each_true list) is in
+      let found = find_passes (is_of_source address packet) (λ b. Unit {0}) list b (each_true list) is in
       let parts = inside_parts address packet.protocol packet.inside (row b) found.0 in
       let number : b.row.external.number ≡ n = cc in
-      each_weaker (λ y. of_source address packet y ≡ false → Differ (row y) (row b)) IsOther (λ y d isnt p g.
+      each_weaker (λ y. is_of_source address packet y ≡ false → Differ (row y) (row b)) IsOther (λ y d isnt p g.
       d isnt (p ∙ parts.protocol_is)
       (g ∙ (λ k. record { address = sym parts.address_is k; number = sym number k }))) list
-      (others_differ (of_source address packet) list b differ is)
+      (others_differ (is_of_source address packet) list b differ is)
 
 -- a leg leaves rows that differ so
 pub differ_act : (rules : Rules) (address : ℕ) (leg : Leg) (list : List Binding) → AllDiffer (map row list) →
     AllDiffer (map row (act rules address leg list).list)
 differ_act rules address leg list differ =
-    of_act rules address leg list (λ (a : Acted). AllDiffer (map row a.list))
-    (λ protocol flags. let packet : Sent = sent_of rules protocol flags leg.now leg.packet in
-    out_keeps AllDiffer differ_kept rules.timers address (granting_of rules) packet (λ all n h none is.
-    differ_push (map row (of_others address packet all)) (row (fresh address packet n))
-    (differ_kept (λ b. not (of_source address packet b)) all h)
-    (each_other (of_source address packet) (λ r. Differ r (row (fresh address packet n))) all
-    (granted_differ (granting_of rules) address packet all n h (find (of_source address packet) all) refl is)))
+    of_act rules address leg list (λ (a : LegEffect). AllDiffer (map row a.list))
+    (λ protocol flags. let packet : OutboundPacket = outbound_packet rules protocol flags leg.now leg.packet in
+    out_keeps AllDiffer differ_kept rules.timers address (assignment_rules rules) packet (λ all n h none is.
+    differ_push (map row (other_bindings address packet all)) (row (new_binding address packet n))
+    (differ_kept (λ b. not (is_of_source address packet b)) all h)
+    (each_other (is_of_source address packet) (λ r. Differ r (row (new_binding address packet n))) all
+    (granted_differ (assignment_rules rules) address packet all n h (find (is_of_source address packet) all) refl is)))
     list differ)
-    (λ protocol flags. in_keeps AllDiffer differ_kept rules.timers address (inbound_of rules)
-    (received_of protocol flags leg.now leg.packet) list differ)
+    (λ protocol flags. in_keeps AllDiffer differ_kept rules.timers address (inbound_rules rules)
+    (inbound_packet protocol flags leg.now leg.packet) list differ)
     (λ end. differ) leg.way (kind leg.packet)
 
 module _ (rules : Rules) (t : AreTimers rules.timers) (address : ℕ) (leg : Leg) (list : List Binding)
-    (P : Option Through → List Binding → Type 0) where
+    (P : Option BindingUse → List Binding → Type 0) where
   -- what lives
   abbrev own : List Binding
   own = purge rules.timers leg.now list
 
   abbrev all : List Binding
-  all = taken rules.timers leg.now list
+  all = live_and_held rules.timers leg.now list
 
   same : purge rules.timers leg.now all ≡ own
   same = purge_taken rules.timers leg.now list
 
   -- what lives of what a leg leaves
-  abbrev Moves : Option Through → List Binding → Type 0
+  abbrev Moves : Option BindingUse → List Binding → Type 0
   Moves went left = P went (purge rules.timers leg.now left)
 
   module _ (stays : P None own)
@@ -148,70 +148,70 @@ module _ (rules : Rules) (t : AreTimers rules.timers) (address : ℕ) (leg : Leg
     held_stays = subst (P None) (sym same) stays
 
     module _ (out : leg.way ≡ Outgoing) (protocol : Protocol) (flags : Flags) where
-      abbrev packet : Sent
-      packet = sent_of rules protocol flags leg.now leg.packet
+      abbrev packet : OutboundPacket
+      packet = outbound_packet rules protocol flags leg.now leg.packet
 
       abbrev source : Binding → Bool
-      source = of_source address packet
+      source = is_of_source address packet
 
-      new_differs : (n : ℕ) → granted_again (granting_of rules) all address packet (find source all) ≡ Ok n →
+      new_differs : (n : ℕ) → granted_again (assignment_rules rules) all address packet (find source all) ≡ Ok n →
           find source (purge rules.timers leg.now all) ≡ None → AllDiffer (map row list) →
-          Each (λ r. Differ r (row (fresh address packet n))) (map row own)
+          Each (λ r. Differ r (row (new_binding address packet n))) (map row own)
       new_differs n e none differ =
-          subst (λ (l : List Binding). Each (λ r. Differ r (row (fresh address packet n))) (map row l)) same
-          (each_seen source (λ r. Differ r (row (fresh address packet n))) (is_live rules.timers leg.now)
+          subst (λ (l : List Binding). Each (λ r. Differ r (row (new_binding address packet n))) (map row l)) same
+          (each_seen source (λ r. Differ r (row (new_binding address packet n))) (is_live rules.timers leg.now)
           (with_live_flows rules.timers leg.now) (λ x. refl) (λ x. refl) all
-          (granted_differ (granting_of rules) address packet all n
+          (granted_differ (assignment_rules rules) address packet all n
           (purge_keeps AllDiffer differ_kept rules.timers (hold_ago rules.timers leg.now) list differ)
           (find source all) refl e) none)
 
       moves_made : find source (purge rules.timers leg.now all) ≡ None → (number : Result ℕ Cause) →
-          granted_again (granting_of rules) all address packet (find source all) ≡ number →
+          granted_again (assignment_rules rules) all address packet (find source all) ≡ number →
           Moves (out_made all address packet number).through (out_made all address packet number).list
       moves_made none (Err cause) e = held_stays
       moves_made none (Ok n) e =
-          let new : Binding = sent_by packet (fresh address packet n) in
+          let new : Binding = binding_after_out packet (new_binding address packet n) in
           subst (P (Some (record { binding = new; made = true })))
           (sym (made_is_seen rules.timers t address packet n all none ∙ ap (λ (l : List Binding). l ++ new ∷ []) same))
           (made new out (made_is_fresh rules.timers t address packet n) (new_differs n e none))
 
       moves_found : (o : Option Binding) → find source (purge rules.timers leg.now all) ≡ o →
-          Moves (out_found rules.timers (granting_of rules) all address packet o).through
-          (out_found rules.timers (granting_of rules) all address packet o).list
+          Moves (out_found rules.timers (assignment_rules rules) all address packet o).through
+          (out_found rules.timers (assignment_rules rules) all address packet o).list
       moves_found (Some b) e =
-          subst (P (Some (record { binding = sent_by packet b; made = false })))
-          (sym (sent_seen rules.timers t address packet all ∙ ap (change_first source (sent_by packet)) same))
-          (found source (sent_by packet) b (ap (find source) (sym same) ∙ e) (λ x. refl)
+          subst (P (Some (record { binding = binding_after_out packet b; made = false })))
+          (sym (sent_seen rules.timers t address packet all ∙ ap (change_first source (binding_after_out packet)) same))
+          (found source (binding_after_out packet) b (ap (find source) (sym same) ∙ e) (λ x. refl)
           (λ x f. sent_fresh rules.timers t packet.remote flags leg.now x f.flows))
-      moves_found None e = moves_made e (granted_again (granting_of rules) all address packet (find source all)) refl
+      moves_found None e = moves_made e (granted_again (assignment_rules rules) all address packet (find source all)) refl
 
       goes : Moves (act_out rules address leg list protocol flags).through
           (act_out rules address leg list protocol flags).list
       goes = moves_found (find source (purge rules.timers leg.now all)) refl
 
     module _ (protocol : Protocol) (flags : Flags) where
-      abbrev came : Received
-      came = received_of protocol flags leg.now leg.packet
+      abbrev came : InboundPacket
+      came = inbound_packet protocol flags leg.now leg.packet
 
       abbrev target : Binding → Bool
-      target = of_destination address came
+      target = is_of_destination address came
 
       moves_passed : (b : Binding) → find target (purge rules.timers leg.now all) ≡ Some b → (passes : Bool) →
-          Moves (in_passed rules.timers (inbound_of rules) all address came b passes).through
-          (in_passed rules.timers (inbound_of rules) all address came b passes).list
+          Moves (in_passed rules.timers (inbound_rules rules) all address came b passes).through
+          (in_passed rules.timers (inbound_rules rules) all address came b passes).list
       moves_passed b e true =
-          subst (P (Some (record { binding = received_by (inbound_of rules) came b; made = false })))
-          (sym (received_seen rules.timers t (inbound_of rules) address came all
-          ∙ ap (change_first target (received_by (inbound_of rules) came)) same))
-          (found target (received_by (inbound_of rules) came) b (ap (find target) (sym same) ∙ e) (λ x. refl)
-          (received_fresh rules.timers t came.remote flags leg.now (inbound_of rules)))
+          subst (P (Some (record { binding = binding_after_in (inbound_rules rules) came b; made = false })))
+          (sym (received_seen rules.timers t (inbound_rules rules) address came all
+          ∙ ap (change_first target (binding_after_in (inbound_rules rules) came)) same))
+          (found target (binding_after_in (inbound_rules rules) came) b (ap (find target) (sym same) ∙ e) (λ x. refl)
+          (received_fresh rules.timers t came.remote flags leg.now (inbound_rules rules)))
       moves_passed b e false = held_stays
 
       moves_came : (o : Option Binding) → find target (purge rules.timers leg.now all) ≡ o →
-          Moves (in_found rules.timers (inbound_of rules) all address came o).through
-          (in_found rules.timers (inbound_of rules) all address came o).list
+          Moves (in_found rules.timers (inbound_rules rules) all address came o).through
+          (in_found rules.timers (inbound_rules rules) all address came o).list
       moves_came None e = held_stays
-      moves_came (Some b) e = moves_passed b e (permits (inbound_of rules) b came.remote)
+      moves_came (Some b) e = moves_passed b e (permits (inbound_rules rules) b came.remote)
 
       comes : Moves (act_in rules address leg list protocol flags).through
           (act_in rules address leg list protocol flags).list

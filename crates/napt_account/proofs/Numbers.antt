@@ -3,19 +3,19 @@ use Rattle.std.proofs.lemmas.{Grind.common_steps, Bool.Decides.nat_tests}
 use Rattle.std.proofs.Common.{◌≡◌, ℕ, zero, suc, ◌+◌, ◌<◌, ◌≤◌, true, false, cond, List, [], ◌∷◌, length, map, get_or, eqb, Some, refl, sym, ◌∙◌, ap, arith}
 use Rattle.std.{specs.List.{All, sum_by, slice_get, Sorted.{IsNonDecreasingBy, IsPermutation}}, proofs.lemmas.Bool.{eqb-true, eqb-false}}
 use Rattle.std.proofs.lemmas.{List.{Sorted.{All-permutation, IsPermutation-sym, sum_by-IsPermutation}, Sums.sum_by-cons}, Option.same_Some}
-use Rattle.napt_account.{specs.{declared.log.{Entry.Entry, Listed.Listed}, Telling.{numbered, numbered_from}}, proofs.InOrder.IsNumbered}
+use Rattle.napt_account.{specs.{declared.log.{Entry.Entry, LogEntry.LogEntry}, LogParts.{numbered_entries, numbered_from}}, proofs.InOrder.IsNumbered}
 
-abbrev number : Listed → ℕ
+abbrev number : LogEntry → ℕ
 number listed = listed.number
 
 -- 1 for the entry of a number
 abbrev is_number : ℕ → ℕ → ℕ
 is_number n m = cond (eqb m n) 1 0
 
-abbrev has_number : ℕ → Listed → ℕ
+abbrev has_number : ℕ → LogEntry → ℕ
 has_number n listed = is_number n listed.number
 
-number_at : (n : ℕ) (es : List Entry) (k : ℕ) (d : Listed) → k < length (numbered_from n es) →
+number_at : (n : ℕ) (es : List Entry) (k : ℕ) (d : LogEntry) → k < length (numbered_from n es) →
     IsNumbered n es (get_or (numbered_from n es) k d)
 number_at n [] k d lt = absurd (omega arith)
 number_at n (e ∷ es) zero d lt = record { place = 0; is = omega arith; there = refl }
@@ -27,7 +27,7 @@ number_at n (e ∷ es) (suc k) d lt =
       there = rest.there;
     }
 
-none_sum : (f : Listed → ℕ) (xs : List Listed) → ((k : ℕ) (d : Listed) → k < length xs → f (get_or xs k d) ≡ 0) →
+none_sum : (f : LogEntry → ℕ) (xs : List LogEntry) → ((k : ℕ) (d : LogEntry) → k < length xs → f (get_or xs k d) ≡ 0) →
     sum_by f xs ≡ 0
 none_sum f [] none = refl
 none_sum f (x ∷ xs) none =
@@ -35,7 +35,7 @@ none_sum f (x ∷ xs) none =
     let rest = none_sum f xs (λ k d lt. none (suc k) d (omega arith)) in
     let both = sum_by-cons f x xs in omega (arith, both, here, rest)
 
-sum_none : (f : Listed → ℕ) (xs : List Listed) → sum_by f xs ≡ 0 → (k : ℕ) (d : Listed) → k < length xs →
+sum_none : (f : LogEntry → ℕ) (xs : List LogEntry) → sum_by f xs ≡ 0 → (k : ℕ) (d : LogEntry) → k < length xs →
     f (get_or xs k d) ≡ 0
 sum_none f xs h k d g = grind (arith, common_steps, nat_tests, sum_by-cons)
 
@@ -45,11 +45,11 @@ other n m differ = grind (arith, common_steps, nat_tests)
 differs : (n m : ℕ) → is_number n m ≡ 0 → m ≡ n → ⊥
 differs n m none same = grind (arith, common_steps, nat_tests)
 
-same_one : (n : ℕ) (es : List Entry) (x : Listed) (e : Entry) (place : ℕ) → x.number ≡ n + place →
+same_one : (n : ℕ) (es : List Entry) (x : LogEntry) (e : Entry) (place : ℕ) → x.number ≡ n + place →
     slice_get (e ∷ es) place ≡ Some x.entry → x.number ≡ n → x ≡ record { number = n; entry = e }
 same_one n es x e place h k g = grind (arith, common_steps, nat_tests, same_Some)
 
-next_number : (n : ℕ) (e : Entry) (es : List Entry) (l : Listed) (place : ℕ) → l.number ≡ n + place →
+next_number : (n : ℕ) (e : Entry) (es : List Entry) (l : LogEntry) (place : ℕ) → l.number ≡ n + place →
     slice_get (e ∷ es) place ≡ Some l.entry → (l.number ≡ n → ⊥) → IsNumbered (n + 1) es l
 next_number n e es l zero is there differ = absurd (differ (omega (arith, is)))
 next_number n e es l (suc place) is there differ =
@@ -59,7 +59,7 @@ once : (n : ℕ) → is_number n n ≡ 1
 once n = grind (arith, common_steps, nat_tests)
 
 -- what stands in order of number, each number once, is in the order of making
-sorted_is : (n : ℕ) (es : List Entry) (xs : List Listed) → IsNonDecreasingBy number xs → All (IsNumbered n es) xs →
+sorted_is : (n : ℕ) (es : List Entry) (xs : List LogEntry) → IsNonDecreasingBy number xs → All (IsNumbered n es) xs →
     ((m : ℕ) → sum_by (has_number m) xs ≡ sum_by (has_number m) (numbered_from n es)) → xs ≡ numbered_from n es
 sorted_is n [] [] sorted all sums = refl
 sorted_is n [] (x ∷ xs) sorted all sums = let at = (all 0 x (omega arith)).there in cc
@@ -69,8 +69,8 @@ sorted_is n (e ∷ es) [] sorted all sums =
     let one = once n in
     absurd (omega (arith, none, both, one))
 sorted_is n (e ∷ es) (x ∷ xs) sorted all sums =
-    let head : Listed = record { number = n; entry = e } in
-    let later : List Listed = numbered_from (n + 1) es in
+    let head : LogEntry = record { number = n; entry = e } in
+    let later : List LogEntry = numbered_from (n + 1) es in
     let none_later : sum_by (has_number n) later ≡ 0 = none_sum (has_number n) later (λ k d lt.
     let at = number_at (n + 1) es k d lt in
     other n (get_or later k d).number (λ same. let is = at.is in omega (arith, same, is))) in
@@ -93,8 +93,8 @@ sorted_is n (e ∷ es) (x ∷ xs) sorted all sums =
     let same : x ≡ head = same_one n es x e first.place first.is first.there is_head in
     let counts : has_number n x ≡ 1 = ap (has_number n) same ∙ one in
     let none_left : sum_by (has_number n) xs ≡ 0 = omega (arith, left, whole, right, one, counts, none_later) in
-    ap (λ (l : Listed). l ∷ xs) same
-    ∙ ap (λ (ls : List Listed). head ∷ ls) (sorted_is (n + 1) es xs
+    ap (λ (l : LogEntry). l ∷ xs) same
+    ∙ ap (λ (ls : List LogEntry). head ∷ ls) (sorted_is (n + 1) es xs
     (λ i j d le lt. sorted (suc i) (suc j) d (omega arith) (omega arith))
     (λ k d lt. let at = all (suc k) d (omega arith) in
     next_number n e es (get_or xs k d) at.place at.is at.there
@@ -104,17 +104,17 @@ sorted_is n (e ∷ es) (x ∷ xs) sorted all sums =
     let all_of = sums m in
     let heads = ap (has_number m) same in omega (arith, tail, tail_right, all_of, heads)))
 
-entries_of : (n : ℕ) (es : List Entry) → map (λ (l : Listed). l.entry) (numbered_from n es) ≡ es
+entries_of : (n : ℕ) (es : List Entry) → map (λ (l : LogEntry). l.entry) (numbered_from n es) ≡ es
 entries_of n [] = refl
 entries_of n (e ∷ es) = ap (λ (xs : List Entry). e ∷ xs) (entries_of (n + 1) es)
 
 -- the entries of a log, in any order, put in order of number
-pub sorted_entries : (es : List Entry) (told xs : List Listed) → IsPermutation told (numbered es) →
-    IsPermutation told xs → IsNonDecreasingBy number xs → map (λ (l : Listed). l.entry) xs ≡ es
+pub sorted_entries : (es : List Entry) (told xs : List LogEntry) → IsPermutation told (numbered_entries es) →
+    IsPermutation told xs → IsNonDecreasingBy number xs → map (λ (l : LogEntry). l.entry) xs ≡ es
 sorted_entries es told xs all sorts sorted =
-    ap (map (λ (l : Listed). l.entry)) (sorted_is 1 es xs sorted
-    (All-permutation (IsNumbered 1 es) told xs sorts (All-permutation (IsNumbered 1 es) (numbered es) told
-    (IsPermutation-sym told (numbered es) all) (number_at 1 es)))
+    ap (map (λ (l : LogEntry). l.entry)) (sorted_is 1 es xs sorted
+    (All-permutation (IsNumbered 1 es) told xs sorts (All-permutation (IsNumbered 1 es) (numbered_entries es) told
+    (IsPermutation-sym told (numbered_entries es) all) (number_at 1 es)))
     (λ m. sum_by-IsPermutation (has_number m) told xs sorts
-    ∙ sym (sum_by-IsPermutation (has_number m) told (numbered es) all)))
+    ∙ sym (sum_by-IsPermutation (has_number m) told (numbered_entries es) all)))
     ∙ entries_of 1 es

@@ -3,7 +3,7 @@ use Rattle.std.proofs.lemmas.{Grind.common_steps, Bool.Decides.nat_tests}
 use Rattle.std.{proofs.Common.{◌≡◌, ℕ, ◌<◌, ◌≤◌, Bool, true, false, cond, List, [], ◌∷◌, length, filter, Some, ap, arith}, specs.Prelude.nat_le}
 use Rattle.std.specs.{Ordering.is_gt, List.list_any, BTreeMap.is_at, declared.cmp.Ordering.Ordering, BTreeSet.insert_key}
 use Rattle.napt_binding.specs.Ends.{is_before}
-use Rattle.napt_account.specs.{declared.open_entries.Due.Due, OpenEntries.due_cmp}
+use Rattle.napt_account.specs.{declared.open_entries.DueEntry.DueEntry, OpenEntries.due_cmp}
 
 -- HOW MANY ARE DUE
 
@@ -12,16 +12,16 @@ module _ {K : Type 0} (cmp : K → K → Ordering) (p : K → Bool) (k : K) (apa
   filter_insert [] = ap (λ v. cond v (k ∷ []) []) apart
   filter_insert (x ∷ xs) = grind (arith, common_steps, nat_tests, filter_insert xs)
 
-pub within_insert : (now : ℕ) (due : Due) → is_before now (Some due.at) ≡ true → (old new : List Due) →
+pub within_insert : (now : ℕ) (due : DueEntry) → is_before now (Some due.at) ≡ true → (old new : List DueEntry) →
     new ≡ insert_key due_cmp old due →
-    length (filter (λ (d : Due). nat_le d.at now) new) ≡ length (filter (λ (d : Due). nat_le d.at now) old)
+    length (filter (λ (d : DueEntry). nat_le d.at now) new) ≡ length (filter (λ (d : DueEntry). nat_le d.at now) old)
 within_insert now due before old new is = grind (arith, common_steps, nat_tests, filter_insert)
 
 -- THE FIRST
 
-pub not_empty : (cmp : Due → Ordering) (ds : List Due) → list_any (is_at cmp) ds ≡ true → 0 < length ds
+pub not_empty : (cmp : DueEntry → Ordering) (ds : List DueEntry) → list_any (is_at cmp) ds ≡ true → 0 < length ds
 not_empty cmp [] h = cc
 not_empty cmp (d ∷ ds) h = omega arith
 
-pub first_least : (a b : Due) → is_gt (due_cmp a b) ≡ false → a.at ≤ b.at
+pub first_least : (a b : DueEntry) → is_gt (due_cmp a b) ≡ false → a.at ≤ b.at
 first_least a b h = grind (arith, common_steps, nat_tests)

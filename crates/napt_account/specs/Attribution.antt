@@ -1,6 +1,6 @@
 -- The log of a whole run names exactly who had an external endpoint at a time.
 use Rattle.std.specs.{Prelude.{◌≡◌, ℕ, ◌<◌, ◌≤◌, ◌&&◌, Bool, List, [], ◌∷◌, ◌++◌, map, filter}, List.list_any}
-use Rattle.napt_rules.specs.Prelude.{Protocol, Endpoint, Rules, KeepsRules, Timers}
+use Rattle.napt_rules.specs.Prelude.{Protocol, Endpoint, Rules, RulesInvariant, Timers}
 use Rattle.napt_rules.specs.{Prelude.{Binding, same_protocol, same_endpoint, is_live, opening, Arrival, row, run, last_clock}, declared.Row.Row}
 use Rattle.napt_account.specs.{declared.log.Entry.Entry, Log.{log_of, stands_at}}
 
@@ -20,8 +20,8 @@ is_held timers now protocol inside external list =
     list_any (λ b. has_ends protocol inside external (row b) && is_live timers now b) list
 
 -- whether one of the entries has the protocol and these endpoints, was made by a time and has not ended by then
-abbrev pub is_named : ℕ → Protocol → Endpoint → Endpoint → List Entry → Bool
-is_named now protocol inside external entries =
+abbrev pub has_number_of : ℕ → Protocol → Endpoint → Endpoint → List Entry → Bool
+has_number_of now protocol inside external entries =
     list_any (λ e. has_ends protocol inside external e.binding && stands_at now e) entries
 
 -- the rows of the entries that were made by a time and have not ended by then
@@ -31,15 +31,15 @@ standing_rows now entries = map (λ e. e.binding) (filter (stands_at now) entrie
 -- after every front of the inputs, and at each time up to the next input's, a binding lives exactly where the log of
 -- all inputs names it
 abbrev pub LogNamesTheHolders : Type 0
-LogNamesTheHolders = (rules : Rules) → KeepsRules rules → (front rest : List Arrival) (now : ℕ) →
+LogNamesTheHolders = (rules : Rules) → RulesInvariant rules → (front rest : List Arrival) (now : ℕ) →
     last_clock 0 front ≤ now → IsBeforeNext now rest → (protocol : Protocol) (inside external : Endpoint) →
     is_held rules.timers now protocol inside external (run rules front (opening rules)).list
-    ≡ is_named now protocol inside external (log_of rules (front ++ rest)).entries
+    ≡ has_number_of now protocol inside external (log_of rules (front ++ rest)).entries
 
 -- the same as lists: the rows of what is live are those of the entries that have not ended, each once, in the order of
 -- making
 abbrev pub LogListsTheLiving : Type 0
-LogListsTheLiving = (rules : Rules) → KeepsRules rules → (front rest : List Arrival) (now : ℕ) →
+LogListsTheLiving = (rules : Rules) → RulesInvariant rules → (front rest : List Arrival) (now : ℕ) →
     last_clock 0 front ≤ now → IsBeforeNext now rest →
     map row (filter (is_live rules.timers now) (run rules front (opening rules)).list)
     ≡ standing_rows now (log_of rules (front ++ rest)).entries

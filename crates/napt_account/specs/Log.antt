@@ -6,17 +6,17 @@
 use Rattle.std.specs.{Prelude.{ℕ, suc, ◌+◌, nat_le, Bool, true, false, ◌&&◌, cond, List, [], ◌∷◌, ◌++◌, map, flat_map, Option, Some, None}, List.fold}
 use Rattle.std.specs.Option.{option_map}
 use Rattle.napt_rules.specs.Prelude.{Protocol, Way, Outgoing, Incoming, Cause, OverQuota, NoPort, source, kind, Rules, Timers}
-use Rattle.napt_rules.specs.{Prelude.{Through, Binding, same_protocol, same_endpoint, opening, Arrival, row, Act, run}, declared.{Row.Row, Leg.Leg, End.End}}
+use Rattle.napt_rules.specs.{Prelude.{BindingUse, Binding, same_protocol, same_endpoint, opening, Arrival, row, LegAct, run}, declared.{Row.Row, Leg.Leg, End.End}}
 use Rattle.napt_rules.specs.declared.End.TheVariants.{Dropped}
-use Rattle.napt_translate.specs.Carried.{carried_by}
+use Rattle.napt_translate.specs.CarriedPackets.{packet_carried}
 use Rattle.napt_account.specs.declared.log.{Entry.Entry, Shortage.Shortage}
 use Rattle.napt_binding.specs.Ends.{end_of, is_before}
 
 -- ENTRIES
 
 -- the entry of a binding that is made at a time and has this end, before a packet went through it
-abbrev pub unused : Row → ℕ → Option ℕ → Entry
-unused binding made end = record {
+abbrev pub unused_entry : Row → ℕ → Option ℕ → Entry
+unused_entry binding made end = record {
   binding = binding;
   made = made;
   end = end;
@@ -26,16 +26,16 @@ unused binding made end = record {
   last_sent = made;
 }
 
-abbrev pub begun : Timers → ℕ → Binding → Entry
-begun timers made binding = unused (row binding) made (end_of timers binding)
+abbrev pub first_entry : Timers → ℕ → Binding → Entry
+first_entry timers made binding = unused_entry (row binding) made (end_of timers binding)
 
 -- whether a row has the protocol and the external endpoint of another
 abbrev pub shares : Row → Row → Bool
 shares wanted other = same_protocol wanted.protocol other.protocol && same_endpoint wanted.external other.external
 
 -- whether an entry has not ended by a time and has the external endpoint of a row
-abbrev pub is_of : ℕ → Row → Entry → Bool
-is_of now wanted entry = is_before now entry.end && shares wanted entry.binding
+abbrev pub entry_is_of : ℕ → Row → Entry → Bool
+entry_is_of now wanted entry = is_before now entry.end && shares wanted entry.binding
 
 -- an entry after a packet went through its binding at a time, which has this end then: out, and in
 abbrev pub counted : Way → ℕ → Option ℕ → Entry → Entry
@@ -43,29 +43,29 @@ counted Outgoing now end entry = record entry { end = end; sent = entry.sent + 1
 counted Incoming now end entry = record entry { end = end; received = entry.received + 1; last = now }
 
 -- the place, from 0, of the open entry of a row
-abbrev pub place_of : ℕ → Row → List Entry → Option ℕ
-place_of now wanted [] = None
-place_of now wanted (entry ∷ entries) =
-    cond (is_of now wanted entry) (Some 0) (option_map suc (place_of now wanted entries))
+abbrev pub entry_place : ℕ → Row → List Entry → Option ℕ
+entry_place now wanted [] = None
+entry_place now wanted (entry ∷ entries) =
+    cond (entry_is_of now wanted entry) (Some 0) (option_map suc (entry_place now wanted entries))
 
 -- the open entry of a binding changes
-abbrev pub through : ℕ → Row → (Entry → Entry) → Entry → Entry
-through now wanted change entry = cond (is_of now wanted entry) (change entry) entry
+abbrev pub entry_through : ℕ → Row → (Entry → Entry) → Entry → Entry
+entry_through now wanted change entry = cond (entry_is_of now wanted entry) (change entry) entry
 
 -- the entries after a leg: the binding that it made gets one, and that of the binding that it found changes
-abbrev pub logged_by : Timers → Leg → Option Through → List Entry → List Entry
-logged_by timers leg None entries = entries
-logged_by timers leg (Some went) entries =
+abbrev pub entries_after_leg : Timers → Leg → Option BindingUse → List Entry → List Entry
+entries_after_leg timers leg None entries = entries
+entries_after_leg timers leg (Some went) entries =
     let change : Entry → Entry = counted leg.way leg.now (end_of timers went.binding) in
-    cond went.made (entries ++ change (begun timers leg.now went.binding) ∷ [])
-    (map (through leg.now (row went.binding) change) entries)
+    cond went.made (entries ++ change (first_entry timers leg.now went.binding) ∷ [])
+    (map (entry_through leg.now (row went.binding) change) entries)
 
-abbrev pub logged : Timers → List Entry → Act → List Entry
-logged timers entries a = logged_by timers a.leg a.through entries
+abbrev pub logged : Timers → List Entry → LegAct → List Entry
+logged timers entries a = entries_after_leg timers a.leg a.through entries
 
 -- the redirects are there before the first act
-abbrev pub entries_of : Rules → List Act → List Entry
-entries_of rules acts = fold (logged rules.timers) (map (begun rules.timers 0) (opening rules)) acts
+abbrev pub log_entries : Rules → List LegAct → List Entry
+log_entries rules acts = fold (logged rules.timers) (map (first_entry rules.timers 0) (opening rules)) acts
 
 -- SHORTAGES
 
@@ -80,10 +80,10 @@ shortage_by leg (Some protocol) cause = cond (is_shortage cause)
     (record { at = leg.now; cause = cause; protocol = protocol; host = (source leg.packet).address } ∷ []) []
 
 abbrev pub shortage_at : Leg → End → List Shortage
-shortage_at leg (Dropped cause) = shortage_by leg (carried_by (kind leg.packet)) cause
+shortage_at leg (Dropped cause) = shortage_by leg (packet_carried (kind leg.packet)) cause
 shortage_at leg _ = []
 
-abbrev pub shortages : List Act → List Shortage
+abbrev pub shortages : List LegAct → List Shortage
 shortages acts = flat_map (λ a. shortage_at a.leg a.end) acts
 
 -- THE LOG
@@ -96,8 +96,8 @@ pub record Logged : Type 0 where
 
 unfoldable pub log_of : Rules → List Arrival → Logged
 log_of rules inputs =
-    let acts : List Act = (run rules inputs (opening rules)).acts in
-    record { entries = entries_of rules acts; shortages = shortages acts }
+    let acts : List LegAct = (run rules inputs (opening rules)).acts in
+    record { entries = log_entries rules acts; shortages = shortages acts }
 
 -- whether the binding of an entry was made by a time and has not ended by then
 abbrev pub stands_at : ℕ → Entry → Bool

@@ -10,97 +10,97 @@ use Rattle.napt_wire.specs.contracts.ProtocolOrd.TheImpl as protocols
 use Rattle.napt_rules.specs.declared.Row.{Row}
 use Rattle.napt_binding.specs.Ends.{is_before}
 use Rattle.napt_sequential.specs.declared.passage.Passage.{Passage, TheVariants.{Out, In}}
-use Rattle.napt_account.specs.declared.{log.{Entry.Entry, Listed.Listed}, open_entries.{Due.Due, EndKey.EndKey, ExternalKey.ExternalKey, Open.Open}}
-use Rattle.napt_account.specs.{declared.open_entries.OpenEntries.OpenEntries, Telling.is_open}
+use Rattle.napt_account.specs.declared.{log.{Entry.Entry, LogEntry.LogEntry}, open_entries.{DueEntry.DueEntry, EndKey.EndKey, EntryKey.EntryKey, Open.Open}}
+use Rattle.napt_account.specs.{declared.open_entries.OpenEntries.OpenEntries, LogParts.is_open}
 
 -- KEYS
 
-abbrev pub external_key : Row → ExternalKey
-external_key row = record { address = row.external.address; number = row.external.number; protocol = row.protocol }
+abbrev pub entry_key : Row → EntryKey
+entry_key row = record { address = row.external.address; number = row.external.number; protocol = row.protocol }
 
 abbrev pub end_key_of : Option ℕ → ℕ → EndKey
 end_key_of None number = record { is_endless = true; end = 0; number = number }
 end_key_of (Some end) number = record { is_endless = false; end = end; number = number }
 
-abbrev pub end_key : Listed → EndKey
+abbrev pub end_key : LogEntry → EndKey
 end_key listed = end_key_of listed.entry.end listed.number
 
 -- as the keys of a map are compared
-abbrev pub external_eq : ExternalKey → ExternalKey → Bool
+abbrev pub external_eq : EntryKey → EntryKey → Bool
 external_eq a b = (a.address == b.address) && ((a.number == b.number) && sameb the_type a.protocol b.protocol)
 
 abbrev pub end_cmp : EndKey → EndKey → Ordering
 end_cmp a b = ordering_then (bool_cmp a.is_endless b.is_endless)
     (ordering_then (nat_cmp a.end b.end) (nat_cmp a.number b.number))
 
-abbrev pub external_cmp : ExternalKey → ExternalKey → Ordering
+abbrev pub external_cmp : EntryKey → EntryKey → Ordering
 external_cmp a b = ordering_then (nat_cmp a.address b.address)
     (ordering_then (nat_cmp a.number b.number) ((protocols.ghosts).cmp a.protocol b.protocol))
 
-abbrev pub due_cmp : Due → Due → Ordering
+abbrev pub due_cmp : DueEntry → DueEntry → Ordering
 due_cmp a b = ordering_then (nat_cmp a.at b.at) (external_cmp a.key b.key)
 
 -- WHAT IS KEPT
 
-abbrev pub open_at : OpenEntries → ExternalKey → Option Open
+abbrev pub open_at : OpenEntries → EntryKey → Option Open
 open_at all x = hash.get external_eq all.by_external x
 
 -- the entry of an endpoint, and when it is looked at next
-abbrev pub listed_at : OpenEntries → ExternalKey → Option Listed
+abbrev pub listed_at : OpenEntries → EntryKey → Option LogEntry
 listed_at all x = option_map (λ (o : Open). o.listed) (open_at all x)
 
-abbrev pub due_at : OpenEntries → ExternalKey → Option ℕ
+abbrev pub due_at : OpenEntries → EntryKey → Option ℕ
 due_at all x = option_and_then (λ (o : Open). o.due) (open_at all x)
 
-abbrev pub is_queued : OpenEntries → Due → Bool
+abbrev pub is_queued : OpenEntries → DueEntry → Bool
 is_queued all due = sorted.contains due_cmp all.queue due
 
-abbrev pub is_at : Option ℕ → ℕ → Bool
-is_at None time = false
-is_at (Some at) time = at == time
+abbrev pub entry_is_at : Option ℕ → ℕ → Bool
+entry_is_at None time = false
+entry_is_at (Some at) time = at == time
 
 -- all, in no particular order
-abbrev pub kept : OpenEntries → List Listed
+abbrev pub kept : OpenEntries → List LogEntry
 kept all = map (λ (o : Open). o.listed) (hash.values all.by_external)
 
 -- how many are to be looked at by a time
 abbrev pub due_within : ℕ → OpenEntries → ℕ
-due_within now all = length (filter (λ (due : Due). nat_le due.at now) all.queue.keys)
+due_within now all = length (filter (λ (due : DueEntry). nat_le due.at now) all.queue.keys)
 
 -- it is under its endpoint, and looked at no later than at its end
-abbrev pub IsPlaced : ExternalKey → Open → Type 0
-IsPlaced x o = (x ≡ external_key o.listed.entry.binding)
+abbrev pub IsPlaced : EntryKey → Open → Type 0
+IsPlaced x o = (x ≡ entry_key o.listed.entry.binding)
     × ((time : ℕ) → time < unwrap_or o.due (2 ^ 64) → is_open time o.listed ≡ true)
 
 -- each is in its place, and the queue has the time of each that has one, and nothing else
 pub record IsIndexed (all : OpenEntries) : Type 0 where
-  pub placed : (x : ExternalKey) (o : Open) → open_at all x ≡ Some o → IsPlaced x o
-  pub queued : (due : Due) → is_queued all due ≡ is_at (due_at all due.key) due.at
+  pub placed : (x : EntryKey) (o : Open) → open_at all x ≡ Some o → IsPlaced x o
+  pub queued : (due : DueEntry) → is_queued all due ≡ entry_is_at (due_at all due.key) due.at
 
 -- the same but for one endpoint, which the queue has at another time
-pub record IsIndexedBut (key : ExternalKey) (at : Option ℕ) (all : OpenEntries) : Type 0 where
-  pub placed : (x : ExternalKey) (o : Open) → open_at all x ≡ Some o → IsPlaced x o
-  pub queued : (due : Due) → is_queued all due ≡ is_at (cond (external_eq key due.key) at (due_at all due.key)) due.at
+pub record IsIndexedBut (key : EntryKey) (at : Option ℕ) (all : OpenEntries) : Type 0 where
+  pub placed : (x : EntryKey) (o : Open) → open_at all x ≡ Some o → IsPlaced x o
+  pub queued : (due : DueEntry) → is_queued all due ≡ entry_is_at (cond (external_eq key due.key) at (due_at all due.key)) due.at
 
 -- it is one of these entries, with its number
-pub record IsListed (entries : List Entry) (l : Listed) : Type 0 where
+pub record EntryIsListed (entries : List Entry) (l : LogEntry) : Type 0 where
   pub place : ℕ
   pub number : l.number ≡ place + 1
   pub there : slice_get entries place ≡ Some l.entry
 
 -- the entry at a place, with its number
-abbrev pub listed_as : ℕ → Entry → Listed
+abbrev pub listed_as : ℕ → Entry → LogEntry
 listed_as place entry = record { number = place + 1; entry = entry }
 
 -- of these entries it has those that have not ended by a time; none counts more than `most` packets either way
-pub record Shows (now most : ℕ) (entries : List Entry) (all : OpenEntries) : Type 0 where
+pub record OpenEntriesShow (now most : ℕ) (entries : List Entry) (all : OpenEntries) : Type 0 where
   pub indexed : IsIndexed all
   pub made : all.made ≡ length entries
-  pub has : (l : Listed) → IsListed entries l → is_open now l ≡ true →
-      listed_at all (external_key l.entry.binding) ≡ Some l
-  pub there : (x : ExternalKey) (l : Listed) → listed_at all x ≡ Some l → IsListed entries l
-  pub unended : (x : ExternalKey) (l : Listed) → listed_at all x ≡ Some l → is_open now l ≡ true
-  pub few : (x : ExternalKey) (l : Listed) → listed_at all x ≡ Some l →
+  pub has : (l : LogEntry) → EntryIsListed entries l → is_open now l ≡ true →
+      listed_at all (entry_key l.entry.binding) ≡ Some l
+  pub there : (x : EntryKey) (l : LogEntry) → listed_at all x ≡ Some l → EntryIsListed entries l
+  pub unended : (x : EntryKey) (l : LogEntry) → listed_at all x ≡ Some l → is_open now l ≡ true
+  pub few : (x : EntryKey) (l : LogEntry) → listed_at all x ≡ Some l →
       (l.entry.sent ≤ most) × (l.entry.received ≤ most)
 
 -- the leg leaves its binding an end that is to come

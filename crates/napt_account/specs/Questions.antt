@@ -4,10 +4,10 @@ use Rattle.napt_wire.specs.declared.Endpoint.{Endpoint}
 use Rattle.napt_account.specs.declared.question.Party.{Party}
 
 -- no number means any
-abbrev pub is_number : Option ℕ → ℕ → Bool
-is_number None number = true
-is_number (Some wanted) number = wanted == number
+abbrev pub is_party_number : Option ℕ → ℕ → Bool
+is_party_number None number = true
+is_party_number (Some wanted) number = wanted == number
 
 -- whether an endpoint is the one asked about, or one of the address asked about
 abbrev pub is_meant : Party → Endpoint → Bool
-is_meant party endpoint = (endpoint.address == party.address) && is_number party.number endpoint.number
+is_meant party endpoint = (endpoint.address == party.address) && is_party_number party.number endpoint.number

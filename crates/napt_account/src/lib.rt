@@ -3,22 +3,22 @@
 #![tactic(auto)]
 
 mod account;
-mod known_log;
-mod known_run;
 mod legs;
 mod live_rows;
 mod log;
 mod log_state;
 mod open_entries;
 mod question;
+mod tracked_log;
+mod tracked_run;
 mod uses;
 
-pub use crate::account::{Note, Use};
-pub use crate::known_log::{KnownLog, LoggedTrace, ResumedLog, traces_tell_the_log};
-pub use crate::known_run::{KnownRun, LoggedStep, ResumedRun};
+pub use crate::account::{BindingTally, LogNote};
 pub use crate::log::{
-    Entry, Listed, Shortage, ended_entries_stay, held_numbers_have_one_holder, in_order_of_making,
-    log_attributes, logs_go_on, redirected, what_is_told_is_the_log,
+    Entry, LogEntry, Shortage, ended_entries_stay, held_numbers_have_one_holder,
+    in_order_of_making, log_attributes, logs_go_on, redirected, what_is_told_is_the_log,
 };
-pub use crate::log_state::LogState;
+pub use crate::log_state::SavedLogState;
 pub use crate::question::Party;
+pub use crate::tracked_log::{LogFromState, LogTrace, TrackedLog, traces_tell_the_log};
+pub use crate::tracked_run::{LogStep, RunFromState, TrackedRun};

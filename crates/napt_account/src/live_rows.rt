@@ -1,9 +1,9 @@
 //! The bindings of a state that live under a configuration, as a log has them.
 
 ghost use Rattle.std.specs.Prelude.{◌≡◌, [], ◌∷◌, map, filter, not, true, false, IfOk, OnOk, option_to_list};
-ghost use Rattle.napt_rules.specs.Prelude.{Takes, flows_share, is_live, opening, purge, under, with_live_flows};
-ghost use Rattle.napt_config.specs.Rules.{KeepsRules};
-ghost use Rattle.napt_table.specs.TimedRows.{timed};
+ghost use Rattle.napt_rules.specs.Prelude.{TakesState, flows_share, is_live, opening, purge, with_redirects, with_live_flows};
+ghost use Rattle.napt_config.specs.Rules.{RulesInvariant};
+ghost use Rattle.napt_table.specs.TimedRows.{timed_row};
 
 use crate::log::redirected;
 use napt_binding::{IdleTimers, end_of, from_state};
@@ -19,9 +19,9 @@ pub(crate) fn live_rows(
     config: &Config,
     state: &State,
 ) -> Result<Vec<TimedRow>, AllocError>
-    requires { Takes config.now state.now }
-    ensures { IfOk result (λ live. live.items ≡ map (timed config.now.timers)
-        (purge config.now.timers state.now.clock (under config.now state.now).list)) }
+    requires { TakesState config.now state.now }
+    ensures { IfOk result (λ live. live.items ≡ map (timed_row config.now.timers)
+        (purge config.now.timers state.now.clock (with_redirects config.now state.now).list)) }
 {
     let timers = IdleTimers::of(config);
     let mut live = redirects(alloc, config)?;
@@ -36,8 +36,8 @@ pub(crate) fn live_rows(
 /// The redirects of a configuration.
 fn redirects(alloc: Global, config: &Config) -> Result<Vec<TimedRow>, AllocError>
     ensures all { IfOk result (λ made. made.items
-        ≡ map (timed config.now.timers) (opening config.now)) }
-    ensures kept { OnOk result (KeepsRules config.now) }
+        ≡ map (timed_row config.now.timers) (opening config.now)) }
+    ensures kept { OnOk result (RulesInvariant config.now) }
 {
     let mut made = Vec::new(alloc);
     for redirect in config.redirects() {
@@ -58,7 +58,7 @@ fn live_row(
 ) -> Result<Option<TimedRow>, AllocError>
     requires { binding.now.row.fixed ≡ false → is_live timers now binding.now ≡ true →
         flows_share (with_live_flows timers now binding.now).flows ≡ false }
-    ensures { IfOk result (λ made. option_to_list made ≡ map (timed timers)
+    ensures { IfOk result (λ made. option_to_list made ≡ map (timed_row timers)
         (purge timers now (filter (λ b. not b.row.fixed) (binding.now ∷ [])))) }
 {
     if binding.row.fixed {

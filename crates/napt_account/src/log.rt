@@ -2,9 +2,9 @@
 
 ghost use Rattle.std.specs.{Prelude.{◌≡◌, ◌+◌, ◌<◌, ◌^◌, List, map, IfOk}, List.Sorted.IsPermutation};
 ghost use Rattle.napt_config.specs.Rules.{pair_of};
-ghost use Rattle.napt_rules.specs.Prelude.{redirected, row};
-ghost use Rattle.napt_account.specs.{Log.is_shortage, Attribution.{LogNamesTheHolders, LogListsTheLiving}, HeldNumbers.HeldNumbersHaveOneHolder, Ended.EndedEntriesStay, AllTold.ToldIsTheLog, GoingOn.{LogsBegin, UsesBegin, LogsGoOn, SavedLogsGoOn, LogsAreOfTheirStates}};
-ghost use Rattle.napt_account.specs.{Telling.numbered, declared.log.Entry.Entry as Logged};
+ghost use Rattle.napt_rules.specs.Prelude.{redirect_binding, row};
+ghost use Rattle.napt_account.specs.{Log.is_shortage, Attribution.{LogNamesTheHolders, LogListsTheLiving}, HeldNumbers.HeldNumbersHaveOneHolder, EndedEntries.EndedEntriesStay, WholeLogs.ToldIsTheLog, ResumedLogRuns.{LogsBegin, UsesBegin, LogsGoOn, SavedLogsGoOn, LogsAreOfTheirStates}};
+ghost use Rattle.napt_account.specs.{LogParts.numbered_entries, declared.log.Entry.Entry as Logged};
 ghost use Rattle.napt_binding.specs.Ends.{EndsAreFirst, is_before};
 
 use napt_config::{Config, Redirect};
@@ -34,12 +34,12 @@ pub struct Entry {
 }
 
 impl Entry {
-    ghost use Rattle.napt_account.specs.Book.{made_by};
-    ghost use Rattle.napt_account.specs.Log.{counted, unused};
+    ghost use Rattle.napt_account.specs.LogBook.{made_by};
+    ghost use Rattle.napt_account.specs.Log.{counted, unused_entry};
 
     /// The entry of a binding that is made at a time, in ns, before a packet went through it.
     pub(crate) fn unused(timed: TimedRow, made: u64) -> Entry
-        ensures { result ≡ unused timed.row made timed.end }
+        ensures { result ≡ unused_entry timed.row made timed.end }
     {
         Entry {
             binding: timed.row,
@@ -81,7 +81,7 @@ impl Entry {
 
 /// The binding of a redirect of the configuration.
 pub fn redirected(config: &Config, redirect: Redirect) -> Row
-    ensures { result ≡ row (redirected (pair_of config.now) redirect) }
+    ensures { result ≡ row (redirect_binding (pair_of config.now) redirect) }
 {
     let protocol = if redirect.tcp {
         Protocol::Tcp
@@ -114,7 +114,7 @@ pub(crate) fn is_before(now: u64, end: Option<u128>) -> bool
 
 /// An entry of the log, with its number in it.
 #[derive(Clone, Copy, Debug, PartialEq, Eq)]
-pub struct Listed {
+pub struct LogEntry {
     /// From 1, in the order of making.
     pub number: u64,
     pub entry: Entry,
@@ -142,8 +142,8 @@ pub struct Shortage {
 
 /// The entries in the order in which their bindings were made, of all entries of a log in any order. Fails only if
 /// memory is refused.
-pub fn in_order_of_making(alloc: Global, listed: Vec<Listed>) -> Result<Vec<Entry>, AllocError>
-    ensures { (entries : List Logged) → IsPermutation listed.items (numbered entries) →
+pub fn in_order_of_making(alloc: Global, listed: Vec<LogEntry>) -> Result<Vec<Entry>, AllocError>
+    ensures { (entries : List Logged) → IsPermutation listed.items (numbered_entries entries) →
         IfOk result (λ made. made.items ≡ entries) }
 {
     let mut listed = listed;
@@ -152,7 +152,7 @@ pub fn in_order_of_making(alloc: Global, listed: Vec<Listed>) -> Result<Vec<Entr
     Ok(entries)
 }
 
-fn without_numbers(alloc: Global, listed: &[Listed]) -> Result<Vec<Entry>, AllocError>
+fn without_numbers(alloc: Global, listed: &[LogEntry]) -> Result<Vec<Entry>, AllocError>
     ensures { IfOk result (λ made. made.items ≡ map (λ one. one.entry) listed.now) }
 {
     listed.iter().map(|one| one.entry).collect(alloc)

@@ -1,12 +1,12 @@
 //! What is kept of a log beside a state, and whether it is that of the state.
 
 ghost use Rattle.std.specs.{Prelude.{◌≡◌, ◌+◌, ◌≤◌, ◌^◌, ◌&&◌, nat_le, nat_lt, [], map, length, true, false, IfOk}, List.Sorted.{IsPermutation, IsSortedByKey}};
-ghost use Rattle.napt_rules.specs.Prelude.{Takes, under};
-ghost use Rattle.napt_account.specs.GoingOn.{IsFew, IsLogOf, IsTakenUp, ended_at, timed_by};
-ghost use Rattle.napt_account.specs.{Log.unused, LogStates.{AreKeyed, IsKept}, OpenEntries.{external_key, external_cmp}, ResumedLogs.told_first, Telling.{is_open, numbered_from}};
+ghost use Rattle.napt_rules.specs.Prelude.{TakesState, with_redirects};
+ghost use Rattle.napt_account.specs.ResumedLogRuns.{IsFew, IsLogOf, IsTakenUp, ended_at, timed_by};
+ghost use Rattle.napt_account.specs.{Log.unused_entry, LogStates.{AreKeyed, SavedLogInvariant}, OpenEntries.{entry_key, external_cmp}, ResumedLogs.told_first, LogParts.{is_open, numbered_from}};
 
 use crate::live_rows::live_rows;
-use crate::log::{Entry, Listed, is_before};
+use crate::log::{Entry, LogEntry, is_before};
 use crate::open_entries::external_key;
 use napt_config::Config;
 use napt_rules::State;
@@ -19,17 +19,17 @@ const MOST_BINDINGS: usize = 2_305_843_009_213_693_952;
 
 /// What is kept of a log where a run leaves its state.
 #[derive(Drop)]
-pub struct LogState {
+pub struct SavedLogState {
     /// How many entries the log has so far.
     pub made: u64,
     /// Those that have not ended by the clock of the state, with their numbers, in the order of making.
-    pub living: Vec<Listed>,
+    pub living: Vec<LogEntry>,
 }
 
-impl Model for LogState {
-    ghost use Rattle.napt_account.specs.GoingOn.{LogState};
+impl Model for SavedLogState {
+    ghost use Rattle.napt_account.specs.ResumedLogRuns.{LogStateModel};
 
-    ghost Value = { LogState };
+    ghost Value = { LogStateModel };
 
     ghost view = { λ it. record { made = it.made; living = it.living.items } };
 }
@@ -37,9 +37,9 @@ impl Model for LogState {
 /// The log with which a run goes on, and what it has to say before the first input.
 #[derive(Drop)]
 pub(crate) struct TakenUp {
-    pub(crate) log: LogState,
-    pub(crate) ended: Vec<Listed>,
-    pub(crate) made: Vec<Listed>,
+    pub(crate) log: SavedLogState,
+    pub(crate) ended: Vec<LogEntry>,
+    pub(crate) made: Vec<LogEntry>,
 }
 
 /// Nothing, at the time 0.
@@ -52,12 +52,12 @@ pub(crate) fn no_state(alloc: Global) -> State
     }
 }
 
-impl LogState {
+impl SavedLogState {
     /// That of a run without entries.
-    pub fn none(alloc: Global) -> LogState
+    pub fn none(alloc: Global) -> SavedLogState
         ensures { result ≡ record { made = 0; living = [] } }
     {
-        LogState {
+        SavedLogState {
             made: 0,
             living: Vec::new(alloc),
         }
@@ -67,11 +67,11 @@ impl LogState {
     /// end. They are not where the state was left by a run without a log, or under other redirects or timers. Linear in the
     /// size of both but for sorting. Fails only if memory is refused.
     pub fn is_of(&self, alloc: Global, config: &Config, state: &State) -> Result<bool, AllocError>
-        requires { Takes config.now state.now }
+        requires { TakesState config.now state.now }
         ensures yes { IfOk result (λ is. is ≡ true →
-            IsLogOf config.now (under config.now state.now) self.now) }
+            IsLogOf config.now (with_redirects config.now state.now) self.now) }
         ensures no { IfOk result (λ is. is ≡ false →
-            ¬ IsLogOf config.now (under config.now state.now) self.now) }
+            ¬ IsLogOf config.now (with_redirects config.now state.now) self.now) }
     {
         // called for its clause alone: a configuration keeps its rules
         let _pool = config.pool();
@@ -82,10 +82,10 @@ impl LogState {
 
     /// Whether it is kept at a time, in ns, and its entries have these rows and ends, in any order.
     fn has_rows(&self, alloc: Global, now: u64, rows: &[TimedRow]) -> Result<bool, AllocError>
-        ensures yes { IfOk result (λ is. is ≡ true → IsKept now self.now
+        ensures yes { IfOk result (λ is. is ≡ true → SavedLogInvariant now self.now
             × IsPermutation (map timed_by self.now.living) rows.now) }
         ensures no { IfOk result (λ is. is ≡ false → AreKeyed (map (λ t. t.row) rows.now) →
-            ¬ (IsKept now self.now
+            ¬ (SavedLogInvariant now self.now
             × IsPermutation (map timed_by self.now.living) rows.now)) }
     {
         if !self.is_kept(now) {
@@ -109,7 +109,7 @@ impl LogState {
     }
 
     /// Its entries, but they end at a time, in ns.
-    fn ended_at(&self, alloc: Global, now: u64) -> Result<Vec<Listed>, AllocError>
+    fn ended_at(&self, alloc: Global, now: u64) -> Result<Vec<LogEntry>, AllocError>
         ensures { IfOk result (λ ended. ended.items ≡ map (ended_at now) self.now.living) }
     {
         self.living
@@ -121,8 +121,8 @@ impl LogState {
     /// Whether the numbers of its entries ascend among those of the log, and each was made by a time, in ns, and has not
     /// ended.
     fn is_kept(&self, now: u64) -> bool
-        ensures yes { result ≡ true → IsKept now self.now }
-        ensures no { result ≡ false → ¬ IsKept now self.now }
+        ensures yes { result ≡ true → SavedLogInvariant now self.now }
+        ensures no { result ≡ false → ¬ SavedLogInvariant now self.now }
     {
         let mut before = 0;
         for listed in &self.living {
@@ -142,15 +142,15 @@ impl LogState {
         state: &State,
     ) -> Result<TakenUp, AllocError>
         requires few { IsFew self.now }
-        requires taken { Takes config.now state.now }
-        ensures up { IfOk result (λ taken. IsTakenUp config.now (under config.now state.now)
+        requires taken { TakesState config.now state.now }
+        ensures up { IfOk result (λ taken. IsTakenUp config.now (with_redirects config.now state.now)
             self.now taken.log (told_first taken.ended.items taken.made.items)) }
         ensures few { IfOk result (λ taken. taken.log.made ≤ 2 ^ 62) }
     {
         let fits = self.is_of(alloc, config, state)?;
         if fits {
             return Ok(TakenUp {
-                log: LogState {
+                log: SavedLogState {
                     made: self.made,
                     living: Vec::from_slice(alloc, &self.living)?,
                 },
@@ -173,7 +173,7 @@ impl LogState {
         requires { self.now.made ≤ 2 ^ 61 }
         ensures log { IfOk result (λ taken. taken.log ≡ record {
           made = self.now.made + length rows.now;
-          living = numbered_from (self.now.made + 1) (map (λ t. unused t.row now t.end) rows.now);
+          living = numbered_from (self.now.made + 1) (map (λ t. unused_entry t.row now t.end) rows.now);
         }) }
         ensures ended { IfOk result (λ taken.
             taken.ended.items ≡ map (ended_at now) self.now.living) }
@@ -187,13 +187,13 @@ impl LogState {
         let mut number = self.made;
         for timed in rows {
             number += 1;
-            made.push(Listed {
+            made.push(LogEntry {
                 number,
                 entry: Entry::unused(*timed, now),
             })?;
         }
         Ok(TakenUp {
-            log: LogState {
+            log: SavedLogState {
                 made: number,
                 living: Vec::from_slice(alloc, &made)?,
             },
@@ -203,7 +203,7 @@ impl LogState {
     }
 }
 
-impl Listed {
+impl LogEntry {
     /// The row and the end of its binding.
     fn timed(&self) -> TimedRow
         ensures { result ≡ timed_by self.now }
@@ -226,7 +226,7 @@ impl Listed {
     }
 
     /// The same, but it ends at a time, in ns.
-    fn ended_at(&self, now: u64) -> Listed
+    fn ended_at(&self, now: u64) -> LogEntry
         ensures { result ≡ ended_at now self.now }
     {
         let mut ended = *self;
@@ -246,7 +246,7 @@ fn are_same(rows: &[TimedRow], others: &[TimedRow]) -> bool
 /// Puts rows in order of protocol and external endpoint.
 fn sort_by_endpoint(rows: &mut Vec<TimedRow>)
     ensures moved { IsPermutation rows.old.items rows.new.items }
-    ensures sorted { IsSortedByKey (λ t. external_key t.row) external_cmp rows.new.items }
+    ensures sorted { IsSortedByKey (λ t. entry_key t.row) external_cmp rows.new.items }
 {
     rows.sort_unstable_by_key(|timed| external_key(timed.row));
 }

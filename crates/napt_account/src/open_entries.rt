@@ -4,13 +4,13 @@ ghost use Rattle.std.specs.Prelude.{◌≡◌, ◌+◌, ◌<◌, ◌≤◌, ◌^
 ghost use Rattle.std.specs.{List.Sorted.{IsPermutation, IsSortedByKey}, Option.is_some};
 ghost use Rattle.napt_rules.specs.Prelude.{Each};
 ghost use Rattle.napt_binding.specs.Ends.{is_before};
-ghost use Rattle.napt_account.specs.Book as books;
-ghost use Rattle.napt_account.specs.{GoingOn.{filled, kept_at}, Log.{counted, place_of, through}, LogStates.AreKeyed, Telling.{numbered, ends_within, in_order_of_end, is_open}};
+ghost use Rattle.napt_account.specs.LogBook as books;
+ghost use Rattle.napt_account.specs.{ResumedLogRuns.{filled, kept_at}, Log.{counted, entry_place, entry_through}, LogStates.AreKeyed, LogParts.{numbered_entries, ends_within, in_order_of_end, is_open}};
 ghost use Rattle.napt_account.specs.OpenEntries as keys;
 
-use crate::account::{Note, Use};
-use crate::log::{Entry, Listed, is_before};
-use crate::log_state::LogState;
+use crate::account::{BindingTally, LogNote};
+use crate::log::{Entry, LogEntry, is_before};
+use crate::log_state::SavedLogState;
 use crate::uses::{NO_USE, found};
 use napt_sequential::Passage;
 use napt_table::{Row, TimedRow};
@@ -20,7 +20,7 @@ use std::collections::{BTreeSet, HashMap};
 
 /// An external endpoint under its protocol.
 #[derive(Clone, Copy, PartialEq, Eq, PartialOrd, Ord, Hash)]
-pub(crate) struct ExternalKey {
+pub(crate) struct EntryKey {
     address: u32,
     number: u16,
     protocol: Protocol,
@@ -41,40 +41,40 @@ pub(crate) struct EndKey {
 /// An entry whose binding has not ended.
 #[derive(Clone, Copy)]
 pub(crate) struct Open {
-    pub(crate) listed: Listed,
+    pub(crate) listed: LogEntry,
     /// When it is looked at next, in ns: never after its end. None if its end is after each time that 64 bits hold.
     due: Option<u64>,
 }
 
 /// When the entry of an endpoint is looked at next, in ns.
 #[derive(Clone, Copy, PartialEq, Eq, PartialOrd, Ord)]
-pub(crate) struct Due {
+pub(crate) struct DueEntry {
     at: u64,
-    key: ExternalKey,
+    key: EntryKey,
 }
 
 /// The entries of the bindings that have not ended, found by their external endpoints. A packet that moves the end of its
 /// binding away leaves the queue alone: the entry is queued anew once its time there has come.
 #[derive(Drop)]
 pub(crate) struct OpenEntries {
-    by_external: HashMap<ExternalKey, Open>,
+    by_external: HashMap<EntryKey, Open>,
     /// One for each entry that has a time.
-    queue: BTreeSet<Due>,
+    queue: BTreeSet<DueEntry>,
     /// How many entries the log has.
     made: usize,
 }
 
-pub(crate) fn external_key(row: Row) -> ExternalKey
-    ensures { result ≡ keys.external_key row }
+pub(crate) fn external_key(row: Row) -> EntryKey
+    ensures { result ≡ keys.entry_key row }
 {
-    ExternalKey {
+    EntryKey {
         address: row.external.address,
         number: row.external.number,
         protocol: row.protocol,
     }
 }
 
-fn end_key(listed: Listed) -> EndKey
+fn end_key(listed: LogEntry) -> EndKey
     ensures { result ≡ keys.end_key listed }
 {
     match listed.entry.end {
@@ -115,7 +115,7 @@ fn due_by(was: Option<u64>, end: Option<u128>) -> Option<u64>
 
 /// Puts entries in order of end.
 #[inline(always)]
-fn sort_by_end(entries: &mut Vec<Listed>)
+fn sort_by_end(entries: &mut Vec<LogEntry>)
     ensures moved { IsPermutation entries.old.items entries.new.items }
     ensures sorted { IsSortedByKey keys.end_key keys.end_cmp entries.new.items }
 {
@@ -127,11 +127,11 @@ fn sort_by_end(entries: &mut Vec<Listed>)
 
 impl OpenEntries {
     ghost use Rattle.std.specs.HashMap.{IsUnique};
-    ghost use Rattle.napt_account.specs.OpenEntries.{open_at, listed_at, due_at, is_queued, is_at, due_within, external_eq, IsIndexed, IsIndexedBut, Shows, LeavesOpen};
+    ghost use Rattle.napt_account.specs.OpenEntries.{open_at, listed_at, due_at, is_queued, entry_is_at, due_within, external_eq, IsIndexed, IsIndexedBut, OpenEntriesShow, LeavesOpen};
     ghost use Rattle.napt_account.specs.declared.log.Entry.{Entry as Logged};
-    ghost use Rattle.napt_account.specs.declared.log.Listed.{Listed as Numbered};
-    ghost use Rattle.napt_account.specs.declared.open_entries.Due.{Due as Place};
-    ghost use Rattle.napt_account.specs.declared.open_entries.ExternalKey.{ExternalKey as Endpoint};
+    ghost use Rattle.napt_account.specs.declared.log.LogEntry.{LogEntry as Numbered};
+    ghost use Rattle.napt_account.specs.declared.open_entries.DueEntry.{DueEntry as Place};
+    ghost use Rattle.napt_account.specs.declared.open_entries.EntryKey.{EntryKey as Endpoint};
 
     /// None that has not ended, of so many.
     fn new(alloc: Global, made: usize) -> OpenEntries
@@ -147,11 +147,11 @@ impl OpenEntries {
     }
 
     /// Begins with what was kept of a log.
-    pub(crate) fn of(alloc: Global, log: &LogState) -> Result<OpenEntries, AllocError>
+    pub(crate) fn of(alloc: Global, log: &SavedLogState) -> Result<OpenEntries, AllocError>
         ensures { (now most : ℕ) → kept_at now (filled log.now) ≡ log.now →
             Each (λ l. (l.entry.sent ≤ most) × (l.entry.received ≤ most)) log.now.living →
             AreKeyed (map (λ l. l.entry.binding) log.now.living) →
-            IfOk result (Shows now most (filled log.now)) }
+            IfOk result (OpenEntriesShow now most (filled log.now)) }
     {
         let mut all = OpenEntries::new(alloc, log.made as usize);
         for listed in &log.living {
@@ -161,13 +161,13 @@ impl OpenEntries {
     }
 
     /// What is kept of the log.
-    pub(crate) fn left(&self, alloc: Global) -> Result<LogState, AllocError>
-        ensures { (now most : ℕ) (entries : List Logged) → Shows now most entries self.now →
+    pub(crate) fn left(&self, alloc: Global) -> Result<SavedLogState, AllocError>
+        ensures { (now most : ℕ) (entries : List Logged) → OpenEntriesShow now most entries self.now →
             IfOk result (λ left. left ≡ kept_at now entries) }
     {
         let mut living = self.copied(alloc)?;
         living.sort_unstable_by_key(|listed| listed.number);
-        Ok(LogState {
+        Ok(SavedLogState {
             made: self.made as u64,
             living,
         })
@@ -185,15 +185,15 @@ impl OpenEntries {
     fn put(&mut self, entry: Entry) -> Result<usize, AllocError>
         requires { self.old.made + 1 < 2 ^ 64 }
         ensures place { IfOk result (λ place. place ≡ self.old.made) }
-        ensures shows { (now most : ℕ) (entries : List Logged) → Shows now most entries self.old →
-            open_at self.old (keys.external_key entry.binding) ≡ None →
+        ensures shows { (now most : ℕ) (entries : List Logged) → OpenEntriesShow now most entries self.old →
+            open_at self.old (keys.entry_key entry.binding) ≡ None →
             is_before now entry.end ≡ true → entry.sent ≤ most → entry.received ≤ most →
-            OnOk result (Shows now most (entries ++ entry ∷ []) self.new) }
+            OnOk result (OpenEntriesShow now most (entries ++ entry ∷ []) self.new) }
     {
         let place = self.made;
         self.made = place + 1;
         self.set(
-            Listed {
+            LogEntry {
                 number: place as u64 + 1,
                 entry,
             },
@@ -203,12 +203,12 @@ impl OpenEntries {
     }
 
     /// Sets the entry of an endpoint, which is queued at `was`, or not at all.
-    fn set(&mut self, listed: Listed, was: Option<u64>) -> Result<(), AllocError>
+    fn set(&mut self, listed: LogEntry, was: Option<u64>) -> Result<(), AllocError>
         ensures made { self.new.made ≡ self.old.made }
         ensures listed { OnOk result ((x : Endpoint) → listed_at self.new x
-            ≡ cond (external_eq (keys.external_key listed.entry.binding) x) (Some listed)
+            ≡ cond (external_eq (keys.entry_key listed.entry.binding) x) (Some listed)
             (listed_at self.old x)) }
-        ensures indexed { IsIndexedBut (keys.external_key listed.entry.binding) was self.old →
+        ensures indexed { IsIndexedBut (keys.entry_key listed.entry.binding) was self.old →
             OnOk result (IsIndexed self.new) }
         ensures within { (now : ℕ) → is_open now listed ≡ true → was ≡ None →
             OnOk result (due_within now self.new ≡ due_within now self.old) }
@@ -224,15 +224,15 @@ impl OpenEntries {
     #[inline(always)]
     fn queue_at(
         &mut self,
-        key: ExternalKey,
+        key: EntryKey,
         was: Option<u64>,
         due: Option<u64>,
     ) -> Result<(), AllocError>
         ensures open { (x : Endpoint) → open_at self.new x ≡ open_at self.old x }
         ensures made { self.new.made ≡ self.old.made }
         ensures queued { OnOk result ((d : Place) →
-            (external_eq key d.key ≡ true → is_queued self.old d ≡ is_at was d.at) →
-            is_queued self.new d ≡ cond (external_eq key d.key) (is_at due d.at)
+            (external_eq key d.key ≡ true → is_queued self.old d ≡ entry_is_at was d.at) →
+            is_queued self.new d ≡ cond (external_eq key d.key) (entry_is_at due d.at)
             (is_queued self.old d)) }
         ensures within { (now : ℕ) → is_before now due ≡ true → was ≡ None →
             OnOk result (due_within now self.new ≡ due_within now self.old) }
@@ -245,37 +245,37 @@ impl OpenEntries {
     }
 
     /// Takes an endpoint out of the queue, if it is there at a time.
-    fn leave_queue(&mut self, key: ExternalKey, was: Option<u64>)
+    fn leave_queue(&mut self, key: EntryKey, was: Option<u64>)
         ensures open { (x : Endpoint) → open_at self.new x ≡ open_at self.old x }
         ensures made { self.new.made ≡ self.old.made }
         ensures queued { (d : Place) → is_queued self.new d
-            ≡ (not (external_eq key d.key && is_at was d.at) && is_queued self.old d) }
+            ≡ (not (external_eq key d.key && entry_is_at was d.at) && is_queued self.old d) }
         ensures within { was ≡ None → (now : ℕ) →
             due_within now self.new ≡ due_within now self.old }
     {
         if let Some(at) = was {
-            self.queue.remove(&Due { at, key });
+            self.queue.remove(&DueEntry { at, key });
         }
     }
 
     /// Puts an endpoint into the queue at a time, if there is one.
-    fn enter_queue(&mut self, key: ExternalKey, due: Option<u64>) -> Result<(), AllocError>
+    fn enter_queue(&mut self, key: EntryKey, due: Option<u64>) -> Result<(), AllocError>
         ensures open { (x : Endpoint) → open_at self.new x ≡ open_at self.old x }
         ensures made { self.new.made ≡ self.old.made }
         ensures queued { OnOk result ((d : Place) → is_queued self.new d
-            ≡ ((external_eq key d.key && is_at due d.at) || is_queued self.old d)) }
+            ≡ ((external_eq key d.key && entry_is_at due d.at) || is_queued self.old d)) }
         ensures within { (now : ℕ) → is_before now due ≡ true →
             OnOk result (due_within now self.new ≡ due_within now self.old) }
     {
         if let Some(at) = due {
-            self.queue.insert(Due { at, key })?;
+            self.queue.insert(DueEntry { at, key })?;
         }
         Ok(())
     }
 
     /// The entry of an external endpoint.
     pub(crate) fn find(&self, row: Row) -> Option<Open>
-        ensures { result ≡ open_at self.now (keys.external_key row) }
+        ensures { result ≡ open_at self.now (keys.entry_key row) }
     {
         self.by_external.get(&external_key(row)).copied()
     }
@@ -283,17 +283,22 @@ impl OpenEntries {
     /// Counts a packet that went one way through the binding of a row, which now has this end; returns what it did to the
     /// binding, if the binding has an entry.
     #[inline(always)]
-    fn count(&mut self, way: Way, now: u64, timed: TimedRow) -> Result<Option<Use>, AllocError>
-        requires { (most : ℕ) × (entries : List Logged) × Shows now most entries self.old
+    fn count(
+        &mut self,
+        way: Way,
+        now: u64,
+        timed: TimedRow,
+    ) -> Result<Option<BindingTally>, AllocError>
+        requires { (most : ℕ) × (entries : List Logged) × OpenEntriesShow now most entries self.old
             × (most + 1 < 2 ^ 64) }
-        ensures shows { (most : ℕ) (entries : List Logged) → Shows now most entries self.old →
-            is_before now timed.end ≡ true → OnOk result (Shows now (most + 1)
-            (map (through now timed.row (counted way now timed.end)) entries) self.new) }
-        ensures uses { (most : ℕ) (entries : List Logged) → Shows now most entries self.old →
+        ensures shows { (most : ℕ) (entries : List Logged) → OpenEntriesShow now most entries self.old →
+            is_before now timed.end ≡ true → OnOk result (OpenEntriesShow now (most + 1)
+            (map (entry_through now timed.row (counted way now timed.end)) entries) self.new) }
+        ensures uses { (most : ℕ) (entries : List Logged) → OpenEntriesShow now most entries self.old →
             IfOk result (λ used. used
-            ≡ books.use_at way entries (place_of now timed.row entries)) }
+            ≡ books.use_at way entries (entry_place now timed.row entries)) }
         ensures none { result ≡ Ok None → (self.new ≡ self.old)
-            × (open_at self.old (keys.external_key timed.row) ≡ None) }
+            × (open_at self.old (keys.entry_key timed.row) ≡ None) }
     {
         let key = external_key(timed.row);
         let Some(open) = self.by_external.get_mut(&key) else {
@@ -306,12 +311,12 @@ impl OpenEntries {
         open.due = due;
         open.listed.entry.count(way, now, timed.end);
         self.queue_at(key, was, due)?;
-        Ok(Some(Use::through(way, note, place)))
+        Ok(Some(BindingTally::through(way, note, place)))
     }
 
     /// Takes the first endpoint out of the queue if its time there has come by a time, in ns.
     #[inline(always)]
-    fn take_due(&mut self, now: u64) -> Option<ExternalKey>
+    fn take_due(&mut self, now: u64) -> Option<EntryKey>
         ensures open { (x : Endpoint) → open_at self.new x ≡ open_at self.old x }
         ensures made { self.new.made ≡ self.old.made }
         ensures within { IfSome result (λ key.
@@ -337,7 +342,7 @@ impl OpenEntries {
     /// Looks at the entry of an endpoint that is not queued: takes it out if its binding has ended by a time, in ns, and
     /// queues it at its end if not.
     #[inline(never)]
-    fn look_at(&mut self, key: ExternalKey, now: u64) -> Result<Option<Listed>, AllocError>
+    fn look_at(&mut self, key: EntryKey, now: u64) -> Result<Option<LogEntry>, AllocError>
         ensures made { self.new.made ≡ self.old.made }
         ensures indexed { IsIndexedBut key None self.old → OnOk result (IsIndexed self.new) }
         ensures taken { IfOk result (λ taken. IfSome taken (λ l.
@@ -360,12 +365,16 @@ impl OpenEntries {
 
     /// Takes out the entries of the bindings that have ended by a time, in ns.
     #[inline(always)]
-    pub(crate) fn take_ended(&mut self, alloc: Global, now: u64) -> Result<Vec<Listed>, AllocError>
-        ensures ended { (was most : ℕ) (entries : List Logged) → Shows was most entries self.old →
+    pub(crate) fn take_ended(
+        &mut self,
+        alloc: Global,
+        now: u64,
+    ) -> Result<Vec<LogEntry>, AllocError>
+        ensures ended { (was most : ℕ) (entries : List Logged) → OpenEntriesShow was most entries self.old →
             IfOk result (λ ended. ended.items
-            ≡ in_order_of_end (filter (ends_within was now) (numbered entries))) }
-        ensures shows { (was most : ℕ) (entries : List Logged) → Shows was most entries self.old →
-            was ≤ now → OnOk result (Shows now most entries self.new) }
+            ≡ in_order_of_end (filter (ends_within was now) (numbered_entries entries))) }
+        ensures shows { (was most : ℕ) (entries : List Logged) → OpenEntriesShow was most entries self.old →
+            was ≤ now → OnOk result (OpenEntriesShow now most entries self.new) }
     {
         let mut ended = Vec::new(alloc);
         while let Some(key) = self.take_due(now) {
@@ -378,10 +387,10 @@ impl OpenEntries {
     }
 
     /// The entries, with their numbers, by their ends.
-    pub(crate) fn list(&self, alloc: Global) -> Result<Vec<Listed>, AllocError>
-        ensures { (now most : ℕ) (entries : List Logged) → Shows now most entries self.now →
+    pub(crate) fn list(&self, alloc: Global) -> Result<Vec<LogEntry>, AllocError>
+        ensures { (now most : ℕ) (entries : List Logged) → OpenEntriesShow now most entries self.now →
             IfOk result (λ all. all.items
-            ≡ in_order_of_end (filter (is_open now) (numbered entries))) }
+            ≡ in_order_of_end (filter (is_open now) (numbered_entries entries))) }
     {
         let mut all = self.copied(alloc)?;
         sort_by_end(&mut all);
@@ -389,7 +398,7 @@ impl OpenEntries {
     }
 
     /// What is kept, in no particular order.
-    fn copied(&self, alloc: Global) -> Result<Vec<Listed>, AllocError>
+    fn copied(&self, alloc: Global) -> Result<Vec<LogEntry>, AllocError>
         ensures kept { IfOk result (λ all. all.items ≡ keys.kept self.now) }
         ensures unique { IsUnique external_eq self.now.by_external }
     {
@@ -401,31 +410,31 @@ impl OpenEntries {
 
     /// Counts a packet that left through the binding, which now has this end; returns what it did to the binding.
     #[inline(always)]
-    fn go_out(&mut self, now: u64, timed: TimedRow) -> Result<Use, AllocError>
-        requires { (most : ℕ) × (entries : List Logged) × Shows now most entries self.old
+    fn go_out(&mut self, now: u64, timed: TimedRow) -> Result<BindingTally, AllocError>
+        requires { (most : ℕ) × (entries : List Logged) × OpenEntriesShow now most entries self.old
             × (most + 1 < 2 ^ 64) × (length entries + 1 < 2 ^ 64) }
-        ensures shows { (most : ℕ) (entries : List Logged) → Shows now most entries self.old →
+        ensures shows { (most : ℕ) (entries : List Logged) → OpenEntriesShow now most entries self.old →
             is_before now timed.end ≡ true →
-            OnOk result (Shows now (most + 1) (books.after_out now timed entries) self.new) }
-        ensures uses { (most : ℕ) (entries : List Logged) → Shows now most entries self.old →
+            OnOk result (OpenEntriesShow now (most + 1) (books.after_out now timed entries) self.new) }
+        ensures uses { (most : ℕ) (entries : List Logged) → OpenEntriesShow now most entries self.old →
             IfOk result (λ used. used ≡ books.use_told now (Passage.Out timed) entries) }
     {
         if let Some(used) = self.count(Way::Outgoing, now, timed)? {
             return Ok(used);
         }
         let made = self.put(Entry::by_packet(now, timed))?;
-        Ok(Use::through(Way::Outgoing, Note::Made, made))
+        Ok(BindingTally::through(Way::Outgoing, LogNote::Made, made))
     }
 
     /// Records one leg; returns what it did to the bindings.
     #[inline(always)]
-    pub(crate) fn pass(&mut self, now: u64, passage: Passage) -> Result<Use, AllocError>
-        requires { (most : ℕ) × (entries : List Logged) × Shows now most entries self.old
+    pub(crate) fn pass(&mut self, now: u64, passage: Passage) -> Result<BindingTally, AllocError>
+        requires { (most : ℕ) × (entries : List Logged) × OpenEntriesShow now most entries self.old
             × (most + 1 < 2 ^ 64) × (length entries + 1 < 2 ^ 64) }
-        ensures shows { (most : ℕ) (entries : List Logged) → Shows now most entries self.old →
+        ensures shows { (most : ℕ) (entries : List Logged) → OpenEntriesShow now most entries self.old →
             LeavesOpen now passage →
-            OnOk result (Shows now (most + 1) (books.after now passage entries) self.new) }
-        ensures uses { (most : ℕ) (entries : List Logged) → Shows now most entries self.old →
+            OnOk result (OpenEntriesShow now (most + 1) (books.book_after now passage entries) self.new) }
+        ensures uses { (most : ℕ) (entries : List Logged) → OpenEntriesShow now most entries self.old →
             IfOk result (λ used. used ≡ books.use_told now passage entries) }
     {
         match passage {

@@ -4,7 +4,7 @@ ghost use Rattle.std.specs.Prelude.{◌≤◌, IfSome};
 
 use napt_commands::{Exit, Page};
 use napt_config::{Address, Config};
-use napt_program::{Stop, Streams};
+use napt_program::{StandardStreams, Stop};
 use std::alloc::AllocError;
 use std::fmt::Write;
 
@@ -20,7 +20,7 @@ const HEADER: &str = "host,address,first,last\n";
 /// Prints the table of all blocks, by the index of the host. A configuration without blocks is reported.
 pub fn tell_blocks<R: Print + Eprint + AllocGlobal>(
     rt: &R,
-    streams: Streams,
+    streams: StandardStreams,
     config: &Config,
 ) -> Result<(), Exit> {
     let Some(size) = config.block() else {

@@ -1,33 +1,33 @@
 //! Who had the external endpoints that requests name, as a run goes.
 
-use crate::requests::Asked;
-use crate::wanted::Wanted;
-use crate::who::{Basis, Known, tell_answers};
-use napt_account::{Listed, in_order_of_making};
-use napt_commands::{Ending, Exit};
+use crate::answers::{AnswerBasis, Basis, tell_answers};
+use crate::requests::HolderRequest;
+use crate::wanted_endpoints::WantedEndpoints;
+use napt_account::{LogEntry, in_order_of_making};
+use napt_commands::{Exit, RunEnd};
 use std::alloc::{AllocError, Global};
 
 /// What a run says to requests so far: of the bindings that ended, those that are asked about.
 #[derive(Drop)]
 pub struct Holders<'a> {
-    asked: &'a [Asked],
-    wanted: Wanted,
+    asked: &'a [HolderRequest],
+    wanted: WantedEndpoints,
     /// In the order in which they ended.
-    ended: Vec<Listed>,
+    ended: Vec<LogEntry>,
 }
 
 impl<'a> Holders<'a> {
     /// Before the first packet.
-    pub fn of(alloc: Global, asked: &'a [Asked]) -> Result<Holders<'a>, AllocError> {
+    pub fn of(alloc: Global, asked: &'a [HolderRequest]) -> Result<Holders<'a>, AllocError> {
         Ok(Holders {
             asked,
-            wanted: Wanted::of(alloc, asked)?,
+            wanted: WantedEndpoints::of(alloc, asked)?,
             ended: Vec::new(alloc),
         })
     }
 
     /// Takes bindings that ended, and keeps those that are asked about.
-    pub fn take(&mut self, entries: &[Listed]) -> Result<(), AllocError> {
+    pub fn take(&mut self, entries: &[LogEntry]) -> Result<(), AllocError> {
         for listed in entries {
             if self.wanted.has(listed.entry.binding.external) {
                 self.ended.push(*listed)?;
@@ -37,10 +37,10 @@ impl<'a> Holders<'a> {
     }
 
     /// Prints the answers, once the run has ended. Fails with `Nobody` if a request has none.
-    pub fn tell<R: Print + AllocGlobal>(mut self, rt: &R, ending: &Ending<'_>) -> Result<(), Exit> {
+    pub fn tell<R: Print + AllocGlobal>(mut self, rt: &R, ending: &RunEnd<'_>) -> Result<(), Exit> {
         self.take(&ending.living)?;
         let entries = in_order_of_making(rt.alloc(), self.ended)?;
-        let known = Known {
+        let known = AnswerBasis {
             entries: &entries,
             last: ending.last,
             later: ending.later,

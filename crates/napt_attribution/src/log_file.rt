@@ -2,8 +2,8 @@
 //! `napt_log_text` defines its rows.
 
 use crate::blocks::tell_needless;
-use napt_account::Listed;
-use napt_commands::{Exit, Passing, tell_unwritten};
+use napt_account::LogEntry;
+use napt_commands::{Exit, RunPacket, tell_unwritten};
 use napt_config::Config;
 use napt_log_text::{add_living, add_opening, add_told};
 use std::fs::{self, File};
@@ -19,7 +19,7 @@ const LIVING: usize = 256;
 /// A log that is being written.
 #[derive(Drop)]
 pub struct LogFile<'a, W> {
-    place: Place<'a, W>,
+    place: LogLocation<'a, W>,
     /// Whether no row is written before the end.
     is_held: bool,
     /// The rows that are not written yet.
@@ -28,7 +28,7 @@ pub struct LogFile<'a, W> {
 
 /// Where a log is written.
 #[derive(Drop)]
-enum Place<'a, W> {
+enum LogLocation<'a, W> {
     Output,
     /// The file at this path, once it is whole.
     Path(&'a str),
@@ -42,13 +42,13 @@ pub fn begin_log<'a, R: Files + Print + Eprint + AllocGlobal>(
     path: Option<&'a str>,
     is_held: bool,
     config: &Config,
-    opening: &[Listed],
+    opening: &[LogEntry],
 ) -> Result<LogFile<'a, R::File>, Exit> {
     let place = match path {
-        None => Place::Output,
-        Some(path) if is_held => Place::Path(path),
+        None => LogLocation::Output,
+        Some(path) if is_held => LogLocation::Path(path),
         Some(path) => match File::create(rt, path) {
-            Ok(file) => Place::File(path, file),
+            Ok(file) => LogLocation::File(path, file),
             Err(error) => return Err(tell_unwritten(rt, "--to", path, &error)),
         },
     };
@@ -68,7 +68,7 @@ impl<'a, W: Write + Drop> LogFile<'a, W> {
         &mut self,
         rt: &R,
         config: &Config,
-        passing: Passing<'_>,
+        passing: RunPacket<'_>,
     ) -> Result<(), Exit> {
         add_told(config, passing.step, &mut self.text)?;
         self.turn(rt)
@@ -80,7 +80,7 @@ impl<'a, W: Write + Drop> LogFile<'a, W> {
         self,
         rt: &R,
         config: &Config,
-        living: &[Listed],
+        living: &[LogEntry],
     ) -> Result<(), Exit> {
         let mut log = self;
         for part in living.chunks(LIVING) {
@@ -110,8 +110,8 @@ impl<'a, W: Write + Drop> LogFile<'a, W> {
         self.text.clear();
         match (written, &self.place) {
             (Ok(()), _) => Ok(()),
-            (Err(error), Place::Output) => Err(Exit::Output(error)),
-            (Err(error), Place::Path(path) | Place::File(path, _)) => {
+            (Err(error), LogLocation::Output) => Err(Exit::Output(error)),
+            (Err(error), LogLocation::Path(path) | LogLocation::File(path, _)) => {
                 Err(tell_unwritten(rt, "--to", path, &error))
             }
         }
@@ -119,9 +119,9 @@ impl<'a, W: Write + Drop> LogFile<'a, W> {
 
     fn write<R: Files + Print>(&mut self, rt: &R) -> io::Result<()> {
         match &mut self.place {
-            Place::Output => rt.write_all(self.text.as_bytes()),
-            Place::Path(path) => fs::write(rt, *path, self.text.as_str()),
-            Place::File(_, file) => file.write_all(self.text.as_bytes()),
+            LogLocation::Output => rt.write_all(self.text.as_bytes()),
+            LogLocation::Path(path) => fs::write(rt, *path, self.text.as_str()),
+            LogLocation::File(_, file) => file.write_all(self.text.as_bytes()),
         }
     }
 }

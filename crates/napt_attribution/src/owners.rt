@@ -1,8 +1,8 @@
 //! Whose an external endpoint is, by the configuration alone: where each inside host has a block of numbers (RFC 7422).
 
+use crate::answers::{AnswerBasis, Basis, mark};
 use crate::blocks::{MOST_BLOCKS, host_of_block, numbers_of};
-use crate::requests::Asked;
-use crate::who::{Basis, Known, mark};
+use crate::requests::HolderRequest;
 use napt_account::Party;
 use napt_commands::Page;
 use napt_config::{Address, Config, Redirect};
@@ -14,7 +14,11 @@ use std::fmt::Write;
 
 /// Appends a line for each host whose block a request is in. If there is no run, appends one for each redirect too, or
 /// that nobody ever has the endpoint. Returns whether somebody has it.
-pub fn add_owners(asked: &Asked, known: Known<'_>, page: &mut Page) -> Result<bool, AllocError> {
+pub fn add_owners(
+    asked: &HolderRequest,
+    known: AnswerBasis<'_>,
+    page: &mut Page,
+) -> Result<bool, AllocError> {
     let Some((config, size)) = known.config.and_then(|it| Some((it, it.block()?))) else {
         return Ok(false);
     };
@@ -36,7 +40,7 @@ pub fn add_owners(asked: &Asked, known: Known<'_>, page: &mut Page) -> Result<bo
 
 /// Appends the lines of all hosts with a block of an address.
 fn add_hosts_of(
-    asked: &Asked,
+    asked: &HolderRequest,
     config: &Config,
     size: u16,
     text: &mut String,
@@ -53,7 +57,7 @@ fn add_hosts_of(
 
 /// Appends the line of a host, if it has a block.
 fn add_host(
-    asked: &Asked,
+    asked: &HolderRequest,
     config: &Config,
     host: u32,
     text: &mut String,
@@ -69,7 +73,11 @@ fn add_host(
 }
 
 /// Appends the lines of the redirects that a request names.
-fn add_redirects(asked: &Asked, config: &Config, text: &mut String) -> Result<bool, AllocError> {
+fn add_redirects(
+    asked: &HolderRequest,
+    config: &Config,
+    text: &mut String,
+) -> Result<bool, AllocError> {
     let mut has_one = false;
     for redirect in config.redirects() {
         if is_asked(&asked.request, config, redirect) {
@@ -113,7 +121,7 @@ fn add_redirect(config: &Config, redirect: &Redirect, text: &mut String) -> Resu
 }
 
 /// Appends the line that says that nobody ever has an endpoint, and why.
-fn add_nobody(asked: &Asked, config: &Config, text: &mut String) -> Result<(), AllocError> {
+fn add_nobody(asked: &HolderRequest, config: &Config, text: &mut String) -> Result<(), AllocError> {
     let party = asked.request.party;
     mark(asked, text)?;
     text.push_str("nobody has ")?;

@@ -1,6 +1,6 @@
 //! Requests: who had an external endpoint, and when. One is on the command line, or many are in a file.
 
-use crate::spans::{NoTime, span_of};
+use crate::spans::{BadTime, span_of};
 use napt_account::Party;
 use napt_commands::{Exit, text_at};
 use napt_config::Address;
@@ -17,16 +17,16 @@ const WANTED: &str =
 
 /// A request.
 #[derive(Clone, Copy)]
-pub struct Asked {
+pub struct HolderRequest {
     /// Its line in a file of requests, from 1.
     pub line: Option<u64>,
     pub request: Request,
 }
 
-impl Asked {
+impl HolderRequest {
     /// That of the command line.
-    pub fn of(request: Request) -> Asked {
-        Asked {
+    pub fn of(request: Request) -> HolderRequest {
+        HolderRequest {
             line: None,
             request,
         }
@@ -42,7 +42,7 @@ impl Asked {
     }
 
     /// The same about a time that ends so much later, in ns, if it is about one.
-    pub fn until_later(&self, by: u64) -> Asked {
+    pub fn until_later(&self, by: u64) -> HolderRequest {
         let mut asked = *self;
         if let Some(span) = &mut asked.request.at {
             span.until = span.until.saturating_add(u128::from(by));
@@ -55,7 +55,7 @@ impl Asked {
 pub fn requests_at<R: Files + Input + Eprint + AllocGlobal>(
     rt: &R,
     path: &str,
-) -> Result<Vec<Asked>, Exit> {
+) -> Result<Vec<HolderRequest>, Exit> {
     let text = text_at(rt, "--requests", path)?;
     let lines = match str::from_utf8(&text) {
         Ok(lines) => lines,
@@ -72,7 +72,7 @@ pub fn requests_at<R: Files + Input + Eprint + AllocGlobal>(
             continue;
         }
         match request_of(line) {
-            Ok(request) => asked.push(Asked {
+            Ok(request) => asked.push(HolderRequest {
                 line: Some(number),
                 request,
             })?,
@@ -95,9 +95,9 @@ fn line_at(text: &[u8], place: usize) -> u64 {
 }
 
 /// Parses an endpoint or an address, a time and maybe a protocol. A date may have a space before its time of day.
-fn request_of(line: &str) -> Result<Request, NoTime> {
+fn request_of(line: &str) -> Result<Request, BadTime> {
     let (party, rest) = first_word(line.trim());
-    let party = party_of(party).ok_or(NoTime::Unread)?;
+    let party = party_of(party).ok_or(BadTime::Unread)?;
     let (time, last) = last_word(rest);
     let (time, protocol) = match protocol_of(last) {
         Some(protocol) => (time, Some(protocol)),

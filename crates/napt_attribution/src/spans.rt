@@ -3,7 +3,7 @@
 ghost use Rattle.std.specs.Prelude.{◌≡◌, ◌+◌, IfSome};
 
 use jiff::Timestamp;
-use napt_log_text::Span;
+use napt_log_text::TimeSpan;
 
 const SECOND: u64 = 1_000_000_000;
 
@@ -23,19 +23,19 @@ const CLOCK: usize = 6;
 
 /// Why a text is no time.
 #[derive(Clone, Copy)]
-pub enum NoTime {
+pub enum BadTime {
     /// It is neither a number of seconds nor a date.
     Unread,
     /// More seconds than a time since 1970 has.
     TooLate,
 }
 
-impl NoTime {
+impl BadTime {
     /// What is told of it, if `wanted` was expected.
     pub fn words(self, wanted: &'static str) -> &'static str {
         match self {
-            NoTime::Unread => wanted,
-            NoTime::TooLate => {
+            BadTime::Unread => wanted,
+            BadTime::TooLate => {
                 "more than 100000000000 seconds since 1970: are these milliseconds, microseconds or nanoseconds?"
             }
         }
@@ -43,11 +43,11 @@ impl NoTime {
 }
 
 /// The span that a time stands for: seconds since 1970, or a date in RFC 3339.
-pub fn span_of(text: &str) -> Result<Span, NoTime> {
+pub fn span_of(text: &str) -> Result<TimeSpan, BadTime> {
     match span_of_seconds(text) {
-        Some(span) if span.first / u128::from(SECOND) > u128::from(LAST) => Err(NoTime::TooLate),
+        Some(span) if span.first / u128::from(SECOND) > u128::from(LAST) => Err(BadTime::TooLate),
         Some(span) => Ok(span),
-        None => span_of_date(text).ok_or(NoTime::Unread),
+        None => span_of_date(text).ok_or(BadTime::Unread),
     }
 }
 
@@ -56,7 +56,7 @@ pub fn nanoseconds_of(text: &str) -> Option<u64> {
     u64::try_from(span_of_seconds(text)?.first).ok()
 }
 
-fn span_of_seconds(text: &str) -> Option<Span> {
+fn span_of_seconds(text: &str) -> Option<TimeSpan> {
     let Some((seconds, decimals)) = text.split_once('.') else {
         let first = u128::from(text.parse::<u64>().ok()?).checked_mul(u128::from(SECOND))?;
         return span_from(first, SECOND);
@@ -70,7 +70,7 @@ fn span_of_seconds(text: &str) -> Option<Span> {
     span_from(whole.checked_add(u128::from(rest))?, unit)
 }
 
-fn span_of_date(text: &str) -> Option<Span> {
+fn span_of_date(text: &str) -> Option<TimeSpan> {
     let date = text.parse::<Timestamp>().ok()?;
     let unit = match clock_digits(text)? {
         2 => HOUR,
@@ -81,10 +81,10 @@ fn span_of_date(text: &str) -> Option<Span> {
 }
 
 /// The span from a moment on that is a unit long.
-fn span_from(first: u128, unit: u64) -> Option<Span>
+fn span_from(first: u128, unit: u64) -> Option<TimeSpan>
     ensures { IfSome result (λ span. (span.first ≡ first) × (span.until ≡ first + unit)) }
 {
-    Some(Span {
+    Some(TimeSpan {
         first,
         until: first.checked_add(u128::from(unit))?,
     })

@@ -2,10 +2,10 @@
 use Rattle.std.proofs.lemmas.Grind.{common_steps}
 use Rattle.std.proofs.Common.{◌≡◌, ℕ, ◌+◌, ◌<◌, ◌≤◌, ◌++◌, length, take, get_or, max, Bool, true, false, ◌||◌, cond, List, [], ◌∷◌, Option, Some, None, refl, sym, ◌∙◌, ap, arith, nat_lt, nat_le}
 use Rattle.std.{specs.List.list_any, proofs.lemmas.{Bool.Decides.nat_tests, List.take_more}}
-use Rattle.napt_rules.specs.declared.{Marks.Marks, Flow.Flow}
+use Rattle.napt_rules.specs.declared.{SessionMarks.SessionMarks, Flow.Flow}
 use Rattle.napt_rules.specs.Prelude.{Binding, is_established, idle, is_recent, is_live_flow, is_live_by, is_live, with_live_flows, Protocol, Icmp, Tcp, Udp, AreTimers, Timers}
 use Rattle.napt_rules.proofs.Life.{lived, live_same}
-use Rattle.napt_binding.specs.Ends.{end_after, last_end, end_by, end_of, is_before, EndsAreFirst}
+use Rattle.napt_binding.specs.Ends.{end_after, last_end, end_by_protocol, end_of, is_before, EndsAreFirst}
 
 pub recent_before : (now last seconds : ℕ) → 0 < seconds →
     is_recent now last seconds ≡ nat_lt now (end_after last seconds)
@@ -14,7 +14,7 @@ recent_before now last seconds some = grind (arith, nat_tests)
 pub either_before : (now a b : ℕ) → (nat_lt now a || nat_lt now b) ≡ nat_lt now (max a b)
 either_before now a b = grind (arith, nat_tests)
 
-idle_some : (timers : Timers) → AreTimers timers → (marks : Marks) → 0 < idle timers marks
+idle_some : (timers : Timers) → AreTimers timers → (marks : SessionMarks) → 0 < idle timers marks
 idle_some timers t marks = elim (is_established marks) as (λ v. 0 < cond v timers.established timers.transitory)
     [ true ↦ omega (arith, t.established.low) | false ↦ omega (arith, t.transitory.low) ]
 
@@ -25,7 +25,7 @@ flows_before timers t now (flow ∷ flows) =
     grind (arith, common_steps, nat_tests, recent_before, idle_some, either_before, flows_before timers t now flows)
 
 by_before : (protocol : Protocol) (timers : Timers) → AreTimers timers → (now : ℕ) (binding : Binding) →
-    is_live_by protocol timers now binding ≡ nat_lt now (end_by protocol timers binding)
+    is_live_by protocol timers now binding ≡ nat_lt now (end_by_protocol protocol timers binding)
 by_before Icmp timers t now binding = recent_before now binding.last timers.icmp (omega (arith, t.icmp.low))
 by_before Udp timers t now binding = recent_before now binding.last timers.udp (omega (arith, t.udp.low))
 by_before Tcp timers t now binding = flows_before timers t now binding.flows
@@ -37,7 +37,7 @@ either_fixed false now end = refl
 pub ends_are_first : EndsAreFirst
 ends_are_first timers t now binding = ap (λ v. binding.row.fixed || v)
     (by_before binding.row.protocol timers t now binding)
-    ∙ either_fixed binding.row.fixed now (end_by binding.row.protocol timers binding)
+    ∙ either_fixed binding.row.fixed now (end_by_protocol binding.row.protocol timers binding)
 
 -- what is before an end now was so earlier
 pub before_sooner : (n m : ℕ) → n ≤ m → (end : Option ℕ) → is_before m end ≡ true → is_before n end ≡ true

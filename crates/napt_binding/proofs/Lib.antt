@@ -2,9 +2,9 @@ pub mod Lists
 pub mod FirstEnds
 mod Slots
 mod Standing
-mod Timed
-mod Manys
-mod Distinct
-mod Few
-pub mod Used
-mod Restored
+mod TimedRows
+mod FlowMapSteps
+mod DistinctFlows
+mod ListLengths
+pub mod LastUses
+mod RestoredFlows

@@ -4,10 +4,10 @@ use Rattle.std.specs.List.Sorted.{IsNonDecreasingBy}
 use Rattle.napt_rules.specs.{declared.Flow.Flow, Prelude.{is_established, is_recent, is_flow_of}}
 
 -- what stands in the slots
-abbrev pub somes : {X : Type 0} → List (Option X) → List X
-somes [] = []
-somes (None ∷ slots) = somes slots
-somes (Some x ∷ slots) = x ∷ somes slots
+abbrev pub standing_flows : {X : Type 0} → List (Option X) → List X
+standing_flows [] = []
+standing_flows (None ∷ slots) = standing_flows slots
+standing_flows (Some x ∷ slots) = x ∷ standing_flows slots
 
 -- no two flows are of one remote
 abbrev pub AreDistinct : List Flow → Type 0
@@ -25,28 +25,28 @@ pub record AreByLastUse (flows : List Flow) (entries : List (ℕ × Flow)) : Typ
   pub known : All (λ entry. slice_get flows entry.0 ≡ Some entry.1) entries
 
 -- it stands in the slot
-abbrev pub Stands : {X : Type 0} → List (Option X) → ℕ → X → Type 0
-Stands slots place x = slice_get slots place ≡ Some (Some x)
+abbrev pub IsInSlot : {X : Type 0} → List (Option X) → ℕ → X → Type 0
+IsInSlot slots place x = slice_get slots place ≡ Some (Some x)
 
 -- the rows of flows: 0 of those that are established, 1 of the others
 abbrev pub row_of : Flow → ℕ
 row_of flow = cond (is_established flow.marks) 0 1
 
 -- what holds of each flow of the row
-abbrev pub EachOf : ℕ → List (Option Flow) → (Flow → Type 0) → Type 0
-EachOf row slots P = (place : ℕ) (flow : Flow) → Stands slots place flow → row_of flow ≡ row → P flow
+abbrev pub EachOfRow : ℕ → List (Option Flow) → (Flow → Type 0) → Type 0
+EachOfRow row slots P = (place : ℕ) (flow : Flow) → IsInSlot slots place flow → row_of flow ≡ row → P flow
 
 -- it stands at the place, and none of its row was used before it
 abbrev pub IsFirstUsed : ℕ → List (Option Flow) → Option (ℕ × Flow) → Type 0
-IsFirstUsed row slots None = EachOf row slots (λ _. ⊥)
+IsFirstUsed row slots None = EachOfRow row slots (λ _. ⊥)
 IsFirstUsed row slots (Some e) =
-    Stands slots e.0 e.1 × (row_of e.1 ≡ row) × EachOf row slots (λ flow. e.1.last ≤ flow.last)
+    IsInSlot slots e.0 e.1 × (row_of e.1 ≡ row) × EachOfRow row slots (λ flow. e.1.last ≤ flow.last)
 
 -- a flow of the row was last used then, and none later
 abbrev pub IsLatest : ℕ → List (Option Flow) → Option ℕ → Type 0
-IsLatest row slots None = EachOf row slots (λ _. ⊥)
-IsLatest row slots (Some time) = ((place : ℕ) × (flow : Flow) × Stands slots place flow × (row_of flow ≡ row)
-    × (flow.last ≡ time)) × EachOf row slots (λ flow. flow.last ≤ time)
+IsLatest row slots None = EachOfRow row slots (λ _. ⊥)
+IsLatest row slots (Some time) = ((place : ℕ) × (flow : Flow) × IsInSlot slots place flow × (row_of flow ≡ row)
+    × (flow.last ≡ time)) × EachOfRow row slots (λ flow. flow.last ≤ time)
 
 -- there is a time, less than so many seconds ago
 abbrev pub is_recent_time : ℕ → ℕ → Option ℕ → Bool

@@ -3,23 +3,23 @@
 //! No call looks at more than a few of them, except to drop dead ones and to give up their slots.
 
 ghost use Rattle.std.specs.{Prelude.{◌≡◌, ◌==◌, ◌≤◌, ◌<◌, ◌^◌, ◌||◌, ℕ, Bool, true, false, filter, OnOk, OnErr, IfOk, [], ◌∷◌}, List.list_any};
-ghost use Rattle.napt_binding.specs.{Ends.last_end, Kept.{flows_of, IsKept}, Slots.{AreDistinct, NoneUsedAfter, somes}, Many.IsMany};
+ghost use Rattle.napt_binding.specs.{Ends.last_end, FlowStores.{flows_of, FlowStoreInvariant}, Slots.{AreDistinct, NoneUsedAfter, standing_flows}, FlowMapInvariants.FlowMapsInvariant};
 ghost use Rattle.napt_rules.specs.Life as life;
-ghost use Rattle.napt_binding.specs.Kept as storage;
+ghost use Rattle.napt_binding.specs.FlowStores as storage;
 ghost use Rattle.napt_rules.specs.Prelude.{change_first};
-ghost use Rattle.napt_binding.specs.Sent as packets;
-ghost use Rattle.napt_rules.specs.Traffic as traffic;
+ghost use Rattle.napt_binding.specs.OutboundFlows as packets;
+ghost use Rattle.napt_rules.specs.FlowUpdates as traffic;
 
-mod few;
-mod many;
+mod flow_list;
+mod flow_maps;
 mod slots;
 
 use crate::idle_timers::IdleTimers;
 use crate::life::{flow_end, flow_moment, is_live_flow, is_standing};
-use crate::sent::{begun_by, used_by};
+use crate::outbound::{begun_by, used_by};
 use crate::traffic::{is_flow_of, used};
-use many::Many;
-use napt_rules::{Flow, Sent};
+use flow_maps::FlowMaps;
+use napt_rules::{Flow, OutboundPacket};
 use napt_wire::{Endpoint, Flags, Protocol, Way};
 use std::alloc::{AllocError, Global};
 use std::marker::Model;
@@ -29,17 +29,17 @@ const FEW: usize = 8;
 
 /// How flows are kept. Most bindings have one, which takes no memory of its own.
 #[derive(Drop)]
-enum Kept {
+enum FlowStore {
     Empty,
     One(Flow),
     Few(Vec<Flow>),
-    Many(Box<Many>),
+    Many(Box<FlowMaps>),
 }
 
 /// The flows of one binding, oldest first, no two of one remote endpoint; contracts see them as a list.
 #[derive(Drop)]
 pub struct Flows {
-    kept: Kept,
+    kept: FlowStore,
 }
 
 impl Model for Flows {
@@ -48,44 +48,49 @@ impl Model for Flows {
 
     ghost Value = { List Flow };
 
-    ghost use Rattle.napt_binding.specs.Kept.{flows_of, IsKept};
+    ghost use Rattle.napt_binding.specs.FlowStores.{flows_of, FlowStoreInvariant};
 
     ghost view = { λ flows. flows_of flows.kept };
 
-    ghost invariant = { λ flows. IsKept flows.kept };
+    ghost invariant = { λ flows. FlowStoreInvariant flows.kept };
 }
 
 /// Whether so many flows of a binding count that one more is kept with maps.
-fn is_full(flows: &[Flow], timers: IdleTimers, sent: Sent) -> bool
+fn is_full(flows: &[Flow], timers: IdleTimers, sent: OutboundPacket) -> bool
     ensures { result ≡ storage.is_full timers sent flows.now }
 {
     if flows.len() < FEW {
         return false;
     }
-    FEW <= few::count_standing(flows, timers, sent)
-        && few::standing_place(flows, timers, sent).is_none()
+    FEW <= flow_list::count_standing(flows, timers, sent)
+        && flow_list::standing_place(flows, timers, sent).is_none()
 }
 
 /// One flow, after a packet goes out: still one if it is of the packet's remote, or is dead.
-fn after_one(alloc: Global, timers: IdleTimers, sent: Sent, flow: Flow) -> Result<Kept, AllocError>
-    ensures kept { IfOk result IsKept }
+fn after_one(
+    alloc: Global,
+    timers: IdleTimers,
+    sent: OutboundPacket,
+    flow: Flow,
+) -> Result<FlowStore, AllocError>
+    ensures kept { IfOk result FlowStoreInvariant }
     ensures flows { IfOk result (λ kept. packets.standing_at timers sent (flows_of kept)
-        ≡ packets.used_by sent (packets.standing_at timers sent (flow ∷ []))) }
+        ≡ packets.flows_after_outbound sent (packets.standing_at timers sent (flow ∷ []))) }
     ensures live { IfOk result (λ kept.
         list_any (life.is_live_flow timers sent.now) (flows_of kept) ≡ true) }
     ensures maps { IfOk result (λ kept. storage.has_maps kept ≡ false) }
 {
     timers.keep_limits();
     if !is_standing(&flow, timers, sent.now, sent.protocol) {
-        return Ok(Kept::One(begun_by(sent)));
+        return Ok(FlowStore::One(begun_by(sent)));
     }
     if is_flow_of(&flow, sent.remote) {
-        return Ok(Kept::One(used_by(sent, flow)));
+        return Ok(FlowStore::One(used_by(sent, flow)));
     }
     let mut flows = Vec::new(alloc);
     flows.push(flow)?;
     flows.push(begun_by(sent))?;
-    Ok(Kept::Few(flows))
+    Ok(FlowStore::Few(flows))
 }
 
 /// These flows, no two of one remote, get maps, and that of the packet's remote is used. Out of line, since a function
@@ -94,36 +99,36 @@ fn after_one(alloc: Global, timers: IdleTimers, sent: Sent, flow: Flow) -> Resul
 fn with_maps(
     alloc: Global,
     timers: IdleTimers,
-    sent: Sent,
+    sent: OutboundPacket,
     flows: &[Flow],
-) -> Result<Kept, AllocError>
+) -> Result<FlowStore, AllocError>
     requires distinct { AreDistinct flows.now }
     requires rising { NoneUsedAfter flows.now sent.now }
-    ensures kept { IfOk result IsKept }
+    ensures kept { IfOk result FlowStoreInvariant }
     ensures flows { IfOk result (λ kept. packets.standing_at timers sent (flows_of kept)
-        ≡ packets.used_by sent (packets.standing_at timers sent flows.now)) }
+        ≡ packets.flows_after_outbound sent (packets.standing_at timers sent flows.now)) }
     ensures live { IfOk result (λ kept.
         list_any (life.is_live_flow timers sent.now) (flows_of kept) ≡ true) }
     ensures maps { IfOk result (λ kept. storage.has_maps kept ≡ true) }
 {
-    let mut many = Many::of(alloc, flows)?;
+    let mut many = FlowMaps::of(alloc, flows)?;
     many.use_flow(alloc, timers, sent)?;
-    Ok(Kept::Many(Box::new(alloc, many)?))
+    Ok(FlowStore::Many(Box::new(alloc, many)?))
 }
 
 /// Uses the flow of the packet's remote; if none is live, begins one. If memory is refused nothing changes. Few flows
 /// get maps if they are full, and only then.
 fn use_kept(
-    kept: &mut Kept,
+    kept: &mut FlowStore,
     alloc: Global,
     timers: IdleTimers,
-    sent: Sent,
+    sent: OutboundPacket,
 ) -> Result<(), AllocError>
-    requires kept { IsKept kept.old }
+    requires kept { FlowStoreInvariant kept.old }
     requires rising { NoneUsedAfter (flows_of kept.old) sent.now }
-    ensures kept { IsKept kept.new }
+    ensures kept { FlowStoreInvariant kept.new }
     ensures ok { OnOk result (packets.standing_at timers sent (flows_of kept.new)
-        ≡ packets.used_by sent (packets.standing_at timers sent (flows_of kept.old))) }
+        ≡ packets.flows_after_outbound sent (packets.standing_at timers sent (flows_of kept.old))) }
     ensures live { OnOk result
         (list_any (life.is_live_flow timers sent.now) (flows_of kept.new) ≡ true) }
     ensures err { OnErr result (flows_of kept.new ≡ flows_of kept.old) }
@@ -132,22 +137,22 @@ fn use_kept(
 {
     timers.keep_limits();
     match kept {
-        Kept::Empty => {
-            *kept = Kept::One(begun_by(sent));
+        FlowStore::Empty => {
+            *kept = FlowStore::One(begun_by(sent));
             return Ok(());
         }
-        Kept::One(flow) => {
+        FlowStore::One(flow) => {
             *kept = after_one(alloc, timers, sent, *flow)?;
             return Ok(());
         }
-        Kept::Few(flows) => {
+        FlowStore::Few(flows) => {
             if !is_full(flows, timers, sent) {
-                return few::use_flow(flows, timers, sent);
+                return flow_list::use_flow(flows, timers, sent);
             }
             *kept = with_maps(alloc, timers, sent, flows)?;
             return Ok(());
         }
-        Kept::Many(many) => return many.use_flow(alloc, timers, sent),
+        FlowStore::Many(many) => return many.use_flow(alloc, timers, sent),
     }
 }
 
@@ -162,7 +167,7 @@ pub(crate) fn live_flows(
     ensures { IfOk result (λ made. made.items ≡ life.live_flows timers now protocol flows.now) }
 {
     let mut flows = flows.to_vec(alloc)?;
-    few::keep_standing(&mut flows, timers, now, protocol);
+    flow_list::keep_standing(&mut flows, timers, now, protocol);
     Ok(flows)
 }
 
@@ -171,7 +176,9 @@ impl Flows {
     pub fn new(_alloc: Global) -> Flows
         ensures { result ≡ [] }
     {
-        Flows { kept: Kept::Empty }
+        Flows {
+            kept: FlowStore::Empty,
+        }
     }
 
     /// These flows, oldest first, no two of one remote endpoint.
@@ -180,10 +187,10 @@ impl Flows {
         ensures { IfOk result (λ made. made ≡ flows.now) }
     {
         let kept = match flows.len() {
-            0 => Kept::Empty,
-            1 => Kept::One(flows[0]),
-            few if few <= FEW => Kept::Few(flows.to_vec(alloc)?),
-            _ => Kept::Many(Box::new(alloc, Many::of(alloc, flows)?)?),
+            0 => FlowStore::Empty,
+            1 => FlowStore::One(flows[0]),
+            few if few <= FEW => FlowStore::Few(flows.to_vec(alloc)?),
+            _ => FlowStore::Many(Box::new(alloc, FlowMaps::of(alloc, flows)?)?),
         };
         Ok(Flows { kept })
     }
@@ -194,15 +201,15 @@ impl Flows {
         ensures distinct { IfOk result (λ made. AreDistinct made.items) }
     {
         match &self.kept {
-            Kept::Empty => Ok(Vec::new(alloc)),
-            Kept::One(flow) => [*flow].to_vec(alloc),
-            Kept::Few(flows) => flows.to_vec(alloc),
-            Kept::Many(many) => many.flows(alloc),
+            FlowStore::Empty => Ok(Vec::new(alloc)),
+            FlowStore::One(flow) => [*flow].to_vec(alloc),
+            FlowStore::Few(flows) => flows.to_vec(alloc),
+            FlowStore::Many(many) => many.flows(alloc),
         }
     }
 
     /// A copy of the flows of a protocol that live at a time, in ns, oldest first.
-    #[tactic(auto, using(crate::proofs::Distinct::distinct_live))]
+    #[tactic(auto, using(crate::proofs::DistinctFlows::distinct_live))]
     pub fn live(
         &self,
         alloc: Global,
@@ -215,18 +222,22 @@ impl Flows {
         ensures distinct { IfOk result (λ made. AreDistinct made.items) }
     {
         let mut flows = self.copied(alloc)?;
-        few::keep_standing(&mut flows, timers, now, protocol);
+        flow_list::keep_standing(&mut flows, timers, now, protocol);
         Ok(flows)
     }
 
     /// The flows of a binding whose first packet goes out. They take no memory of their own.
-    pub fn begun(_alloc: Global, timers: IdleTimers, sent: Sent) -> Result<Flows, AllocError>
+    pub fn begun(
+        _alloc: Global,
+        timers: IdleTimers,
+        sent: OutboundPacket,
+    ) -> Result<Flows, AllocError>
         ensures { IfOk result (λ flows. packets.standing_at timers sent flows
-            ≡ packets.used_by sent []) }
+            ≡ packets.flows_after_outbound sent []) }
     {
         timers.keep_limits();
         Ok(Flows {
-            kept: Kept::One(begun_by(sent)),
+            kept: FlowStore::One(begun_by(sent)),
         })
     }
 
@@ -240,10 +251,10 @@ impl Flows {
             ≡ true → t ≤ result }
     {
         match &self.kept {
-            Kept::Empty => now,
-            Kept::One(flow) => flow_moment(flow, timers).max(now),
-            Kept::Few(flows) => few::last_moment_of(flows, timers, now),
-            Kept::Many(many) => many.last_moment(timers, now),
+            FlowStore::Empty => now,
+            FlowStore::One(flow) => flow_moment(flow, timers).max(now),
+            FlowStore::Few(flows) => flow_list::last_moment_of(flows, timers, now),
+            FlowStore::Many(many) => many.last_moment(timers, now),
         }
     }
 
@@ -252,10 +263,10 @@ impl Flows {
         ensures { result ≡ last_end timers self.now }
     {
         match &self.kept {
-            Kept::Empty => 0,
-            Kept::One(flow) => flow_end(flow, timers),
-            Kept::Few(flows) => few::last_end(flows, timers),
-            Kept::Many(many) => many.last_end(timers),
+            FlowStore::Empty => 0,
+            FlowStore::One(flow) => flow_end(flow, timers),
+            FlowStore::Few(flows) => flow_list::last_end(flows, timers),
+            FlowStore::Many(many) => many.last_end(timers),
         }
     }
 
@@ -264,10 +275,10 @@ impl Flows {
         ensures { result ≡ list_any (life.is_live_flow timers now) self.now }
     {
         match &self.kept {
-            Kept::Empty => false,
-            Kept::One(flow) => is_live_flow(flow, timers, now),
-            Kept::Few(flows) => flows.iter().any(|flow| is_live_flow(flow, timers, now)),
-            Kept::Many(many) => many.has_live(timers, now),
+            FlowStore::Empty => false,
+            FlowStore::One(flow) => is_live_flow(flow, timers, now),
+            FlowStore::Few(flows) => flows.iter().any(|flow| is_live_flow(flow, timers, now)),
+            FlowStore::Many(many) => many.has_live(timers, now),
         }
     }
 
@@ -276,14 +287,14 @@ impl Flows {
         ensures { self.new ≡ filter (life.is_live_flow timers now) self.old }
     {
         match &mut self.kept {
-            Kept::Empty => {}
-            Kept::One(flow) => {
+            FlowStore::Empty => {}
+            FlowStore::One(flow) => {
                 if !is_live_flow(flow, timers, now) {
-                    self.kept = Kept::Empty;
+                    self.kept = FlowStore::Empty;
                 }
             }
-            Kept::Few(flows) => few::keep_live(flows, timers, now),
-            Kept::Many(many) => return many.keep_live(timers, now),
+            FlowStore::Few(flows) => flow_list::keep_live(flows, timers, now),
+            FlowStore::Many(many) => return many.keep_live(timers, now),
         }
     }
 
@@ -292,10 +303,10 @@ impl Flows {
         ensures { result ≡ list_any (λ flow. flow.remote.address == address) self.now }
     {
         match &self.kept {
-            Kept::Empty => false,
-            Kept::One(flow) => flow.remote.address == address,
-            Kept::Few(flows) => flows.iter().any(|flow| flow.remote.address == address),
-            Kept::Many(many) => many.has_address(address),
+            FlowStore::Empty => false,
+            FlowStore::One(flow) => flow.remote.address == address,
+            FlowStore::Few(flows) => flows.iter().any(|flow| flow.remote.address == address),
+            FlowStore::Many(many) => many.has_address(address),
         }
     }
 
@@ -304,10 +315,10 @@ impl Flows {
         ensures { result ≡ list_any (traffic.is_flow_of remote) self.now }
     {
         match &self.kept {
-            Kept::Empty => false,
-            Kept::One(flow) => is_flow_of(flow, remote),
-            Kept::Few(flows) => flows.iter().any(|flow| is_flow_of(flow, remote)),
-            Kept::Many(many) => many.has_remote(remote),
+            FlowStore::Empty => false,
+            FlowStore::One(flow) => is_flow_of(flow, remote),
+            FlowStore::Few(flows) => flows.iter().any(|flow| is_flow_of(flow, remote)),
+            FlowStore::Many(many) => many.has_remote(remote),
         }
     }
 
@@ -316,11 +327,11 @@ impl Flows {
         &mut self,
         alloc: Global,
         timers: IdleTimers,
-        sent: Sent,
+        sent: OutboundPacket,
     ) -> Result<(), AllocError>
         requires { NoneUsedAfter self.old sent.now }
         ensures ok { OnOk result (packets.standing_at timers sent self.new
-            ≡ packets.used_by sent (packets.standing_at timers sent self.old)) }
+            ≡ packets.flows_after_outbound sent (packets.standing_at timers sent self.old)) }
         ensures live { OnOk result (list_any (life.is_live_flow timers sent.now) self.new ≡ true) }
         ensures err { OnErr result (self.new ≡ self.old) }
     {
@@ -331,17 +342,17 @@ impl Flows {
     pub(crate) fn refresh_flow(&mut self, now: u64, remote: Endpoint, flags: Flags)
         requires { NoneUsedAfter self.old now }
         ensures { self.new ≡ change_first (traffic.is_flow_of remote)
-            (traffic.used Protocol.Tcp Way.Incoming flags now) self.old }
+            (traffic.flow_after Protocol.Tcp Way.Incoming flags now) self.old }
     {
         match &mut self.kept {
-            Kept::Empty => {}
-            Kept::One(flow) => {
+            FlowStore::Empty => {}
+            FlowStore::One(flow) => {
                 if is_flow_of(flow, remote) {
                     *flow = used(*flow, Protocol::Tcp, Way::Incoming, flags, now);
                 }
             }
-            Kept::Few(flows) => few::refresh_flow(flows, now, remote, flags),
-            Kept::Many(many) => return many.refresh_flow(now, remote, flags),
+            FlowStore::Few(flows) => flow_list::refresh_flow(flows, now, remote, flags),
+            FlowStore::Many(many) => return many.refresh_flow(now, remote, flags),
         }
     }
 }

@@ -4,13 +4,13 @@ ghost use Rattle.std.specs.Prelude.{◌≡◌};
 ghost use Rattle.napt_rules.specs.Prelude as rules;
 
 use napt_config::Config;
-use napt_rules::Inbound;
+use napt_rules::InboundRules;
 
 /// The configuration's rules for incoming packets.
-pub fn inbound_of(config: &Config) -> Inbound
-    ensures { result ≡ rules.inbound_of config.now }
+pub fn inbound_of(config: &Config) -> InboundRules
+    ensures { result ≡ rules.inbound_rules config.now }
 {
-    Inbound {
+    InboundRules {
         filter: config.filter(),
         refresh: config.refresh(),
     }

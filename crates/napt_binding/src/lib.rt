@@ -3,27 +3,27 @@
 //! The rules are those of RFC 3022, RFC 4787, RFC 5382 and RFC 5508; `specs/` states them, each with its sections.
 #![tactic(auto)]
 
-mod addresses;
+mod address_counts;
 mod flows;
 mod idle_timers;
 mod inbound;
-mod kept_row;
 mod life;
-mod sent;
+mod outbound;
+mod packed_row;
 mod session;
 mod state_binding;
 mod traffic;
 
-pub use addresses::Addresses;
+pub use address_counts::AddressCounts;
 pub use flows::Flows;
 pub use idle_timers::IdleTimers;
 pub use inbound::inbound_of;
-pub use kept_row::KeptRow;
 pub use life::{end_of, is_live, is_live_flow, is_recent, until};
-pub use napt_rules::{Flow, Inbound, Marks, Sent};
+pub use napt_rules::{Flow, InboundRules, OutboundPacket, SessionMarks};
+pub use packed_row::PackedRow;
 pub use state_binding::{from_state, to_state};
 pub use traffic::{send, take_in};
 
 /// An inside endpoint and the external endpoint it is mapped to under one protocol (RFC 3022, section 2.2), with its
 /// flows.
-pub type Binding = napt_rules::Binding<KeptRow, Flows>;
+pub type TableBinding = napt_rules::StoredBinding<PackedRow, Flows>;

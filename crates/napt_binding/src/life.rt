@@ -2,10 +2,10 @@
 
 ghost use Rattle.std.specs.{Prelude.{◌≡◌, ◌≤◌, ◌<◌, ◌+◌, ◌*◌, ◌^◌, ℕ, true, false, filter}, List.list_any};
 ghost use Rattle.napt_rules.specs.Life as life;
-ghost use Rattle.napt_binding.specs.{Standing.is_standing, Ends.{least_timer, end_after, end_of}};
+ghost use Rattle.napt_binding.specs.{StandingFlows.is_standing, Ends.{least_timer, end_after, end_of}};
 ghost use Rattle.napt_rules.specs.Marks as marks;
 
-use crate::Binding;
+use crate::TableBinding;
 use crate::idle_timers::IdleTimers;
 use crate::session::idle;
 use napt_rules::Flow;
@@ -27,7 +27,7 @@ pub(crate) fn last_moment(last: u64, seconds: u64) -> u64
     requires some { 0 < seconds }
     requires few { seconds ≤ 1_000_000_000 }
     ensures from { last ≤ result }
-    ensures near { result < last + seconds * life.second }
+    ensures near { result < last + seconds * life.ns_per_second }
     ensures lives { (t : ℕ) → t ≤ result → life.is_recent t last seconds ≡ true }
     ensures far { (t : ℕ) → t < 2 ^ 64 → life.is_recent t last seconds ≡ true → t ≤ result }
 {
@@ -78,7 +78,7 @@ pub(crate) fn is_standing(flow: &Flow, timers: IdleTimers, now: u64, protocol: P
 /// Whether the binding is live at `now` (ns): it was used less than its timer ago (RFC 4787, REQ-5 and REQ-6; RFC 5508, REQ-2),
 /// in TCP one of its flows was (RFC 5382, REQ-5). A redirect always is.
 #[inline(always)]
-pub fn is_live(binding: &Binding, timers: IdleTimers, now: u64) -> bool
+pub fn is_live(binding: &TableBinding, timers: IdleTimers, now: u64) -> bool
     ensures { result ≡ life.is_live timers now binding.now }
 {
     if binding.row.is_fixed() {
@@ -93,7 +93,7 @@ pub fn is_live(binding: &Binding, timers: IdleTimers, now: u64) -> bool
 
 /// When the binding ends if no packet goes through it: the first time, in ns, at which it is no longer live. `None` for
 /// a redirect, which never ends.
-pub fn end_of(binding: &Binding, timers: IdleTimers) -> Option<u128>
+pub fn end_of(binding: &TableBinding, timers: IdleTimers) -> Option<u128>
     ensures { result ≡ end_of timers binding.now }
 {
     if binding.row.is_fixed() {
@@ -109,13 +109,13 @@ pub fn end_of(binding: &Binding, timers: IdleTimers) -> Option<u128>
 
 /// Until when (ns) a binding that is live now is sure to live, whatever packets come: at least now, and no longer than
 /// a packet now would keep it. Of one that is no redirect it is the last such time.
-pub fn until(binding: &Binding, timers: IdleTimers, now: u64) -> u64
+pub fn until(binding: &TableBinding, timers: IdleTimers, now: u64) -> u64
     requires live { life.is_live timers now binding.now ≡ true }
     ensures later { now ≤ result }
-    ensures near { result < now + least_timer binding.now.row.protocol timers * life.second }
+    ensures near { result < now + least_timer binding.now.row.protocol timers * life.ns_per_second }
     ensures lives { (t : ℕ) → t ≤ result → life.is_live timers t binding.now ≡ true }
     ensures far { binding.now.row.fixed ≡ false → (t : ℕ) → t < 2 ^ 64 →
-        t < now + least_timer binding.now.row.protocol timers * life.second →
+        t < now + least_timer binding.now.row.protocol timers * life.ns_per_second →
         life.is_live timers t binding.now ≡ true → t ≤ result }
 {
     if binding.row.is_fixed() {
@@ -143,7 +143,7 @@ pub fn until(binding: &Binding, timers: IdleTimers, now: u64) -> u64
 }
 
 /// Removes a TCP binding's dead flows.
-pub(crate) fn purge_flows(binding: &mut Binding, timers: IdleTimers, now: u64)
+pub(crate) fn purge_flows(binding: &mut TableBinding, timers: IdleTimers, now: u64)
     ensures { binding.new ≡ life.with_live_flows timers now binding.old }
 {
     if let Protocol::Tcp = binding.row.protocol() {

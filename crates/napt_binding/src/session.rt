@@ -4,10 +4,10 @@ ghost use Rattle.std.specs.Prelude.{◌≡◌, ◌<◌, ◌≤◌};
 ghost use Rattle.napt_rules.specs.Marks as rules;
 
 use crate::idle_timers::IdleTimers;
-use napt_rules::Marks;
+use napt_rules::SessionMarks;
 use napt_wire::{Flags, Way};
 
-pub(crate) const NO_MARKS: Marks = Marks {
+pub(crate) const NO_MARKS: SessionMarks = SessionMarks {
     syn_out: false,
     syn_in: false,
     fin_out: false,
@@ -16,21 +16,21 @@ pub(crate) const NO_MARKS: Marks = Marks {
 };
 
 /// A reset, or a FIN each way.
-fn is_closing(marks: Marks) -> bool
+fn is_closing(marks: SessionMarks) -> bool
     ensures { result ≡ rules.is_closing marks }
 {
     marks.reset || (marks.fin_out && marks.fin_in)
 }
 
 /// A SYN each way, and not closing.
-pub(crate) fn is_established(marks: Marks) -> bool
+pub(crate) fn is_established(marks: SessionMarks) -> bool
     ensures { result ≡ rules.is_established marks }
 {
     marks.syn_out && marks.syn_in && !is_closing(marks)
 }
 
 /// How long the flow may be idle, in seconds.
-pub(crate) fn idle(marks: Marks, timers: IdleTimers) -> u64
+pub(crate) fn idle(marks: SessionMarks, timers: IdleTimers) -> u64
     ensures value { result ≡ rules.idle timers marks }
     ensures some { 0 < result }
     ensures few { result ≤ 1_000_000_000 }
@@ -43,21 +43,21 @@ pub(crate) fn idle(marks: Marks, timers: IdleTimers) -> u64
 }
 
 /// The marks after a segment in this direction.
-pub(crate) fn marked(marks: Marks, way: Way, flags: Flags) -> Marks
+pub(crate) fn marked(marks: SessionMarks, way: Way, flags: Flags) -> SessionMarks
     ensures { result ≡ rules.marked marks way flags }
 {
     let begins = flags.syn && !flags.ack && is_closing(marks);
     let marks = if begins { NO_MARKS } else { marks };
     let answers = flags.syn && flags.ack;
     match way {
-        Way::Outgoing => Marks {
+        Way::Outgoing => SessionMarks {
             syn_out: marks.syn_out || flags.syn,
             syn_in: marks.syn_in || answers,
             fin_out: marks.fin_out || flags.fin,
             fin_in: marks.fin_in,
             reset: marks.reset || flags.rst,
         },
-        Way::Incoming => Marks {
+        Way::Incoming => SessionMarks {
             syn_out: marks.syn_out || answers,
             syn_in: marks.syn_in || flags.syn,
             fin_out: marks.fin_out,

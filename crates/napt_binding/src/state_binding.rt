@@ -4,11 +4,11 @@ ghost use Rattle.std.specs.{Prelude.{◌≡◌, true, cond, Some, None, IfOk}, L
 ghost use Rattle.napt_rules.specs.Life as life;
 ghost use Rattle.napt_binding.specs.Slots.{AreDistinct};
 
-use crate::Binding;
+use crate::TableBinding;
 use crate::flows::{Flows, live_flows};
 use crate::idle_timers::IdleTimers;
-use crate::kept_row::KeptRow;
 use crate::life::{is_live_flow, is_recent};
+use crate::packed_row::PackedRow;
 use napt_rules::{Flow, StateBinding};
 use napt_wire::Protocol;
 use std::alloc::{AllocError, Global};
@@ -40,7 +40,7 @@ pub fn from_state(
     binding: &StateBinding,
     timers: IdleTimers,
     now: u64,
-) -> Result<Option<Binding>, AllocError>
+) -> Result<Option<TableBinding>, AllocError>
     requires { life.is_live timers now binding.now ≡ true →
         AreDistinct (life.with_live_flows timers now binding.now).flows }
     ensures { IfOk result (λ found. found ≡ cond (life.is_live timers now binding.now)
@@ -50,8 +50,8 @@ pub fn from_state(
         return Ok(None);
     }
     let flows = live_flows(alloc, &binding.flows, timers, now, binding.row.protocol)?;
-    Ok(Some(Binding {
-        row: KeptRow::new(binding.row),
+    Ok(Some(TableBinding {
+        row: PackedRow::new(binding.row),
         last: binding.last,
         flows: Flows::of(alloc, &flows)?,
     }))
@@ -60,7 +60,7 @@ pub fn from_state(
 /// The binding without the flows that are dead at `now` (ns), as a state has it.
 pub fn to_state(
     alloc: Global,
-    binding: &Binding,
+    binding: &TableBinding,
     timers: IdleTimers,
     now: u64,
 ) -> Result<StateBinding, AllocError>

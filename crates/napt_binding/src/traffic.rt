@@ -5,15 +5,15 @@ ghost use Rattle.napt_rules.specs.Filtering as filtering;
 ghost use Rattle.napt_rules.specs.Life as life;
 ghost use Rattle.napt_rules.specs.Marks as marks;
 ghost use Rattle.napt_rules.specs.Steps as steps;
-ghost use Rattle.napt_rules.specs.Traffic as traffic;
-ghost use Rattle.napt_binding.specs.{Entering.{left_by, entered}, Slots.NoneUsedAfter};
+ghost use Rattle.napt_rules.specs.FlowUpdates as traffic;
+ghost use Rattle.napt_binding.specs.{Inbounds.{binding_after_inbound, inbound_answer}, Slots.NoneUsedAfter};
 
-use crate::Binding;
+use crate::TableBinding;
 use crate::idle_timers::IdleTimers;
 use crate::life::purge_flows;
 use crate::session::{NO_MARKS, marked};
-use napt_config::{Filter, Refresh};
-use napt_rules::{Flow, Inbound, Received, Sent};
+use napt_config::{Filter, MappingRefresh};
+use napt_rules::{Flow, InboundPacket, InboundRules, OutboundPacket};
 use napt_wire::{Cause, Endpoint, Flags, Protocol, Way};
 use std::alloc::{AllocError, Global};
 
@@ -37,7 +37,7 @@ pub(crate) fn is_flow_of(flow: &Flow, remote: Endpoint) -> bool
 
 /// The flow used now, in TCP with new marks.
 pub(crate) fn used(flow: Flow, protocol: Protocol, way: Way, flags: Flags, now: u64) -> Flow
-    ensures { result ≡ traffic.used protocol way flags now flow }
+    ensures { result ≡ traffic.flow_after protocol way flags now flow }
 {
     let marks = match protocol {
         Protocol::Tcp => marked(flow.marks, way, flags),
@@ -51,7 +51,7 @@ pub(crate) fn used(flow: Flow, protocol: Protocol, way: Way, flags: Flags, now: 
 }
 
 /// Whether the remote may send in through the binding (RFC 4787, REQ-8).
-fn permits(binding: &Binding, inbound: Inbound, remote: Endpoint) -> bool
+fn permits(binding: &TableBinding, inbound: InboundRules, remote: Endpoint) -> bool
     ensures { result ≡ filtering.permits inbound binding.now remote }
 {
     if binding.row.is_fixed() {
@@ -68,14 +68,14 @@ fn permits(binding: &Binding, inbound: Inbound, remote: Endpoint) -> bool
 /// stay, and do not count. No flow may have been used later. `AllocError`, and nothing changed, if memory for a new flow
 /// is refused.
 pub fn send(
-    binding: &mut Binding,
+    binding: &mut TableBinding,
     alloc: Global,
     timers: IdleTimers,
-    packet: Sent,
+    packet: OutboundPacket,
 ) -> Result<(), AllocError>
     requires { NoneUsedAfter binding.old.flows packet.now }
     ensures ok { OnOk result (life.with_live_flows timers packet.now binding.new
-        ≡ steps.sent_by packet (life.with_live_flows timers packet.now binding.old)) }
+        ≡ steps.binding_after_out packet (life.with_live_flows timers packet.now binding.old)) }
     ensures live { OnOk result (life.is_live timers packet.now binding.new ≡ true) }
     ensures found { OnOk result (binding.new.row ≡ binding.old.row) }
     ensures err { OnErr result (binding.new ≡ binding.old) }
@@ -85,25 +85,25 @@ pub fn send(
     }
     let protocol = binding.row.protocol();
     let flows = &mut binding.flows;
-    flows.use_flow(alloc, timers, Sent { protocol, ..packet })?;
+    flows.use_flow(alloc, timers, OutboundPacket { protocol, ..packet })?;
     binding.last = packet.now;
     Ok(())
 }
 
 /// Whether incoming packets keep the binding alive (RFC 4787, REQ-6).
-fn is_refreshed(binding: &Binding, refresh: Refresh) -> bool
+fn is_refreshed(binding: &TableBinding, refresh: MappingRefresh) -> bool
     ensures { result ≡ traffic.refreshes refresh binding.now.row }
 {
     match (refresh, binding.row.protocol()) {
-        (Refresh::Both, Protocol::Udp) => !binding.row.is_fixed(),
+        (MappingRefresh::Both, Protocol::Udp) => !binding.row.is_fixed(),
         _ => false,
     }
 }
 
 /// Records a packet that the binding lets in.
-fn receive(binding: &mut Binding, inbound: Inbound, packet: Received)
+fn receive(binding: &mut TableBinding, inbound: InboundRules, packet: InboundPacket)
     requires { NoneUsedAfter binding.old.flows packet.now }
-    ensures { binding.new ≡ steps.received_by inbound packet binding.old }
+    ensures { binding.new ≡ steps.binding_after_in inbound packet binding.old }
 {
     if let Protocol::Tcp = binding.row.protocol() {
         let flows = &mut binding.flows;
@@ -117,15 +117,15 @@ fn receive(binding: &mut Binding, inbound: Inbound, packet: Received)
 /// endpoint, or `Filtered` if the filter refuses the remote (RFC 4787, REQ-8). No flow may have been used later. It takes
 /// no memory.
 pub fn take_in(
-    binding: &mut Binding,
+    binding: &mut TableBinding,
     timers: IdleTimers,
-    inbound: Inbound,
-    packet: Received,
+    inbound: InboundRules,
+    packet: InboundPacket,
 ) -> Result<Endpoint, Cause>
     requires { NoneUsedAfter binding.old.flows packet.now }
-    ensures answer { result ≡ entered inbound packet
+    ensures answer { result ≡ inbound_answer inbound packet
         (life.with_live_flows timers packet.now binding.old) }
-    ensures left { binding.new ≡ left_by inbound packet
+    ensures left { binding.new ≡ binding_after_inbound inbound packet
         (life.with_live_flows timers packet.now binding.old) }
 {
     purge_flows(binding, timers, packet.now);

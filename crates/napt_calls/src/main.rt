@@ -17,7 +17,7 @@ use std::process::ExitCode;
 
 /// Why the program stops before it is done.
 #[derive(Clone, Copy)]
-enum Stop {
+enum CallFault {
     /// A call may not be made so.
     Unsent,
     Usage,
@@ -28,15 +28,15 @@ enum Stop {
     File,
 }
 
-impl Stop {
+impl CallFault {
     fn status(self) -> u8 {
         match self {
-            Stop::Unsent => 1,
-            Stop::Usage => 2,
-            Stop::Config => 3,
-            Stop::Capture => 4,
-            Stop::Call => 5,
-            Stop::File => 6,
+            CallFault::Unsent => 1,
+            CallFault::Usage => 2,
+            CallFault::Config => 3,
+            CallFault::Capture => 4,
+            CallFault::Call => 5,
+            CallFault::File => 6,
         }
     }
 }
@@ -58,9 +58,9 @@ fn main(rt: HostRuntime) -> ExitCode {
 }
 
 /// The words of the command line, the program's name first.
-fn words<R: Env + AllocGlobal>(rt: &R) -> Result<Vec<String>, Stop> {
+fn words<R: Env + AllocGlobal>(rt: &R) -> Result<Vec<String>, CallFault> {
     match env::args(rt) {
-        Ok(args) => args.collect(rt.alloc()).map_err(|_| Stop::Call),
-        Err(_) => Err(Stop::Usage),
+        Ok(args) => args.collect(rt.alloc()).map_err(|_| CallFault::Call),
+        Err(_) => Err(CallFault::Usage),
     }
 }

@@ -20,7 +20,7 @@ mod translators;
 use self::line::Line;
 pub(crate) use self::table::is_number;
 use self::translators::Translators;
-use crate::Stop;
+use crate::CallFault;
 use napt_config::Config;
 use napt_table::Table;
 use napt_wire::Packet;
@@ -38,9 +38,9 @@ struct Player {
 }
 
 /// Makes the calls, up to the end or to a line that says none.
-pub(crate) fn played<R: Input + Print + AllocGlobal>(rt: &R) -> Result<(), Stop> {
+pub(crate) fn played<R: Input + Print + AllocGlobal>(rt: &R) -> Result<(), CallFault> {
     let alloc = rt.alloc();
-    let reader = BufReader::new(alloc, rt.reader()).map_err(|_| Stop::Call)?;
+    let reader = BufReader::new(alloc, rt.reader()).map_err(|_| CallFault::Call)?;
     let mut player = Player {
         packet: None,
         table: None,
@@ -49,7 +49,7 @@ pub(crate) fn played<R: Input + Print + AllocGlobal>(rt: &R) -> Result<(), Stop>
         inputs: Vec::new(alloc),
     };
     for text in reader.lines(alloc) {
-        let text = text.map_err(|_| Stop::File)?;
+        let text = text.map_err(|_| CallFault::File)?;
         player.play(&mut Line::of(rt, alloc, text.as_str()))?;
     }
     Ok(())
@@ -57,7 +57,7 @@ pub(crate) fn played<R: Input + Print + AllocGlobal>(rt: &R) -> Result<(), Stop>
 
 impl Player {
     /// Makes the call that a line says, and tells its answer.
-    fn play<R: Print>(&mut self, line: &mut Line<'_, R>) -> Result<(), Stop> {
+    fn play<R: Print>(&mut self, line: &mut Line<'_, R>) -> Result<(), CallFault> {
         let call = line.word()?;
         match call {
             "read" => self.packet = packets::read(line)?,
@@ -79,15 +79,15 @@ impl Player {
             | "set_source"
             | "set_destination"
             | "revert_inner" => {
-                let packet = self.packet.as_mut().ok_or(Stop::Usage)?;
+                let packet = self.packet.as_mut().ok_or(CallFault::Usage)?;
                 packets::answer(line, packet, call)?
             }
             "outbound" | "inbound" | "by_external" | "by_inside" | "bindings" | "count" => {
-                let table = self.table.as_mut().ok_or(Stop::Usage)?;
+                let table = self.table.as_mut().ok_or(CallFault::Usage)?;
                 table::answer(line, table, call)?
             }
             _ => {
-                let config = self.config.as_ref().ok_or(Stop::Usage)?;
+                let config = self.config.as_ref().ok_or(CallFault::Usage)?;
                 settings::answer(line, config, call)?
             }
         }
@@ -95,7 +95,7 @@ impl Player {
     }
 
     /// Makes another configuration the current one, without inputs.
-    fn configure<R: Print>(&mut self, line: &mut Line<'_, R>, call: &str) -> Result<(), Stop> {
+    fn configure<R: Print>(&mut self, line: &mut Line<'_, R>, call: &str) -> Result<(), CallFault> {
         self.inputs.clear();
         self.config = match call {
             "settings" => settings::read(line)?,
@@ -106,12 +106,16 @@ impl Player {
     }
 
     /// A call on the current translators.
-    fn translated<R: Print>(&mut self, line: &mut Line<'_, R>, call: &str) -> Result<(), Stop> {
-        let translators = self.translators.as_mut().ok_or(Stop::Usage)?;
+    fn translated<R: Print>(
+        &mut self,
+        line: &mut Line<'_, R>,
+        call: &str,
+    ) -> Result<(), CallFault> {
+        let translators = self.translators.as_mut().ok_or(CallFault::Usage)?;
         if call == "rows" {
             return translators.tell_rows(line);
         }
-        let packet = self.packet.take().ok_or(Stop::Usage)?;
+        let packet = self.packet.take().ok_or(CallFault::Usage)?;
         match call {
             "route" => translators.tell_route(line, &packet)?,
             "onward" => translators.tell_onward(line, &packet)?,

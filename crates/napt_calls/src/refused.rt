@@ -12,13 +12,13 @@
 
 mod captures;
 mod dispatching;
-mod left;
 mod pool;
 mod readers;
+mod remainders;
 mod run;
 mod table;
 
-use self::table::Kind;
+use self::table::TableCall;
 use std::alloc::AllocError;
 use std::process::ExitCode;
 use std::rt::Files;
@@ -32,7 +32,7 @@ impl<R: Files + AllocGlobal + Threads + Wait + Copy + Send + 'static> System for
 
 /// Why a call did not answer what it answers with ample memory.
 #[derive(Clone, Copy)]
-pub(crate) enum End {
+pub(crate) enum CallResult {
     /// Memory was refused to it, and nothing is left or changed.
     Memory,
     /// A thread was refused to it, and nothing is left or changed.
@@ -47,23 +47,23 @@ pub(crate) enum End {
     Usage,
 }
 
-impl End {
+impl CallResult {
     /// The line and the status.
     fn told(self) -> (&'static str, u8) {
         match self {
-            End::Memory => ("memory", 5),
-            End::NoThread => ("no-thread", 5),
-            End::Before => ("before", 3),
-            End::After => ("after", 4),
-            End::Wrong(what) => (what, 1),
-            End::Usage => ("usage", 2),
+            CallResult::Memory => ("memory", 5),
+            CallResult::NoThread => ("no-thread", 5),
+            CallResult::Before => ("before", 3),
+            CallResult::After => ("after", 4),
+            CallResult::Wrong(what) => (what, 1),
+            CallResult::Usage => ("usage", 2),
         }
     }
 }
 
-impl From<AllocError> for End {
-    fn from(_refused: AllocError) -> End {
-        End::Before
+impl From<AllocError> for CallResult {
+    fn from(_refused: AllocError) -> CallResult {
+        CallResult::Before
     }
 }
 
@@ -80,7 +80,7 @@ pub(crate) fn told<R: System + Print>(rt: &R, call: Option<&String>) -> ExitCode
 }
 
 /// Makes the call that the word says.
-fn ended(rt: &impl System, call: Option<&String>) -> Result<(), End> {
+fn ended(rt: &impl System, call: Option<&String>) -> Result<(), CallResult> {
     let alloc = rt.alloc();
     match call.map(String::as_str) {
         Some("pool") => pool::ended(rt),
@@ -93,9 +93,9 @@ fn ended(rt: &impl System, call: Option<&String>) -> Result<(), End> {
         Some("merge") => run::merge_ended(alloc),
         Some("capture") => readers::capture_ended(alloc),
         Some("configuration") => readers::configuration_ended(alloc),
-        Some("bindings") => table::ended(alloc, Kind::Bindings),
-        Some("flows") => table::ended(alloc, Kind::Flows),
-        Some("ends") => table::ended(alloc, Kind::Ends),
-        _ => Err(End::Usage),
+        Some("bindings") => table::ended(alloc, TableCall::Bindings),
+        Some("flows") => table::ended(alloc, TableCall::Flows),
+        Some("ends") => table::ended(alloc, TableCall::Ends),
+        _ => Err(CallResult::Usage),
     }
 }

@@ -7,7 +7,7 @@
 //! a file the configuration is the built-in one. One line on standard output counts the packets, what became of them, and the
 //! legs of each address.
 
-use crate::Stop;
+use crate::CallFault;
 use napt_capture::{Watched, read_capture, write_capture};
 use napt_config::Config;
 use napt_pool::{Gate, OpenGate};
@@ -54,7 +54,7 @@ impl<R: Clock> Gate for SlowStart<R> {
 /// Does what the words say.
 pub(crate) fn measured<
     R: Files + Input + Print + AllocGlobal + Clock + Threads + Wait + Copy + Send + Sync + 'static,
->(rt: &R, words: &[String]) -> Result<(), Stop> {
+>(rt: &R, words: &[String]) -> Result<(), CallFault> {
     let how = how_of(words.get(1))?;
     if let How::Copy = how {
         return copied(rt);
@@ -62,61 +62,70 @@ pub(crate) fn measured<
     let config = configuration(rt, words.get(2))?;
     let inputs = merged(rt)?;
     let run = match how {
-        How::Plain => run_plain(rt.alloc(), &config, &inputs).map_err(|_| Stop::Call)?,
+        How::Plain => run_plain(rt.alloc(), &config, &inputs).map_err(|_| CallFault::Call)?,
         How::Workers => over_workers(rt, &config, &inputs, OpenGate)?,
         How::Slow => over_workers(rt, &config, &inputs, SlowStart { rt: *rt })?,
         How::Copy | How::Merged => {
-            return println!(rt; "packets {}", inputs.len()).map_err(|_| Stop::File);
+            return println!(rt; "packets {}", inputs.len()).map_err(|_| CallFault::File);
         }
     };
-    tell(rt, &run).map_err(|_| Stop::File)
+    tell(rt, &run).map_err(|_| CallFault::File)
 }
 
 /// What a word says is to be done.
-fn how_of(word: Option<&String>) -> Result<How, Stop> {
-    match word.ok_or(Stop::Usage)?.as_str() {
+fn how_of(word: Option<&String>) -> Result<How, CallFault> {
+    match word.ok_or(CallFault::Usage)?.as_str() {
         "copy" => Ok(How::Copy),
         "plain" => Ok(How::Plain),
         "workers" => Ok(How::Workers),
         "slow" => Ok(How::Slow),
         "merged" => Ok(How::Merged),
-        _ => Err(Stop::Usage),
+        _ => Err(CallFault::Usage),
     }
 }
 
 /// The configuration that a file holds; the built-in one where there is none.
-fn configuration<R: Files + AllocGlobal>(rt: &R, path: Option<&String>) -> Result<Config, Stop> {
+fn configuration<R: Files + AllocGlobal>(
+    rt: &R,
+    path: Option<&String>,
+) -> Result<Config, CallFault> {
     let Some(path) = path else {
-        return Config::built_in(rt.alloc()).map_err(|_| Stop::Config);
+        return Config::built_in(rt.alloc()).map_err(|_| CallFault::Config);
     };
-    let text = fs::read(rt, path.as_str()).map_err(|_| Stop::File)?;
-    Config::read(rt.alloc(), &text).map_err(|_| Stop::Config)
+    let text = fs::read(rt, path.as_str()).map_err(|_| CallFault::File)?;
+    Config::read(rt.alloc(), &text).map_err(|_| CallFault::Config)
 }
 
 /// Writes the records of the capture that standard input holds to standard output.
-fn copied<R: Input + Print + AllocGlobal>(rt: &R) -> Result<(), Stop> {
+fn copied<R: Input + Print + AllocGlobal>(rt: &R) -> Result<(), CallFault> {
     let alloc = rt.alloc();
-    let reader = BufReader::with_capacity(alloc, BUFFERED, rt.reader()).map_err(|_| Stop::Call)?;
-    let writer = BufWriter::with_capacity(alloc, BUFFERED, io::writer(rt)).map_err(|_| Stop::Call)?;
-    let capture = read_capture(alloc, &mut Watched::new(reader)).map_err(|_| Stop::Capture)?;
-    write_capture(&mut Watched::new(writer), &capture.records).map_err(|_| Stop::File)
+    let reader = BufReader::with_capacity(alloc, BUFFERED, rt.reader()).map_err(
+        |_| CallFault::Call,
+    )?;
+    let writer = BufWriter::with_capacity(alloc, BUFFERED, io::writer(rt)).map_err(
+        |_| CallFault::Call,
+    )?;
+    let capture = read_capture(alloc, &mut Watched::new(reader)).map_err(|_| CallFault::Capture)?;
+    write_capture(&mut Watched::new(writer), &capture.records).map_err(|_| CallFault::File)
 }
 
 /// The inputs that standard input holds.
-fn merged<R: Input + AllocGlobal>(rt: &R) -> Result<Vec<napt_run::Input>, Stop> {
+fn merged<R: Input + AllocGlobal>(rt: &R) -> Result<Vec<napt_run::Input>, CallFault> {
     let alloc = rt.alloc();
-    let reader = BufReader::with_capacity(alloc, BUFFERED, rt.reader()).map_err(|_| Stop::Call)?;
-    let capture = read_capture(alloc, &mut Watched::new(reader)).map_err(|_| Stop::Capture)?;
-    merge(alloc, capture.records, Vec::new(alloc)).map_err(|_| Stop::Call)
+    let reader = BufReader::with_capacity(alloc, BUFFERED, rt.reader()).map_err(
+        |_| CallFault::Call,
+    )?;
+    let capture = read_capture(alloc, &mut Watched::new(reader)).map_err(|_| CallFault::Capture)?;
+    merge(alloc, capture.records, Vec::new(alloc)).map_err(|_| CallFault::Call)
 }
 
 /// The run over workers, through a gate.
 fn over_workers<
     R: AllocGlobal + Threads + Wait + Copy + Send + 'static,
     G: Gate + Send + Sync + Drop + 'static,
->(rt: &R, config: &Config, inputs: &[napt_run::Input], gate: G) -> Result<Run, Stop> {
-    let gate = Arc::new(rt.alloc(), gate).map_err(|_| Stop::Call)?;
-    run_workers(rt, rt.alloc(), config, inputs, gate).map_err(|_| Stop::Call)
+>(rt: &R, config: &Config, inputs: &[napt_run::Input], gate: G) -> Result<Run, CallFault> {
+    let gate = Arc::new(rt.alloc(), gate).map_err(|_| CallFault::Call)?;
+    run_workers(rt, rt.alloc(), config, inputs, gate).map_err(|_| CallFault::Call)
 }
 
 /// Writes the line that counts.

@@ -1,36 +1,36 @@
 -- What the steps of reading a capture do, over the bytes left in the source before and after.
 use Rattle.std.specs.Prelude.{ℕ, ◌+◌, ◌*◌, ◌^◌, ◌<◌, ◌≤◌, ◌≡◌, ◌⊎◌, ⊤, nat_lt, if◌then◌else◌, min, List, [], ◌++◌, length, take, drop, Option, Some, None, IfSome, Result, Ok, Err}
 use Rattle.napt_capture.specs.declared.{TheConstants.{LARGEST_RECORD, MOST_ASKED}, fault.CaptureFault.{CaptureFault, TheVariants.{TooLarge, Read, Memory}}}
-use Rattle.napt_capture.specs.declared.{reading.{Next.{Next, TheVariants.{Whole, End}}, Fields.Fields}, spelling.Spelling.Spelling}
-use Rattle.napt_capture.specs.{Contents.{Contents, CapturedRecord}, Text.IsWritable}
-use Rattle.napt_capture.specs.Capture.{asked_first, asked_of, asked_records, captured, next_in, original_of, read_whole, size_in, spelling_in, time_of}
+use Rattle.napt_capture.specs.declared.{reading.{NextRead.{NextRead, TheVariants.{Whole, End}}, RecordHeader.RecordHeader}, capture_format.CaptureFormat.CaptureFormat}
+use Rattle.napt_capture.specs.{Contents.{CaptureModel, RecordModel}, Text.IsWritable}
+use Rattle.napt_capture.specs.Capture.{bytes_asked_first, bytes_asked, bytes_asked_for_records, capture_of_bytes, next_in, original_length, read_whole, size_in, format_in, time_of}
 
 -- unless the device or memory failed
-abbrev pub Says : {T : Type 0} → Result T CaptureFault → Type 0 → Type 0
-Says (Err Read) fact = ⊤
-Says (Err Memory) fact = ⊤
-Says _ fact = fact
+abbrev pub IsReadResult : {T : Type 0} → Result T CaptureFault → Type 0 → Type 0
+IsReadResult (Err Read) fact = ⊤
+IsReadResult (Err Memory) fact = ⊤
+IsReadResult _ fact = fact
 
 -- the same of a fault
-abbrev pub StopsBy : CaptureFault → Type 0 → Type 0
-StopsBy Read fact = ⊤
-StopsBy Memory fact = ⊤
-StopsBy _ fact = fact
+abbrev pub IsReadFault : CaptureFault → Type 0 → Type 0
+IsReadFault Read fact = ⊤
+IsReadFault Memory fact = ⊤
+IsReadFault _ fact = fact
 
 -- of known bytes these are left
-abbrev pub Gives : Option (List ℕ) → Option (List ℕ) → (List ℕ → List ℕ → Type 0) → Type 0
-Gives None new fact = ⊤
-Gives (Some bytes) None fact = ⊥
-Gives (Some bytes) (Some left) fact = fact bytes left
+abbrev pub LeavesBytes : Option (List ℕ) → Option (List ℕ) → (List ℕ → List ℕ → Type 0) → Type 0
+LeavesBytes None new fact = ⊤
+LeavesBytes (Some bytes) None fact = ⊥
+LeavesBytes (Some bytes) (Some left) fact = fact bytes left
 
 -- the fields are those of the header
-pub record HasFields (s : Spelling) (number : ℕ) (header : List ℕ) (f : Fields) : Type 0 where
+pub record HeaderShows (s : CaptureFormat) (number : ℕ) (header : List ℕ) (f : RecordHeader) : Type 0 where
   pub size : size_in s number header ≡ Ok f.captured
   pub time : f.time ≡ time_of s header
-  pub original : f.original ≡ original_of s header
+  pub original : f.original ≡ original_length s header
 
 -- a whole record of these fields, that of this number, is in what was read ahead
-pub record StandsWhole (s : Spelling) (number : ℕ) (ahead : List ℕ) (fields : Fields) : Type 0 where
+pub record RecordIsAhead (s : CaptureFormat) (number : ℕ) (ahead : List ℕ) (fields : RecordHeader) : Type 0 where
   pub next : next_in s number ahead
       ≡ Ok (Whole (record {
         time = fields.time;
@@ -42,32 +42,32 @@ pub record StandsWhole (s : Spelling) (number : ℕ) (ahead : List ℕ) (fields 
   pub whole : 16 + fields.captured ≤ length ahead
 
 -- what is next, to a reader that has asked for so many bytes
-abbrev pub next_within : Spelling → ℕ → ℕ → List ℕ → Result Next CaptureFault
+abbrev pub next_within : CaptureFormat → ℕ → ℕ → List ℕ → Result NextRead CaptureFault
 next_within s asked number text =
-    if nat_lt MOST_ASKED (asked + asked_first s text) then Err TooLarge else next_in s number text
+    if nat_lt MOST_ASKED (asked + bytes_asked_first s text) then Err TooLarge else next_in s number text
 
 -- what is read of a header behind so many bytes: all of it, if it may be asked for
 abbrev pub header_within : ℕ → ℕ
 header_within asked = if nat_lt MOST_ASKED (asked + 16) then 0 else 16
 
 -- so many bytes were taken: a whole record, or all that there are, or the header with the fault
-abbrev pub Takes : ℕ → Result Next CaptureFault → List ℕ → ℕ → Type 0
-Takes asked (Ok (Whole entry)) text taken = taken ≡ 16 + length entry.bytes
-Takes asked (Ok (End cut)) text taken = drop taken text ≡ []
-Takes asked (Err fault) text taken = taken ≡ header_within asked
+abbrev pub TakesBytes : ℕ → Result NextRead CaptureFault → List ℕ → ℕ → Type 0
+TakesBytes asked (Ok (Whole entry)) text taken = taken ≡ 16 + length entry.bytes
+TakesBytes asked (Ok (End cut)) text taken = drop taken text ≡ []
+TakesBytes asked (Err fault) text taken = taken ≡ header_within asked
 
 -- it was read, and no more bytes than those that it asks for
-pub record ReadsNext (s : Spelling) (asked number : ℕ) (result : Result Next CaptureFault) (text left : List ℕ) : Type
+pub record NextPost (s : CaptureFormat) (asked number : ℕ) (result : Result NextRead CaptureFault) (text left : List ℕ) : Type
     0 where
   pub is : next_within s asked number text ≡ result
   pub taken : ℕ
   pub left_is : left ≡ drop taken text
-  pub within : taken ≤ asked_first s text
+  pub within : taken ≤ bytes_asked_first s text
   pub room : asked + taken ≤ MOST_ASKED
-  pub takes : Takes asked result text taken
+  pub takes : TakesBytes asked result text taken
 
 -- a whole record was within the limit
-abbrev pub IsWithin : ℕ → Next → Type 0
+abbrev pub IsWithin : ℕ → NextRead → Type 0
 IsWithin asked (Whole entry) = asked + (16 + length entry.bytes) ≤ MOST_ASKED
 IsWithin asked (End cut) = ⊤
 
@@ -77,29 +77,29 @@ TakesAtMost most bytes left = (taken : ℕ) × (taken ≤ most) × (left ≡ dro
 
 -- with a fault behind these records: all, or so many that what is next may not be asked for; the next header was read,
 -- if that may be
-pub record StopsBehind (s : Spelling) (records more : List CapturedRecord) (asked : ℕ)
+pub record NextErr (s : CaptureFormat) (records more : List RecordModel) (asked : ℕ)
     (bytes left : List ℕ) : Type 0 where
-  pub all : (captured bytes).records ≡ records ++ more
-  pub asked_is : asked ≡ 24 + asked_records records
-  pub last : (more ≡ []) ⊎ (MOST_ASKED < asked + asked_first s (drop asked bytes))
+  pub all : (capture_of_bytes bytes).records ≡ records ++ more
+  pub asked_is : asked ≡ 24 + bytes_asked_for_records records
+  pub last : (more ≡ []) ⊎ (MOST_ASKED < asked + bytes_asked_first s (drop asked bytes))
   pub left_is : left ≡ drop (asked + header_within asked) bytes
 
 -- what is left of a file: nothing, or what follows the header with the fault
-abbrev pub Leaves : Result Contents CaptureFault → Result Spelling CaptureFault → List ℕ → List ℕ → Type 0
-Leaves (Ok contents) header bytes left = left ≡ []
-Leaves (Err fault) (Err refused) bytes left = left ≡ drop 24 bytes
-Leaves (Err fault) (Ok s) bytes left =
-    (records : List CapturedRecord) × (more : List CapturedRecord) ×
-    (asked : ℕ) × StopsBehind s records more asked bytes left
+abbrev pub LeavesRest : Result CaptureModel CaptureFault → Result CaptureFormat CaptureFault → List ℕ → List ℕ → Type 0
+LeavesRest (Ok contents) header bytes left = left ≡ []
+LeavesRest (Err fault) (Err refused) bytes left = left ≡ drop 24 bytes
+LeavesRest (Err fault) (Ok s) bytes left =
+    (records : List RecordModel) × (more : List RecordModel) ×
+    (asked : ℕ) × NextErr s records more asked bytes left
 
 -- the file was read whole, and no more of it than that takes
-pub record ReadsWhole (result : Result Contents CaptureFault) (bytes left : List ℕ) : Type 0 where
+pub record ReadCapturePost (result : Result CaptureModel CaptureFault) (bytes left : List ℕ) : Type 0 where
   pub is : read_whole bytes ≡ result
-  pub takes : TakesAtMost (min MOST_ASKED (asked_of bytes)) bytes left
-  pub leaves : Leaves result (spelling_in (take 24 bytes)) bytes left
+  pub takes : TakesAtMost (min MOST_ASKED (bytes_asked bytes)) bytes left
+  pub leaves : LeavesRest result (format_in (take 24 bytes)) bytes left
 
 -- memory was taken for a record, or refused
-abbrev pub TakesMemory : Result Next CaptureFault → Type 0
+abbrev pub TakesMemory : Result NextRead CaptureFault → Type 0
 TakesMemory (Ok (Whole entry)) = ⊤
 TakesMemory (Err Memory) = ⊤
 TakesMemory other = ⊥
@@ -110,6 +110,6 @@ IsForRecords known Memory = IfSome known (λ bytes. 40 ≤ length bytes)
 IsForRecords known other = ⊤
 
 -- a record that a writer would take
-abbrev pub IsWritableNext : Next → Type 0
+abbrev pub IsWritableNext : NextRead → Type 0
 IsWritableNext (Whole entry) = IsWritable entry
 IsWritableNext (End cut) = ⊤

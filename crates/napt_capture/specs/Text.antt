@@ -1,7 +1,7 @@
 -- The text of a capture that is written: times in nanoseconds, numbers in little-endian order.
 use Rattle.std.specs.{Prelude.{ℕ, ◌*◌, ◌/◌, ◌%◌, ◌<◌, ◌≤◌, ◌^◌, List, ◌++◌, length}, List.flat_map}
 use Rattle.byteorder.specs.Endian.{little_bytes}
-use Rattle.napt_capture.specs.{declared.TheConstants.LARGEST_RECORD, Contents.CapturedRecord}
+use Rattle.napt_capture.specs.{declared.TheConstants.LARGEST_RECORD, Contents.RecordModel}
 
 -- magic of nanoseconds, version 2.4, zone 0, significant figures 0, snapshot length, link type 101 (raw IP)
 unfoldable pub file_header : List ℕ
@@ -10,26 +10,26 @@ file_header =
     ++ little_bytes 4 LARGEST_RECORD ++ little_bytes 4 101
 
 -- seconds, nanoseconds, and twice the number of bytes
-unfoldable pub record_header : CapturedRecord → List ℕ
+unfoldable pub record_header : RecordModel → List ℕ
 record_header r =
     little_bytes 4 (r.time / 1000000000) ++ little_bytes 4 (r.time % 1000000000)
     ++ little_bytes 4 (length r.bytes) ++ little_bytes 4 (length r.bytes)
 
-unfoldable pub record_text : CapturedRecord → List ℕ
+unfoldable pub record_text : RecordModel → List ℕ
 record_text r = record_header r ++ r.bytes
 
-unfoldable pub text : List CapturedRecord → List ℕ
+unfoldable pub text : List RecordModel → List ℕ
 text records = file_header ++ flat_map record_text records
 
 -- the record of a whole packet that arrived at a time
-abbrev pub entry_of_packet : ℕ → List ℕ → CapturedRecord
+abbrev pub entry_of_packet : ℕ → List ℕ → RecordModel
 entry_of_packet time packet = record { time = time; bytes = packet; original = length packet }
 
 -- what the fields of the text have room for: a time below 2 ^ 32 seconds, and no more bytes than the limit
-pub record IsWritable (r : CapturedRecord) : Type 0 where
+pub record IsWritable (r : RecordModel) : Type 0 where
   pub time : r.time < 2 ^ 32 * 1000000000
   pub bytes : length r.bytes ≤ LARGEST_RECORD
 
 -- a record as it reads back: its original length is that of its bytes
-abbrev pub as_written : CapturedRecord → CapturedRecord
+abbrev pub as_written : RecordModel → RecordModel
 as_written r = record r { original = length r.bytes }

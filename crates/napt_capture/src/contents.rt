@@ -14,9 +14,9 @@ pub struct Record {
 }
 
 impl Model for Record {
-    ghost use Rattle.napt_capture.specs.Contents.{CapturedRecord};
+    ghost use Rattle.napt_capture.specs.Contents.{RecordModel};
 
-    ghost Value = { CapturedRecord };
+    ghost Value = { RecordModel };
 
     ghost view = { λ r. record { time = r.time; bytes = r.bytes.items; original = r.original } };
 }
@@ -30,9 +30,9 @@ pub struct Capture {
 }
 
 impl Model for Capture {
-    ghost use Rattle.napt_capture.specs.Contents.{Contents};
+    ghost use Rattle.napt_capture.specs.Contents.{CaptureModel};
 
-    ghost Value = { Contents };
+    ghost Value = { CaptureModel };
 
     ghost view = { λ c. record { records = c.records.items; cut = c.cut } };
 }

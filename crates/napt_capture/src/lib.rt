@@ -7,32 +7,32 @@
 //! ```
 #![tactic(auto)]
 
-mod absent;
-mod ahead;
+mod capture_format;
+mod capture_writer;
 mod contents;
 mod device;
 mod either_device;
+mod empty_devices;
 mod fault;
-mod faulty;
+mod faulty_device;
 mod laws;
+mod read_ahead;
 mod reading;
-mod records;
-mod spelling;
+mod record_reader;
 mod watched;
 mod writing;
-mod written;
 
-pub use absent::{NoPackets, Nowhere};
+pub use capture_writer::CaptureWriter;
 pub use contents::{Capture, Record};
 pub use device::{DeviceFault, Sink, Source};
+pub use empty_devices::{EmptySource, NullSink};
 pub use fault::{CaptureFault, WriteFault};
-pub use faulty::{Faulty, Plan, Trouble};
+pub use faulty_device::{FaultPlan, Faulty, InjectedFault};
 pub use laws::{none_too_large, reads_back, records_follow};
-pub use reading::{Next, read_capture};
-pub use records::Records;
+pub use reading::{NextRead, read_capture};
+pub use record_reader::RecordReader;
 pub use watched::Watched;
 pub use writing::{write_capture, write_text};
-pub use written::Written;
 
 /// The most bytes that a record may have: larger captured lengths are refused.
 pub const LARGEST_RECORD: u32 = 262_144;

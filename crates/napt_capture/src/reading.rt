@@ -1,13 +1,13 @@
 //! Reading a capture.
 ghost use Rattle.std.specs.Prelude.{◌≡◌, ◌≢◌, ◌+◌, ◌-◌, ◌*◌, ◌^◌, ◌<◌, ◌≤◌, ℕ, All, length, take, drop, IfOk, IfErr, IfSome, Err};
 ghost use Rattle.std.specs.Io.KnownBytes.{Consumes, IsAtEnd};
-ghost use Rattle.napt_capture.specs.{Device.failed_calls, Capture.{failed_reads, size_in, spelling_in}, Text.IsWritable};
-ghost use Rattle.napt_capture.specs.Reading.{Gives, HasFields, IsForRecords, IsWithin, IsWritableNext, ReadsNext, ReadsWhole, Says, TakesMemory};
+ghost use Rattle.napt_capture.specs.{Device.failed_calls, Capture.{failed_reads, size_in, format_in}, Text.IsWritable};
+ghost use Rattle.napt_capture.specs.Reading.{LeavesBytes, HeaderShows, IsForRecords, IsWithin, IsWritableNext, NextPost, ReadCapturePost, IsReadResult, TakesMemory};
 
+use crate::capture_format::CaptureFormat;
 use crate::contents::{Capture, Record};
 use crate::device::{DeviceFault, Source};
 use crate::fault::CaptureFault;
-use crate::spelling::Spelling;
 use crate::{LARGEST_RECORD, MOST_ASKED};
 use byteorder::{BigEndian, ByteOrder};
 use std::alloc::Global;
@@ -26,7 +26,7 @@ const RAW_IPV4: u32 = 228;
 
 /// What follows the records so far.
 #[derive(Debug, Drop)]
-pub enum Next {
+pub enum NextRead {
     /// A further record.
     Whole(Record),
     /// The end, and whether it comes inside a record.
@@ -35,7 +35,7 @@ pub enum Next {
 
 /// What a record's header says.
 #[derive(Clone, Copy)]
-pub(crate) struct Fields {
+pub(crate) struct RecordHeader {
     pub(crate) time: u64,
     pub(crate) captured: u32,
     pub(crate) original: u32,
@@ -49,8 +49,8 @@ pub(crate) struct Fields {
 pub fn read_capture<R: Source>(alloc: Global, reader: &mut R) -> Result<Capture, CaptureFault>
     requires { R.failed reader.old < 2 ^ 64 - 1 }
     // If the reader's bytes are known, they are read as what they are.
-    ensures answer { Says result
-        (Gives (R.remaining reader.old) (R.remaining reader.new) (ReadsWhole result)) }
+    ensures answer { IsReadResult result
+        (LeavesBytes (R.remaining reader.old) (R.remaining reader.new) (ReadCapturePost result)) }
     // What was read can be written.
     ensures writable { IfOk result (λ capture. All IsWritable capture.records) }
     ensures few { IfOk result (λ capture. length capture.records < 2 ^ 32) }
@@ -63,11 +63,11 @@ pub fn read_capture<R: Source>(alloc: Global, reader: &mut R) -> Result<Capture,
     loop {
         let number = records.len() as u64 + 1;
         match read_record(alloc, reader, spelling, asked, number)? {
-            Next::Whole(record) => {
+            NextRead::Whole(record) => {
                 asked += RECORD_HEADER as u64 + record.bytes.len() as u64;
                 records.push(record)?;
             }
-            Next::End(cut) => return Ok(Capture { records, cut }),
+            NextRead::End(cut) => return Ok(Capture { records, cut }),
         }
     }
 }
@@ -93,10 +93,10 @@ fn fill<R: Source>(reader: &mut R, buffer: &mut [u8]) -> Result<usize, DeviceFau
 }
 
 /// Reads the header of a file.
-pub(crate) fn read_file_header<R: Source>(reader: &mut R) -> Result<Spelling, CaptureFault>
+pub(crate) fn read_file_header<R: Source>(reader: &mut R) -> Result<CaptureFormat, CaptureFault>
     requires { R.failed reader.old < 2 ^ 64 - 1 }
-    ensures header { Says result (Gives (R.remaining reader.old) (R.remaining reader.new)
-        (λ bytes left. (spelling_in (take 24 bytes) ≡ result) × (left ≡ drop 24 bytes))) }
+    ensures header { IsReadResult result (LeavesBytes (R.remaining reader.old) (R.remaining reader.new)
+        (λ bytes left. (format_in (take 24 bytes) ≡ result) × (left ≡ drop 24 bytes))) }
     ensures memory { result ≢ Err CaptureFault.Memory }
     ensures count { R.failed reader.new ≡ R.failed reader.old + failed_reads result }
 {
@@ -109,12 +109,12 @@ pub(crate) fn read_file_header<R: Source>(reader: &mut R) -> Result<Spelling, Ca
 }
 
 /// The spelling that a file's header shows.
-fn spelling_of_file(header: &[u8]) -> Result<Spelling, CaptureFault>
+fn spelling_of_file(header: &[u8]) -> Result<CaptureFormat, CaptureFault>
     requires { length header.now ≡ 24 }
-    ensures is { spelling_in header.now ≡ result }
+    ensures is { format_in header.now ≡ result }
     ensures memory { result ≢ Err CaptureFault.Memory }
 {
-    let Some(spelling) = Spelling::of_magic(BigEndian::read_u32(header)) else {
+    let Some(spelling) = CaptureFormat::of_magic(BigEndian::read_u32(header)) else {
         return Err(CaptureFault::BadMagic);
     };
     if spelling.short(&header[4..]) != 2 || spelling.short(&header[6..]) != 4 {
@@ -131,14 +131,14 @@ fn spelling_of_file(header: &[u8]) -> Result<Spelling, CaptureFault>
 fn read_record<R: Source>(
     alloc: Global,
     reader: &mut R,
-    spelling: Spelling,
+    spelling: CaptureFormat,
     asked: u64,
     number: u64,
-) -> Result<Next, CaptureFault>
+) -> Result<NextRead, CaptureFault>
     requires can_fail { R.failed reader.old < 2 ^ 64 - 1 }
     requires within { asked ≤ MOST_ASKED }
-    ensures next { Says result (Gives (R.remaining reader.old) (R.remaining reader.new)
-        (ReadsNext spelling asked number result)) }
+    ensures next { IsReadResult result (LeavesBytes (R.remaining reader.old) (R.remaining reader.new)
+        (NextPost spelling asked number result)) }
     ensures room { IfOk result (IsWithin asked) }
     ensures memory { TakesMemory result → IfSome (R.remaining reader.old) (λ all. 16 ≤ length all) }
     ensures large { MOST_ASKED < asked + 16 → result ≡ Err CaptureFault.TooLarge }
@@ -151,7 +151,7 @@ fn read_record<R: Source>(
     let mut header = [0; RECORD_HEADER];
     let filled = fill(reader, &mut header)?;
     if filled < RECORD_HEADER {
-        return Ok(Next::End(filled > 0));
+        return Ok(NextRead::End(filled > 0));
     }
     let fields = fields_of(spelling, &header, number)?;
     if MOST_ASKED - asked - (RECORD_HEADER as u64) < fields.captured as u64 {
@@ -160,9 +160,9 @@ fn read_record<R: Source>(
     let mut bytes = vec![in alloc; 0; fields.captured as usize]?;
     let filled = fill(reader, &mut bytes)?;
     if filled < bytes.len() {
-        return Ok(Next::End(true));
+        return Ok(NextRead::End(true));
     }
-    Ok(Next::Whole(Record {
+    Ok(NextRead::Whole(Record {
         time: fields.time,
         bytes,
         original: fields.original,
@@ -171,12 +171,12 @@ fn read_record<R: Source>(
 
 /// What the header of record `number` says.
 pub(crate) fn fields_of(
-    spelling: Spelling,
+    spelling: CaptureFormat,
     header: &[u8],
     number: u64,
-) -> Result<Fields, CaptureFault>
+) -> Result<RecordHeader, CaptureFault>
     requires { length header.now ≡ 16 }
-    ensures ok { IfOk result (λ fields. HasFields spelling number header.now fields) }
+    ensures ok { IfOk result (λ fields. HeaderShows spelling number header.now fields) }
     ensures time { IfOk result (λ fields. fields.time < 2 ^ 32 * 1000000000) }
     ensures captured { IfOk result (λ fields. fields.captured ≤ LARGEST_RECORD) }
     ensures err { IfErr result (λ fault. size_in spelling number header.now ≡ Err fault) }
@@ -190,7 +190,7 @@ pub(crate) fn fields_of(
     if captured > LARGEST_RECORD {
         return Err(CaptureFault::TooLong(number));
     }
-    Ok(Fields {
+    Ok(RecordHeader {
         time: seconds as u64 * 1_000_000_000 + spelling.nanoseconds(fraction),
         captured,
         original: spelling.long(&header[12..]),

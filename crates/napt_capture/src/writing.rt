@@ -1,11 +1,11 @@
 //! Writing a capture, or any text.
 ghost use Rattle.std.specs.{Prelude.{◌≡◌, ◌+◌, ◌-◌, ◌^◌, ◌<◌, ◌≤◌, length, take, All, OnOk, IfErr}, Io.KnownBytes.Appends};
-ghost use Rattle.napt_capture.specs.{Device.failed_calls, Text.{IsWritable, record_text, text}, Writing.Puts};
+ghost use Rattle.napt_capture.specs.{Device.failed_calls, Text.{IsWritable, record_text, text}, Writing.PutPost};
 
+use crate::capture_writer::CaptureWriter;
 use crate::contents::Record;
 use crate::device::Sink;
 use crate::fault::WriteFault;
-use crate::written::Written;
 
 /// Writes the text of a capture file with these records, and flushes it. It takes no memory.
 pub fn write_capture<W: Sink>(writer: &mut W, records: &[Record]) -> Result<(), WriteFault>
@@ -19,7 +19,7 @@ pub fn write_capture<W: Sink>(writer: &mut W, records: &[Record]) -> Result<(), 
         × Appends (W.contents writer.old) (W.contents writer.new) (take fault.written (text records.now))) }
     ensures count { W.failed writer.new ≡ W.failed writer.old + failed_calls result }
 {
-    let mut written = Written::begin(writer)?;
+    let mut written = CaptureWriter::begin(writer)?;
     for packet in records {
         written = put_record(writer, written, packet)?;
     }
@@ -27,16 +27,16 @@ pub fn write_capture<W: Sink>(writer: &mut W, records: &[Record]) -> Result<(), 
 }
 
 /// Appends one record to what is written.
-#[tactic(auto, using(crate::proofs::Puts::record_text_whole))]
+#[tactic(auto, using(crate::proofs::PutSteps::record_text_whole))]
 fn put_record<W: Sink>(
     writer: &mut W,
-    written: Written,
+    written: CaptureWriter,
     packet: &Record,
-) -> Result<Written, WriteFault>
+) -> Result<CaptureWriter, WriteFault>
     requires can_fail { W.failed writer.old < 2 ^ 64 - 1 }
     requires room { written + length (record_text packet.now) < 2 ^ 64 }
     requires writable { IsWritable packet.now }
-    ensures puts { Puts written (W.contents writer.old) (W.contents writer.new)
+    ensures puts { PutPost written (W.contents writer.old) (W.contents writer.new)
         (record_text packet.now) result }
     ensures count { W.failed writer.new ≡ W.failed writer.old + failed_calls result }
 {
@@ -52,6 +52,6 @@ pub fn write_text<W: Sink>(writer: &mut W, bytes: &[u8]) -> Result<(), WriteFaul
         × Appends (W.contents writer.old) (W.contents writer.new) (take fault.written bytes.now)) }
     ensures count { W.failed writer.new ≡ W.failed writer.old + failed_calls result }
 {
-    let written = Written::nothing().put(writer, bytes)?;
+    let written = CaptureWriter::nothing().put(writer, bytes)?;
     written.finish(writer)
 }

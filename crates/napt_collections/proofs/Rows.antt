@@ -2,7 +2,7 @@
 use Rattle.std.proofs.Common.{◌≡◌, ◌≢◌, ℕ, ◌+◌, ◌-◌, ◌*◌, ◌/◌, ◌%◌, ◌^◌, ◌<◌, ◌≤◌, true, false, List, length, get_or, set, Some, None, refl, sym, ◌∙◌, ap, arith, ltb, eqb-true, w64, replicate}
 use Rattle.std.{specs.{Prelude.◌==◌, Int.{bit_at, trailing_ones}}, proofs.lemmas.{Bool.Decides.nat_tests, Grind.common_steps, List.length-replicate}}
 use Rattle.std.proofs.lemmas.Nat.Bits.{bit_at-zero, bit_at_ones, bit_at-trailing_ones}
-use Rattle.napt_collections.{specs.Sets.{has_bit, has, IsFirstAbsent, IsMarked, full_word}, proofs.Words.{is_set, is_clear}}
+use Rattle.napt_collections.{specs.BitSets.{has_bit, has, IsFirstAbsent, MarksFullWords, full_word}, proofs.Words.{is_set, is_clear}}
 
 pub same_default : (words : List ℕ) (i c d : ℕ) → i < length words → get_or words i c ≡ get_or words i d
 same_default words i c d lt = grind (arith, common_steps)
@@ -25,7 +25,7 @@ module _ (words : List ℕ) (i d lo from : ℕ) (lt : i < length words) (within 
 
 -- FULL WORDS
 
-module _ (words full : List ℕ) (m : IsMarked words full) where
+module _ (words full : List ℕ) (m : MarksFullWords words full) where
   pub in_full_word : (i : ℕ) → i < 1024 → has full i ≡ true → (j : ℕ) → 64 * i ≤ j → j < 64 * i + 64 →
       has words j ≡ true
   in_full_word i lt h j low high =
@@ -54,9 +54,9 @@ module _ (words full : List ℕ) (m : IsMarked words full) where
 
 -- MARKS STAY RIGHT
 
-pub marked : (words full : List ℕ) (place w f d : ℕ) → place < 1024 → IsMarked words full → has_bit f (place % 64)
+pub marked : (words full : List ℕ) (place w f d : ℕ) → place < 1024 → MarksFullWords words full → has_bit f (place % 64)
     ≡ (w == full_word) → ((i : ℕ) → i < 64 → i ≢ place % 64 → has_bit f i ≡ has_bit (get_or full (place / 64) d) i) →
-    IsMarked (set words place w) (set full (place / 64) f)
+    MarksFullWords (set words place w) (set full (place / 64) f)
 marked words full place w f d lt m here others =
     grind (arith, common_steps, nat_tests, same_default)
 
@@ -71,7 +71,7 @@ zero_at n i = grind (arith, common_steps, nat_tests)
 pub empty_has_none : (n : ℕ) (j : ℕ) → has (replicate n 0) j ≡ false
 empty_has_none n j = ap (λ (w : ℕ). has_bit w (j % 64)) (zero_at n (j / 64)) ∙ empty_has (j % 64)
 
-pub empty_marked : IsMarked (replicate 1024 0) (replicate 16 0)
+pub empty_marked : MarksFullWords (replicate 1024 0) (replicate 16 0)
 empty_marked = record {
   many = length-replicate {A = ℕ} 1024 0;
   few = length-replicate {A = ℕ} 16 0;
@@ -80,7 +80,7 @@ empty_marked = record {
 
 -- THE FIRST OVER ALL WORDS
 
-module _ (words full : List ℕ) (m : IsMarked words full) (from d : ℕ) (within : from < 65536)
+module _ (words full : List ℕ) (m : MarksFullWords words full) (from d : ℕ) (within : from < 65536)
     (here : IsFirstAbsent (has_bit (get_or words (from / 64) d)) (from % 64) 64 None) where
   up_to_next : (j : ℕ) → from ≤ j → j < 64 * (from / 64 + 1) → has words j ≡ true
   up_to_next = grind (arith, common_steps, none_here)

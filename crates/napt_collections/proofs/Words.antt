@@ -3,7 +3,7 @@ use Rattle.std.proofs.lemmas.Grind.{common_steps}
 use Rattle.std.proofs.Common.{◌≡◌, ◌≢◌, ℕ, ◌+◌, ◌-◌, ◌*◌, ◌%◌, ◌^◌, ◌<◌, ◌≤◌, max, true, false, refl, sym, ◌∙◌, ap, w64, arith, eqb, eqb-true}
 use Rattle.std.{specs.{Prelude.◌==◌, Int.{bit_at, trailing_ones, RustNames.bit_or}}, proofs.lemmas.{Bool.Decides.nat_tests, Nat.{one_shl, or_lt}}}
 use Rattle.std.proofs.lemmas.{Nat.Bits.{bit_at_or, bit_at_ones, bit_at_ones_above, bit_at-lt, bit_at-trailing_ones}, Bool.true≢false}
-use Rattle.napt_collections.specs.Sets.{has_bit, full_word}
+use Rattle.napt_collections.specs.BitSets.{has_bit, full_word}
 
 pub is_set : (word i : ℕ) → bit_at word i ≡ 1 → has_bit word i ≡ true
 is_set word i h = grind (arith, nat_tests)

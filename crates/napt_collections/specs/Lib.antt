@@ -1,4 +1,4 @@
-pub mod Sets
-pub mod SetKept
+pub mod BitSets
+pub mod BitSetInvariants
 pub mod Queue
 pub mod Links

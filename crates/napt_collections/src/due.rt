@@ -19,9 +19,9 @@ pub struct Due<T: Ord> {
 impl<T: Ord> Model for Due<T> {
     ghost use Rattle.std.specs.Prelude.{◌-◌, map};
     ghost use Rattle.std.specs.BinaryHeap.{heap_items, heap_len, heap_capacity};
-    ghost use Rattle.napt_collections.specs.Queue.{Queue, InOrder};
+    ghost use Rattle.napt_collections.specs.Queue.{DueModel, IsHeapOrdered};
 
-    ghost Value = { Queue T };
+    ghost Value = { DueModel T };
 
     ghost view = { λ due. record {
       entries = map (λ e. e.0) (heap_items due.heap);
@@ -29,7 +29,7 @@ impl<T: Ord> Model for Due<T> {
     } };
 
     // as a heap whose greatest element has the least time
-    ghost invariant = { λ due. InOrder T.cmp (heap_items due.heap) };
+    ghost invariant = { λ due. IsHeapOrdered T.cmp (heap_items due.heap) };
 }
 
 impl<T: Ord + Copy> Due<T> {

@@ -33,7 +33,7 @@ fn set_before(links: &mut [Links], node: u32, before: u32)
 }
 
 /// Takes a node out of its row.
-pub fn take_out(links: &mut [Links], node: u32)
+pub fn unlink(links: &mut [Links], node: u32)
     requires within { node < length links.old }
     requires before { prev links.old node < length links.old }
     requires after { next links.old node < length links.old }
@@ -48,7 +48,7 @@ pub fn take_out(links: &mut [Links], node: u32)
 }
 
 /// Puts a node into the row of another one, right before it.
-pub fn put_before(links: &mut [Links], node: u32, after: u32)
+pub fn link_before(links: &mut [Links], node: u32, after: u32)
     requires within { node < length links.old }
     requires after { after < length links.old }
     requires before { prev links.old after < length links.old }

@@ -1,7 +1,7 @@
 //! The bits of words.
 
 ghost use Rattle.std.specs.Prelude.{◌≡◌, ◌≢◌, ℕ, true, false, ◌*◌, ◌^◌, ◌<◌, ◌≤◌, length};
-ghost use Rattle.napt_collections.specs.Sets.{has_bit, has, IsFirstAbsent, IsMarked};
+ghost use Rattle.napt_collections.specs.BitSets.{has_bit, has, IsFirstAbsent, MarksFullWords};
 
 /// The first clear bit of the word from `from` on.
 pub(crate) fn first_clear(word: u64, from: u32) -> Option<u32>
@@ -38,7 +38,7 @@ pub(crate) fn first_clear_of(words: &[u64], from: usize) -> Option<usize>
 
 /// The first clear bit from `from` on, by a bit for each full word: full words past the first are skipped.
 pub(crate) fn first_clear_over(words: &[u64], full: &[u64], from: usize) -> Option<usize>
-    requires marked { IsMarked words.now full.now }
+    requires marked { MarksFullWords words.now full.now }
     requires within { from < 65536 }
     ensures { IsFirstAbsent (has words.now) from 65536 result }
 {

@@ -1,14 +1,14 @@
 -- Where a run starts.
-use Rattle.napt_rules.specs.Prelude.{Rules, State, Takes}
-use Rattle.napt_account.specs.GoingOn.{LogState, IsFew}
+use Rattle.napt_rules.specs.Prelude.{Rules, State, TakesState}
+use Rattle.napt_account.specs.ResumedLogRuns.{LogStateModel, IsFew}
 
-pub record Started : Type 0 where
+pub record RunStartModel : Type 0 where
   pub rules : Rules
   -- with what is kept of its log
   pub state : State
-  pub log : LogState
+  pub log : LogStateModel
 
 -- a run can go on from there
-pub record CanStart (start : Started) : Type 0 where
-  pub taken : Takes start.rules start.state
+pub record CanStart (start : RunStartModel) : Type 0 where
+  pub taken : TakesState start.rules start.state
   pub few : IsFew start.log

@@ -1,10 +1,10 @@
 //! A run of which the packets are counted.
 
-use crate::losses::Losses;
+use crate::loss_counts::LossCounts;
 use crate::plain_run::PlainRun;
 use crate::start::RunStart;
 use napt_config::Config;
-use napt_records::Counts;
+use napt_records::OutcomeCounts;
 use napt_sequential::{Input, Outcome, RunFault};
 use std::alloc::{AllocError, Global};
 
@@ -12,8 +12,8 @@ use std::alloc::{AllocError, Global};
 #[derive(Drop)]
 pub struct CountedRun<'a> {
     run: PlainRun<'a>,
-    pub counts: Counts,
-    pub losses: Losses,
+    pub counts: OutcomeCounts,
+    pub losses: LossCounts,
 }
 
 impl<'a> CountedRun<'a> {
@@ -21,8 +21,8 @@ impl<'a> CountedRun<'a> {
     pub fn begin(alloc: Global, start: &RunStart<'a>) -> Result<CountedRun<'a>, AllocError> {
         Ok(CountedRun {
             run: start.plain_run(alloc)?,
-            counts: Counts::new(),
-            losses: Losses::new(alloc, start.config())?,
+            counts: OutcomeCounts::new(),
+            losses: LossCounts::new(alloc, start.config())?,
         })
     }
 

@@ -2,7 +2,7 @@
 
 use crate::exit::Exit;
 use either::Either;
-use napt_program::{MOST_BYTES, Role, Stop, config_text, open_config};
+use napt_program::{FileRole, MOST_BYTES, Stop, config_text, open_config};
 use std::fs::File;
 use std::io::Read;
 use std::rt::Files;
@@ -27,7 +27,7 @@ pub fn unexplained<R: Eprint>(rt: &R, name: &str, path: &str) -> Exit {
 
 /// How the program stops if a file cannot be written: as for an output of `napt`.
 pub fn unwritten() -> Exit {
-    Exit::Told(Stop::File(Role::Report))
+    Exit::Told(Stop::File(FileRole::Report))
 }
 
 /// Opens a file for reading, or standard input for `-`; `name` names it. Prints why if it cannot be opened.

@@ -1,7 +1,7 @@
 //! A run of which only the outcomes are wanted.
 
 ghost use Rattle.std.specs.Prelude.{◌≡◌, ◌++◌, [], ◌∷◌, OnOk, IfOk, false};
-ghost use Rattle.napt_rules.specs.Prelude.{Takes, under};
+ghost use Rattle.napt_rules.specs.Prelude.{TakesState, with_redirects};
 ghost use Rattle.napt_commands.specs.PlainRuns.{IsOutcome};
 
 use http_server::Log;
@@ -26,11 +26,11 @@ pub struct PlainRun<'a> {
 
 impl<'a> Model for PlainRun<'a> {
     ghost use Rattle.std.specs.Prelude.{◌≡◌, List, false};
-    ghost use Rattle.napt_account.specs.{KnownLogs.{taken_in}, KnownRuns.{begun_in}};
-    ghost use Rattle.napt_commands.specs.PlainRuns.{PlainState};
-    ghost use Rattle.napt_sequential.specs.SequentialRuns.{StandsFrom};
+    ghost use Rattle.napt_account.specs.{TrackedLogs.{taken_in}, TrackedRuns.{begun_in}};
+    ghost use Rattle.napt_commands.specs.PlainRuns.{PlainRunModel};
+    ghost use Rattle.napt_sequential.specs.SequentialRuns.{SequentialRunInvariant};
 
-    ghost Value = { PlainState };
+    ghost Value = { PlainRunModel };
 
     ghost view = { λ it. record {
       rules = it.config.now;
@@ -40,7 +40,7 @@ impl<'a> Model for PlainRun<'a> {
     } };
 
     ghost invariant = { λ it. it.is_stopped ≡ false
-        → StandsFrom it.config.now (begun_in it.config.now it.begun.items)
+        → SequentialRunInvariant it.config.now (begun_in it.config.now it.begun.items)
         (taken_in it.past.items) it.run };
 }
 
@@ -51,10 +51,10 @@ impl<'a> PlainRun<'a> {
         config: &'a Config,
         state: &State,
     ) -> Result<PlainRun<'a>, AllocError>
-        requires { Takes config.now state.now }
+        requires { TakesState config.now state.now }
         ensures { IfOk result (λ run. run ≡ record {
           rules = config.now;
-          state = under config.now state.now;
+          state = with_redirects config.now state.now;
           inputs = [];
           is_stopped = false;
         }) }

@@ -1,12 +1,12 @@
 //! Where a run starts.
 
 ghost use Rattle.std.specs.Prelude.{◌≡◌, [], IfOk};
-ghost use Rattle.napt_rules.specs.Prelude.{Takes, under};
-ghost use Rattle.napt_account.specs.{GoingOn.IsFew, ResumedLogs.IsResumedRun};
+ghost use Rattle.napt_rules.specs.Prelude.{TakesState, with_redirects};
+ghost use Rattle.napt_account.specs.{ResumedLogRuns.IsFew, ResumedLogs.IsResumedRun};
 ghost use Rattle.napt_commands.specs.PlainRuns.{plain_from};
 
 use crate::plain_run::PlainRun;
-use napt_account::{KnownRun, LogState, ResumedRun};
+use napt_account::{RunFromState, SavedLogState, TrackedRun};
 use napt_config::Config;
 use napt_rules::State;
 use std::alloc::{AllocError, Global};
@@ -18,13 +18,13 @@ use std::marker::Model;
 pub struct RunStart<'a> {
     config: &'a Config,
     state: State,
-    log: LogState,
+    log: SavedLogState,
 }
 
 impl<'a> Model for RunStart<'a> {
-    ghost use Rattle.napt_commands.specs.Starts.{CanStart, Started};
+    ghost use Rattle.napt_commands.specs.Starts.{CanStart, RunStartModel};
 
-    ghost Value = { Started };
+    ghost Value = { RunStartModel };
 
     ghost view = { λ it. record { rules = it.config.now; state = it.state; log = it.log } };
 
@@ -32,8 +32,8 @@ impl<'a> Model for RunStart<'a> {
 }
 
 impl<'a> RunStart<'a> {
-    pub fn new(config: &'a Config, state: State, log: LogState) -> RunStart<'a>
-        requires taken { Takes config.now state }
+    pub fn new(config: &'a Config, state: State, log: SavedLogState) -> RunStart<'a>
+        requires taken { TakesState config.now state }
         requires few { IsFew log }
         ensures { result ≡ record { rules = config.now; state = state; log = log } }
     {
@@ -54,7 +54,7 @@ impl<'a> RunStart<'a> {
     }
 
     /// What is kept of the log.
-    pub fn log(&self) -> &LogState
+    pub fn log(&self) -> &SavedLogState
         ensures { result.now ≡ self.now.log }
     {
         &self.log
@@ -67,20 +67,20 @@ impl<'a> RunStart<'a> {
     }
 
     /// The run from there, with its log. Fails only if memory is refused.
-    pub fn known_run(&self, alloc: Global) -> Result<ResumedRun<'a>, AllocError>
+    pub fn known_run(&self, alloc: Global) -> Result<RunFromState<'a>, AllocError>
         ensures { IfOk result (IsResumedRun self.now.rules
-            (under self.now.rules self.now.state) self.now.log) }
+            (with_redirects self.now.rules self.now.state) self.now.log) }
     {
-        KnownRun::resume(alloc, self.config, &self.state, &self.log)
+        TrackedRun::resume(alloc, self.config, &self.state, &self.log)
     }
 
     /// The same with a log that begins there.
-    pub fn run_begun(&self, alloc: Global) -> Result<ResumedRun<'a>, AllocError>
+    pub fn run_begun(&self, alloc: Global) -> Result<RunFromState<'a>, AllocError>
         ensures { IfOk result (IsResumedRun self.now.rules
-            (under self.now.rules self.now.state) (record { made = 0; living = [] })) }
+            (with_redirects self.now.rules self.now.state) (record { made = 0; living = [] })) }
     {
-        let none = LogState::none(alloc);
-        KnownRun::resume(alloc, self.config, &self.state, &none)
+        let none = SavedLogState::none(alloc);
+        TrackedRun::resume(alloc, self.config, &self.state, &none)
     }
 
     /// The run from there, without a log. Fails only if memory is refused.

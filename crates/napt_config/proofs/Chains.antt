@@ -3,14 +3,14 @@ use Rattle.std.proofs.lemmas.Grind.{common_steps}
 use Rattle.std.proofs.Common.{◌≡◌, ℕ, ◌+◌, ◌≤◌, Bool, true, false, List, Option, Some, None, Result, Ok, Err, is_some, refl, subst, arith, leb-true, nat_le, ok_or}
 use Rattle.std.specs.Option.{option_map_or}
 use Rattle.toml.specs.Data.{Data, Items, no_items, item, Members, get_member}
-use Rattle.napt_config.specs.Prelude.{ConfigFault, ◌>>=◌, ◌>>◌, must, each_in_order, item_count, list_up_to, optional}
+use Rattle.napt_config.specs.Prelude.{ConfigFault, ◌>>=◌, ◌>>◌, require_rule, each_in_order, item_count, list_up_to, optional}
 
 pub reads : {A B P : Type 0} (r : Result A ConfigFault) (f : A → Result B ConfigFault) (y : B) → r >>= f ≡ Ok y →
     ((x : A) → r ≡ Ok x → f x ≡ Ok y → P) → P
 reads (Ok x) f y e then = then x refl e
 reads (Err fault) f y e then = cc
 
-pub holds : {B P : Type 0} (rule : Bool) (fault : ConfigFault) (r : Result B ConfigFault) (y : B) → must rule fault >> r
+pub holds : {B P : Type 0} (rule : Bool) (fault : ConfigFault) (r : Result B ConfigFault) (y : B) → require_rule rule fault >> r
     ≡ Ok y → (rule ≡ true → r ≡ Ok y → P) → P
 holds true fault r y e then = then refl e
 holds false fault r y e then = cc

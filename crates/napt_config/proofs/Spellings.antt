@@ -7,7 +7,7 @@ use Rattle.std.proofs.lemmas.Bool.{cases_lt, and_parts, and_from, and_left, and_
 use Rattle.std.proofs.lemmas.{Fmt.{decimal_is_IsNumeral, decimal_digit, first_decimal, decimal-digits_value, digits_decimal}, List.{drop_all, drop_more}}
 use Rattle.std.proofs.{lemmas.List.{Folds.list_any-append, Sums.prefix_len_stops}, Math.Seq.{take-append_seam, drop-append-add}}
 use Rattle.std.proofs.lemmas.{Nat.{from_be_bytes-to_be_bytes_4, be_bytes_4}, Option.{cond_some, option_and_then_some, none-some}}
-use Rattle.napt_config.specs.Prelude.{ConfigFault, Network, IsNetwork, Socket, IsSocket, address_of, address_text, is_number, number_of, is_slash, is_colon, network_at, network_of, network_text, socket_at, socket_of, socket_text, IsReadBack}
+use Rattle.napt_config.specs.Prelude.{ConfigFault, PrefixModel, IsPrefix, TransportAddressModel, IsTransportAddress, address_of, address_text, is_decimal, number_of, is_slash, is_colon, prefix_at, prefix_of_text, prefix_text, transport_address_at, transport_address_of_text, transport_address_text, IsReadBack}
 use Rattle.napt_config.proofs.{Addresses.{address_of-dotted, dotted-address_of}, Numbers.{digits_model, number_of-nothing}}
 
 -- ---- addresses
@@ -33,7 +33,7 @@ address_text-of text address is = grind (arith, common_steps, dotted-address_of,
 
 -- ---- numbers
 
-is_number-decimal : (n : ℕ) → n < 2 ^ 64 → is_number (decimal n) ≡ true
+is_number-decimal : (n : ℕ) → n < 2 ^ 64 → is_decimal (decimal n) ≡ true
 is_number-decimal n small =
     let (numeral, _) = decimal_is_IsNumeral n small in
     let digits = digits_decimal digits_model n small in
@@ -172,32 +172,32 @@ module _ (at least most : ℕ) (bound : most < 2 ^ 64) (no_digit : (c : ℕ) →
         number_of-decimal,
       )
 
-network_text-of : (text : List ℕ) (network : Network) → network_of text ≡ Some network → text ≡ network_text network
-unfolding network_of network_text
+network_text-of : (text : List ℕ) (network : PrefixModel) → prefix_of_text text ≡ Some network → text ≡ prefix_text network
+unfolding prefix_of_text prefix_text
 network_text-of text network is =
     option_and_then_some _ (address_of (before_first is_slash text)) network is λ address found more.
     option_and_then_some _ (number_of 0 32 (after_first is_slash text)) network more λ bits counted made.
     let (_, same) = cond_some (address % 2 ^ (32 - bits) == 0) (record { address = address; bits = bits }) network
     made in
-    marked_text-of 47 0 32 (omega arith) no_digit_is_slash refl text address bits found counted ∙ ap network_text same
+    marked_text-of 47 0 32 (omega arith) no_digit_is_slash refl text address bits found counted ∙ ap prefix_text same
 
-network_of-text : (network : Network) → IsNetwork network → network_of (network_text network) ≡ Some network
-unfolding network_of network_text
-network_of-text network fine = marked_of-text 47 0 32 (omega arith) no_digit_is_slash refl network_at network.address
+network_of-text : (network : PrefixModel) → IsPrefix network → prefix_of_text (prefix_text network) ≡ Some network
+unfolding prefix_of_text prefix_text
+network_of-text network fine = marked_of-text 47 0 32 (omega arith) no_digit_is_slash refl prefix_at network.address
     network.bits (Some network) fine.address (omega arith) fine.bits (rw (eq-eqb _ _ fine.no_host_bits) refl)
 
-socket_text-of : (text : List ℕ) (socket : Socket) → socket_of text ≡ Some socket → text ≡ socket_text socket
-unfolding socket_of socket_text
+socket_text-of : (text : List ℕ) (socket : TransportAddressModel) → transport_address_of_text text ≡ Some socket → text ≡ transport_address_text socket
+unfolding transport_address_of_text transport_address_text
 socket_text-of text socket is =
     option_and_then_some _ (address_of (before_first is_colon text)) socket is λ address found more.
     option_and_then_some _ (number_of 1 65535 (after_first is_colon text)) socket more λ port counted made.
-    let at : Socket = record { address = address; port = port } in
+    let at : TransportAddressModel = record { address = address; port = port } in
     let same : at ≡ socket = cc in
-    marked_text-of 58 1 65535 (omega arith) no_digit_is_colon refl text address port found counted ∙ ap socket_text same
+    marked_text-of 58 1 65535 (omega arith) no_digit_is_colon refl text address port found counted ∙ ap transport_address_text same
 
-socket_of-text : (socket : Socket) → IsSocket socket → socket_of (socket_text socket) ≡ Some socket
-unfolding socket_of socket_text
-socket_of-text socket fine = marked_of-text 58 1 65535 (omega arith) no_digit_is_colon refl socket_at socket.address
+socket_of-text : (socket : TransportAddressModel) → IsTransportAddress socket → transport_address_of_text (transport_address_text socket) ≡ Some socket
+unfolding transport_address_of_text transport_address_text
+socket_of-text socket fine = marked_of-text 58 1 65535 (omega arith) no_digit_is_colon refl transport_address_at socket.address
     socket.port (Some socket) fine.address fine.low (omega (arith, fine.high)) refl
 
 -- ---- whole results
@@ -219,12 +219,12 @@ read_back spelling IsValue fault text (Some y) spelled only = record {
   refused = tt;
 }
 
-pub networks_read_back : (fault : ConfigFault) (text : List ℕ) → IsReadBack network_text IsNetwork fault text
-    (ok_or (network_of text) fault)
+pub networks_read_back : (fault : ConfigFault) (text : List ℕ) → IsReadBack prefix_text IsPrefix fault text
+    (ok_or (prefix_of_text text) fault)
 networks_read_back fault text = grind (arith, common_steps, read_back, network_text-of, network_of-text)
 
-pub sockets_read_back : (fault : ConfigFault) (text : List ℕ) → IsReadBack socket_text IsSocket fault text
-    (ok_or (socket_of text) fault)
+pub sockets_read_back : (fault : ConfigFault) (text : List ℕ) → IsReadBack transport_address_text IsTransportAddress fault text
+    (ok_or (transport_address_of_text text) fault)
 sockets_read_back fault text = grind (arith, common_steps, read_back, socket_text-of, socket_of-text)
 
 pub address_reads_back : (text : List ℕ) (address x : ℕ) → address_of text ≡ Some address → x < 2 ^ 32 →

@@ -5,11 +5,11 @@ use Rattle.std.specs.{List.list_any, Option.option_map_or, Result.result_ok, Ord
 use Rattle.toml.specs.Data.{Data, Items, no_items, item, Members, no_members, member, get_member, as_str, as_integer, as_array, as_table}
 use Rattle.toml.specs.Parse.{parse_document}
 use Rattle.hex.specs.Hex.{decode_sized}
-use Rattle.napt_config.specs.{Network.{Network, Socket, have_address, are_apart, private_networks}, Text.{address_of, network_of, socket_of}}
-use Rattle.napt_config.specs.{Fault.{◌>>=◌, ◌>>◌, must}, Rules.{Rules, has, paired_with, paired, block_in, may_redirect, have_room, is_double}}
-use Rattle.napt_config.specs.declared.settings.{Filter.{Filter, TheVariants.{Independent, Address, AddressPort}}, Refresh.Refresh}
-use Rattle.napt_config.specs.declared.settings.{Refresh.TheVariants.{Outbound, Both}, Choosing.Choosing, Seed.Seed, Timers.Timers, Redirect.Redirect}
-use Rattle.napt_config.specs.declared.{settings.Block.Block, fault.ConfigFault.ConfigFault}
+use Rattle.napt_config.specs.{Prefixes.{PrefixModel, TransportAddressModel, prefixes_have, are_prefixes_apart, private_networks}, Text.{address_of, prefix_of_text, transport_address_of_text}}
+use Rattle.napt_config.specs.{Fault.{◌>>=◌, ◌>>◌, require_rule}, Rules.{Rules, contains_address, paired_with, paired_address, block_in, may_redirect, have_room, is_double}}
+use Rattle.napt_config.specs.declared.settings.{Filter.{Filter, TheVariants.{Independent, Address, AddressPort}}, MappingRefresh.MappingRefresh}
+use Rattle.napt_config.specs.declared.settings.{MappingRefresh.TheVariants.{Outbound, Both}, NumberAssignment.NumberAssignment, Seed.Seed, Timers.Timers, Redirect.Redirect}
+use Rattle.napt_config.specs.declared.{settings.PortBlock.PortBlock, fault.ConfigFault.ConfigFault}
 use Rattle.napt_config.specs.declared.fault.ConfigFault.TheVariants.{NotToml, UnknownKey, Missing, BadShape, TooMany, BadAddress, BadPrefix, BadNumber, BadWord, BadSeed, SeedUnused, DoubleAddress, PoolInside, PrefixesOverlap, BlockTooLarge, PairWithBlock, HoldWithBlock, DoublePair, NotInPool, NotInside, RedirectInBlock, DoubleRedirect, TimerTooShort}
 
 -- ---- keys
@@ -84,36 +84,36 @@ abbrev pub table_in : Data → Result Members ConfigFault
 table_in value = ok_or (as_table value) BadShape
 
 -- what the word in a value says, of those that may be there
-abbrev pub said_by : {A : Type 0} → List (List ℕ × A) → List ℕ → Option A
-said_by [] word = None
-said_by (known ∷ others) word = if bytes_eq word known.0 then Some known.1 else said_by others word
+abbrev pub word_meaning : {A : Type 0} → List (List ℕ × A) → List ℕ → Option A
+word_meaning [] word = None
+word_meaning (known ∷ others) word = if bytes_eq word known.0 then Some known.1 else word_meaning others word
 
-unfoldable pub word_at : {A : Type 0} → List (List ℕ × A) → Data → Result A ConfigFault
-word_at words value = do
+unfoldable pub word_at_key : {A : Type 0} → List (List ℕ × A) → Data → Result A ConfigFault
+word_at_key words value = do
   word ← text_in value
-  ok_or (said_by words word) BadWord
+  ok_or (word_meaning words word) BadWord
 
 -- the number, where it is from least to most
-abbrev pub between : ℕ → ℕ → ℤ → Option ℕ
-between least most (pos n) = if nat_le least n && nat_le n most then Some n else None
-between least most (negsuc n) = None
+abbrev pub number_between : ℕ → ℕ → ℤ → Option ℕ
+number_between least most (pos n) = if nat_le least n && nat_le n most then Some n else None
+number_between least most (negsuc n) = None
 
-unfoldable pub number_at : ℕ → ℕ → Data → Result ℕ ConfigFault
-number_at least most value = do
+unfoldable pub number_at_key : ℕ → ℕ → Data → Result ℕ ConfigFault
+number_at_key least most value = do
   number ← number_in value
-  ok_or (between least most number) BadNumber
+  ok_or (number_between least most number) BadNumber
 
 -- how the entries of a list are read, each added to what those before it gave
-abbrev pub Walk : Type 0 → Type 0
-Walk A = (A → Data → Result A ConfigFault) → A → Items → Result A ConfigFault
+abbrev pub EntryReader : Type 0 → Type 0
+EntryReader A = (A → Data → Result A ConfigFault) → A → Items → Result A ConfigFault
 
 -- all of them, in order
-abbrev pub each_in_order : {A : Type 0} → Walk A
+abbrev pub each_in_order : {A : Type 0} → EntryReader A
 each_in_order with_entry so_far no_items = Ok so_far
 each_in_order with_entry so_far (item entry rest) = with_entry so_far entry >>= λ now. each_in_order with_entry now rest
 
 -- the first alone, if there is one: no memory is asked for before it is read
-abbrev pub first_in_order : {A : Type 0} → Walk A
+abbrev pub first_in_order : {A : Type 0} → EntryReader A
 first_in_order with_entry so_far no_items = Ok so_far
 first_in_order with_entry so_far (item entry rest) = with_entry so_far entry
 
@@ -121,7 +121,7 @@ first_in_order with_entry so_far (item entry rest) = with_entry so_far entry
 unfoldable pub list_up_to : ℕ → Data → Result Items ConfigFault
 list_up_to most value = do
   entries ← list_in value
-  must (nat_le (item_count entries) most) TooMany
+  require_rule (nat_le (item_count entries) most) TooMany
   Ok entries
 
 -- the list at a required key, of 1 to 16 entries
@@ -129,7 +129,7 @@ unfoldable pub short_list : List ℕ → Members → Result Items ConfigFault
 short_list key table = do
   value ← required key table
   entries ← list_up_to 16 value
-  must (nat_lt 0 (item_count entries)) Missing
+  require_rule (nat_lt 0 (item_count entries)) Missing
   Ok entries
 
 -- ---- pool
@@ -138,50 +138,50 @@ unfoldable pub with_address : List ℕ → Data → Result (List ℕ) ConfigFaul
 with_address pool entry = do
   text ← text_in entry
   address ← ok_or (address_of text) BadAddress
-  must (not (has pool address)) DoubleAddress
+  require_rule (not (contains_address pool address)) DoubleAddress
   Ok (pool ++ address ∷ [])
 
-unfoldable pub pool_in : Walk (List ℕ) → Members → Result (List ℕ) ConfigFault
+unfoldable pub pool_in : EntryReader (List ℕ) → Members → Result (List ℕ) ConfigFault
 pool_in walk table = do
   entries ← short_list (codes "pool") table
   walk with_address [] entries
 
 -- ---- inside
 
-unfoldable pub with_prefix : List Network → Data → Result (List Network) ConfigFault
+unfoldable pub with_prefix : List PrefixModel → Data → Result (List PrefixModel) ConfigFault
 with_prefix inside entry = do
   text ← text_in entry
-  network ← ok_or (network_of text) BadPrefix
+  network ← ok_or (prefix_of_text text) BadPrefix
   Ok (inside ++ network ∷ [])
 
-unfoldable pub prefixes_in : Walk (List Network) → Members → Result (List Network) ConfigFault
+unfoldable pub prefixes_in : EntryReader (List PrefixModel) → Members → Result (List PrefixModel) ConfigFault
 prefixes_in walk table = do
   entries ← short_list (codes "inside") table
   walk with_prefix [] entries
 
-unfoldable pub inside_in : List ℕ → Members → Result (List Network) ConfigFault
+unfoldable pub inside_in : List ℕ → Members → Result (List PrefixModel) ConfigFault
 inside_in pool table = do
   inside ← prefixes_in each_in_order table
-  must (not (list_any (have_address inside) pool)) PoolInside
+  require_rule (not (list_any (prefixes_have inside) pool)) PoolInside
   Ok inside
 
 -- ---- filter, refresh, parity, numbers
 
 unfoldable pub filter_in : Members → Result Filter ConfigFault
-filter_in table = optional (codes "filter") Independent (word_at ((codes "independent", Independent)
+filter_in table = optional (codes "filter") Independent (word_at_key ((codes "independent", Independent)
     ∷ (codes "address", Address) ∷ (codes "address-port", AddressPort) ∷ [])) table
 
-unfoldable pub refresh_in : Members → Result Refresh ConfigFault
+unfoldable pub refresh_in : Members → Result MappingRefresh ConfigFault
 refresh_in table =
-    optional (codes "refresh") Outbound (word_at ((codes "outbound", Outbound) ∷ (codes "both", Both) ∷ [])) table
+    optional (codes "refresh") Outbound (word_at_key ((codes "outbound", Outbound) ∷ (codes "both", Both) ∷ [])) table
 
 unfoldable pub keeps_parity_in : Members → Result Bool ConfigFault
 keeps_parity_in table =
-    optional (codes "parity") true (word_at ((codes "kept", true) ∷ (codes "free", false) ∷ [])) table
+    optional (codes "parity") true (word_at_key ((codes "kept", true) ∷ (codes "free", false) ∷ [])) table
 
 unfoldable pub is_random_in : Members → Result Bool ConfigFault
 is_random_in table =
-    optional (codes "numbers") false (word_at ((codes "random", true) ∷ (codes "preserved", false) ∷ [])) table
+    optional (codes "numbers") false (word_at_key ((codes "random", true) ∷ (codes "preserved", false) ∷ [])) table
 
 -- ---- seed
 
@@ -201,10 +201,10 @@ seed_in true table = do
   value ← required (codes "seed") table
   seed_at value
 seed_in false table = do
-  must (not (is_some (get_member (codes "seed") table))) SeedUnused
+  require_rule (not (is_some (get_member (codes "seed") table))) SeedUnused
   Ok None
 
-unfoldable pub choosing_in : Members → Result Choosing ConfigFault
+unfoldable pub choosing_in : Members → Result NumberAssignment ConfigFault
 choosing_in table = do
   keeps_parity ← keeps_parity_in table
   is_random ← is_random_in table
@@ -215,8 +215,8 @@ choosing_in table = do
 
 unfoldable pub timer_at : ℕ → Data → Result ℕ ConfigFault
 timer_at least value = do
-  seconds ← number_at 0 1_000_000_000 value
-  must (nat_le least seconds) TimerTooShort
+  seconds ← number_at_key 0 1_000_000_000 value
+  require_rule (nat_le least seconds) TimerTooShort
   Ok seconds
 
 unfoldable pub timers_at : Data → Result Timers ConfigFault
@@ -245,13 +245,13 @@ timers_in table = do
 -- ---- ring
 
 unfoldable pub ring_in : Members → Result ℕ ConfigFault
-ring_in table = optional (codes "ring") 64 (number_at 1 4096) table
+ring_in table = optional (codes "ring") 64 (number_at_key 1 4096) table
 
 -- ---- quota
 
 unfoldable pub quota_at : Data → Result (Option ℕ) ConfigFault
 quota_at value = do
-  bindings ← number_at 1 65535 value
+  bindings ← number_at_key 1 65535 value
   Ok (Some bindings)
 
 unfoldable pub quota_in : Members → Result (Option ℕ) ConfigFault
@@ -262,20 +262,20 @@ quota_in table = optional (codes "quota") None quota_at table
 -- how many numbers a block has: an even number
 unfoldable pub block_size_at : Data → Result ℕ ConfigFault
 block_size_at value = do
-  size ← number_at 64 32256 value
-  must (size % 2 == 0) BadNumber
+  size ← number_at_key 64 32256 value
+  require_rule (size % 2 == 0) BadNumber
   Ok size
 
-unfoldable pub block_size : List ℕ → List Network → ℕ → Members → Data → Result (Option ℕ) ConfigFault
+unfoldable pub block_size : List ℕ → List PrefixModel → ℕ → Members → Data → Result (Option ℕ) ConfigFault
 block_size pool inside hold table value = do
   size ← block_size_at value
-  must (are_apart inside) PrefixesOverlap
-  must (have_room size inside (length pool)) BlockTooLarge
-  must (not (is_some (get_member (codes "pair") table))) PairWithBlock
-  must (hold == 0) HoldWithBlock
+  require_rule (are_prefixes_apart inside) PrefixesOverlap
+  require_rule (have_room size inside (length pool)) BlockTooLarge
+  require_rule (not (is_some (get_member (codes "pair") table))) PairWithBlock
+  require_rule (hold == 0) HoldWithBlock
   Ok (Some size)
 
-unfoldable pub block_size_in : List ℕ → List Network → ℕ → Members → Result (Option ℕ) ConfigFault
+unfoldable pub block_size_in : List ℕ → List PrefixModel → ℕ → Members → Result (Option ℕ) ConfigFault
 block_size_in pool inside hold table = optional (codes "block") None (block_size pool inside hold table) table
 
 -- ---- pair
@@ -287,22 +287,22 @@ address_in key table = do
   text ← text_in value
   ok_or (address_of text) BadAddress
 
-unfoldable pub with_pair : List ℕ → List Network → List (ℕ × ℕ) → Data → Result (List (ℕ × ℕ)) ConfigFault
+unfoldable pub with_pair : List ℕ → List PrefixModel → List (ℕ × ℕ) → Data → Result (List (ℕ × ℕ)) ConfigFault
 with_pair pool inside pairs entry = do
   keys ← table_in entry
   host ← address_in (codes "host") keys
-  must (have_address inside host) NotInside
+  require_rule (prefixes_have inside host) NotInside
   external ← address_in (codes "external") keys
-  must (has pool external) NotInPool
-  must (not (is_some (paired_with pairs host))) DoublePair
+  require_rule (contains_address pool external) NotInPool
+  require_rule (not (is_some (paired_with pairs host))) DoublePair
   Ok (insert_entry nat_cmp pairs host external)
 
-unfoldable pub pairs_at : Walk (List (ℕ × ℕ)) → List ℕ → List Network → Data → Result (List (ℕ × ℕ)) ConfigFault
+unfoldable pub pairs_at : EntryReader (List (ℕ × ℕ)) → List ℕ → List PrefixModel → Data → Result (List (ℕ × ℕ)) ConfigFault
 pairs_at walk pool inside value = do
   entries ← list_up_to 256 value
   walk (with_pair pool inside) [] entries
 
-unfoldable pub pairs_in : Walk (List (ℕ × ℕ)) → List ℕ → List Network → Members → Result (List (ℕ × ℕ)) ConfigFault
+unfoldable pub pairs_in : EntryReader (List (ℕ × ℕ)) → List ℕ → List PrefixModel → Members → Result (List (ℕ × ℕ)) ConfigFault
 pairs_in walk pool inside table = optional (codes "pair") [] (pairs_at walk pool inside) table
 
 -- ---- redirect
@@ -311,50 +311,50 @@ pairs_in walk pool inside table = optional (codes "pair") [] (pairs_at walk pool
 unfoldable pub is_tcp_in : Members → Result Bool ConfigFault
 is_tcp_in keys = do
   value ← required (codes "protocol") keys
-  word_at ((codes "tcp", true) ∷ (codes "udp", false) ∷ []) value
+  word_at_key ((codes "tcp", true) ∷ (codes "udp", false) ∷ []) value
 
 -- the transport address at a required key
-unfoldable pub transport_address_in : List ℕ → Members → Result Socket ConfigFault
+unfoldable pub transport_address_in : List ℕ → Members → Result TransportAddressModel ConfigFault
 transport_address_in key keys = do
   value ← required key keys
   text ← text_in value
-  ok_or (socket_of text) BadAddress
+  ok_or (transport_address_of_text text) BadAddress
 
 -- the port at a required key
 unfoldable pub port_in : List ℕ → Members → Result ℕ ConfigFault
 port_in key keys = do
   value ← required key keys
-  number_at 1 65535 value
+  number_at_key 1 65535 value
 
-unfoldable pub redirect_in : List Network → (ℕ → Option Block) → Data → Result Redirect ConfigFault
+unfoldable pub redirect_in : List PrefixModel → (ℕ → Option PortBlock) → Data → Result Redirect ConfigFault
 redirect_in inside block entry = do
   keys ← table_in entry
   tcp ← is_tcp_in keys
   host ← transport_address_in (codes "inside") keys
-  must (have_address inside host.address) NotInside
+  require_rule (prefixes_have inside host.address) NotInside
   external ← port_in (codes "external") keys
-  must (may_redirect (block host.address) external) RedirectInBlock
+  require_rule (may_redirect (block host.address) external) RedirectInBlock
   Ok (record { tcp = tcp; address = host.address; port = host.port; external = external })
 
 -- whether one of the redirects is double with a later one
-unfoldable pub have_double : (ℕ → ℕ) → List Redirect → Redirect → Bool
-have_double pair earlier later = list_any (λ redirect. is_double pair redirect later) earlier
+unfoldable pub have_double_redirect : (ℕ → ℕ) → List Redirect → Redirect → Bool
+have_double_redirect pair earlier later = list_any (λ redirect. is_double pair redirect later) earlier
 
-unfoldable pub with_redirect : List Network → (ℕ → ℕ) → (ℕ → Option Block) → List Redirect → Data
+unfoldable pub with_redirect : List PrefixModel → (ℕ → ℕ) → (ℕ → Option PortBlock) → List Redirect → Data
     → Result (List Redirect) ConfigFault
 with_redirect inside pair block redirects entry = do
   redirect ← redirect_in inside block entry
-  must (not (have_double pair redirects redirect)) DoubleRedirect
+  require_rule (not (have_double_redirect pair redirects redirect)) DoubleRedirect
   Ok (redirects ++ redirect ∷ [])
 
-unfoldable pub redirects_at : Walk (List Redirect) → List Network → (ℕ → ℕ) → (ℕ → Option Block) → Data
+unfoldable pub redirects_at : EntryReader (List Redirect) → List PrefixModel → (ℕ → ℕ) → (ℕ → Option PortBlock) → Data
     → Result (List Redirect) ConfigFault
 redirects_at walk inside pair block value = do
   entries ← list_up_to 256 value
   walk (with_redirect inside pair block) [] entries
 
 -- the redirects, where hosts have the external addresses of `pair`, and the blocks of `block`
-unfoldable pub redirects_in : Walk (List Redirect) → List Network → (ℕ → ℕ) → (ℕ → Option Block) → Members
+unfoldable pub redirects_in : EntryReader (List Redirect) → List PrefixModel → (ℕ → ℕ) → (ℕ → Option PortBlock) → Members
     → Result (List Redirect) ConfigFault
 redirects_in walk inside pair block table = optional (codes "redirect") [] (redirects_at walk inside pair block) table
 
@@ -363,7 +363,7 @@ redirects_in walk inside pair block table = optional (codes "redirect") [] (redi
 -- what the table configures
 unfoldable pub configured : Members → Result Rules ConfigFault
 configured table = do
-  must (knows_all_keys table) UnknownKey
+  require_rule (knows_all_keys table) UnknownKey
   pool ← pool_in each_in_order table
   inside ← inside_in pool table
   filter ← filter_in table
@@ -374,7 +374,7 @@ configured table = do
   quota ← quota_in table
   block ← block_size_in pool inside timers.hold table
   pairs ← pairs_in each_in_order pool inside table
-  redirects ← redirects_in each_in_order inside (paired block inside pool pairs) (block_in block inside (length pool))
+  redirects ← redirects_in each_in_order inside (paired_address block inside pool pairs) (block_in block inside (length pool))
       table
   Ok (record {
     pool = pool;
@@ -393,7 +393,7 @@ configured table = do
 -- what is read of a table before memory is asked for
 unfoldable pub read_first : Members → Result (List ℕ) ConfigFault
 read_first table = do
-  must (knows_all_keys table) UnknownKey
+  require_rule (knows_all_keys table) UnknownKey
   pool_in first_in_order table
 
 -- the table that a text reads as: it is UTF-8, and TOML

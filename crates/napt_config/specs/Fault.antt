@@ -14,20 +14,20 @@ abbrev pub ◌>>◌ : {A B : Type 0} → Result A ConfigFault → Result B Confi
 (Err fault) >> follows = Err fault
 
 -- a rule, and the fault where it is broken
-abbrev pub must : Bool → ConfigFault → Result (Unit {0}) ConfigFault
-must rule fault = if rule then Ok tt else Err fault
+abbrev pub require_rule : Bool → ConfigFault → Result (Unit {0}) ConfigFault
+require_rule rule fault = if rule then Ok tt else Err fault
 
 -- What a function that is handed no memory returned, seen by `view`, is what reading gives.
-abbrev pub Reads : {X Y : Type 0} → (X → Y) → Result X ConfigFault → Result Y ConfigFault → Type 0
-Reads view (Ok x) reading = reading ≡ Ok (view x)
-Reads view (Err fault) reading = reading ≡ Err fault
+abbrev pub ReadPost : {X Y : Type 0} → (X → Y) → Result X ConfigFault → Result Y ConfigFault → Type 0
+ReadPost view (Ok x) reading = reading ≡ Ok (view x)
+ReadPost view (Err fault) reading = reading ≡ Err fault
 
 -- What a function returned, seen by `view`, is what reading gives, unless memory ran out.
-abbrev pub Gives : {X Y : Type 0} → (X → Y) → Result X ConfigFault → Result Y ConfigFault → Type 0
-Gives view (Ok x) reading = reading ≡ Ok (view x)
-Gives view (Err fault) reading = fault ≢ Memory → reading ≡ Err fault
+abbrev pub MakePost : {X Y : Type 0} → (X → Y) → Result X ConfigFault → Result Y ConfigFault → Type 0
+MakePost view (Ok x) reading = reading ≡ Ok (view x)
+MakePost view (Err fault) reading = fault ≢ Memory → reading ≡ Err fault
 
 -- What is read before memory is asked for comes first: where that is a fault, it is what a function returned.
-abbrev pub TellsFirst : {X Y : Type 0} → Result Y ConfigFault → Result X ConfigFault → Type 0
-TellsFirst (Ok y) result = Unit {0}
-TellsFirst (Err fault) result = result ≡ Err fault
+abbrev pub FirstFaultComesFirst : {X Y : Type 0} → Result Y ConfigFault → Result X ConfigFault → Type 0
+FirstFaultComesFirst (Ok y) result = Unit {0}
+FirstFaultComesFirst (Err fault) result = result ≡ Err fault

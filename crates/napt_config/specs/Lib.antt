@@ -1,7 +1,7 @@
-pub mod Network
+pub mod Prefixes
 pub mod Text
 pub mod Fault
 pub mod Rules
 pub mod Configured
-pub mod Shown
+pub mod ConfigModels
 pub mod Prelude

@@ -1,17 +1,17 @@
 -- What a configuration says, and the rules that each one keeps.
 use Rattle.std.specs.Prelude.{◌≡◌, ℕ, ◌+◌, ◌-◌, ◌*◌, ◌/◌, ◌%◌, ◌^◌, ◌<◌, ◌≤◌, ◌==◌, Bool, true, false, ◌&&◌, ◌||◌, if◌then◌else◌, nat_lt, nat_le, List, [], ◌∷◌, All, length, slice_index, position, Option, Some, None, option_map, option_and_then, unwrap_or, IfSome}
 use Rattle.std.specs.{Bool.beq, List.{list_any, Sorted.IsStrictlySortedBy}, Map.{keys_of, values_of, lookup}, Ordering.nat_cmp, BTreeMap.is_at}
-use Rattle.napt_config.specs.{Network.{Network, IsNetwork, have_address, host_count, are_apart, index_of, address_at}, declared.settings.Filter.Filter}
-use Rattle.napt_config.specs.declared.settings.{Refresh.Refresh, Choosing.Choosing, Timers.Timers, Redirect.Redirect, Block.Block}
+use Rattle.napt_config.specs.{Prefixes.{PrefixModel, IsPrefix, prefixes_have, host_count, are_prefixes_apart, host_index, address_at}, declared.settings.Filter.Filter}
+use Rattle.napt_config.specs.declared.settings.{MappingRefresh.MappingRefresh, NumberAssignment.NumberAssignment, Timers.Timers, Redirect.Redirect, PortBlock.PortBlock}
 
 -- what a configuration says; the block is how many numbers each inside host has, the pairs are hosts with their
 -- external addresses, by ascending host, and the redirects are in the order of its text
 pub record Rules : Type 0 where
   pub pool : List ℕ
-  pub inside : List Network
+  pub inside : List PrefixModel
   pub filter : Filter
-  pub refresh : Refresh
-  pub choosing : Choosing
+  pub refresh : MappingRefresh
+  pub choosing : NumberAssignment
   pub timers : Timers
   pub ring : ℕ
   pub quota : Option ℕ
@@ -24,59 +24,59 @@ abbrev pub paired_with : List (ℕ × ℕ) → ℕ → Option ℕ
 paired_with pairs host = lookup (is_at (nat_cmp host)) pairs
 
 -- the address of the pool at a number modulo the pool's size
-abbrev pub pooled : List ℕ → ℕ → ℕ
-pooled pool number = slice_index pool (number % length pool)
+abbrev pub pool_address_for : List ℕ → ℕ → ℕ
+pool_address_for pool number = slice_index pool (number % length pool)
 
 -- the external address of a host, of a block size, prefixes, a pool and pairs: without blocks its entry's, else the
 -- pool's at the host's number; with blocks the pool's at the host's index
-unfoldable pub paired : Option ℕ → List Network → List ℕ → List (ℕ × ℕ) → ℕ → ℕ
-paired None inside pool pairs host = unwrap_or (paired_with pairs host) (pooled pool host)
-paired (Some size) inside pool pairs host = pooled pool (unwrap_or (index_of inside host) host)
+unfoldable pub paired_address : Option ℕ → List PrefixModel → List ℕ → List (ℕ × ℕ) → ℕ → ℕ
+paired_address None inside pool pairs host = unwrap_or (paired_with pairs host) (pool_address_for pool host)
+paired_address (Some size) inside pool pairs host = pool_address_for pool (unwrap_or (host_index inside host) host)
 
 -- the external address of a host (RFC 4787, section 4.1, "paired" pooling)
 abbrev pub pair_of : Rules → ℕ → ℕ
-pair_of rules = paired rules.block rules.inside rules.pool rules.pairs
+pair_of rules = paired_address rules.block rules.inside rules.pool rules.pairs
 
 -- ---- port blocks (RFC 7422, section 2)
 
 -- the block of this number from 0, where blocks have this size: the numbers behind those below 1024
-abbrev pub nth_block : ℕ → ℕ → Block
+abbrev pub nth_block : ℕ → ℕ → PortBlock
 nth_block size nth = record { first = 1024 + size * nth; size = size }
 
 -- whether the number is in the block
-abbrev pub has_number : Block → ℕ → Bool
-has_number block number = nat_le block.first number && nat_lt number (block.first + block.size)
+abbrev pub block_has_number : PortBlock → ℕ → Bool
+block_has_number block number = nat_le block.first number && nat_lt number (block.first + block.size)
 
 -- the block of a host, of a block size, prefixes and a pool's size: hosts get the first block of each address in
 -- turn, then the second
-unfoldable pub block_in : Option ℕ → List Network → ℕ → ℕ → Option Block
+unfoldable pub block_in : Option ℕ → List PrefixModel → ℕ → ℕ → Option PortBlock
 block_in size inside addresses host =
-    option_and_then (λ size. option_map (λ index. nth_block size (index / addresses)) (index_of inside host)) size
+    option_and_then (λ size. option_map (λ index. nth_block size (index / addresses)) (host_index inside host)) size
 
 -- the block of a host, where the configuration has blocks and the host is inside
-abbrev pub block_of : Rules → ℕ → Option Block
+abbrev pub block_of : Rules → ℕ → Option PortBlock
 block_of rules = block_in rules.block rules.inside (length rules.pool)
 
 -- whether a host with this block may have the number by a redirect: it is below 1024, or in the block
-abbrev pub may_redirect : Option Block → ℕ → Bool
+abbrev pub may_redirect : Option PortBlock → ℕ → Bool
 may_redirect None external = true
-may_redirect (Some block) external = nat_lt external 1024 || has_number block external
+may_redirect (Some block) external = nat_lt external 1024 || block_has_number block external
 
 -- whether the address is of an inside host
 abbrev pub is_inside : Rules → ℕ → Bool
-is_inside rules address = have_address rules.inside address
+is_inside rules address = prefixes_have rules.inside address
 
 -- whether the addresses have this one
-abbrev pub has : List ℕ → ℕ → Bool
-has addresses address = list_any (λ other. other == address) addresses
+abbrev pub contains_address : List ℕ → ℕ → Bool
+contains_address addresses address = list_any (λ other. other == address) addresses
 
 -- the place of the address in the pool, from 0
-abbrev pub place_of : Rules → ℕ → Option ℕ
-place_of rules address = position (λ other. other == address) rules.pool
+abbrev pub pool_place : Rules → ℕ → Option ℕ
+pool_place rules address = position (λ other. other == address) rules.pool
 
 -- the inside host whose block has the number, at the address at this place of a pool of so many, where blocks have
 -- this size
-unfoldable pub host_at : ℕ → List Network → ℕ → ℕ → ℕ → Option ℕ
+unfoldable pub host_at : ℕ → List PrefixModel → ℕ → ℕ → ℕ → Option ℕ
 host_at size inside addresses number place = if nat_lt number 1024 then None
     else address_at inside ((number - 1024) / size * addresses + place)
 
@@ -84,7 +84,7 @@ host_at size inside addresses number place = if nat_lt number 1024 then None
 abbrev pub host_of : Rules → ℕ → ℕ → Option ℕ
 host_of rules address number =
     option_and_then
-    (λ size. option_and_then (host_at size rules.inside (length rules.pool) number) (place_of rules address))
+    (λ size. option_and_then (host_at size rules.inside (length rules.pool) number) (pool_place rules address))
     rules.block
 
 -- seconds that a timer may have
@@ -100,25 +100,25 @@ pub record AreTimers (timers : Timers) : Type 0 where
   pub hold : IsTimer 0 timers.hold
 
 -- 1 to 16 addresses, none twice and none inside
-pub record IsPool (inside : List Network) (pool : List ℕ) : Type 0 where
+pub record IsPoolList (inside : List PrefixModel) (pool : List ℕ) : Type 0 where
   pub some : 1 ≤ length pool
   pub few : length pool ≤ 16
   pub addresses : All (λ address. address < 2 ^ 32) pool
   pub distinct : (i j : ℕ) → i < length pool → j < length pool → slice_index pool i ≡ slice_index pool j → i ≡ j
-  pub outside : All (λ address. have_address inside address ≡ false) pool
+  pub outside : All (λ address. prefixes_have inside address ≡ false) pool
 
 -- 1 to 16 prefixes
-pub record IsInside (inside : List Network) : Type 0 where
+pub record IsInsideList (inside : List PrefixModel) : Type 0 where
   pub some : 1 ≤ length inside
   pub few : length inside ≤ 16
-  pub networks : All IsNetwork inside
+  pub networks : All IsPrefix inside
 
 -- bindings that a host may have
 abbrev pub IsQuota : ℕ → Type 0
 IsQuota bindings = (1 ≤ bindings) × (bindings ≤ 65535)
 
 -- an even number of numbers from an even one on, behind those below 1024
-pub record IsBlock (block : Block) : Type 0 where
+pub record IsPortBlock (block : PortBlock) : Type 0 where
   pub first_even : block.first % 2 ≡ 0
   pub low : 1024 ≤ block.first
   pub size_even : block.size % 2 ≡ 0
@@ -126,28 +126,28 @@ pub record IsBlock (block : Block) : Type 0 where
   pub high : block.first + block.size ≤ 65536
 
 -- whether the hosts of the prefixes have blocks of this size, over so many addresses
-abbrev pub have_room : ℕ → List Network → ℕ → Bool
+abbrev pub have_room : ℕ → List PrefixModel → ℕ → Bool
 have_room size inside addresses = nat_le ((host_count inside + (addresses - 1)) / addresses * size) 64512
 
 -- blocks of an even size, for hosts of prefixes that are apart, without pairs
-pub record AreBlocks (inside : List Network) (pool : List ℕ) (pairs : List (ℕ × ℕ)) (size : ℕ) : Type 0 where
+pub record AreBlocks (inside : List PrefixModel) (pool : List ℕ) (pairs : List (ℕ × ℕ)) (size : ℕ) : Type 0 where
   pub low : 64 ≤ size
   pub high : size ≤ 32256
   pub even : size % 2 ≡ 0
-  pub apart : are_apart inside ≡ true
+  pub apart : are_prefixes_apart inside ≡ true
   pub room : have_room size inside (length pool) ≡ true
   pub unpaired : pairs ≡ []
 
 -- at most 256 inside hosts, none twice, each with a pool address
-pub record ArePairs (pool : List ℕ) (inside : List Network) (pairs : List (ℕ × ℕ)) : Type 0 where
+pub record ArePairs (pool : List ℕ) (inside : List PrefixModel) (pairs : List (ℕ × ℕ)) : Type 0 where
   pub few : length pairs ≤ 256
   pub ordered : IsStrictlySortedBy nat_cmp (keys_of pairs)
-  pub hosts : All (λ host. have_address inside host ≡ true) (keys_of pairs)
-  pub externals : All (λ external. has pool external ≡ true) (values_of pairs)
+  pub hosts : All (λ host. prefixes_have inside host ≡ true) (keys_of pairs)
+  pub externals : All (λ external. contains_address pool external ≡ true) (values_of pairs)
 
 -- a port of an inside host, and an external one; neither is 0
-pub record IsRedirect (inside : List Network) (redirect : Redirect) : Type 0 where
-  pub host : have_address inside redirect.address ≡ true
+pub record IsRedirect (inside : List PrefixModel) (redirect : Redirect) : Type 0 where
+  pub host : prefixes_have inside redirect.address ≡ true
   pub port : 0 < redirect.port
   pub external : 0 < redirect.external
 
@@ -164,24 +164,24 @@ abbrev pub is_double : (ℕ → ℕ) → Redirect → Redirect → Bool
 is_double pair a b = beq a.tcp b.tcp && (share_inside a b || share_external pair a b)
 
 -- no two are double
-abbrev pub AreSingle : (ℕ → ℕ) → List Redirect → Type 0
-AreSingle pair [] = Unit {0}
-AreSingle pair (redirect ∷ redirects) = (list_any (is_double pair redirect) redirects ≡ false)
-    × AreSingle pair redirects
+abbrev pub AreRedirectsSingle : (ℕ → ℕ) → List Redirect → Type 0
+AreRedirectsSingle pair [] = Unit {0}
+AreRedirectsSingle pair (redirect ∷ redirects) = (list_any (is_double pair redirect) redirects ≡ false)
+    × AreRedirectsSingle pair redirects
 
 -- the rules that each configuration keeps
-pub record KeepsRules (rules : Rules) : Type 0 where
-  pub pool : IsPool rules.inside rules.pool
-  pub inside : IsInside rules.inside
+pub record RulesInvariant (rules : Rules) : Type 0 where
+  pub pool : IsPoolList rules.inside rules.pool
+  pub inside : IsInsideList rules.inside
   pub timers : AreTimers rules.timers
   pub ring_low : 1 ≤ rules.ring
   pub ring_high : rules.ring ≤ 4096
   pub quota : IfSome rules.quota IsQuota
   pub block : IfSome rules.block (AreBlocks rules.inside rules.pool rules.pairs)
-  pub blocks : (host : ℕ) → IfSome (block_of rules host) IsBlock
+  pub blocks : (host : ℕ) → IfSome (block_of rules host) IsPortBlock
   pub pairs : ArePairs rules.pool rules.inside rules.pairs
   pub redirects_few : length rules.redirects ≤ 256
   pub redirects : All (IsRedirect rules.inside) rules.redirects
   pub in_blocks : All (λ redirect. may_redirect (block_of rules redirect.address) redirect.external ≡ true)
       rules.redirects
-  pub single : AreSingle (pair_of rules) rules.redirects
+  pub single : AreRedirectsSingle (pair_of rules) rules.redirects

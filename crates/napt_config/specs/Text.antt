@@ -2,29 +2,29 @@
 use Rattle.std.specs.Prelude.{◌≡◌, ℕ, ◌-◌, ◌%◌, ◌^◌, ◌==◌, Bool, ◌&&◌, not, if◌then◌else◌, List, [], ◌∷◌, ◌++◌, length, slice_index, codes, decimal, nat_lt, nat_le, Option, Some, None, option_and_then, Result, Ok, IfOk, IfErr}
 use Rattle.std.specs.{Int.{w32, to_be_bytes, from_be_bytes}, Char.is_ascii_digit, List.{before_first, after_first, list_all}, Str.Parse.digits_value}
 use Rattle.std.specs.Net.{Reader.read_ipv4, Text.ipv4_text}
-use Rattle.napt_config.specs.{Network.{Network, Socket}, declared.fault.ConfigFault.ConfigFault}
+use Rattle.napt_config.specs.{Prefixes.{PrefixModel, TransportAddressModel}, declared.fault.ConfigFault.ConfigFault}
 
 -- the address's four bytes in decimal, the highest first, with dots between them
 unfoldable pub address_text : ℕ → List ℕ
 address_text address = ipv4_text (to_be_bytes w32 address)
 
 -- an address, a slash and the number of leading bits
-unfoldable pub network_text : Network → List ℕ
-network_text network = address_text network.address ++ codes "/" ++ decimal network.bits
+unfoldable pub prefix_text : PrefixModel → List ℕ
+prefix_text network = address_text network.address ++ codes "/" ++ decimal network.bits
 
 -- an address, a colon and the port
-unfoldable pub socket_text : Socket → List ℕ
-socket_text socket = address_text socket.address ++ codes ":" ++ decimal socket.port
+unfoldable pub transport_address_text : TransportAddressModel → List ℕ
+transport_address_text socket = address_text socket.address ++ codes ":" ++ decimal socket.port
 
 -- at least one ASCII digit and nothing else, with no 0 in front of another digit
-abbrev pub is_number : List ℕ → Bool
-is_number text = (nat_lt 0 (length text) && list_all is_ascii_digit text)
+abbrev pub is_decimal : List ℕ → Bool
+is_decimal text = (nat_lt 0 (length text) && list_all is_ascii_digit text)
     && not (nat_lt 1 (length text) && (slice_index text 0 == 48))
 
 -- the number in decimal that the text is, from least to most
 unfoldable pub number_of : ℕ → ℕ → List ℕ → Option ℕ
 number_of least most text =
-    if is_number text && (nat_le least (digits_value 10 text) && nat_le (digits_value 10 text) most)
+    if is_decimal text && (nat_le least (digits_value 10 text) && nat_le (digits_value 10 text) most)
     then Some (digits_value 10 text) else None
 
 -- the four bytes, with nothing after them, as a number
@@ -44,23 +44,23 @@ abbrev pub is_colon : ℕ → Bool
 is_colon byte = byte == 58
 
 -- the network, where the bits past its leading ones are 0
-abbrev pub network_at : ℕ → ℕ → Option Network
-network_at address bits = if address % 2 ^ (32 - bits) == 0 then Some (record { address = address; bits = bits })
+abbrev pub prefix_at : ℕ → ℕ → Option PrefixModel
+prefix_at address bits = if address % 2 ^ (32 - bits) == 0 then Some (record { address = address; bits = bits })
     else None
 
--- the prefix that the text is: the one whose `network_text` it is, where there is one
-unfoldable pub network_of : List ℕ → Option Network
-network_of text =
-    option_and_then (λ address. option_and_then (network_at address) (number_of 0 32 (after_first is_slash text)))
+-- the prefix that the text is: the one whose `prefix_text` it is, where there is one
+unfoldable pub prefix_of_text : List ℕ → Option PrefixModel
+prefix_of_text text =
+    option_and_then (λ address. option_and_then (prefix_at address) (number_of 0 32 (after_first is_slash text)))
     (address_of (before_first is_slash text))
 
-abbrev pub socket_at : ℕ → ℕ → Option Socket
-socket_at address port = Some (record { address = address; port = port })
+abbrev pub transport_address_at : ℕ → ℕ → Option TransportAddressModel
+transport_address_at address port = Some (record { address = address; port = port })
 
--- the transport address that the text is: the one whose `socket_text` it is, where there is one
-unfoldable pub socket_of : List ℕ → Option Socket
-socket_of text =
-    option_and_then (λ address. option_and_then (socket_at address) (number_of 1 65535 (after_first is_colon text)))
+-- the transport address that the text is: the one whose `transport_address_text` it is, where there is one
+unfoldable pub transport_address_of_text : List ℕ → Option TransportAddressModel
+transport_address_of_text text =
+    option_and_then (λ address. option_and_then (transport_address_at address) (number_of 1 65535 (after_first is_colon text)))
     (address_of (before_first is_colon text))
 
 -- What a text reads as: the value whose spelling it is, and no other; the fault, where it spells no value.

@@ -1,9 +1,9 @@
 //! Port blocks: the external numbers that each inside host has for itself (RFC 7422, section 2).
 ghost use Rattle.std.specs.{Prelude.{◌≡◌, ◌≤◌, ◌*◌, ◌^◌, IfSome, length}, List.list_any};
-ghost use Rattle.napt_config.specs.Network.{host_count, do_meet, are_apart, index_of, address_at};
-ghost use Rattle.napt_config.specs.Rules.{has_number, block_in, may_redirect, have_room, host_at, IsBlock};
+ghost use Rattle.napt_config.specs.Prefixes.{host_count, do_prefixes_meet, are_prefixes_apart, host_index, address_at};
+ghost use Rattle.napt_config.specs.Rules.{block_has_number, block_in, may_redirect, have_room, host_at, IsPortBlock};
 
-use crate::{Block, Prefix};
+use crate::{PortBlock, Prefix};
 
 /// The first number that a block may have.
 const FIRST_NUMBER: u64 = 1024;
@@ -25,14 +25,14 @@ pub(crate) fn host_count(prefixes: &[Prefix]) -> u64
 }
 
 fn meets_any(prefix: &Prefix, others: &[Prefix]) -> bool
-    ensures { result ≡ list_any (do_meet prefix.now) others.now }
+    ensures { result ≡ list_any (do_prefixes_meet prefix.now) others.now }
 {
     others.iter().any(|other| prefix.meets(other))
 }
 
 /// Whether no two of the prefixes have an address in common.
 pub(crate) fn are_apart(prefixes: &[Prefix]) -> bool
-    ensures { result ≡ are_apart prefixes.now }
+    ensures { result ≡ are_prefixes_apart prefixes.now }
 {
     let mut rest = prefixes;
     while let Some((prefix, others)) = rest.split_first() {
@@ -59,7 +59,7 @@ pub(crate) fn have_room(size: u16, prefixes: &[Prefix], addresses: usize) -> boo
 /// The place of the address among those of the prefixes, prefix after prefix, from 0.
 pub(crate) fn index_of(prefixes: &[Prefix], address: u32) -> Option<u64>
     requires few { length prefixes.now ≤ 16 }
-    ensures { result ≡ index_of prefixes.now address }
+    ensures { result ≡ host_index prefixes.now address }
 {
     let mut before = 0;
     for prefix in prefixes {
@@ -92,32 +92,32 @@ pub(crate) fn block_of(
     inside: &[Prefix],
     addresses: usize,
     host: u32,
-) -> Option<Block>
+) -> Option<PortBlock>
     requires few { length inside.now ≤ 16 }
     requires some { 1 ≤ addresses }
-    requires blocks { IfSome (block_in size inside.now addresses host) IsBlock }
+    requires blocks { IfSome (block_in size inside.now addresses host) IsPortBlock }
     ensures { result ≡ block_in size inside.now addresses host }
 {
     let size = size?;
     let index = index_of(inside, host)?;
     let first = FIRST_NUMBER + u64::from(size) * (index / addresses as u64);
-    Some(Block {
+    Some(PortBlock {
         first: first as u16,
         size,
     })
 }
 
 /// Whether the number is in the block.
-fn has_number(block: &Block, number: u16) -> bool
-    requires high { IsBlock block.now }
-    ensures { result ≡ has_number block.now number }
+fn has_number(block: &PortBlock, number: u16) -> bool
+    requires high { IsPortBlock block.now }
+    ensures { result ≡ block_has_number block.now number }
 {
     block.first <= number && number - block.first < block.size
 }
 
 /// Whether a host with this block may have the number by a redirect.
-pub(crate) fn may_redirect(block: Option<Block>, external: u16) -> bool
-    requires high { IfSome block IsBlock }
+pub(crate) fn may_redirect(block: Option<PortBlock>, external: u16) -> bool
+    requires high { IfSome block IsPortBlock }
     ensures { result ≡ may_redirect block external }
 {
     match block {

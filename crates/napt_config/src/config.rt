@@ -1,11 +1,11 @@
 //! The configuration.
 ghost use Rattle.std.specs.{Prelude.{◌≡◌, ◌==◌, false, Err, IfOk, IsSome, ok_or, position}, Str.is_utf8};
 ghost use Rattle.toml.specs.{Parse.parse_document, View.table_view};
-ghost use Rattle.napt_config.specs.{Fault.{Gives, TellsFirst}, Configured.{document_of, read_first}, declared.fault.ConfigFault.TheVariants.NotToml};
+ghost use Rattle.napt_config.specs.{Fault.{MakePost, FirstFaultComesFirst}, Configured.{document_of, read_first}, declared.fault.ConfigFault.TheVariants.NotToml};
 
 use crate::{
-    Block, Choosing, ConfigFault, Filter, Prefix, Redirect, Refresh, Timers, blocks, choosing,
-    hosts, keys, pairing, reading, redirects,
+    ConfigFault, Filter, MappingRefresh, NumberAssignment, PortBlock, Prefix, Redirect, Timers,
+    blocks, hosts, keys, number_assignment, pairing, reading, redirects,
 };
 use std::alloc::{AllocError, Global};
 use std::collections::BTreeMap;
@@ -30,8 +30,8 @@ pub struct Config {
     pool: Vec<u32>,
     inside: Vec<Prefix>,
     filter: Filter,
-    refresh: Refresh,
-    choosing: Choosing,
+    refresh: MappingRefresh,
+    choosing: NumberAssignment,
     timers: Timers,
     ring: usize,
     quota: Option<u16>,
@@ -41,20 +41,20 @@ pub struct Config {
 }
 
 impl Model for Config {
-    ghost use Rattle.napt_config.specs.Rules.{Rules, KeepsRules};
+    ghost use Rattle.napt_config.specs.Rules.{Rules, RulesInvariant};
 
     ghost Value = { Rules };
 
-    ghost use Rattle.napt_config.specs.Shown.{shown};
+    ghost use Rattle.napt_config.specs.ConfigModels.{config_model};
 
-    ghost view = { shown };
+    ghost view = { config_model };
 
-    ghost invariant = { λ config. KeepsRules (shown config) };
+    ghost invariant = { λ config. RulesInvariant (config_model config) };
 }
 
 impl Config {
-    ghost use Rattle.napt_config.specs.Network.{address_count};
-    ghost use Rattle.napt_config.specs.Rules.{KeepsRules, pair_of, is_inside, place_of, block_of, host_of};
+    ghost use Rattle.napt_config.specs.Prefixes.{address_count};
+    ghost use Rattle.napt_config.specs.Rules.{RulesInvariant, pair_of, is_inside, pool_place, block_of, host_of};
     ghost use Rattle.napt_config.specs.Configured.{configured, configuration_of, built_in};
 
     /// Reads a configuration's text. Returns the configuration, or the fault of the first rule that the text breaks, or
@@ -62,9 +62,9 @@ impl Config {
     /// for.
     #[tactic(auto, unfolding(crate::specs::Configured::configuration_of))]
     pub fn read(alloc: Global, text: &[u8]) -> Result<Config, ConfigFault>
-        ensures exact { Gives (λ config. config) result (configuration_of text.now) }
+        ensures exact { MakePost (λ config. config) result (configuration_of text.now) }
         ensures encoded { is_utf8 text.now ≡ false → result ≡ Err NotToml }
-        ensures kept { IfOk result KeepsRules }
+        ensures kept { IfOk result RulesInvariant }
     {
         let table = document(alloc, text)?;
         Config::of_table(alloc, &table)
@@ -73,9 +73,9 @@ impl Config {
     /// The configuration of a table.
     #[tactic(auto, unfolding(crate::specs::Configured::configured, crate::specs::Configured::read_first))]
     fn of_table(alloc: Global, table: &Table) -> Result<Config, ConfigFault>
-        ensures exact { Gives (λ config. config) result (configured (table_view table.now)) }
-        ensures first { TellsFirst (read_first (table_view table.now)) result }
-        ensures kept { IfOk result KeepsRules }
+        ensures exact { MakePost (λ config. config) result (configured (table_view table.now)) }
+        ensures first { FirstFaultComesFirst (read_first (table_view table.now)) result }
+        ensures kept { IfOk result RulesInvariant }
     {
         if !keys::knows_all_keys(table) {
             return Err(ConfigFault::UnknownKey);
@@ -84,7 +84,7 @@ impl Config {
         let inside = reading::inside(alloc, table, &pool)?;
         let filter = reading::filter(table)?;
         let refresh = reading::refresh(table)?;
-        let choosing = choosing::choosing(table)?;
+        let choosing = number_assignment::choosing(table)?;
         let timers = reading::timers(table)?;
         let ring = reading::ring(table)?;
         let quota = reading::quota(table)?;
@@ -111,7 +111,7 @@ impl Config {
     #[tactic(auto, unfolding(crate::specs::Rules::block_in))]
     pub fn built_in(alloc: Global) -> Result<Config, AllocError>
         ensures exact { IfOk result (λ config. config ≡ built_in) }
-        ensures kept { IfOk result KeepsRules }
+        ensures kept { IfOk result RulesInvariant }
     {
         let pool = Vec::from_slice(alloc, &[0xCB00_7101])?;
         let inside = Prefix::private_networks(alloc)?;
@@ -119,8 +119,8 @@ impl Config {
             pool,
             inside,
             filter: Filter::Independent,
-            refresh: Refresh::Outbound,
-            choosing: Choosing::DEFAULT,
+            refresh: MappingRefresh::Outbound,
+            choosing: NumberAssignment::DEFAULT,
             timers: Timers::DEFAULT,
             ring: reading::DEFAULT_SLOTS,
             quota: None,
@@ -155,8 +155,8 @@ impl Config {
     /// prefixes.
     pub fn pair(&self, host: u32) -> u32
         ensures address { result ≡ pair_of self.now host }
-        ensures in_pool { IsSome (place_of self.now result) }
-        ensures kept { KeepsRules self.now }
+        ensures in_pool { IsSome (pool_place self.now result) }
+        ensures kept { RulesInvariant self.now }
     {
         pairing::pair(self.block, &self.inside, &self.pool, &self.pairs, host)
     }
@@ -165,9 +165,9 @@ impl Config {
     /// 2): of its external address. An inside host's index is its place among the addresses of the prefixes, prefix
     /// after prefix in the order of the text, from 0. The hosts of one address have their blocks by ascending index,
     /// from 1024 on.
-    pub fn block_of(&self, host: u32) -> Option<Block>
+    pub fn block_of(&self, host: u32) -> Option<PortBlock>
         ensures block { result ≡ block_of self.now host }
-        ensures kept { KeepsRules self.now }
+        ensures kept { RulesInvariant self.now }
     {
         blocks::block_of(self.block, &self.inside, self.pool.len(), host)
     }
@@ -181,8 +181,8 @@ impl Config {
 
     /// The place of the address in the pool, from 0.
     pub fn pool_index(&self, address: u32) -> Option<u32>
-        ensures place { result ≡ place_of self.now address }
-        ensures kept { KeepsRules self.now }
+        ensures place { result ≡ pool_place self.now address }
+        ensures kept { RulesInvariant self.now }
     {
         let place = place_in(&self.pool, address)?;
         Some(place as u32)
@@ -191,7 +191,7 @@ impl Config {
     /// The pool: 1 to 16 external addresses, as numbers.
     pub fn pool(&self) -> &[u32]
         ensures addresses { result.now ≡ self.now.pool }
-        ensures kept { KeepsRules self.now }
+        ensures kept { RulesInvariant self.now }
     {
         self.pool.as_slice()
     }
@@ -200,7 +200,7 @@ impl Config {
     /// of one protocol share an inside or an external endpoint.
     pub fn redirects(&self) -> &[Redirect]
         ensures redirects { result.now ≡ self.now.redirects }
-        ensures kept { KeepsRules self.now }
+        ensures kept { RulesInvariant self.now }
     {
         self.redirects.as_slice()
     }
@@ -208,7 +208,7 @@ impl Config {
     /// How many slots each ring has, from 1 to 4096.
     pub fn ring(&self) -> usize
         ensures slots { result ≡ self.now.ring }
-        ensures kept { KeepsRules self.now }
+        ensures kept { RulesInvariant self.now }
     {
         self.ring
     }
@@ -217,7 +217,7 @@ impl Config {
     /// to 65535; redirects do not count. None if there is no limit.
     pub fn quota(&self) -> Option<u16>
         ensures quota { result ≡ self.now.quota }
-        ensures kept { KeepsRules self.now }
+        ensures kept { RulesInvariant self.now }
     {
         self.quota
     }
@@ -226,7 +226,7 @@ impl Config {
     /// blocks.
     pub fn block(&self) -> Option<u16>
         ensures size { result ≡ self.now.block }
-        ensures kept { KeepsRules self.now }
+        ensures kept { RulesInvariant self.now }
     {
         self.block
     }
@@ -235,7 +235,7 @@ impl Config {
     /// time. The search takes time linear in the numbers of addresses and of prefixes, and no memory.
     pub fn host_of(&self, address: u32, number: u16) -> Option<u32>
         ensures host { result ≡ host_of self.now address number }
-        ensures kept { KeepsRules self.now }
+        ensures kept { RulesInvariant self.now }
     {
         let size = self.block?;
         let place = self.pool_index(address)?;
@@ -245,7 +245,7 @@ impl Config {
     /// How many inside hosts there are: the addresses that are in one of the prefixes or in several, each counted once.
     pub fn host_count(&self) -> u64
         ensures count { result ≡ address_count self.now.inside self.now.inside }
-        ensures kept { KeepsRules self.now }
+        ensures kept { RulesInvariant self.now }
     {
         hosts::address_count(&self.inside)
     }
@@ -258,14 +258,14 @@ impl Config {
     }
 
     /// Which UDP packets keep a binding alive.
-    pub fn refresh(&self) -> Refresh
+    pub fn refresh(&self) -> MappingRefresh
         ensures { result ≡ self.now.refresh }
     {
         self.refresh
     }
 
     /// How the external number of a new binding is chosen: by the keys `parity`, `numbers` and `seed`.
-    pub fn choosing(&self) -> Choosing
+    pub fn choosing(&self) -> NumberAssignment
         ensures { result ≡ self.now.choosing }
     {
         self.choosing
@@ -274,7 +274,7 @@ impl Config {
     /// The idle timers, and the hold after them.
     pub fn timers(&self) -> Timers
         ensures timers { result ≡ self.now.timers }
-        ensures kept { KeepsRules self.now }
+        ensures kept { RulesInvariant self.now }
     {
         self.timers
     }
@@ -289,7 +289,7 @@ fn place_in(pool: &[u32], address: u32) -> Option<usize>
 
 /// The table of a TOML text.
 fn table_of(alloc: Global, text: &str) -> Result<Table, ConfigFault>
-    ensures { Gives table_view result (ok_or (parse_document text.now) NotToml) }
+    ensures { MakePost table_view result (ok_or (parse_document text.now) NotToml) }
 {
     match toml::table_from_str(alloc, text) {
         Ok(table) => Ok(table),
@@ -301,7 +301,7 @@ fn table_of(alloc: Global, text: &str) -> Result<Table, ConfigFault>
 /// The table of a text, which must be TOML in UTF-8.
 #[tactic(auto, unfolding(crate::specs::Configured::document_of))]
 fn document(alloc: Global, text: &[u8]) -> Result<Table, ConfigFault>
-    ensures exact { Gives table_view result (ok_or (document_of text.now) NotToml) }
+    ensures exact { MakePost table_view result (ok_or (document_of text.now) NotToml) }
     ensures encoded { is_utf8 text.now ≡ false → result ≡ Err NotToml }
 {
     match str::from_utf8(text) {

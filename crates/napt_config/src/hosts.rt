@@ -1,6 +1,6 @@
 //! How many inside hosts there are.
 ghost use Rattle.std.specs.{Prelude.{◌≡◌, ◌≤◌, ◌&&◌, not, length}, List.list_any};
-ghost use Rattle.napt_config.specs.Network.{address_count, is_in};
+ghost use Rattle.napt_config.specs.Prefixes.{address_count, is_prefix_within};
 
 use crate::Prefix;
 
@@ -23,7 +23,7 @@ pub(crate) fn address_count(prefixes: &[Prefix]) -> u64
 
 /// Whether all addresses of the prefix are one other's too.
 fn is_in_any(prefix: &Prefix, others: &[Prefix]) -> bool
-    ensures { result ≡ list_any (is_in prefix.now) others.now }
+    ensures { result ≡ list_any (is_prefix_within prefix.now) others.now }
 {
     others.iter().any(|other| prefix.is_in(other))
 }
@@ -31,7 +31,7 @@ fn is_in_any(prefix: &Prefix, others: &[Prefix]) -> bool
 /// The same of one that has more addresses.
 fn is_part_of_any(prefix: &Prefix, others: &[Prefix]) -> bool
     ensures { result
-        ≡ list_any (λ other. is_in prefix.now other && not (is_in other prefix.now)) others.now }
+        ≡ list_any (λ other. is_prefix_within prefix.now other && not (is_prefix_within other prefix.now)) others.now }
 {
     others
         .iter()

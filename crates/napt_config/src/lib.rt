@@ -6,11 +6,11 @@
 
 mod address;
 mod blocks;
-mod choosing;
 mod config;
 mod fault;
 mod hosts;
 mod keys;
+mod number_assignment;
 mod pairing;
 mod prefix;
 mod reading;
@@ -24,5 +24,5 @@ pub use address::Address;
 pub use config::Config;
 pub use fault::ConfigFault;
 pub use prefix::Prefix;
-pub use settings::{Block, Choosing, Filter, Redirect, Refresh, Seed, Timers};
+pub use settings::{Filter, MappingRefresh, NumberAssignment, PortBlock, Redirect, Seed, Timers};
 pub use transport_address::TransportAddress;

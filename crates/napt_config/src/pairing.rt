@@ -1,6 +1,6 @@
 //! The external address that a host is paired with.
 ghost use Rattle.std.specs.Prelude.{◌≡◌, ◌≤◌, length, unwrap_or};
-ghost use Rattle.napt_config.specs.{Network.index_of, Rules.{paired, paired_with, pooled}};
+ghost use Rattle.napt_config.specs.{Prefixes.host_index, Rules.{paired_address, paired_with, pool_address_for}};
 
 use crate::{Prefix, blocks};
 use std::collections::BTreeMap;
@@ -8,7 +8,7 @@ use std::collections::BTreeMap;
 /// The pool's address at a number modulo the pool's size.
 fn pooled(pool: &[u32], number: u64) -> u32
     requires some { 1 ≤ length pool.now }
-    ensures { result ≡ pooled pool.now number }
+    ensures { result ≡ pool_address_for pool.now number }
 {
     pool[(number % pool.len() as u64) as usize]
 }
@@ -17,7 +17,7 @@ fn pooled(pool: &[u32], number: u64) -> u32
 fn pair_by_index(inside: &[Prefix], pool: &[u32], host: u32) -> u32
     requires some { 1 ≤ length pool.now }
     requires few { length inside.now ≤ 16 }
-    ensures { result ≡ pooled pool.now (unwrap_or (index_of inside.now host) host) }
+    ensures { result ≡ pool_address_for pool.now (unwrap_or (host_index inside.now host) host) }
 {
     match blocks::index_of(inside, host) {
         Some(index) => pooled(pool, index),
@@ -28,7 +28,7 @@ fn pair_by_index(inside: &[Prefix], pool: &[u32], host: u32) -> u32
 /// The external address of a host without a block: that of its own entry, else the pool's at the host's number.
 fn pair_by_entry(pool: &[u32], pairs: &BTreeMap<u32, u32>, host: u32) -> u32
     requires some { 1 ≤ length pool.now }
-    ensures { result ≡ unwrap_or (paired_with pairs.now.entries host) (pooled pool.now host) }
+    ensures { result ≡ unwrap_or (paired_with pairs.now.entries host) (pool_address_for pool.now host) }
 {
     match pairs.get(&host) {
         Some(external) => *external,
@@ -38,7 +38,7 @@ fn pair_by_entry(pool: &[u32], pairs: &BTreeMap<u32, u32>, host: u32) -> u32
 
 /// The external address of a host: without blocks that of its own entry, else the pool's address at the host's
 /// number modulo the pool's size; with blocks the pool's at the host's index modulo that size.
-#[tactic(auto, unfolding(crate::specs::Rules::paired))]
+#[tactic(auto, unfolding(crate::specs::Rules::paired_address))]
 pub(crate) fn pair(
     block: Option<u16>,
     inside: &[Prefix],
@@ -48,7 +48,7 @@ pub(crate) fn pair(
 ) -> u32
     requires some { 1 ≤ length pool.now }
     requires few { length inside.now ≤ 16 }
-    ensures { result ≡ paired block inside.now pool.now pairs.now.entries host }
+    ensures { result ≡ paired_address block inside.now pool.now pairs.now.entries host }
 {
     match block {
         Some(_) => pair_by_index(inside, pool, host),

@@ -1,7 +1,7 @@
 //! Prefixes of addresses.
 ghost use Rattle.std.specs.Prelude.{◌≡◌, ◌≤◌, ◌<◌, ◌+◌, ◌^◌, ◌%◌, Some, IfOk};
-ghost use Rattle.napt_config.specs.Network.{IsNetwork, has_address, network_size, is_in, do_meet, private_networks};
-ghost use Rattle.napt_config.specs.{Text.{network_of, network_at, network_text, IsReadBack}, declared.fault.ConfigFault.TheVariants.BadPrefix};
+ghost use Rattle.napt_config.specs.Prefixes.{IsPrefix, prefix_has, prefix_size, is_prefix_within, do_prefixes_meet, private_networks};
+ghost use Rattle.napt_config.specs.{Text.{prefix_of_text, prefix_at, prefix_text, IsReadBack}, declared.fault.ConfigFault.TheVariants.BadPrefix};
 
 use crate::{Address, ConfigFault, text};
 use std::alloc::{AllocError, Global};
@@ -18,13 +18,13 @@ pub struct Prefix {
 }
 
 impl Model for Prefix {
-    ghost use Rattle.napt_config.specs.Network.{Network, IsNetwork};
+    ghost use Rattle.napt_config.specs.Prefixes.{PrefixModel, IsPrefix};
 
-    ghost Value = { Network };
+    ghost Value = { PrefixModel };
 
     ghost view = { λ prefix. record { address = prefix.address; bits = prefix.bits } };
 
-    ghost invariant = { λ prefix. IsNetwork (record { address = prefix.address; bits = prefix.bits }) };
+    ghost invariant = { λ prefix. IsPrefix (record { address = prefix.address; bits = prefix.bits }) };
 
     ghost inverse = { λ network. record { address = network.address; bits = network.bits } };
 }
@@ -33,7 +33,7 @@ impl Prefix {
     /// The prefix of this address and this number of leading bits, if the other bits are 0.
     pub(crate) fn new(address: u32, bits: u8) -> Option<Prefix>
         requires { bits ≤ 32 }
-        ensures { result ≡ network_at address bits }
+        ensures { result ≡ prefix_at address bits }
     {
         if u64::from(address) % (1 << (32 - bits)) == 0 {
             Some(Prefix { address, bits })
@@ -43,9 +43,9 @@ impl Prefix {
     }
 
     /// Parses a prefix.
-    #[tactic(auto, unfolding(crate::specs::Text::network_of))]
+    #[tactic(auto, unfolding(crate::specs::Text::prefix_of_text))]
     pub(crate) fn read(text: &str) -> Option<Prefix>
-        ensures { result ≡ network_of text.now }
+        ensures { result ≡ prefix_of_text text.now }
     {
         let (address, bits) = text.split_once('/')?;
         let address = text::address(address)?;
@@ -74,7 +74,7 @@ impl Prefix {
 
     /// Whether the prefix contains the address.
     pub fn contains(&self, address: u32) -> bool
-        ensures { result ≡ has_address self.now address }
+        ensures { result ≡ prefix_has self.now address }
     {
         let free = 32 - self.bits;
         u64::from(address) >> free == u64::from(self.address) >> free
@@ -82,7 +82,7 @@ impl Prefix {
 
     /// How many addresses the prefix has.
     pub(crate) fn size(&self) -> u64
-        ensures size { result ≡ network_size self.now }
+        ensures size { result ≡ prefix_size self.now }
         ensures some { 1 ≤ result }
         ensures few { result ≤ 2 ^ 32 }
     {
@@ -91,7 +91,7 @@ impl Prefix {
 
     /// The address's place in the prefix, which contains it, from 0.
     pub(crate) fn place(&self, address: u32) -> u64
-        ensures place { result ≡ address % network_size self.now }
+        ensures place { result ≡ address % prefix_size self.now }
         ensures bound { result ≤ address }
     {
         u64::from(address) % self.size()
@@ -99,7 +99,7 @@ impl Prefix {
 
     /// The address at a place in the prefix, from 0.
     pub(crate) fn address_at(&self, place: u64) -> u32
-        requires within { place < network_size self.now }
+        requires within { place < prefix_size self.now }
         ensures { result ≡ self.now.address + place }
     {
         (u64::from(self.address) + place) as u32
@@ -107,23 +107,23 @@ impl Prefix {
 
     /// Whether all of its addresses are the other's too.
     pub(crate) fn is_in(&self, other: &Prefix) -> bool
-        ensures { result ≡ is_in self.now other.now }
+        ensures { result ≡ is_prefix_within self.now other.now }
     {
         other.bits <= self.bits && other.contains(self.address)
     }
 
     /// Whether both have an address in common: then one contains the other.
     pub(crate) fn meets(&self, other: &Prefix) -> bool
-        ensures { result ≡ do_meet self.now other.now }
+        ensures { result ≡ do_prefixes_meet self.now other.now }
     {
         self.contains(other.address) || other.contains(self.address)
     }
 }
 
 impl fmt::Display for Prefix {
-    ghost output = { λ prefix. Some (network_text prefix) };
+    ghost output = { λ prefix. Some (prefix_text prefix) };
 
-    #[tactic(auto, unfolding(crate::specs::Text::network_text))]
+    #[tactic(auto, unfolding(crate::specs::Text::prefix_text))]
     fn fmt<W: fmt::Write>(&self, f: &mut fmt::Formatter<W>) -> fmt::Result {
         let address = Address(self.address);
         let bits = self.bits;
@@ -134,7 +134,7 @@ impl fmt::Display for Prefix {
 impl FromStr for Prefix {
     type Err = ConfigFault;
 
-    ghost from_str_gives = { IsReadBack network_text IsNetwork BadPrefix };
+    ghost from_str_gives = { IsReadBack prefix_text IsPrefix BadPrefix };
 
     /// Parses a prefix; `ConfigFault::BadPrefix` if the text is none. What `Display` writes is read back.
     fn from_str(text: &str) -> Result<Prefix, ConfigFault> {

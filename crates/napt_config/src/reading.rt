@@ -1,11 +1,11 @@
 //! Reading the keys of a configuration's table, each by its own rules.
 ghost use Rattle.std.specs.{Prelude.{◌≡◌, ◌≤◌, length}, List.list_any};
 ghost use Rattle.toml.specs.View.{view, table_view, items_view};
-ghost use Rattle.napt_config.specs.{Fault.{Reads, Gives, TellsFirst}, Network.have_address};
+ghost use Rattle.napt_config.specs.{Fault.{ReadPost, MakePost, FirstFaultComesFirst}, Prefixes.prefixes_have};
 ghost use Rattle.napt_config.specs.Configured.{list_up_to, short_list, with_address, each_in_order, first_in_order, pool_in, with_prefix, prefixes_in, inside_in, filter_in, refresh_in, timer_at, timers_at, idle_timers_in, timers_in, ring_in, quota_in, block_size_at, block_size, block_size_in, address_in, with_pair, pairs_at, pairs_in, optional};
 
 use crate::values::{list_in, number_at, required, table_in, text_in, value_at};
-use crate::{ConfigFault, Filter, Prefix, Refresh, Timers, blocks, text};
+use crate::{ConfigFault, Filter, MappingRefresh, Prefix, Timers, blocks, text};
 use std::alloc::Global;
 use std::collections::BTreeMap;
 use toml::{Table, Value};
@@ -36,7 +36,7 @@ pub(crate) const DEFAULT_SLOTS: usize = 64;
 /// The list in a value, of at most so many entries.
 #[tactic(auto, unfolding(crate::specs::Configured::list_up_to), using(crate::proofs::Entries::items_are_counted))]
 pub(crate) fn list_up_to(most: usize, value: &Value) -> Result<&[Value], ConfigFault>
-    ensures { Reads (λ entries. items_view entries.now) result (list_up_to most (view value.now)) }
+    ensures { ReadPost (λ entries. items_view entries.now) result (list_up_to most (view value.now)) }
 {
     let entries = list_in(value)?;
     if entries.len() > most {
@@ -48,7 +48,7 @@ pub(crate) fn list_up_to(most: usize, value: &Value) -> Result<&[Value], ConfigF
 /// The list at a required key, of 1 to 16 entries.
 #[tactic(auto, unfolding(crate::specs::Configured::short_list), using(crate::proofs::Entries::items_are_counted))]
 fn short_list<'a>(table: &'a Table, key: &str) -> Result<&'a [Value], ConfigFault>
-    ensures { Reads (λ entries. items_view entries.now) result
+    ensures { ReadPost (λ entries. items_view entries.now) result
         (short_list key.now (table_view table.now)) }
 {
     let entries = list_up_to(MOST_ENTRIES, required(table, key)?)?;
@@ -62,9 +62,9 @@ fn short_list<'a>(table: &'a Table, key: &str) -> Result<&'a [Value], ConfigFaul
 
 #[tactic(auto, unfolding(crate::specs::Configured::with_address))]
 fn add_address(pool: &mut Vec<u32>, entry: &Value) -> Result<(), ConfigFault>
-    ensures exact { Gives (λ _. pool.new.items) result
+    ensures exact { MakePost (λ _. pool.new.items) result
         (with_address pool.old.items (view entry.now)) }
-    ensures first { TellsFirst (with_address pool.old.items (view entry.now)) result }
+    ensures first { FirstFaultComesFirst (with_address pool.old.items (view entry.now)) result }
 {
     let address = text::address(text_in(entry)?).ok_or(ConfigFault::BadAddress)?;
     if pool.contains(&address) {
@@ -77,9 +77,9 @@ fn add_address(pool: &mut Vec<u32>, entry: &Value) -> Result<(), ConfigFault>
 /// The pool of the table: 1 to 16 addresses, none twice.
 #[tactic(auto, unfolding(crate::specs::Configured::pool_in))]
 pub(crate) fn pool(alloc: Global, table: &Table) -> Result<Vec<u32>, ConfigFault>
-    ensures exact { Gives (λ pool. pool.items) result
+    ensures exact { MakePost (λ pool. pool.items) result
         (pool_in each_in_order (table_view table.now)) }
-    ensures first { TellsFirst (pool_in first_in_order (table_view table.now)) result }
+    ensures first { FirstFaultComesFirst (pool_in first_in_order (table_view table.now)) result }
 {
     let entries = short_list(table, "pool")?;
     let mut pool = Vec::new(alloc);
@@ -93,9 +93,9 @@ pub(crate) fn pool(alloc: Global, table: &Table) -> Result<Vec<u32>, ConfigFault
 
 #[tactic(auto, unfolding(crate::specs::Configured::with_prefix))]
 fn add_prefix(inside: &mut Vec<Prefix>, entry: &Value) -> Result<(), ConfigFault>
-    ensures exact { Gives (λ _. inside.new.items) result
+    ensures exact { MakePost (λ _. inside.new.items) result
         (with_prefix inside.old.items (view entry.now)) }
-    ensures first { TellsFirst (with_prefix inside.old.items (view entry.now)) result }
+    ensures first { FirstFaultComesFirst (with_prefix inside.old.items (view entry.now)) result }
 {
     let prefix = Prefix::read(text_in(entry)?).ok_or(ConfigFault::BadPrefix)?;
     inside.push(prefix)?;
@@ -105,9 +105,9 @@ fn add_prefix(inside: &mut Vec<Prefix>, entry: &Value) -> Result<(), ConfigFault
 /// The prefixes at a key.
 #[tactic(auto, unfolding(crate::specs::Configured::prefixes_in))]
 fn prefixes(alloc: Global, table: &Table) -> Result<Vec<Prefix>, ConfigFault>
-    ensures exact { Gives (λ inside. inside.items) result
+    ensures exact { MakePost (λ inside. inside.items) result
         (prefixes_in each_in_order (table_view table.now)) }
-    ensures first { TellsFirst (prefixes_in first_in_order (table_view table.now)) result }
+    ensures first { FirstFaultComesFirst (prefixes_in first_in_order (table_view table.now)) result }
 {
     let entries = short_list(table, "inside")?;
     let mut inside = Vec::new(alloc);
@@ -119,14 +119,14 @@ fn prefixes(alloc: Global, table: &Table) -> Result<Vec<Prefix>, ConfigFault>
 
 /// Whether the address is in one of the prefixes.
 pub(crate) fn have_address(prefixes: &[Prefix], address: u32) -> bool
-    ensures { result ≡ have_address prefixes.now address }
+    ensures { result ≡ prefixes_have prefixes.now address }
 {
     prefixes.iter().any(|prefix| prefix.contains(address))
 }
 
 /// Whether one of the addresses is in one of the prefixes.
 fn have_any(prefixes: &[Prefix], addresses: &[u32]) -> bool
-    ensures { result ≡ list_any (have_address prefixes.now) addresses.now }
+    ensures { result ≡ list_any (prefixes_have prefixes.now) addresses.now }
 {
     addresses
         .iter()
@@ -136,9 +136,9 @@ fn have_any(prefixes: &[Prefix], addresses: &[u32]) -> bool
 /// The inside prefixes of the table: 1 to 16, none with a pool address.
 #[tactic(auto, unfolding(crate::specs::Configured::inside_in))]
 pub(crate) fn inside(alloc: Global, table: &Table, pool: &[u32]) -> Result<Vec<Prefix>, ConfigFault>
-    ensures exact { Gives (λ inside. inside.items) result
+    ensures exact { MakePost (λ inside. inside.items) result
         (inside_in pool.now (table_view table.now)) }
-    ensures first { TellsFirst (prefixes_in first_in_order (table_view table.now)) result }
+    ensures first { FirstFaultComesFirst (prefixes_in first_in_order (table_view table.now)) result }
 {
     let inside = prefixes(alloc, table)?;
     if have_any(&inside, pool) {
@@ -150,9 +150,9 @@ pub(crate) fn inside(alloc: Global, table: &Table, pool: &[u32]) -> Result<Vec<P
 // ---- words
 
 /// The filter of the table.
-#[tactic(auto, unfolding(crate::specs::Configured::filter_in, crate::specs::Configured::word_at))]
+#[tactic(auto, unfolding(crate::specs::Configured::filter_in, crate::specs::Configured::word_at_key))]
 pub(crate) fn filter(table: &Table) -> Result<Filter, ConfigFault>
-    ensures { Reads (λ filter. filter) result (filter_in (table_view table.now)) }
+    ensures { ReadPost (λ filter. filter) result (filter_in (table_view table.now)) }
 {
     let Some(value) = value_at(table, "filter") else {
         return Ok(Filter::Independent);
@@ -166,16 +166,16 @@ pub(crate) fn filter(table: &Table) -> Result<Filter, ConfigFault>
 }
 
 /// Which UDP packets keep a binding alive.
-#[tactic(auto, unfolding(crate::specs::Configured::refresh_in, crate::specs::Configured::word_at))]
-pub(crate) fn refresh(table: &Table) -> Result<Refresh, ConfigFault>
-    ensures { Reads (λ refresh. refresh) result (refresh_in (table_view table.now)) }
+#[tactic(auto, unfolding(crate::specs::Configured::refresh_in, crate::specs::Configured::word_at_key))]
+pub(crate) fn refresh(table: &Table) -> Result<MappingRefresh, ConfigFault>
+    ensures { ReadPost (λ refresh. refresh) result (refresh_in (table_view table.now)) }
 {
     let Some(value) = value_at(table, "refresh") else {
-        return Ok(Refresh::Outbound);
+        return Ok(MappingRefresh::Outbound);
     };
     match text_in(value)? {
-        "outbound" => Ok(Refresh::Outbound),
-        "both" => Ok(Refresh::Both),
+        "outbound" => Ok(MappingRefresh::Outbound),
+        "both" => Ok(MappingRefresh::Both),
         _ => Err(ConfigFault::BadWord),
     }
 }
@@ -184,7 +184,7 @@ pub(crate) fn refresh(table: &Table) -> Result<Refresh, ConfigFault>
 
 #[tactic(auto, unfolding(crate::specs::Configured::timer_at))]
 fn timer_at(value: &Value, least: u64) -> Result<u64, ConfigFault>
-    ensures { Reads (λ seconds. seconds) result (timer_at least (view value.now)) }
+    ensures { ReadPost (λ seconds. seconds) result (timer_at least (view value.now)) }
 {
     let seconds = number_at(value, 0, MOST_SECONDS)?;
     if seconds < least {
@@ -195,7 +195,7 @@ fn timer_at(value: &Value, least: u64) -> Result<u64, ConfigFault>
 
 /// The seconds at a key, or the default if it is absent.
 fn timer(table: &Table, key: &str, least: u64, default: u64) -> Result<u64, ConfigFault>
-    ensures { Reads (λ seconds. seconds) result (optional key.now default (timer_at least)
+    ensures { ReadPost (λ seconds. seconds) result (optional key.now default (timer_at least)
         (table_view table.now)) }
 {
     match value_at(table, key) {
@@ -206,7 +206,7 @@ fn timer(table: &Table, key: &str, least: u64, default: u64) -> Result<u64, Conf
 
 #[tactic(auto, unfolding(crate::specs::Configured::timers_at))]
 fn timers_at(value: &Value) -> Result<Timers, ConfigFault>
-    ensures { Reads (λ timers. timers) result (timers_at (view value.now)) }
+    ensures { ReadPost (λ timers. timers) result (timers_at (view value.now)) }
 {
     let table = table_in(value)?;
     let udp = timer(table, "udp", 120, 300)?;
@@ -225,7 +225,7 @@ fn timers_at(value: &Value) -> Result<Timers, ConfigFault>
 /// The timers of the table, without a hold.
 #[tactic(auto, unfolding(crate::specs::Configured::idle_timers_in))]
 fn idle_timers(table: &Table) -> Result<Timers, ConfigFault>
-    ensures { Reads (λ timers. timers) result (idle_timers_in (table_view table.now)) }
+    ensures { ReadPost (λ timers. timers) result (idle_timers_in (table_view table.now)) }
 {
     match value_at(table, "timers") {
         Some(value) => timers_at(value),
@@ -236,7 +236,7 @@ fn idle_timers(table: &Table) -> Result<Timers, ConfigFault>
 /// The timers of the table.
 #[tactic(auto, unfolding(crate::specs::Configured::timers_in))]
 pub(crate) fn timers(table: &Table) -> Result<Timers, ConfigFault>
-    ensures { Reads (λ timers. timers) result (timers_in (table_view table.now)) }
+    ensures { ReadPost (λ timers. timers) result (timers_in (table_view table.now)) }
 {
     let idle = idle_timers(table)?;
     let hold = timer(table, "hold", 0, 0)?;
@@ -248,7 +248,7 @@ pub(crate) fn timers(table: &Table) -> Result<Timers, ConfigFault>
 /// The number of slots of each ring.
 #[tactic(auto, unfolding(crate::specs::Configured::ring_in))]
 pub(crate) fn ring(table: &Table) -> Result<usize, ConfigFault>
-    ensures { Reads (λ slots. slots) result (ring_in (table_view table.now)) }
+    ensures { ReadPost (λ slots. slots) result (ring_in (table_view table.now)) }
 {
     match value_at(table, "ring") {
         Some(value) => Ok(number_at(value, 1, MOST_SLOTS)? as usize),
@@ -261,7 +261,7 @@ pub(crate) fn ring(table: &Table) -> Result<usize, ConfigFault>
 /// How many bindings a host may have.
 #[tactic(auto, unfolding(crate::specs::Configured::quota_in, crate::specs::Configured::quota_at))]
 pub(crate) fn quota(table: &Table) -> Result<Option<u16>, ConfigFault>
-    ensures { Reads (λ quota. quota) result (quota_in (table_view table.now)) }
+    ensures { ReadPost (λ quota. quota) result (quota_in (table_view table.now)) }
 {
     match value_at(table, "quota") {
         Some(value) => Ok(Some(number_at(value, 1, MOST_BINDINGS)? as u16)),
@@ -274,7 +274,7 @@ pub(crate) fn quota(table: &Table) -> Result<Option<u16>, ConfigFault>
 /// How many numbers a block has: an even number.
 #[tactic(auto, unfolding(crate::specs::Configured::block_size_at))]
 fn block_size_at(value: &Value) -> Result<u16, ConfigFault>
-    ensures { Reads (λ size. size) result (block_size_at (view value.now)) }
+    ensures { ReadPost (λ size. size) result (block_size_at (view value.now)) }
 {
     let size = number_at(value, LEAST_BLOCK, MOST_BLOCK)?;
     if size % 2 != 0 {
@@ -294,7 +294,7 @@ fn block_size(
     requires some { 1 ≤ length pool.now }
     requires few_addresses { length pool.now ≤ 16 }
     requires few { length inside.now ≤ 16 }
-    ensures { Reads (λ block. block) result
+    ensures { ReadPost (λ block. block) result
         (block_size pool.now inside.now hold (table_view table.now) (view value.now)) }
 {
     let size = block_size_at(value)?;
@@ -324,7 +324,7 @@ pub(crate) fn block(
     requires some { 1 ≤ length pool.now }
     requires few_addresses { length pool.now ≤ 16 }
     requires few { length inside.now ≤ 16 }
-    ensures { Reads (λ block. block) result
+    ensures { ReadPost (λ block. block) result
         (block_size_in pool.now inside.now hold (table_view table.now)) }
 {
     match value_at(table, "block") {
@@ -338,7 +338,7 @@ pub(crate) fn block(
 /// The address at a required key.
 #[tactic(auto, unfolding(crate::specs::Configured::address_in))]
 fn address_in(table: &Table, key: &str) -> Result<u32, ConfigFault>
-    ensures { Reads (λ address. address) result (address_in key.now (table_view table.now)) }
+    ensures { ReadPost (λ address. address) result (address_in key.now (table_view table.now)) }
 {
     let text = text_in(required(table, key)?)?;
     text::address(text).ok_or(ConfigFault::BadAddress)
@@ -351,9 +351,9 @@ fn add_pair(
     pool: &[u32],
     inside: &[Prefix],
 ) -> Result<(), ConfigFault>
-    ensures exact { Gives (λ _. pairs.new.entries) result
+    ensures exact { MakePost (λ _. pairs.new.entries) result
         (with_pair pool.now inside.now pairs.old.entries (view entry.now)) }
-    ensures first { TellsFirst (with_pair pool.now inside.now pairs.old.entries (view entry.now))
+    ensures first { FirstFaultComesFirst (with_pair pool.now inside.now pairs.old.entries (view entry.now))
         result }
 {
     let table = table_in(entry)?;
@@ -379,9 +379,9 @@ fn pairs_at(
     pool: &[u32],
     inside: &[Prefix],
 ) -> Result<BTreeMap<u32, u32>, ConfigFault>
-    ensures exact { Gives (λ pairs. pairs.entries) result
+    ensures exact { MakePost (λ pairs. pairs.entries) result
         (pairs_at each_in_order pool.now inside.now (view value.now)) }
-    ensures first { TellsFirst
+    ensures first { FirstFaultComesFirst
         (pairs_at first_in_order pool.now inside.now (view value.now)) result }
 {
     let entries = list_up_to(MOST_PAIRS, value)?;
@@ -400,9 +400,9 @@ pub(crate) fn pairs(
     pool: &[u32],
     inside: &[Prefix],
 ) -> Result<BTreeMap<u32, u32>, ConfigFault>
-    ensures exact { Gives (λ pairs. pairs.entries) result
+    ensures exact { MakePost (λ pairs. pairs.entries) result
         (pairs_in each_in_order pool.now inside.now (table_view table.now)) }
-    ensures first { TellsFirst (pairs_in first_in_order pool.now inside.now (table_view table.now))
+    ensures first { FirstFaultComesFirst (pairs_in first_in_order pool.now inside.now (table_view table.now))
         result }
 {
     match value_at(table, "pair") {

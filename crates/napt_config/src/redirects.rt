@@ -1,8 +1,8 @@
 //! Reading the redirects of a configuration's table.
 ghost use Rattle.std.specs.Prelude.{◌≡◌, ◌≤◌, ℕ, length, IfSome};
 ghost use Rattle.toml.specs.View.{view, table_view, items_view};
-ghost use Rattle.napt_config.specs.{Fault.{Reads, Gives, TellsFirst}, Rules.{paired, block_in, may_redirect, share_inside, share_external, is_double, IsBlock}};
-ghost use Rattle.napt_config.specs.Configured.{each_in_order, first_in_order, list_up_to, is_tcp_in, transport_address_in, port_in, redirect_in, have_double, with_redirect, redirects_at, redirects_in};
+ghost use Rattle.napt_config.specs.{Fault.{ReadPost, MakePost, FirstFaultComesFirst}, Rules.{paired_address, block_in, may_redirect, share_inside, share_external, is_double, IsPortBlock}};
+ghost use Rattle.napt_config.specs.Configured.{each_in_order, first_in_order, list_up_to, is_tcp_in, transport_address_in, port_in, redirect_in, have_double_redirect, with_redirect, redirects_at, redirects_in};
 
 use crate::reading::{have_address, list_up_to};
 use crate::values::{number_at, required, table_in, text_in, value_at};
@@ -15,9 +15,9 @@ use toml::{Table, Value};
 const MOST_REDIRECTS: usize = 256;
 
 /// Whether the protocol of an entry is TCP; else it is UDP.
-#[tactic(auto, unfolding(crate::specs::Configured::is_tcp_in, crate::specs::Configured::word_at))]
+#[tactic(auto, unfolding(crate::specs::Configured::is_tcp_in, crate::specs::Configured::word_at_key))]
 fn is_tcp_in(keys: &Table) -> Result<bool, ConfigFault>
-    ensures { Reads (λ tcp. tcp) result (is_tcp_in (table_view keys.now)) }
+    ensures { ReadPost (λ tcp. tcp) result (is_tcp_in (table_view keys.now)) }
 {
     match text_in(required(keys, "protocol")?)? {
         "tcp" => Ok(true),
@@ -29,7 +29,7 @@ fn is_tcp_in(keys: &Table) -> Result<bool, ConfigFault>
 /// The transport address at a required key.
 #[tactic(auto, unfolding(crate::specs::Configured::transport_address_in))]
 fn transport_address_in(keys: &Table, key: &str) -> Result<TransportAddress, ConfigFault>
-    ensures { Reads (λ socket. socket) result (transport_address_in key.now (table_view keys.now)) }
+    ensures { ReadPost (λ socket. socket) result (transport_address_in key.now (table_view keys.now)) }
 {
     let text = text_in(required(keys, key)?)?;
     TransportAddress::read(text).ok_or(ConfigFault::BadAddress)
@@ -38,7 +38,7 @@ fn transport_address_in(keys: &Table, key: &str) -> Result<TransportAddress, Con
 /// The port at a required key.
 #[tactic(auto, unfolding(crate::specs::Configured::port_in))]
 fn port_in(keys: &Table, key: &str) -> Result<u16, ConfigFault>
-    ensures { Reads (λ port. port) result (port_in key.now (table_view keys.now)) }
+    ensures { ReadPost (λ port. port) result (port_in key.now (table_view keys.now)) }
 {
     Ok(number_at(required(keys, key)?, 1, 65535)? as u16)
 }
@@ -53,7 +53,7 @@ fn may_have(
 ) -> bool
     requires some { 1 ≤ addresses }
     requires few { length inside.now ≤ 16 }
-    requires blocks { (host : ℕ) → IfSome (block_in block inside.now addresses host) IsBlock }
+    requires blocks { (host : ℕ) → IfSome (block_in block inside.now addresses host) IsPortBlock }
     ensures { result ≡ may_redirect (block_in block inside.now addresses host) external }
 {
     let own = blocks::block_of(block, inside, addresses, host);
@@ -70,8 +70,8 @@ fn redirect_in(
 ) -> Result<Redirect, ConfigFault>
     requires some { 1 ≤ addresses }
     requires few { length inside.now ≤ 16 }
-    requires blocks { (host : ℕ) → IfSome (block_in block inside.now addresses host) IsBlock }
-    ensures { Reads (λ redirect. redirect) result
+    requires blocks { (host : ℕ) → IfSome (block_in block inside.now addresses host) IsPortBlock }
+    ensures { ReadPost (λ redirect. redirect) result
         (redirect_in inside.now (block_in block inside.now addresses) (view entry.now)) }
 {
     let keys = table_in(entry)?;
@@ -110,7 +110,7 @@ fn share_external(
 ) -> bool
     requires some { 1 ≤ length pool.now }
     requires few { length inside.now ≤ 16 }
-    ensures { result ≡ share_external (paired block inside.now pool.now pairs.now.entries) a.now
+    ensures { result ≡ share_external (paired_address block inside.now pool.now pairs.now.entries) a.now
         b.now }
 {
     let a_address = pairing::pair(block, inside, pool, pairs, a.address);
@@ -129,13 +129,13 @@ fn is_double(
 ) -> bool
     requires some { 1 ≤ length pool.now }
     requires few { length inside.now ≤ 16 }
-    ensures { result ≡ is_double (paired block inside.now pool.now pairs.now.entries) a.now b.now }
+    ensures { result ≡ is_double (paired_address block inside.now pool.now pairs.now.entries) a.now b.now }
 {
     a.tcp == b.tcp && (share_inside(a, b) || share_external(a, b, block, inside, pool, pairs))
 }
 
 /// Whether one of the redirects clashes with a later one.
-#[tactic(auto, unfolding(crate::specs::Configured::have_double))]
+#[tactic(auto, unfolding(crate::specs::Configured::have_double_redirect))]
 fn have_double(
     earlier: &[Redirect],
     later: &Redirect,
@@ -146,7 +146,7 @@ fn have_double(
 ) -> bool
     requires some { 1 ≤ length pool.now }
     requires few { length inside.now ≤ 16 }
-    ensures { result ≡ have_double (paired block inside.now pool.now pairs.now.entries) earlier.now
+    ensures { result ≡ have_double_redirect (paired_address block inside.now pool.now pairs.now.entries) earlier.now
         later.now }
 {
     for redirect in earlier {
@@ -169,13 +169,13 @@ fn add_redirect(
     requires some { 1 ≤ length pool.now }
     requires few { length inside.now ≤ 16 }
     requires blocks { (host : ℕ) → IfSome (block_in block inside.now (length pool.now) host)
-        IsBlock }
-    ensures exact { Gives (λ _. redirects.new.items) result
-        (with_redirect inside.now (paired block inside.now pool.now pairs.now.entries)
+        IsPortBlock }
+    ensures exact { MakePost (λ _. redirects.new.items) result
+        (with_redirect inside.now (paired_address block inside.now pool.now pairs.now.entries)
         (block_in block inside.now (length pool.now)) redirects.old.items
         (view entry.now)) }
-    ensures first { TellsFirst
-        (with_redirect inside.now (paired block inside.now pool.now pairs.now.entries)
+    ensures first { FirstFaultComesFirst
+        (with_redirect inside.now (paired_address block inside.now pool.now pairs.now.entries)
         (block_in block inside.now (length pool.now)) redirects.old.items
         (view entry.now)) result }
 {
@@ -199,12 +199,12 @@ fn redirects_at(
     requires some { 1 ≤ length pool.now }
     requires few { length inside.now ≤ 16 }
     requires blocks { (host : ℕ) → IfSome (block_in block inside.now (length pool.now) host)
-        IsBlock }
-    ensures exact { Gives (λ redirects. redirects.items) result
-        (redirects_at each_in_order inside.now (paired block inside.now pool.now pairs.now.entries)
+        IsPortBlock }
+    ensures exact { MakePost (λ redirects. redirects.items) result
+        (redirects_at each_in_order inside.now (paired_address block inside.now pool.now pairs.now.entries)
         (block_in block inside.now (length pool.now)) (view value.now)) }
-    ensures first { TellsFirst
-        (redirects_at first_in_order inside.now (paired block inside.now pool.now pairs.now.entries)
+    ensures first { FirstFaultComesFirst
+        (redirects_at first_in_order inside.now (paired_address block inside.now pool.now pairs.now.entries)
         (block_in block inside.now (length pool.now)) (view value.now)) result }
 {
     let entries = list_up_to(MOST_REDIRECTS, value)?;
@@ -229,12 +229,12 @@ pub(crate) fn redirects(
     requires some { 1 ≤ length pool.now }
     requires few { length inside.now ≤ 16 }
     requires blocks { (host : ℕ) → IfSome (block_in block inside.now (length pool.now) host)
-        IsBlock }
-    ensures exact { Gives (λ redirects. redirects.items) result
-        (redirects_in each_in_order inside.now (paired block inside.now pool.now pairs.now.entries)
+        IsPortBlock }
+    ensures exact { MakePost (λ redirects. redirects.items) result
+        (redirects_in each_in_order inside.now (paired_address block inside.now pool.now pairs.now.entries)
         (block_in block inside.now (length pool.now)) (table_view table.now)) }
-    ensures first { TellsFirst
-        (redirects_in first_in_order inside.now (paired block inside.now pool.now pairs.now.entries)
+    ensures first { FirstFaultComesFirst
+        (redirects_in first_in_order inside.now (paired_address block inside.now pool.now pairs.now.entries)
         (block_in block inside.now (length pool.now)) (table_view table.now)) result }
 {
     match value_at(table, "redirect") {

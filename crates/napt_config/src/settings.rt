@@ -15,7 +15,7 @@ pub enum Filter {
 
 /// Which UDP packets keep a binding alive (RFC 4787, REQ-6). Bindings of other protocols go by their own rules.
 #[derive(Clone, Copy, Debug, PartialEq, Eq)]
-pub enum Refresh {
+pub enum MappingRefresh {
     /// Those that go out.
     Outbound,
     /// Those that go out, and those that are let in.
@@ -24,16 +24,16 @@ pub enum Refresh {
 
 /// How the external number of a new binding is chosen (RFC 7857, sections 8 and 9).
 #[derive(Clone, Copy, Debug)]
-pub struct Choosing {
+pub struct NumberAssignment {
     /// Whether a port is mapped to one of its parity (RFC 4787, REQ-4).
     pub keeps_parity: bool,
     /// That of random numbers; without one a number is preserved where it is free.
     pub seed: Option<Seed>,
 }
 
-impl Choosing {
+impl NumberAssignment {
     /// That of a configuration which says nothing of it.
-    pub const DEFAULT: Choosing = Choosing {
+    pub const DEFAULT: NumberAssignment = NumberAssignment {
         keeps_parity: true,
         seed: None,
     };
@@ -79,7 +79,7 @@ impl Timers {
 
 /// The external numbers of one inside host, for each protocol: `size` numbers from `first` on (RFC 7422, section 2).
 #[derive(Clone, Copy, Debug, PartialEq, Eq)]
-pub struct Block {
+pub struct PortBlock {
     /// The first number, even and at least 1024.
     pub first: u16,
     /// How many numbers, an even count of at least 64. The last is at most 65535.

@@ -1,6 +1,6 @@
 //! Numbers and addresses in texts.
 ghost use Rattle.std.specs.{Prelude.{◌≡◌, ◌≤◌, IfSome}, Char.is_ascii_digit, List.list_all};
-ghost use Rattle.napt_config.specs.Text.{is_number, number_of, address_of};
+ghost use Rattle.napt_config.specs.Text.{is_decimal, number_of, address_of};
 
 use std::net::Ipv4Addr;
 
@@ -12,7 +12,7 @@ fn are_digits(bytes: &[u8]) -> bool
 
 /// Whether the text is a decimal number: ASCII digits alone, without a sign and without leading zeros.
 fn is_number(text: &str) -> bool
-    ensures { result ≡ is_number text.now }
+    ensures { result ≡ is_decimal text.now }
 {
     let bytes = text.as_bytes();
     let has_leading_zero = bytes.len() > 1 && bytes[0] == b'0';

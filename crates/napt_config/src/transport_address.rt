@@ -1,6 +1,6 @@
 //! Transport addresses.
 ghost use Rattle.std.specs.Prelude.{◌≡◌, Some};
-ghost use Rattle.napt_config.specs.{Network.IsSocket, Text.{socket_of, socket_text, IsReadBack}, declared.fault.ConfigFault.TheVariants.BadAddress};
+ghost use Rattle.napt_config.specs.{Prefixes.IsTransportAddress, Text.{transport_address_of_text, transport_address_text, IsReadBack}, declared.fault.ConfigFault.TheVariants.BadAddress};
 
 use crate::{Address, ConfigFault, text};
 use std::fmt;
@@ -15,22 +15,22 @@ pub struct TransportAddress {
 }
 
 impl Model for TransportAddress {
-    ghost use Rattle.napt_config.specs.Network.{Socket, IsSocket};
+    ghost use Rattle.napt_config.specs.Prefixes.{TransportAddressModel, IsTransportAddress};
 
-    ghost Value = { Socket };
+    ghost Value = { TransportAddressModel };
 
     ghost view = { λ socket. record { address = socket.address; port = socket.port } };
 
-    ghost invariant = { λ socket. IsSocket (record { address = socket.address; port = socket.port }) };
+    ghost invariant = { λ socket. IsTransportAddress (record { address = socket.address; port = socket.port }) };
 
     ghost inverse = { λ socket. record { address = socket.address; port = socket.port } };
 }
 
 impl TransportAddress {
     /// Parses a transport address.
-    #[tactic(auto, unfolding(crate::specs::Text::socket_of))]
+    #[tactic(auto, unfolding(crate::specs::Text::transport_address_of_text))]
     pub(crate) fn read(text: &str) -> Option<TransportAddress>
-        ensures { result ≡ socket_of text.now }
+        ensures { result ≡ transport_address_of_text text.now }
     {
         let (address, port) = text.split_once(':')?;
         let address = text::address(address)?;
@@ -57,9 +57,9 @@ impl TransportAddress {
 }
 
 impl fmt::Display for TransportAddress {
-    ghost output = { λ socket. Some (socket_text socket) };
+    ghost output = { λ socket. Some (transport_address_text socket) };
 
-    #[tactic(auto, unfolding(crate::specs::Text::socket_text))]
+    #[tactic(auto, unfolding(crate::specs::Text::transport_address_text))]
     fn fmt<W: fmt::Write>(&self, f: &mut fmt::Formatter<W>) -> fmt::Result {
         let address = Address(self.address);
         let port = self.port;
@@ -70,7 +70,7 @@ impl fmt::Display for TransportAddress {
 impl FromStr for TransportAddress {
     type Err = ConfigFault;
 
-    ghost from_str_gives = { IsReadBack socket_text IsSocket BadAddress };
+    ghost from_str_gives = { IsReadBack transport_address_text IsTransportAddress BadAddress };
 
     /// Parses a transport address; `ConfigFault::BadAddress` if the text is none. What `Display` writes is read
     /// back.

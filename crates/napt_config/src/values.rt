@@ -1,7 +1,7 @@
 //! The values of a table, each of the kind that its key asks for.
 ghost use Rattle.std.specs.Prelude.{◌≡◌, ◌≤◌, option_map, IfOk};
 ghost use Rattle.toml.specs.{Data.get_member, View.{view, table_view, items_view}};
-ghost use Rattle.napt_config.specs.{Fault.Reads, Configured.{required, text_in, number_in, number_at, list_in, table_in}};
+ghost use Rattle.napt_config.specs.{Fault.ReadPost, Configured.{required, text_in, number_in, number_at_key, list_in, table_in}};
 
 use crate::ConfigFault;
 use toml::{Table, Value};
@@ -16,7 +16,7 @@ pub(crate) fn value_at<'a>(table: &'a Table, key: &str) -> Option<&'a Value>
 
 /// The value at a required key.
 pub(crate) fn required<'a>(table: &'a Table, key: &str) -> Result<&'a Value, ConfigFault>
-    ensures { Reads (λ value. view value.now) result (required key.now (table_view table.now)) }
+    ensures { ReadPost (λ value. view value.now) result (required key.now (table_view table.now)) }
 {
     match value_at(table, key) {
         Some(value) => Ok(value),
@@ -26,7 +26,7 @@ pub(crate) fn required<'a>(table: &'a Table, key: &str) -> Result<&'a Value, Con
 
 /// The text in a value.
 pub(crate) fn text_in(value: &Value) -> Result<&str, ConfigFault>
-    ensures { Reads (λ text. text.now) result (text_in (view value.now)) }
+    ensures { ReadPost (λ text. text.now) result (text_in (view value.now)) }
 {
     match value.as_str() {
         Some(text) => Ok(text),
@@ -36,7 +36,7 @@ pub(crate) fn text_in(value: &Value) -> Result<&str, ConfigFault>
 
 /// The whole number in a value.
 pub(crate) fn number_in(value: &Value) -> Result<i64, ConfigFault>
-    ensures { Reads (λ number. number) result (number_in (view value.now)) }
+    ensures { ReadPost (λ number. number) result (number_in (view value.now)) }
 {
     match value.as_integer() {
         Some(number) => Ok(number),
@@ -45,9 +45,9 @@ pub(crate) fn number_in(value: &Value) -> Result<i64, ConfigFault>
 }
 
 /// The whole number in a value, if it is from `least` to `most`.
-#[tactic(auto, unfolding(crate::specs::Configured::number_at))]
+#[tactic(auto, unfolding(crate::specs::Configured::number_at_key))]
 pub(crate) fn number_at(value: &Value, least: u64, most: u64) -> Result<u64, ConfigFault>
-    ensures exact { Reads (λ number. number) result (number_at least most (view value.now)) }
+    ensures exact { ReadPost (λ number. number) result (number_at_key least most (view value.now)) }
     ensures range { IfOk result (λ number. number ≤ most) }
 {
     match u64::try_from(number_in(value)?) {
@@ -58,7 +58,7 @@ pub(crate) fn number_at(value: &Value, least: u64, most: u64) -> Result<u64, Con
 
 /// The list in a value.
 pub(crate) fn list_in(value: &Value) -> Result<&[Value], ConfigFault>
-    ensures { Reads (λ entries. items_view entries.now) result (list_in (view value.now)) }
+    ensures { ReadPost (λ entries. items_view entries.now) result (list_in (view value.now)) }
 {
     match value.as_array() {
         Some(entries) => Ok(entries.as_slice()),
@@ -68,7 +68,7 @@ pub(crate) fn list_in(value: &Value) -> Result<&[Value], ConfigFault>
 
 /// The table in a value.
 pub(crate) fn table_in(value: &Value) -> Result<&Table, ConfigFault>
-    ensures { Reads (λ keys. table_view keys.now) result (table_in (view value.now)) }
+    ensures { ReadPost (λ keys. table_view keys.now) result (table_in (view value.now)) }
 {
     match value.as_table() {
         Some(keys) => Ok(keys),

@@ -1,9 +1,9 @@
-pub mod Closed
-pub mod Ended
-pub mod Ending
+pub mod ClosedWorkers
+pub mod DispatchEnds
+pub mod RunThroughEnds
 pub mod Lanes
-pub mod Left
-pub mod Offering
+pub mod LeftTranslators
+pub mod WorkerOffers
 pub mod Passing
 pub mod QueueStates
 pub mod RunsThrough

@@ -3,18 +3,18 @@ use Rattle.std.{proofs.lemmas.{Grind.common_steps, Bool.Decides.nat_tests, List.
 use Rattle.std.proofs.Common.{◌≡◌, ℕ, max, Bool, List, [], ◌∷◌, ◌++◌, length, map, Option, Some, Result, Ok, Err, refl, sym, ◌∙◌, ap, subst, arith, append-nil, append_assoc}
 use Rattle.napt_wire.specs.declared.{Way.Way, Side.Side}
 use Rattle.napt_config.specs.Rules.{Rules}
-use Rattle.napt_rules.specs.{declared.Leg.Leg, Prelude.{way_from, Arrival, State, course_from, last_clock}}
-use Rattle.napt_pool.specs.{declared.pool.Pool.Pool, Pools.{accepts, takes as taken}}
-use Rattle.napt_sequential.{specs.{Inputs.Came, declared.{fault.RunFault.RunFault, passage.Passage.Passage}}, proofs.{Joined.input_there, Traced.outside_alone}}
-use Rattle.napt_sequential.specs.declared.telling.Told.{Told}
-use Rattle.napt_laws.{specs.Places.second_legs, proofs.Grown.clock_more}
-use Rattle.napt_dispatch.specs.{declared.{dispatcher.Dispatcher.Dispatcher, departures.Departed.Departed}, Dispatch.of_worker}
-use Rattle.napt_dispatch.specs.Windows.{Window, IsHandedOver, times_in, progress_in, expecting, NoneBehind, whole_of}
-use Rattle.napt_dispatch.specs.Standing.{journal_of, state_of, IsSizedFor, Stands, Continues, ContinuesOr, HaltsBy, Admits, HasRoom, IsDone}
+use Rattle.napt_rules.specs.{declared.Leg.Leg, Prelude.{way_from, Arrival, State, effect_from, last_clock}}
+use Rattle.napt_pool.specs.{declared.pool.Pool.Pool, Pools.{accepted_items, taken_answers as taken}}
+use Rattle.napt_sequential.{specs.{Inputs.InputsCame, declared.{fault.RunFault.RunFault, passage.Passage.Passage}}, proofs.{JoinedSteps.input_there, TracedLegs.outside_alone}}
+use Rattle.napt_sequential.specs.declared.leg_trace.TracedAnswer.{TracedAnswer}
+use Rattle.napt_laws.{specs.SecondLegs.second_legs, proofs.OneMoreInput.clock_more}
+use Rattle.napt_dispatch.specs.{declared.{dispatcher.Dispatcher.Dispatcher, outcome_sink.InputResult.InputResult}, Dispatch.of_worker}
+use Rattle.napt_dispatch.specs.RunProgresses.{RunProgressModel, OutcomesAreHandedOver, times_in, progress_in, progress_expecting, NoneBehind, whole_of}
+use Rattle.napt_dispatch.specs.DispatcherInvariants.{journal_of, dispatcher_state, IsSizedFor, DispatcherInvariant, DispatcherContinues, ContinuesOr, DispatcherHalts, Admits, DispatcherHasRoom, DispatcherIsDone}
 use Rattle.napt_dispatch.proofs.{QueueStates.held_none, Lanes.{grows_none, grows_both, halts_after}, Standing.known_stands}
 use Rattle.napt_dispatch.{proofs.Windows.{known_push, times_long, expecting_times, expecting_progress}, specs.declared.faults.DispatchFault.DispatchFault}
-use Rattle.napt_dispatch.specs.declared.dispatcher.{reading.EndOfInputs.EndOfInputs, progress.Progress.TheVariants.Awaited}
-use Rattle.napt_dispatch.specs.Passing.{Fails, GoesOn, LetsGo, HaltsIn, HaltsAt, Serves, Reads, HasCome, ReadsToEnd, ReadsHalted}
+use Rattle.napt_dispatch.specs.declared.dispatcher.{reading.EndOfInputs.EndOfInputs, progress.InputProgress.TheVariants.Awaited}
+use Rattle.napt_dispatch.specs.RunsThrough.{DeparturesFail, DispatcherGoesOn, OutcomesLeave, RunThroughHalts, HaltsAt, ReadInputPost, ReadInputsPost, HasCome, ReadsToEnd, ReadsHalted}
 use Rattle.napt_dispatch.specs.declared.faults.DispatchFault.TheVariants as dispatch_faults
 
 pub many_read : {P : Type 0} (d : Dispatcher P) (inputs : List Arrival) →
@@ -31,18 +31,18 @@ clock_on from inputs input clock own now was same is = grind (arith, common_step
 -- an input from outside has no second leg
 none_behind : (rules : Rules) (start : State) (all : List Arrival) (number : ℕ) (input : Arrival) →
     slice_get all number ≡ Some input → (side : Side) → input.side ≡ side →
-    NoneBehind (way_from input.side) (second_legs number (course_from rules start all).acts)
+    NoneBehind (way_from input.side) (second_legs number (effect_from rules start all).acts)
 none_behind rules start all number input there side is = grind (arith, common_steps, nat_tests, outside_alone)
 
 module _ {P M G : Type 0} {tells : Passage → P} where
   -- nothing was done
-  pub goes_none : {pool : Pool M G Leg (Told P)} {d : Dispatcher P} → IsSizedFor pool d → GoesOn tells pool d [] pool d
+  pub goes_none : {pool : Pool M G Leg (TracedAnswer P)} {d : Dispatcher P} → IsSizedFor pool d → DispatcherGoesOn tells pool d [] pool d
   goes_none sized = grind (arith, common_steps, nat_tests, grows_none, append-nil)
 
   -- outcomes left, and nothing else was done
-  pub goes_over : (pool : Pool M G Leg (Told P)) (d later : Dispatcher P) (went : List (ℕ × Departed P)) →
-      IsSizedFor pool d → later.queues ≡ d.queues → IsHandedOver went d.progress later.progress →
-      GoesOn tells pool d went pool later
+  pub goes_over : (pool : Pool M G Leg (TracedAnswer P)) (d later : Dispatcher P) (went : List (ℕ × InputResult P)) →
+      IsSizedFor pool d → later.queues ≡ d.queues → OutcomesAreHandedOver went d.progress later.progress →
+      DispatcherGoesOn tells pool d went pool later
   goes_over pool d later went sized queues over = record {
     grows = grows_none pool;
     sized = rw queues sized;
@@ -50,15 +50,15 @@ module _ {P M G : Type 0} {tells : Passage → P} where
     left_is = over.left_is;
     keeps = λ rules start done all s.
         record {
-          stands = rw queues (known_stands rules start done all (length d.queues) (state_of pool d).lane
+          stands = rw queues (known_stands rules start done all (length d.queues) (dispatcher_state pool d).lane
               (progress_in d.progress) (progress_in later.progress)
               (over.known (whole_of tells rules start all)) s.stands);
         };
   }
 
-  module _ {pool mid_pool later_pool : Pool M G Leg (Told P)} {d mid later : Dispatcher P} where
-    pub continues_both : Continues tells pool d mid_pool mid → Continues tells mid_pool mid later_pool later →
-        Continues tells pool d later_pool later
+  module _ {pool mid_pool later_pool : Pool M G Leg (TracedAnswer P)} {d mid later : Dispatcher P} where
+    pub continues_both : DispatcherContinues tells pool d mid_pool mid → DispatcherContinues tells mid_pool mid later_pool later →
+        DispatcherContinues tells pool d later_pool later
     continues_both a b = record {
       grows = grows_both a.grows b.grows;
       sized = b.sized;
@@ -66,8 +66,8 @@ module _ {P M G : Type 0} {tells : Passage → P} where
       keeps = λ rules start done all s. b.keeps rules start done all (a.keeps rules start done all s);
     }
 
-    pub goes_more : {xs ys : List (ℕ × Departed P)} → GoesOn tells pool d xs mid_pool mid →
-        GoesOn tells mid_pool mid ys later_pool later → GoesOn tells pool d (xs ++ ys) later_pool later
+    pub goes_more : {xs ys : List (ℕ × InputResult P)} → DispatcherGoesOn tells pool d xs mid_pool mid →
+        DispatcherGoesOn tells mid_pool mid ys later_pool later → DispatcherGoesOn tells pool d (xs ++ ys) later_pool later
     goes_more {xs} {ys} a b = record {
       grows = grows_both a.grows b.grows;
       sized = b.sized;
@@ -77,8 +77,8 @@ module _ {P M G : Type 0} {tells : Passage → P} where
     }
 
     -- answers were taken and legs offered, and nothing left
-    pub goes_then : {xs : List (ℕ × Departed P)} → GoesOn tells pool d xs mid_pool mid →
-        Continues tells mid_pool mid later_pool later → GoesOn tells pool d xs later_pool later
+    pub goes_then : {xs : List (ℕ × InputResult P)} → DispatcherGoesOn tells pool d xs mid_pool mid →
+        DispatcherContinues tells mid_pool mid later_pool later → DispatcherGoesOn tells pool d xs later_pool later
     goes_then a b = record {
       grows = grows_both a.grows b.grows;
       sized = b.sized;
@@ -87,8 +87,8 @@ module _ {P M G : Type 0} {tells : Passage → P} where
       keeps = λ rules start done all s. b.keeps rules start done all (a.keeps rules start done all s);
     }
 
-  pub continues_then : {X : Type 0} {pool mid_pool : Pool M G Leg (Told P)} {d mid : Dispatcher P} →
-      Continues tells pool d mid_pool mid → (open_gate : Bool) (later_pool : Pool M G Leg (Told P))
+  pub continues_then : {X : Type 0} {pool mid_pool : Pool M G Leg (TracedAnswer P)} {d mid : Dispatcher P} →
+      DispatcherContinues tells pool d mid_pool mid → (open_gate : Bool) (later_pool : Pool M G Leg (TracedAnswer P))
       (later : Dispatcher P)
       (result : Result X RunFault) → ContinuesOr tells open_gate mid_pool mid later_pool later result →
       ContinuesOr tells open_gate pool d later_pool later result
@@ -98,45 +98,45 @@ module _ {P M G : Type 0} {tells : Passage → P} where
   -- WHAT IS READ
 
   -- a place was made for an input, its first leg was held, and then perhaps answers were taken and legs offered
-  pub serves_as : (rules : Rules) (now number : ℕ) (input : Arrival) (pool : Pool M G Leg (Told P))
-      (d admitted : Dispatcher P) (window : Window P) (later_pool : Pool M G Leg (Told P)) (later : Dispatcher P) →
-      window ≡ expecting input.time (way_from input.side) d.progress → number ≡ length (progress_in d.progress) →
+  pub serves_as : (rules : Rules) (now number : ℕ) (input : Arrival) (pool : Pool M G Leg (TracedAnswer P))
+      (d admitted : Dispatcher P) (window : RunProgressModel P) (later_pool : Pool M G Leg (TracedAnswer P)) (later : Dispatcher P) →
+      window ≡ progress_expecting input.time (way_from input.side) d.progress → number ≡ length (progress_in d.progress) →
       Admits tells rules number now input (record d { progress = window }) admitted →
-      journal_of admitted.progress ≡ journal_of window → Continues tells pool admitted later_pool later →
-      Serves tells rules now input pool d later_pool later
+      journal_of admitted.progress ≡ journal_of window → DispatcherContinues tells pool admitted later_pool later →
+      ReadInputPost tells rules now input pool d later_pool later
   serves_as rules now number input pool d admitted window later_pool later is at admits journal goes = record {
     grows = goes.grows;
     sized = goes.sized;
     times_are = ap (λ j. j.0) (goes.journal_stays ∙ journal)
         ∙ (ap times_in is ∙ expecting_times input.time (way_from input.side) d.progress);
-    left_stays = ap (λ j. j.1) (goes.journal_stays ∙ journal) ∙ ap (λ (w : Window P). w.left) is;
+    left_stays = ap (λ j. j.1) (goes.journal_stays ∙ journal) ∙ ap (λ (w : RunProgressModel P). w.left) is;
     served = λ start done rest long clock s.
         let all : List Arrival = (done ++ input ∷ []) ++ rest in
         let way : Way = way_from input.side in
-        let none : NoneBehind way (second_legs (length (progress_in d.progress)) (course_from rules start all).acts) =
+        let none : NoneBehind way (second_legs (length (progress_in d.progress)) (effect_from rules start all).acts) =
         none_behind rules start all (length (progress_in d.progress)) input
         (input_there done rest input (length (progress_in d.progress)) long) input.side refl in
-        let expected : Stands tells rules start done all (state_of pool (record d { progress = window })) =
+        let expected : DispatcherInvariant tells rules start done all (dispatcher_state pool (record d { progress = window })) =
         rw (ap progress_in is ∙ expecting_progress input.time way d.progress)
-        (known_stands rules start done all (length d.queues) (state_of pool d).lane (progress_in d.progress)
+        (known_stands rules start done all (length d.queues) (dispatcher_state pool d).lane (progress_in d.progress)
         (progress_in d.progress ++ Awaited way ∷ [])
         (known_push (whole_of tells rules start all) (progress_in d.progress) way none) s) in
         (goes.keeps rules start (done ++ input ∷ []) all (record {
-          stands = admits start (of_worker (accepts pool)) (of_worker (taken pool)) done rest
+          stands = admits start (of_worker (accepted_items pool)) (of_worker (taken pool)) done rest
               (long ∙ sym at) clock expected;
         })).stands;
   }
 
   -- WHAT WAS READ
 
-  pub reads_none : (rules : Rules) (pool : Pool M G Leg (Told P)) (d : Dispatcher P) → IsSizedFor pool d →
-      d.progress.left ≡ [] → d.progress.under_way ≡ [] → Reads tells rules pool d [] [] pool d
+  pub reads_none : (rules : Rules) (pool : Pool M G Leg (TracedAnswer P)) (d : Dispatcher P) → IsSizedFor pool d →
+      d.progress.left ≡ [] → d.progress.under_way ≡ [] → ReadInputsPost tells rules pool d [] [] pool d
   reads_none rules pool d sized left none = grind (arith, common_steps, nat_tests, grows_none)
 
-  module _ {rules : Rules} {pool mid_pool later_pool : Pool M G Leg (Told P)} {d mid later : Dispatcher P}
+  module _ {rules : Rules} {pool mid_pool later_pool : Pool M G Leg (TracedAnswer P)} {d mid later : Dispatcher P}
       {inputs : List Arrival} where
-    pub reads_on : {xs ys : List (ℕ × Departed P)} → Reads tells rules pool d inputs xs mid_pool mid →
-        GoesOn tells mid_pool mid ys later_pool later → Reads tells rules pool d inputs (xs ++ ys) later_pool later
+    pub reads_on : {xs ys : List (ℕ × InputResult P)} → ReadInputsPost tells rules pool d inputs xs mid_pool mid →
+        DispatcherGoesOn tells mid_pool mid ys later_pool later → ReadInputsPost tells rules pool d inputs (xs ++ ys) later_pool later
     reads_on {ys = ys} a b = record {
       grows = grows_both a.grows b.grows;
       sized = b.sized;
@@ -147,10 +147,10 @@ module _ {P M G : Type 0} {tells : Passage → P} where
     }
 
     -- one input more
-    pub reads_more : {went : List (ℕ × Departed P)} {now : ℕ} {input : Arrival} →
-        Reads tells rules pool d inputs went mid_pool mid → now ≡ last_clock d.clock (inputs ++ input ∷ []) →
-        Serves tells rules now input mid_pool mid later_pool later →
-        Reads tells rules pool d (inputs ++ input ∷ []) went later_pool later
+    pub reads_more : {went : List (ℕ × InputResult P)} {now : ℕ} {input : Arrival} →
+        ReadInputsPost tells rules pool d inputs went mid_pool mid → now ≡ last_clock d.clock (inputs ++ input ∷ []) →
+        ReadInputPost tells rules now input mid_pool mid later_pool later →
+        ReadInputsPost tells rules pool d (inputs ++ input ∷ []) went later_pool later
     reads_more {went} {now} {input} a clock b = record {
       grows = grows_both a.grows b.grows;
       sized = b.sized;
@@ -159,7 +159,7 @@ module _ {P M G : Type 0} {tells : Passage → P} where
       left_is = b.left_stays ∙ a.left_is;
       served = λ start at rest s.
           let whole : (inputs ++ input ∷ []) ++ rest ≡ inputs ++ input ∷ rest = append_assoc inputs (input ∷ []) rest in
-          let before : Stands tells rules start inputs ((inputs ++ input ∷ []) ++ rest) (state_of mid_pool mid) =
+          let before : DispatcherInvariant tells rules start inputs ((inputs ++ input ∷ []) ++ rest) (dispatcher_state mid_pool mid) =
           rw whole (a.served start at (input ∷ rest) (rw whole at s)) in
           b.served start inputs rest (many_read mid inputs a.times_are)
           (ap (λ (t : ℕ). max (last_clock t inputs) input.clock) at
@@ -167,16 +167,16 @@ module _ {P M G : Type 0} {tells : Passage → P} where
     }
 
 -- where nothing is held and all outcomes left there is room
-pub room_idle : {P : Type 0} (d : Dispatcher P) → IsDone d → d.progress.under_way ≡ [] → HasRoom d
+pub room_idle : {P : Type 0} (d : Dispatcher P) → DispatcherIsDone d → d.progress.under_way ≡ [] → DispatcherHasRoom d
 room_idle d done none = grind (arith, common_steps, nat_tests, held_none)
 
 -- OUTCOMES THAT LEAVE
 
-module _ {P S F : Type 0} {takes : S → List (ℕ × Departed P) → S → Type 0}
-    (fails : S → List (ℕ × Departed P) → F → S → Type 0)
-    (more : (x y z : S) (xs ys : List (ℕ × Departed P)) → takes x xs y → takes y ys z → takes x (xs ++ ys) z) where
-  fails_after : {before mid after : S} {xs ys : List (ℕ × Departed P)} {fault : F} → takes before xs mid →
-      Fails takes fails mid ys fault after → Fails takes fails before (xs ++ ys) fault after
+module _ {P S F : Type 0} {takes : S → List (ℕ × InputResult P) → S → Type 0}
+    (fails : S → List (ℕ × InputResult P) → F → S → Type 0)
+    (more : (x y z : S) (xs ys : List (ℕ × InputResult P)) → takes x xs y → takes y ys z → takes x (xs ++ ys) z) where
+  fails_after : {before mid after : S} {xs ys : List (ℕ × InputResult P)} {fault : F} → takes before xs mid →
+      DeparturesFail takes fails mid ys fault after → DeparturesFail takes fails before (xs ++ ys) fault after
   fails_after {before} {mid} {xs = xs} took f = record {
     first = xs ++ f.first;
     others = f.others;
@@ -186,21 +186,21 @@ module _ {P S F : Type 0} {takes : S → List (ℕ × Departed P) → S → Type
     failed = f.failed;
   }
 
-  module _ {tells : Passage → P} {M G : Type 0} {pool mid_pool : Pool M G Leg (Told P)}
-      (later_pool : Pool M G Leg (Told P)) {d mid : Dispatcher P}
+  module _ {tells : Passage → P} {M G : Type 0} {pool mid_pool : Pool M G Leg (TracedAnswer P)}
+      (later_pool : Pool M G Leg (TracedAnswer P)) {d mid : Dispatcher P}
       (later : Dispatcher P) {before between : S} (after : S) where
-    pub lets_more : LetsGo tells takes pool d before mid_pool mid between →
-        LetsGo tells takes mid_pool mid between later_pool later after →
-        LetsGo tells takes pool d before later_pool later after
+    pub lets_more : OutcomesLeave tells takes pool d before mid_pool mid between →
+        OutcomesLeave tells takes mid_pool mid between later_pool later after →
+        OutcomesLeave tells takes pool d before later_pool later after
     lets_more a b = record {
       went = a.went ++ b.went;
       goes = goes_more a.goes b.goes;
       took = more before between after a.went b.went a.took b.took;
     }
 
-  pub lets_halt : {tells : Passage → P} {M G : Type 0} {pool mid_pool : Pool M G Leg (Told P)}
-      (later_pool : Pool M G Leg (Told P)) {d mid : Dispatcher P} (later : Dispatcher P) {before between : S}
-      (after : S) (open_gate : Bool) (e : DispatchFault F) → LetsGo tells takes pool d before mid_pool mid between →
+  pub lets_halt : {tells : Passage → P} {M G : Type 0} {pool mid_pool : Pool M G Leg (TracedAnswer P)}
+      (later_pool : Pool M G Leg (TracedAnswer P)) {d mid : Dispatcher P} (later : Dispatcher P) {before between : S}
+      (after : S) (open_gate : Bool) (e : DispatchFault F) → OutcomesLeave tells takes pool d before mid_pool mid between →
       HaltsAt tells open_gate takes fails mid_pool mid between later_pool later after e →
       HaltsAt tells open_gate takes fails pool d before later_pool later after e
   lets_halt later_pool later after open_gate (dispatch_faults.Departure fault) a b = record {
@@ -216,11 +216,11 @@ module _ {P S F : Type 0} {takes : S → List (ℕ × Departed P) → S → Type
   }
 
   -- outcomes left, and then there was a fault of dispatching
-  pub lets_stop : {tells : Passage → P} {M G : Type 0} {pool mid_pool later_pool : Pool M G Leg (Told P)}
+  pub lets_stop : {tells : Passage → P} {M G : Type 0} {pool mid_pool later_pool : Pool M G Leg (TracedAnswer P)}
       {d mid handed : Dispatcher P} {before between after : S} {open_gate : Bool} {fault : RunFault} →
-      LetsGo tells takes pool d before mid_pool mid between →
-      LetsGo tells takes mid_pool mid between mid_pool handed after → HaltsBy open_gate mid_pool later_pool fault →
-      HaltsIn tells open_gate takes pool d before later_pool after fault
+      OutcomesLeave tells takes pool d before mid_pool mid between →
+      OutcomesLeave tells takes mid_pool mid between mid_pool handed after → DispatcherHalts open_gate mid_pool later_pool fault →
+      RunThroughHalts tells open_gate takes pool d before later_pool after fault
   lets_stop {mid_pool = mid_pool} {handed = handed} {after = after} a b stop = record {
     last_pool = mid_pool;
     last = handed;
@@ -229,28 +229,28 @@ module _ {P S F : Type 0} {takes : S → List (ℕ × Departed P) → S → Type
   }
 
   -- outcomes left, and then answers were taken and legs offered
-  pub lets_turn : {tells : Passage → P} {M G : Type 0} {pool mid_pool later_pool : Pool M G Leg (Told P)}
+  pub lets_turn : {tells : Passage → P} {M G : Type 0} {pool mid_pool later_pool : Pool M G Leg (TracedAnswer P)}
       {d mid handed later : Dispatcher P}
-      {before between after : S} → LetsGo tells takes pool d before mid_pool mid between →
-      LetsGo tells takes mid_pool mid between mid_pool handed after → Continues tells mid_pool handed later_pool later →
-      LetsGo tells takes pool d before later_pool later after
+      {before between after : S} → OutcomesLeave tells takes pool d before mid_pool mid between →
+      OutcomesLeave tells takes mid_pool mid between mid_pool handed after → DispatcherContinues tells mid_pool handed later_pool later →
+      OutcomesLeave tells takes pool d before later_pool later after
   lets_turn a b c = let both = lets_more _ _ _ a b in
       record { went = both.went; goes = goes_then both.goes c; took = both.took }
 
   -- what left was settled
-  pub lets_settle : {tells : Passage → P} {M G : Type 0} {pool later_pool : Pool M G Leg (Told P)}
-      {d later : Dispatcher P} {before between after : S} → LetsGo tells takes pool d before later_pool later between →
-      takes between [] after → LetsGo tells takes pool d before later_pool later after
+  pub lets_settle : {tells : Passage → P} {M G : Type 0} {pool later_pool : Pool M G Leg (TracedAnswer P)}
+      {d later : Dispatcher P} {before between after : S} → OutcomesLeave tells takes pool d before later_pool later between →
+      takes between [] after → OutcomesLeave tells takes pool d before later_pool later after
   lets_settle a b = lets_more _ _ _ a (record { went = []; goes = goes_none a.goes.sized; took = b })
 
   -- WHAT WAS READ
 
   module _ {tells : Passage → P} {A B : Type 0} {rules : Rules} {hands : A → List Arrival → A → Type 0}
       {ends : A → Option B → A → Type 0}
-      (is_settled : S → Type 0) {M G : Type 0} {pool mid_pool : Pool M G Leg (Told P)}
-      (later_pool : Pool M G Leg (Told P)) {d mid : Dispatcher P} (later : Dispatcher P) {from left : A}
-      {before between : S} (after : S) {inputs : List Arrival} {went : List (ℕ × Departed P)} where
-    pub reads_halt : (open_gate : Bool) (e : DispatchFault F) → Reads tells rules pool d inputs went mid_pool mid →
+      (is_settled : S → Type 0) {M G : Type 0} {pool mid_pool : Pool M G Leg (TracedAnswer P)}
+      (later_pool : Pool M G Leg (TracedAnswer P)) {d mid : Dispatcher P} (later : Dispatcher P) {from left : A}
+      {before between : S} (after : S) {inputs : List Arrival} {went : List (ℕ × InputResult P)} where
+    pub reads_halt : (open_gate : Bool) (e : DispatchFault F) → ReadInputsPost tells rules pool d inputs went mid_pool mid →
         takes before went between → HasCome hands ends from inputs left →
         HaltsAt tells open_gate takes fails mid_pool mid between later_pool later after e →
         ReadsHalted tells rules hands ends takes fails is_settled pool d from before later_pool later left after
@@ -275,9 +275,9 @@ module _ {P S F : Type 0} {takes : S → List (ℕ × Departed P) → S → Type
     }
 
     -- the end was told, or a fault
-    pub reads_over : (end : EndOfInputs B) → Reads tells rules pool d inputs went mid_pool mid →
-        takes before went between → LetsGo tells takes mid_pool mid between later_pool later after →
-        Came hands ends from inputs end.fault left → end.clock ≡ last_clock d.clock inputs →
+    pub reads_over : (end : EndOfInputs B) → ReadInputsPost tells rules pool d inputs went mid_pool mid →
+        takes before went between → OutcomesLeave tells takes mid_pool mid between later_pool later after →
+        InputsCame hands ends from inputs end.fault left → end.clock ≡ last_clock d.clock inputs →
         ReadsToEnd tells rules hands ends takes fails is_settled pool d from before later_pool later left after end
     reads_over end reads took b came clock = record {
       inputs = inputs;

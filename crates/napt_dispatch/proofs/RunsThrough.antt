@@ -3,51 +3,51 @@ use native.Mathlib.Omega.{arith}
 use Rattle.std.{proofs.lemmas.{Grind.common_steps, Bool.Decides.nat_tests}, specs.Prelude.{IfOk, OnErr}}
 use Rattle.std.proofs.Common.{◌≡◌, ℕ, List, [], ◌++◌, length, map, Option, None, Some, Result, Ok, Err, ◌∙◌, ap, subst, append-nil, inl, inr}
 use Rattle.napt_config.specs.Rules.{Rules}
-use Rattle.napt_rules.specs.{declared.Leg.Leg, Prelude.{Arrival, Ran, State, left_by, ran_from}}
-use Rattle.napt_pool.specs.{declared.pool.Pool.Pool, Pools.{accepts, takes as taken}}
-use Rattle.napt_sequential.{proofs.Inputs.came_whole, specs.declared.{fault.RunFault.RunFault, telling.{Told.Told, Untold.Untold}, passage.Passage.Passage}}
-use Rattle.napt_dispatch.specs.declared.{collected.Collected.Collected, dispatcher.{Dispatched.Dispatched, Ending.Ending}, workers.Passed.Passed}
-use Rattle.napt_dispatch.specs.{Collecting.{outcome_of, Collects}, Dispatch.{IsDispatchedFrom, Right}, declared.departures.Departed.Departed}
-use Rattle.napt_dispatch.specs.Passing.{LeavesState, EndsWith, EndsEarly, EndsHalted, EndsBy, PassesTo, PassesWell, PassesEarly, PassesHalted}
-use Rattle.napt_dispatch.specs.declared.dispatcher.Ending.TheVariants as endings
+use Rattle.napt_rules.specs.{declared.Leg.Leg, Prelude.{Arrival, RunResult, State, next_state, run_result_from}}
+use Rattle.napt_pool.specs.{declared.pool.Pool.Pool, Pools.{accepted_items, taken_answers as taken}}
+use Rattle.napt_sequential.{proofs.Inputs.came_whole, specs.declared.{fault.RunFault.RunFault, leg_trace.{TracedAnswer.TracedAnswer, NoTrace.NoTrace}, passage.Passage.Passage}}
+use Rattle.napt_dispatch.specs.declared.{outcome_list.OutcomeList.OutcomeList, dispatcher.{DispatchResult.DispatchResult, DispatchEnd.DispatchEnd}, workers.RunSummary.RunSummary}
+use Rattle.napt_dispatch.specs.{OutcomeLists.{collected_outcome, Collects}, Dispatch.{IsDispatchedFrom, AnswersAreRight}, declared.outcome_sink.InputResult.InputResult}
+use Rattle.napt_dispatch.specs.RunsThrough.{LeavesState, DispatchOk, DispatchDeparturesErr, DispatchErr, DispatchPost, RunThroughEnd, RunThroughOk, RunThroughDeparturesErr, RunThroughErr}
+use Rattle.napt_dispatch.specs.declared.dispatcher.DispatchEnd.TheVariants as endings
 
 module _ {P : Type 0} {tells : Passage → P} {A F S B M G : Type 0} {rules : Rules} {start : State}
     {hands : A → List Arrival → A → Type 0} {ends : A → Option F → A → Type 0}
-    {takes : S → List (ℕ × Departed P) → S → Type 0} {fails : S → List (ℕ × Departed P) → B → S → Type 0}
-    {is_settled : S → Type 0} {from : A} {before : S} (pool : Pool M G Leg (Told P)) {left : A} {after : S}
-    (right : length (accepts pool) ≡ length rules.pool → Right tells rules start (accepts pool) (taken pool)) where
-  pub passes_to : (end : Option F) (done : Dispatched F B) →
-      EndsWith tells rules start hands ends takes fails is_settled from before pool left after end done →
-      PassesTo tells rules start hands ends takes fails is_settled from before left after end
+    {takes : S → List (ℕ × InputResult P) → S → Type 0} {fails : S → List (ℕ × InputResult P) → B → S → Type 0}
+    {is_settled : S → Type 0} {from : A} {before : S} (pool : Pool M G Leg (TracedAnswer P)) {left : A} {after : S}
+    (right : length (accepted_items pool) ≡ length rules.pool → AnswersAreRight tells rules start (accepted_items pool) (taken pool)) where
+  pub passes_to : (end : Option F) (done : DispatchResult F B) →
+      DispatchOk tells rules start hands ends takes fails is_settled from before pool left after end done →
+      RunThroughEnd tells rules start hands ends takes fails is_settled from before left after end
   passes_to end done e = record {
     inputs = e.inputs;
     came = e.came;
-    took = subst (λ (pairs : List (ℕ × Departed P)). takes before pairs after) (e.right (right e.offered_many)).0
+    took = subst (λ (pairs : List (ℕ × InputResult P)). takes before pairs after) (e.right (right e.offered_many)).0
         e.took;
     settled = e.settled;
     few = e.few;
   }
 
-  pub passes_well : (done : Dispatched F B) (passed : Passed)
-      (e : EndsWith tells rules start hands ends takes fails is_settled from before pool left after None done) →
+  pub passes_well : (done : DispatchResult F B) (passed : RunSummary)
+      (e : DispatchOk tells rules start hands ends takes fails is_settled from before pool left after None done) →
       passed.legs.items ≡ done.legs.items →
-      (let r : Ran = record {
-        outcomes = map outcome_of e.went;
+      (let r : RunResult = record {
+        outcomes = map collected_outcome e.went;
         bindings = passed.bindings.items;
         legs = done.legs.items;
-      } in r ≡ ran_from rules start e.inputs) → LeavesState rules (left_by rules start e.inputs) passed →
-      PassesWell tells rules start hands ends takes fails is_settled from before left after passed
+      } in r ≡ run_result_from rules start e.inputs) → LeavesState rules (next_state rules start e.inputs) passed →
+      RunThroughOk tells rules start hands ends takes fails is_settled from before left after passed
   unfolding passes_to
   passes_well done passed e legs is leaves = record {
     whole = passes_to None done e;
-    bindings = ap (λ (r : Ran). r.bindings) is;
-    legs = legs ∙ ap (λ (r : Ran). r.legs) is;
+    bindings = ap (λ (r : RunResult). r.bindings) is;
+    legs = legs ∙ ap (λ (r : RunResult). r.legs) is;
     leaves = leaves;
   }
 
   pub passes_early : (fault : B) →
-      EndsEarly tells rules start hands ends takes fails is_settled from before pool left after fault →
-      PassesEarly tells rules start hands ends takes fails is_settled from before left after fault
+      DispatchDeparturesErr tells rules start hands ends takes fails is_settled from before pool left after fault →
+      RunThroughDeparturesErr tells rules start hands ends takes fails is_settled from before left after fault
   passes_early fault e = record {
     inputs = e.inputs;
     went = e.went;
@@ -57,9 +57,9 @@ module _ {P : Type 0} {tells : Passage → P} {A F S B M G : Type 0} {rules : Ru
   }
 
   -- where the run itself failed, however dispatching ended
-  passes_late : (end : Option F) (done : Dispatched F B) →
-      EndsWith tells rules start hands ends takes fails is_settled from before pool left after end done →
-      PassesHalted tells rules start hands ends takes fails is_settled from before left after
+  passes_late : (end : Option F) (done : DispatchResult F B) →
+      DispatchOk tells rules start hands ends takes fails is_settled from before pool left after end done →
+      RunThroughErr tells rules start hands ends takes fails is_settled from before left after
   passes_late end done e = record {
     inputs = e.inputs;
     went = e.went;
@@ -68,9 +68,9 @@ module _ {P : Type 0} {tells : Passage → P} {A F S B M G : Type 0} {rules : Ru
     took = inl e.took;
   }
 
-  pub passes_ended : (done : Dispatched F B) (ending : Ending F B) →
-      EndsBy tells rules start hands ends takes fails is_settled from before pool left after done ending →
-      PassesHalted tells rules start hands ends takes fails is_settled from before left after
+  pub passes_ended : (done : DispatchResult F B) (ending : DispatchEnd F B) →
+      DispatchPost tells rules start hands ends takes fails is_settled from before pool left after done ending →
+      RunThroughErr tells rules start hands ends takes fails is_settled from before left after
   passes_ended done endings.Whole e = passes_late None done e
   passes_ended done (endings.Arrival fault) e = passes_late (Some fault) done e
   passes_ended done (endings.Departure fault) e =
@@ -83,12 +83,12 @@ module _ {P : Type 0} {tells : Passage → P} {A F S B M G : Type 0} {rules : Ru
         took = inr (fault, early.failed);
       }
 
-  pub passes_closed : (clock : ℕ) → start.clock ≡ clock → (result : Result (Dispatched F B) RunFault) → IfOk result
+  pub passes_closed : (clock : ℕ) → start.clock ≡ clock → (result : Result (DispatchResult F B) RunFault) → IfOk result
       (λ done. (own : State) → own.clock ≡ clock →
-      EndsBy tells rules own hands ends takes fails is_settled from before pool left after done done.ending) →
+      DispatchPost tells rules own hands ends takes fails is_settled from before pool left after done done.ending) →
       OnErr result ((own : State) → own.clock ≡ clock →
-      EndsHalted tells rules own hands ends takes fails is_settled from before pool left after) →
-      PassesHalted tells rules start hands ends takes fails is_settled from before left after
+      DispatchErr tells rules own hands ends takes fails is_settled from before pool left after) →
+      RunThroughErr tells rules start hands ends takes fails is_settled from before left after
   passes_closed clock at (Ok done) ended halted = passes_ended done done.ending (ended start at)
   passes_closed clock at (Err fault) ended halted = let early = halted start at in record {
     inputs = early.inputs;
@@ -100,15 +100,15 @@ module _ {P : Type 0} {tells : Passage → P} {A F S B M G : Type 0} {rules : Ru
 
 -- WHERE THE INPUTS COME OFF A LIST
 
-module _ {tells : Passage → Untold} {A F B M G : Type 0} (rules : Rules) (start : State) (list : A → List Arrival)
-    (fails : Collected → List (ℕ × Departed Untold) → B → Collected → Type 0) (is_settled : Collected → Type 0)
-    (from : A) (none : Collected) (pool : Pool M G Leg (Told Untold)) (left : A) (some : Collected)
-    (done : Dispatched F B) (e : EndsWith tells rules start (λ x xs y. list x ≡ xs ++ list y) (λ x end y. list x ≡ [])
+module _ {tells : Passage → NoTrace} {A F B M G : Type 0} (rules : Rules) (start : State) (list : A → List Arrival)
+    (fails : OutcomeList → List (ℕ × InputResult NoTrace) → B → OutcomeList → Type 0) (is_settled : OutcomeList → Type 0)
+    (from : A) (none : OutcomeList) (pool : Pool M G Leg (TracedAnswer NoTrace)) (left : A) (some : OutcomeList)
+    (done : DispatchResult F B) (e : DispatchOk tells rules start (λ x xs y. list x ≡ xs ++ list y) (λ x end y. list x ≡ [])
     Collects fails is_settled from none pool left some None done) where
-  pub answered_whole : map length (taken pool) ≡ map length (accepts pool)
+  pub answered_whole : map length (taken pool) ≡ map length (accepted_items pool)
   answered_whole = e.answered
 
   pub dispatched_whole : none.outcomes.items ≡ [] →
-      (length (accepts pool) ≡ length rules.pool → Right tells rules start (accepts pool) (taken pool)) →
-      IsDispatchedFrom rules start (list from) (accepts pool) some.outcomes.items done.legs.items
+      (length (accepted_items pool) ≡ length rules.pool → AnswersAreRight tells rules start (accepted_items pool) (taken pool)) →
+      IsDispatchedFrom rules start (list from) (accepted_items pool) some.outcomes.items done.legs.items
   dispatched_whole empty right = grind (arith, common_steps, nat_tests, came_whole)

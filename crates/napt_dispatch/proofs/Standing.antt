@@ -4,34 +4,34 @@ use Rattle.std.proofs.Common.{◌≡◌, ◌≢◌, ℕ, zero, suc, ◌+◌, ◌
 use Rattle.std.{specs.Prelude.{IfSome, drop, flat_map, slice_index, slice_get, slice_set}, proofs.lemmas.Bool.{cases_eq, eq-eqb, ne_eqb}}
 use Rattle.std.proofs.lemmas.{List.{length_push, map-append, length-replicate, length-map, get_or-map}, Grind.flat_map-append, Option.same_Some}
 use Rattle.napt_wire.specs.{declared.{Way.{Way, TheVariants.Outgoing}, Cause.Cause, Side.{Side, TheVariants.Inside}}, Fields.destination, Packet.IsPacket}
-use Rattle.napt_config.specs.{Rules.{Rules, place_of}, declared.settings.Timers.Timers}
-use Rattle.napt_rules.specs.Prelude.{Each, way_from, served_at, Acted, act, follow_by, Arrival, admission, Act, Course, State, course_from, last_clock, acts_at, legs_at, Kept, kept_after}
+use Rattle.napt_config.specs.{Rules.{Rules, pool_place}, declared.settings.Timers.Timers}
+use Rattle.napt_rules.specs.Prelude.{Each, way_from, served_at, LegEffect, act, with_second_leg, Arrival, admission, LegAct, RunEffect, State, effect_from, last_clock, acts_at, legs_at, LocalState, local_after}
 use Rattle.napt_rules.specs.declared.{Leg.Leg, End.End, Outcome.Outcome}
 use Rattle.napt_rules.specs.declared.End.TheVariants as ends
 use Rattle.napt_rules.specs.declared.Outcome.TheVariants as outcomes
-use Rattle.napt_dispatch.specs.declared.dispatcher.{holding.{Front.Front, Pending.{Pending, TheVariants.{Ready, Place}}, Owed.Owed}, progress.Progress.Progress}
-use Rattle.napt_dispatch.specs.declared.{dispatcher.progress.Progress.TheVariants.{Returning, Answered}}
-use Rattle.napt_dispatch.specs.{declared.dispatcher.Dispatcher.Dispatcher, Dispatch.{of_worker, fresh, IsDispatchedFrom, Right, departed, departed_of}}
-use Rattle.napt_dispatch.specs.{Collecting.outcome_of, Passing.timed}
-use Rattle.napt_dispatch.specs.QueueStates.{QueueState, unused, queue_of, counts_in, all_held, count_held, front_of, owed_of, first_leg, readied, answered, with_offers, with_queue, Holds, AllHold, only_at, place_at}
-use Rattle.napt_dispatch.specs.Windows.{Window, Whole, whole_of, progress_in, times_in, is_incoming, departed_with, passages_after, refused, refused_at, asked_by, first_by, NoneBehind, IsKnown, AllKnown}
-use Rattle.napt_dispatch.specs.Standing.{Grows, Lane, DispatchState, state_with, state_of, LaneStands, resolved, lane_legs, IsRight, AreRight, Reaches, Stands, Keeps, Admits, Resolves, waits, IsDone}
-use Rattle.napt_dispatch.proofs.{Ended.map_at, Lanes.{fronts_both, place_within}, QueueStates.{queue_own, queue_other, length_with, nothing, of_replicate}}
+use Rattle.napt_dispatch.specs.declared.dispatcher.{holding.{QueueHead.QueueHead, PendingLeg.{PendingLeg, TheVariants.{Ready, Place}}, AwaitedLeg.AwaitedLeg}, progress.InputProgress.InputProgress}
+use Rattle.napt_dispatch.specs.declared.{dispatcher.progress.InputProgress.TheVariants.{Returning, Answered}}
+use Rattle.napt_dispatch.specs.{declared.dispatcher.Dispatcher.Dispatcher, Dispatch.{of_worker, local_bindings, IsDispatchedFrom, AnswersAreRight, input_results, input_result}}
+use Rattle.napt_dispatch.specs.{OutcomeLists.collected_outcome, RunsThrough.timed_results}
+use Rattle.napt_dispatch.specs.WorkerQueues.{WorkerQueueModel, unused_queue, queue_of, counts_in, all_held, held_legs_count, front_of, owed_of, first_held_leg, queue_readied, queue_answered, with_offers, with_queue, HoldPost, AllHold, only_at, lane_at}
+use Rattle.napt_dispatch.specs.RunProgresses.{RunProgressModel, RunLegs, whole_of, progress_in, times_in, is_incoming, departed_with, passages_after, progress_refused, refused_at, second_leg_asked_by, first_by, NoneBehind, ProgressIsKnown, AllKnown}
+use Rattle.napt_dispatch.specs.DispatcherInvariants.{PoolGrows, Lane, DispatcherModel, state_with, dispatcher_state, LaneStands, resolved_legs, lane_legs, IsRight, AreRight, DispatcherReaches, DispatcherInvariant, DispatcherKeeps, Admits, Resolves, queue_waits, DispatcherIsDone}
+use Rattle.napt_dispatch.proofs.{DispatchEnds.map_at, Lanes.{fronts_both, place_within}, QueueStates.{queue_own, queue_other, length_with, nothing, of_replicate}}
 use Rattle.napt_dispatch.proofs.Windows.{known_set, returning_known, ended_known, second_known, left_front, left_whole, timed_outcomes, departed_long, departed_outcomes}
-use Rattle.napt_dispatch.specs.declared.dispatcher.holding.Front.TheVariants as fronts
-use Rattle.napt_laws.specs.{Dispatching.{IsFront, outcome_told, IsTold, IsForetold, OnwardIsForetold}, Places.{first_act, second_legs, second_of, IsSeconded}}
-use Rattle.napt_laws.proofs.{Dispatched.answers_tell, Grown.outcomes_long, OneInput.{acts_begin, outcomes_begin, get_at, grown}}
+use Rattle.napt_dispatch.specs.declared.dispatcher.holding.QueueHead.TheVariants as fronts
+use Rattle.napt_laws.specs.{Dispatching.{IsFrontOf, outcome_told, OutcomeIsTold, IsForetold, OnwardIsForetold}, SecondLegs.{first_act, second_legs, second_of, IsSeconded}}
+use Rattle.napt_laws.proofs.{DispatchLaws.answers_tell, OneMoreInput.outcomes_long, OneInput.{acts_begin, outcomes_begin, get_at, grown}}
 use Rattle.napt_laws.proofs.{Places.{legs_append, answers_fill, cond_map, place_stands, acts_grow}, Pools.stands_at}
-use Rattle.napt_pool.specs.{declared.pool.Pool.Pool, Pools.{accepts, takes}}
-use Rattle.napt_sequential.specs.{declared.{telling.Told.Told, passage.{Passage.TheVariants.Nothing, Trace.Trace}}, CountedTranslators.{told_of, told_by}}
-use Rattle.napt_sequential.{specs.{Steps.{steps_of, told_replies}, Traces.{passage_of, traces_of}}, proofs.{Joined.{steps_get, refused_trace}, ToldAlone.right_told}}
-use Rattle.napt_sequential.{proofs.Traced.{IsTraced, IsPlaced, legs_traced}, specs.declared.passage.Passage.Passage}
+use Rattle.napt_pool.specs.{declared.pool.Pool.Pool, Pools.{accepted_items, taken_answers}}
+use Rattle.napt_sequential.specs.{declared.{leg_trace.TracedAnswer.TracedAnswer, passage.{Passage.TheVariants.Nothing, Trace.Trace}}, CountedTranslators.{traced_act, traced_by}}
+use Rattle.napt_sequential.{specs.{Steps.{steps_of, told_replies}, Traces.{passage_of, traces_of}}, proofs.{JoinedSteps.{steps_get, refused_trace}, TracesAlone.right_told}}
+use Rattle.napt_sequential.{proofs.TracedLegs.{IsTraced, IsPlaced, legs_traced}, specs.declared.passage.Passage.Passage}
 
 -- FRONTS
 
 -- a front that is short enough is a front of the front
-short_front : {X : Type 0} (xs ys : List X) (zs : List X) → length xs ≤ length ys → IsFront xs (ys ++ zs) →
-    IsFront xs ys
+short_front : {X : Type 0} (xs ys : List X) (zs : List X) → length xs ≤ length ys → IsFrontOf xs (ys ++ zs) →
+    IsFrontOf xs ys
 short_front [] ys zs le h = (ys, refl)
 short_front (x ∷ xs) [] zs le h = absurd (omega arith)
 short_front (x ∷ xs) (y ∷ ys) zs le h =
@@ -39,84 +39,84 @@ short_front (x ∷ xs) (y ∷ ys) zs le h =
     let more = short_front xs ys zs (omega arith) (h.0, rest) in
     (more.0, (cc))
 
-length_replies : {P : Type 0} (tells : Passage → P) (rules : Rules) (address : ℕ) (legs : List Leg) (kept : Kept) →
+length_replies : {P : Type 0} (tells : Passage → P) (rules : Rules) (address : ℕ) (legs : List Leg) (kept : LocalState) →
     length (told_replies tells rules address legs kept) ≡ length legs
 length_replies tells rules address [] kept = refl
 length_replies tells rules address (l ∷ legs) kept =
-    ap suc (length_replies tells rules address legs (kept_after rules address l kept))
+    ap suc (length_replies tells rules address legs (local_after rules address l kept))
 
-replies_more : {P : Type 0} (tells : Passage → P) (rules : Rules) (address : ℕ) (legs more : List Leg) (kept : Kept) →
-    (others : List (Told P))
+replies_more : {P : Type 0} (tells : Passage → P) (rules : Rules) (address : ℕ) (legs more : List Leg) (kept : LocalState) →
+    (others : List (TracedAnswer P))
     × (told_replies tells rules address (legs ++ more) kept ≡ told_replies tells rules address legs kept ++ others)
 replies_more tells rules address [] more kept = (told_replies tells rules address more kept, refl)
 replies_more {P} tells rules address (l ∷ legs) more kept =
-    let rest = replies_more tells rules address legs more (kept_after rules address l kept) in
-    (rest.0, ap (λ (xs : List (Told P)). told_by tells rules address l kept ∷ xs) rest.1)
+    let rest = replies_more tells rules address legs more (local_after rules address l kept) in
+    (rest.0, ap (λ (xs : List (TracedAnswer P)). traced_by tells rules address l kept ∷ xs) rest.1)
 
 -- answers that are right at last were right before
 pub right_before : {P : Type 0} {tells : Passage → P} {M G : Type 0} (rules : Rules) (start : State)
-    (done all : List Arrival) (pool last_pool : Pool M G Leg (Told P))
-    (d : Dispatcher P) → Stands tells rules start done all (state_of pool d) → Grows pool last_pool →
-    Right tells rules start (accepts last_pool) (takes last_pool) → AreRight tells rules start (state_of pool d)
+    (done all : List Arrival) (pool last_pool : Pool M G Leg (TracedAnswer P))
+    (d : Dispatcher P) → DispatcherInvariant tells rules start done all (dispatcher_state pool d) → PoolGrows pool last_pool →
+    AnswersAreRight tells rules start (accepted_items last_pool) (taken_answers last_pool) → AreRight tells rules start (dispatcher_state pool d)
 right_before {P} {tells} rules start done all pool last_pool d s grows right = λ w lt.
     let address : ℕ = slice_index rules.pool w in
-    let lane : Lane P = (state_of pool d).lane w in
+    let lane : Lane P = (dispatcher_state pool d).lane w in
     let o = s.lanes w lt in
     let more = grows.offered w in
-    let others = replies_more tells rules address lane.offered more.0 (fresh start address) in
-    let whole : IsFront lane.taken (told_replies tells rules address lane.offered (fresh start address) ++ others.0) =
-    subst (λ l. IsFront lane.taken l)
-    (ap (λ legs. told_replies tells rules address legs (fresh start address)) (sym more.1)
+    let others = replies_more tells rules address lane.offered more.0 (local_bindings start address) in
+    let whole : IsFrontOf lane.taken (told_replies tells rules address lane.offered (local_bindings start address) ++ others.0) =
+    subst (λ l. IsFrontOf lane.taken l)
+    (ap (λ legs. told_replies tells rules address legs (local_bindings start address)) (sym more.1)
     ∙ others.1) (fronts_both _ _ _ (grows.taken w) (right w lt)) in
-    let long : length (told_replies tells rules address lane.offered (fresh start address)) ≡ length lane.offered =
-    length_replies tells rules address lane.offered (fresh start address) in
+    let long : length (told_replies tells rules address lane.offered (local_bindings start address)) ≡ length lane.offered =
+    length_replies tells rules address lane.offered (local_bindings start address) in
     let parts : length lane.offered ≡ length o.before + length o.rest =
     ap length o.parts ∙ length-append o.before o.rest in
-    short_front lane.taken (told_replies tells rules address lane.offered (fresh start address)) others.0
+    short_front lane.taken (told_replies tells rules address lane.offered (local_bindings start address)) others.0
     (omega (arith, long, parts, o.long)) whole
 
 -- a front of a front
-front_less : {X : Type 0} (xs ys zs : List X) → IsFront (xs ++ ys) zs → IsFront xs zs
+front_less : {X : Type 0} (xs ys zs : List X) → IsFrontOf (xs ++ ys) zs → IsFrontOf xs zs
 front_less xs ys zs h = (ys ++ h.0, sym (append_assoc xs ys h.0) ∙ h.1)
 
 -- ONE LANE
 
 -- what was offered to a worker begins its legs of the whole run
 offered_front : {P : Type 0} {tells : Passage → P} (rules : Rules) (start : State) (done all : List Arrival)
-    (state : DispatchState P) → Stands tells rules start done all state → Reaches tells rules start done all state →
-    (w : ℕ) → w < length rules.pool → IsFront (state.lane w).offered
-    (legs_at (slice_index rules.pool w) (course_from rules start all).acts)
+    (state : DispatcherModel P) → DispatcherInvariant tells rules start done all state → DispatcherReaches tells rules start done all state →
+    (w : ℕ) → w < length rules.pool → IsFrontOf (state.lane w).offered
+    (legs_at (slice_index rules.pool w) (effect_from rules start all).acts)
 offered_front rules start done all state s r w lt =
     let address : ℕ = slice_index rules.pool w in
-    let more : IsFront (course_from rules start done).acts (course_from rules start all).acts =
+    let more : IsFrontOf (effect_from rules start done).acts (effect_from rules start all).acts =
     rw s.whole at (acts_begin rules 0 start.clock done s.rest start.list) in
-    let q : QueueState = (state.lane w).queue in
-    let held : List Leg = q.ready ++ flat_map (resolved (course_from rules start all).acts) q.held in (
+    let q : WorkerQueueModel = (state.lane w).queue in
+    let held : List Leg = q.ready ++ flat_map (resolved_legs (effect_from rules start all).acts) q.held in (
       held ++ legs_at address more.0,
       rw (
         ← append_assoc (state.lane w).offered held (legs_at address more.0),
         r.reached w lt,
-        ← legs_append address (course_from rules start done).acts more.0,
+        ← legs_append address (effect_from rules start done).acts more.0,
         more.1,
       ) refl,
     )
 
 -- a lane and the progress of the inputs change, so that what stands goes on standing
 pub record LaneKeeps {P : Type 0} (tells : Passage → P) (rules : Rules) (start : State) (all : List Arrival) (w : ℕ)
-    (one two : Lane P) (progress later : List (Progress P)) : Type 0 where
+    (one two : Lane P) (progress later : List (InputProgress P)) : Type 0 where
   pub stands : LaneStands one → LaneStands two
   pub right : LaneStands one → IsRight tells rules start w two → IsRight tells rules start w one
   pub legs : AllKnown (whole_of tells rules start all) progress →
-      lane_legs (course_from rules start all).acts two ≡ lane_legs (course_from rules start all).acts one
+      lane_legs (effect_from rules start all).acts two ≡ lane_legs (effect_from rules start all).acts one
   pub known : LaneStands one → IsRight tells rules start w two →
-      IsFront one.offered (legs_at (slice_index rules.pool w) (course_from rules start all).acts) →
+      IsFrontOf one.offered (legs_at (slice_index rules.pool w) (effect_from rules start all).acts) →
       AllKnown (whole_of tells rules start all) progress → AllKnown (whole_of tells rules start all) later
 
-lane_keeps : {P : Type 0} {tells : Passage → P} (w : ℕ) (state later : DispatchState P) (one two : Lane P) →
+lane_keeps : {P : Type 0} {tells : Passage → P} (w : ℕ) (state later : DispatcherModel P) (one two : Lane P) →
     w < state.many → later.many ≡ state.many →
     state.lane w ≡ one → later.lane w ≡ two → ((v : ℕ) → v ≢ w → later.lane v ≡ state.lane v) →
     ((rules : Rules) (start : State) (all : List Arrival) →
-    LaneKeeps tells rules start all w one two state.progress later.progress) → Keeps tells state later
+    LaneKeeps tells rules start all w one two state.progress later.progress) → DispatcherKeeps tells state later
 lane_keeps {tells = tells} w state later one two lt many was is others step = λ rules start done all s.
     let k : LaneKeeps tells rules start all w one two state.progress later.progress = step rules start all in
     let within : w < length rules.pool = rw s.many at lt in
@@ -131,7 +131,7 @@ lane_keeps {tells = tells} w state later one two lt many was is others step = λ
       ];
       reaches = λ right.
           let here : IsRight tells rules start w two = rw is at (right w within) in
-          let r : Reaches tells rules start done all state = s.reaches (λ v lt. elim (cases_eq v w) [
+          let r : DispatcherReaches tells rules start done all state = s.reaches (λ v lt. elim (cases_eq v w) [
             | inl e ↦ rw (e, was) (k.right own here)
             | inr n ↦ rw (others v n) at (right v lt)
           ]) in
@@ -146,14 +146,14 @@ lane_keeps {tells = tells} w state later one two lt many was is others step = λ
 
 -- the queues of one worker, and perhaps what it was offered and answered
 pub queues_keep : {P : Type 0} {tells : Passage → P} (w : ℕ) (d later : Dispatcher P)
-    (change : QueueState → QueueState) (offered more : ℕ → List Leg)
-    (taken answers : ℕ → List (Told P)) → w < length d.queues → later.queues ≡ with_queue w change d.queues →
+    (change : WorkerQueueModel → WorkerQueueModel) (offered more : ℕ → List Leg)
+    (taken answers : ℕ → List (TracedAnswer P)) → w < length d.queues → later.queues ≡ with_queue w change d.queues →
     ((v : ℕ) → v ≢ w → (more v ≡ offered v) × (answers v ≡ taken v)) →
     ((rules : Rules) (start : State) (all : List Arrival) → LaneKeeps tells rules start all w
     (record { offered = offered w; taken = taken w; queue = queue_of d.queues w })
     (record { offered = more w; taken = answers w; queue = change (queue_of d.queues w) })
     (progress_in d.progress) (progress_in later.progress)) →
-    Keeps tells (state_with offered taken d) (state_with more answers later)
+    DispatcherKeeps tells (state_with offered taken d) (state_with more answers later)
 queues_keep w d later change offered more taken answers lt is others step =
     lane_keeps w (state_with offered taken d) (state_with more answers later)
     (record { offered = offered w; taken = taken w; queue = queue_of d.queues w })
@@ -173,10 +173,10 @@ queues_keep w d later change offered more taken answers lt is others step =
 
 -- only more is known, or as much, after some inputs
 pub known_stands : {P : Type 0} {tells : Passage → P} (rules : Rules) (start : State) (done all : List Arrival)
-    (many : ℕ) (lane : ℕ → Lane P) (progress later : List (Progress P)) →
+    (many : ℕ) (lane : ℕ → Lane P) (progress later : List (InputProgress P)) →
     (AllKnown (whole_of tells rules start all) progress → AllKnown (whole_of tells rules start all) later) →
-    Stands tells rules start done all (record { many = many; lane = lane; progress = progress }) →
-    Stands tells rules start done all (record { many = many; lane = lane; progress = later })
+    DispatcherInvariant tells rules start done all (record { many = many; lane = lane; progress = progress }) →
+    DispatcherInvariant tells rules start done all (record { many = many; lane = lane; progress = later })
 known_stands rules start done all many lane progress later known s = grind (arith, common_steps, nat_tests)
 
 -- AN OFFER
@@ -184,14 +184,14 @@ known_stands rules start done all many lane progress later known s = grind (arit
 -- the first legs of the next message are counted as offered
 pub offers_keep : {P : Type 0} {tells : Passage → P} (rules : Rules) (start : State) (all : List Arrival) (w : ℕ)
     (legs : List Leg) (offered : List Leg)
-    (taken : List (Told P)) (q : QueueState) (progress : List (Progress P)) → q.ready ≡ legs ++ drop
+    (taken : List (TracedAnswer P)) (q : WorkerQueueModel) (progress : List (InputProgress P)) → q.ready ≡ legs ++ drop
     (length legs) q.ready →
     LaneKeeps tells rules start all w (record { offered = offered; taken = taken; queue = q })
     (record { offered = offered ++ legs; taken = taken; queue = with_offers legs q }) progress progress
 offers_keep {tells = tells} rules start all w legs offered taken q progress ready_is =
     let address : ℕ = slice_index rules.pool w in
-    let more = replies_more tells rules address offered legs (fresh start address) in
-    let replies = length_replies tells rules address offered (fresh start address) in
+    let more = replies_more tells rules address offered legs (local_bindings start address) in
+    let replies = length_replies tells rules address offered (local_bindings start address) in
     record {
       stands = λ o. record {
         before = o.before;
@@ -203,11 +203,11 @@ offers_keep {tells = tells} rules start all w legs offered taken q progress read
       };
       right = λ o right.
           let all = ap length o.parts ∙ length-append o.before o.rest in
-          short_front taken (told_replies tells rules address offered (fresh start address)) more.0
+          short_front taken (told_replies tells rules address offered (local_bindings start address)) more.0
           (omega (arith, all, o.long, replies)) (rw more.1 at right);
       legs = λ known.
           let rest = drop (length legs) q.ready in
-          let held = flat_map (resolved (course_from rules start all).acts) q.held in
+          let held = flat_map (resolved_legs (effect_from rules start all).acts) q.held in
           append_assoc offered legs (rest ++ held)
           ∙ ap (λ ls. offered ++ ls) (sym (append_assoc legs rest held) ∙ ap (λ ls. ls ++ held) (sym ready_is));
       known = λ o right front known. known;
@@ -215,8 +215,8 @@ offers_keep {tells = tells} rules start all w legs offered taken q progress read
 
 -- WHAT IS HELD FIRST
 
-resolves_known : {P : Type 0} (whole : Whole P) (front : Front) (window later : Window P) (second : Option Leg) →
-    waits (progress_in window) front ≡ false → Resolves front window second later →
+resolves_known : {P : Type 0} (whole : RunLegs P) (front : QueueHead) (window later : RunProgressModel P) (second : Option Leg) →
+    queue_waits (progress_in window) front ≡ false → Resolves front window second later →
     AllKnown whole (progress_in window) → AllKnown whole (progress_in later)
 resolves_known whole fronts.Nothing window later second goes is known = rw is known
 resolves_known whole fronts.FirstLeg window later second goes is known = rw is known
@@ -226,54 +226,54 @@ resolves_known whole (fronts.FirstPlace number) window later (Some leg) goes is 
     rw is.written.progress_is (known_set whole (progress_in window) number (Returning is.first)
     (returning_known whole number is.asks.p leg is.first legs is.first_is (known number is.asks.p is.asks.there)) known)
 
-first_stands : {P : Type 0} (whole : Whole P) (held : List Pending) (window later : Window P) (second : Option Leg) →
-    waits (progress_in window) (front_of held) ≡ false → Resolves (front_of held) window second later →
+first_stands : {P : Type 0} (whole : RunLegs P) (held : List PendingLeg) (window later : RunProgressModel P) (second : Option Leg) →
+    queue_waits (progress_in window) (front_of held) ≡ false → Resolves (front_of held) window second later →
     AllKnown whole (progress_in window) →
-    flat_map (resolved whole.acts) held ≡ first_leg second held ++ flat_map (resolved whole.acts) (drop 1 held)
+    flat_map (resolved_legs whole.acts) held ≡ first_held_leg second held ++ flat_map (resolved_legs whole.acts) (drop 1 held)
 first_stands whole [] window later second goes is known = absurd cc
 first_stands whole (Ready leg ∷ rest) window later second goes is known = refl
 first_stands whole (Place number ∷ rest) window later None goes is known =
-    ap (λ ls. ls ++ flat_map (resolved whole.acts) rest)
+    ap (λ ls. ls ++ flat_map (resolved_legs whole.acts) rest)
     (second_known whole (progress_in window) number None goes is.1 known)
 first_stands whole (Place number ∷ rest) window later (Some leg) goes is known =
-    ap (λ ls. ls ++ flat_map (resolved whole.acts) rest)
+    ap (λ ls. ls ++ flat_map (resolved_legs whole.acts) rest)
     (second_known whole (progress_in window) number (Some leg) goes is.asks known)
 
 -- it becomes a leg of the next message, or was a placeholder that stands for none
 pub readied_keeps : {P : Type 0} {tells : Passage → P} (rules : Rules) (start : State) (all : List Arrival) (w : ℕ)
-    (offered : List Leg) (taken : List (Told P)) (q : QueueState) (window later : Window P) (second : Option Leg) →
-    waits (progress_in window) (front_of q.held) ≡ false → Resolves (front_of q.held) window second later →
+    (offered : List Leg) (taken : List (TracedAnswer P)) (q : WorkerQueueModel) (window later : RunProgressModel P) (second : Option Leg) →
+    queue_waits (progress_in window) (front_of q.held) ≡ false → Resolves (front_of q.held) window second later →
     LaneKeeps tells rules start all w (record { offered = offered; taken = taken; queue = q })
-    (record { offered = offered; taken = taken; queue = readied second q }) (progress_in window) (progress_in later)
+    (record { offered = offered; taken = taken; queue = queue_readied second q }) (progress_in window) (progress_in later)
 readied_keeps {tells = tells} rules start all w offered taken q window later second goes is =
-    let whole : Whole _ = whole_of tells rules start all in
+    let whole : RunLegs _ = whole_of tells rules start all in
     record {
       stands = λ o. o;
       right = λ o right. right;
       legs = λ known. ap (λ ls. offered ++ ls)
-          (append_assoc q.ready (first_leg second q.held) (flat_map (resolved whole.acts) (drop 1 q.held))
+          (append_assoc q.ready (first_held_leg second q.held) (flat_map (resolved_legs whole.acts) (drop 1 q.held))
           ∙ ap (λ ls. q.ready ++ ls) (sym (first_stands whole q.held window later second goes is known)));
       known = λ o right front known. resolves_known whole (front_of q.held) window later second goes is known;
     }
 
 -- AN ANSWER
 
-each_at : (P : Act → Type 0) (address : ℕ) (acts : List Act) → Each P acts → Each P (acts_at address acts)
+each_at : (P : LegAct → Type 0) (address : ℕ) (acts : List LegAct) → Each P acts → Each P (acts_at address acts)
 each_at P address [] h = tt
 each_at P address (a ∷ acts) h = grind (arith, common_steps, nat_tests, each_at P address acts h.1)
 
 -- the act of a leg and what is told of it, which stand at one place
-pub record ActOf {P : Type 0} (tells : Passage → P) (timers : Timers) (Q : Act → Type 0) (leg : Leg) (told : Told P)
+pub record ActOf {P : Type 0} (tells : Passage → P) (timers : Timers) (Q : LegAct → Type 0) (leg : Leg) (told : TracedAnswer P)
     : Type 0 where
-  pub a : Act
+  pub a : LegAct
   pub leg_is : a.leg ≡ leg
-  pub told_is : told_of tells timers a ≡ told
+  pub told_is : traced_act tells timers a ≡ told
   pub holds : Q a
 
-act_at : {P : Type 0} (tells : Passage → P) (timers : Timers) (Q : Act → Type 0) (acts : List Act)
-    (before more : List Leg) (leg : Leg) (taken rest : List (Told P)) (told : Told P) → length before ≡ length taken →
-    Each Q acts → before ++ leg ∷ more ≡ map (λ (a : Act). a.leg) acts →
-    (taken ++ told ∷ []) ++ rest ≡ map (told_of tells timers) acts → ActOf tells timers Q leg told
+act_at : {P : Type 0} (tells : Passage → P) (timers : Timers) (Q : LegAct → Type 0) (acts : List LegAct)
+    (before more : List Leg) (leg : Leg) (taken rest : List (TracedAnswer P)) (told : TracedAnswer P) → length before ≡ length taken →
+    Each Q acts → before ++ leg ∷ more ≡ map (λ (a : LegAct). a.leg) acts →
+    (taken ++ told ∷ []) ++ rest ≡ map (traced_act tells timers) acts → ActOf tells timers Q leg told
 act_at tells timers Q [] [] more leg taken rest told long each legs answers = cc (legs)
 act_at tells timers Q [] (l ∷ before) more leg taken rest told long each legs answers = cc (legs)
 act_at tells timers Q (a ∷ acts) [] more leg [] rest told long each legs answers =
@@ -283,21 +283,21 @@ act_at tells timers Q (a ∷ acts) (l ∷ before) more leg [] rest told long eac
 act_at tells timers Q (a ∷ acts) (l ∷ before) more leg (t ∷ taken) rest told long each legs answers =
     act_at tells timers Q acts before more leg taken rest told (omega arith) each.1 (cc (legs)) (cc (answers))
 
-record Tells (rules : Rules) (start : State) (all : List Arrival) (a : Act) : Type 0 where
-  pub told : IsTold (course_from rules start all).outcomes a
-  pub seconded : IsSeconded (course_from rules start all).acts a
-  pub traced : IsTraced rules.timers (traces_of rules start all) (course_from rules start all).acts a
+record Tells (rules : Rules) (start : State) (all : List Arrival) (a : LegAct) : Type 0 where
+  pub told : OutcomeIsTold (effect_from rules start all).outcomes a
+  pub seconded : IsSeconded (effect_from rules start all).acts a
+  pub traced : IsTraced rules.timers (traces_of rules start all) (effect_from rules start all).acts a
 
-each_tells : (rules : Rules) (start : State) (all : List Arrival) (acts : List Act) →
-    Each (IsTold (course_from rules start all).outcomes) acts →
-    Each (IsSeconded (course_from rules start all).acts) acts →
-    Each (IsTraced rules.timers (traces_of rules start all) (course_from rules start all).acts) acts →
+each_tells : (rules : Rules) (start : State) (all : List Arrival) (acts : List LegAct) →
+    Each (OutcomeIsTold (effect_from rules start all).outcomes) acts →
+    Each (IsSeconded (effect_from rules start all).acts) acts →
+    Each (IsTraced rules.timers (traces_of rules start all) (effect_from rules start all).acts) acts →
     Each (Tells rules start all) acts
 each_tells rules start all [] h g k = tt
 each_tells rules start all (a ∷ acts) h g k =
     (record { told = h.0; seconded = g.0; traced = k.0 }, each_tells rules start all acts h.1 g.1 k.1)
 
-second_asked : (leg : Leg) (e : End) → second_of leg e ≡ option_to_list (asked_by leg.number leg.now e)
+second_asked : (leg : Leg) (e : End) → second_of leg e ≡ option_to_list (second_leg_asked_by leg.number leg.now e)
 second_asked leg e = grind (arith, common_steps, nat_tests)
 
 is_outgoing : (way : Way) → is_incoming way ≡ false → way ≡ Outgoing
@@ -310,13 +310,13 @@ get_map f (y ∷ xs) zero x h = let same : y ≡ x = cc (h) in ap (λ z. Some (f
 get_map f (y ∷ xs) (suc n) x h = get_map f xs n x h
 
 -- what is told of an act, and what is known of its input then
-module _ {P : Type 0} (tells : Passage → P) (rules : Rules) (start : State) (all : List Arrival) (a : Act)
+module _ {P : Type 0} (tells : Passage → P) (rules : Rules) (start : State) (all : List Arrival) (a : LegAct)
     (said : Tells rules start all a)
   where
     abbrev number : ℕ
     number = a.leg.number
 
-    abbrev whole_here : Whole P
+    abbrev whole_here : RunLegs P
     whole_here = whole_of tells rules start all
 
     abbrev trace : Trace
@@ -326,7 +326,7 @@ module _ {P : Type 0} (tells : Passage → P) (rules : Rules) (start : State) (a
     did = tells (passage_of rules.timers a)
 
     abbrev legs_here : List Leg
-    legs_here = second_legs number (course_from rules start all).acts
+    legs_here = second_legs number (effect_from rules start all).acts
 
     -- the input came to that, if the leg told its outcome
     abbrev Departs : P → P → Option Outcome → Type 0
@@ -335,7 +335,7 @@ module _ {P : Type 0} (tells : Passage → P) (rules : Rules) (start : State) (a
 
     departs : (first second : P) → tells trace.first ≡ first → tells trace.second ≡ second →
         (outcome : Option Outcome) →
-        IfSome outcome (λ o. slice_get (course_from rules start all).outcomes number ≡ Some o) →
+        IfSome outcome (λ o. slice_get (effect_from rules start all).outcomes number ≡ Some o) →
         Departs first second outcome
     departs first second one two outcome h = grind (arith, common_steps, nat_tests, get_map, steps_get)
 
@@ -352,7 +352,7 @@ module _ {P : Type 0} (tells : Passage → P) (rules : Rules) (start : State) (a
     first_known first is e = grind (arith, common_steps, nat_tests)
 
     abbrev IsKnownNow : P × P → Type 0
-    IsKnownNow passages = IsKnown whole_here number (Answered (owed_of a.leg) a.end passages.0 passages.1)
+    IsKnownNow passages = ProgressIsKnown whole_here number (Answered (owed_of a.leg) a.end passages.0 passages.1)
 
     known_now : (first second : P) → slice_get whole_here.firsts number ≡ Some first →
         Departs first second (outcome_told a.end) → IsKnownNow (first, second)
@@ -369,32 +369,32 @@ module _ {P : Type 0} (tells : Passage → P) (rules : Rules) (start : State) (a
     second_told first is some only =
         grind (arith, common_steps, nat_tests, known_now, onward, departs, same_Some, first_there)
 
-    told_known : (was : Progress P) (way : Way) → a.leg.way ≡ way → IsKnown whole_here number was →
+    told_known : (was : InputProgress P) (way : Way) → a.leg.way ≡ way → ProgressIsKnown whole_here number was →
         (passages : P × P) → passages_after (tells Nothing) was way did ≡ Some passages → IsKnownNow passages
     told_known was way goes known passages is =
         grind (arith, common_steps, nat_tests, same_Some, first_told, second_told)
 
 act_tells : {P : Type 0} (tells : Passage → P) (rules : Rules) (start : State) (all : List Arrival) (leg : Leg)
-    (told : Told P) (was : Progress P) (passages : P × P) → ActOf tells rules.timers (Tells rules start all) leg told →
+    (told : TracedAnswer P) (was : InputProgress P) (passages : P × P) → ActOf tells rules.timers (Tells rules start all) leg told →
     passages_after (tells Nothing) was leg.way told.passage ≡ Some passages →
-    IsKnown (whole_of tells rules start all) told.answer.number was →
-    IsKnown (whole_of tells rules start all) told.answer.number
+    ProgressIsKnown (whole_of tells rules start all) told.answer.number was →
+    ProgressIsKnown (whole_of tells rules start all) told.answer.number
     (Answered (owed_of leg) told.answer.end passages.0 passages.1)
 act_tells tells rules start all leg told was passages x is known =
     rw (← x.leg_is, ← x.told_is)
     (told_known tells rules start all x.a x.holds was x.a.leg.way refl (rw (← x.told_is) at known)
     passages (rw (← x.leg_is, ← x.told_is) at is))
 
-first_owed : (legs : List Leg) (o : Owed) (os : List Owed) → o ∷ os ≡ map owed_of legs → (leg : Leg) × (rest : List Leg)
+first_owed : (legs : List Leg) (o : AwaitedLeg) (os : List AwaitedLeg) → o ∷ os ≡ map owed_of legs → (leg : Leg) × (rest : List Leg)
     × (legs ≡ leg ∷ rest) × (o ≡ owed_of leg) × (os ≡ map owed_of rest)
 first_owed [] o os h = cc
 first_owed (leg ∷ legs) o os h = (leg, legs, refl, cc, cc)
 
-module _ {P : Type 0} (tells : Passage → P) (rules : Rules) (start : State) (all : List Arrival) (w : ℕ) (told : Told P)
-    (owed : Owed) (passages : P × P) (offered : List Leg) (taken : List (Told P)) (q : QueueState)
+module _ {P : Type 0} (tells : Passage → P) (rules : Rules) (start : State) (all : List Arrival) (w : ℕ) (told : TracedAnswer P)
+    (owed : AwaitedLeg) (passages : P × P) (offered : List Leg) (taken : List (TracedAnswer P)) (q : WorkerQueueModel)
     (owes : q.owed ≡ owed ∷ drop 1 q.owed) where
-  abbrev course : Course
-  course = course_from rules start all
+  abbrev course : RunEffect
+  course = effect_from rules start all
 
   abbrev address : ℕ
   address = slice_index rules.pool w
@@ -403,33 +403,33 @@ module _ {P : Type 0} (tells : Passage → P) (rules : Rules) (start : State) (a
   one = record { offered = offered; taken = taken; queue = q }
 
   abbrev two : Lane P
-  two = record { offered = offered; taken = taken ++ told ∷ []; queue = answered q }
+  two = record { offered = offered; taken = taken ++ told ∷ []; queue = queue_answered q }
 
-  abbrev now_told : Owed → Progress P
+  abbrev now_told : AwaitedLeg → InputProgress P
   now_told o = Answered o told.answer.end passages.0 passages.1
 
   head : (o : LaneStands one) → (leg : Leg) × (rest : List Leg) × (o.rest ≡ leg ∷ rest) × (owed ≡ owed_of leg)
       × (drop 1 q.owed ≡ map owed_of rest)
   head o = first_owed o.rest owed (drop 1 q.owed) (sym owes ∙ o.owed_is)
 
-  answer_known : (was : Progress P) → passages_after (tells Nothing) was owed.way told.passage ≡ Some passages →
-      LaneStands one → IsRight tells rules start w two → IsFront offered (legs_at address course.acts) →
-      IsKnown (whole_of tells rules start all) told.answer.number was →
-      IsKnown (whole_of tells rules start all) told.answer.number (now_told owed)
+  answer_known : (was : InputProgress P) → passages_after (tells Nothing) was owed.way told.passage ≡ Some passages →
+      LaneStands one → IsRight tells rules start w two → IsFrontOf offered (legs_at address course.acts) →
+      ProgressIsKnown (whole_of tells rules start all) told.answer.number was →
+      ProgressIsKnown (whole_of tells rules start all) told.answer.number (now_told owed)
   answer_known was is o right front known =
       let first = head o in
       let told_front = right_told tells rules address start all offered (taken ++ told ∷ []) front right in
       let each : Each (Tells rules start all) (acts_at address course.acts) =
       each_at (Tells rules start all) address course.acts (each_tells rules start all course.acts
       (answers_tell rules start all) (answers_fill rules start all) (legs_traced rules start all)) in
-      let legs : o.before ++ first.0 ∷ (first.1 ++ front.0) ≡ map (λ (a : Act). a.leg) (acts_at address course.acts) =
+      let legs : o.before ++ first.0 ∷ (first.1 ++ front.0) ≡ map (λ (a : LegAct). a.leg) (acts_at address course.acts) =
       rw (o.parts, first.2, append_assoc) at front.1 in
-      subst (λ (o : Owed). IsKnown (whole_of tells rules start all) told.answer.number (now_told o)) (sym first.3)
+      subst (λ (o : AwaitedLeg). ProgressIsKnown (whole_of tells rules start all) told.answer.number (now_told o)) (sym first.3)
       (act_tells tells rules start all first.0 told was passages (act_at tells rules.timers (Tells rules start all)
       (acts_at address course.acts) o.before (first.1 ++ front.0) first.0 taken told_front.0 told o.long each legs
-      told_front.1) (ap (λ (o : Owed). passages_after (tells Nothing) was o.way told.passage) (sym first.3) ∙ is) known)
+      told_front.1) (ap (λ (o : AwaitedLeg). passages_after (tells Nothing) was o.way told.passage) (sym first.3) ∙ is) known)
 
-  pub answer_keeps : (progress : List (Progress P)) (was : Progress P) →
+  pub answer_keeps : (progress : List (InputProgress P)) (was : InputProgress P) →
       slice_get progress told.answer.number ≡ Some was →
       passages_after (tells Nothing) was owed.way told.passage ≡ Some passages →
       LaneKeeps tells rules start all w one two progress (slice_set progress told.answer.number (now_told owed))
@@ -445,7 +445,7 @@ module _ {P : Type 0} (tells : Passage → P) (rules : Rules) (start : State) (a
           counted = o.counted;
         };
     right = λ o right.
-        front_less taken (told ∷ []) (told_replies tells rules address offered (fresh start address)) right;
+        front_less taken (told ∷ []) (told_replies tells rules address offered (local_bindings start address)) right;
     legs = λ known. refl;
     known = λ o right front known. known_set (whole_of tells rules start all) progress told.answer.number
         (now_told owed) (answer_known was is o right front (known told.answer.number was there)) known;
@@ -453,8 +453,8 @@ module _ {P : Type 0} (tells : Passage → P) (rules : Rules) (start : State) (a
 
 -- ONE INPUT MORE
 
-single_by : (rules : Rules) (at : ℕ) (leg : Leg) (first : Acted) (e : End) →
-    ((place : ℕ) (packet : List ℕ) → e ≢ ends.Onward place packet) → (follow_by rules at leg first e).acts
+single_by : (rules : Rules) (at : ℕ) (leg : Leg) (first : LegEffect) (e : End) →
+    ((place : ℕ) (packet : List ℕ) → e ≢ ends.Onward place packet) → (with_second_leg rules at leg first e).acts
     ≡ record { address = at; leg = leg; end = first.end; through = first.through } ∷ []
 single_by rules at leg first e n = grind (arith, common_steps, nat_tests)
 
@@ -473,30 +473,30 @@ same_test pool distinct v w lv lw = grind (arith, common_steps, nat_tests, cases
 reads_if : {X Y : Type 0} (f : X → List Y) (b : Bool) (x : X) → flat_map f (cond b (x ∷ []) []) ≡ cond b (f x) []
 reads_if f b x = grind (arith, common_steps, nat_tests, append-nil)
 
-legs_behind : (acts : List Act) (legs : List Leg) (rest : List Pending) →
-    flat_map (resolved acts) (map (λ leg. Ready leg) legs ++ rest) ≡ legs ++ flat_map (resolved acts) rest
+legs_behind : (acts : List LegAct) (legs : List Leg) (rest : List PendingLeg) →
+    flat_map (resolved_legs acts) (map (λ leg. Ready leg) legs ++ rest) ≡ legs ++ flat_map (resolved_legs acts) rest
 legs_behind acts [] rest = refl
 legs_behind acts (leg ∷ legs) rest = ap (λ (ls : List Leg). leg ∷ ls) (legs_behind acts legs rest)
 
 -- all that is held, as legs
-legs_held : (acts : List Act) (q : QueueState) →
-    flat_map (resolved acts) (all_held q) ≡ q.ready ++ flat_map (resolved acts) q.held
+legs_held : (acts : List LegAct) (q : WorkerQueueModel) →
+    flat_map (resolved_legs acts) (all_held q) ≡ q.ready ++ flat_map (resolved_legs acts) q.held
 legs_held acts q = legs_behind acts q.ready q.held
 
 -- one worker holds more
-lane_more : {P : Type 0} (acts : List Act) (offered : List Leg) (taken : List (Told P)) (q later : QueueState)
-    (more : List Pending) →
-    Holds more q later → lane_legs acts (record { offered = offered; taken = taken; queue = later })
-    ≡ lane_legs acts (record { offered = offered; taken = taken; queue = q }) ++ flat_map (resolved acts) more
+lane_more : {P : Type 0} (acts : List LegAct) (offered : List Leg) (taken : List (TracedAnswer P)) (q later : WorkerQueueModel)
+    (more : List PendingLeg) →
+    HoldPost more q later → lane_legs acts (record { offered = offered; taken = taken; queue = later })
+    ≡ lane_legs acts (record { offered = offered; taken = taken; queue = q }) ++ flat_map (resolved_legs acts) more
 lane_more acts offered taken q later more h =
-    ap (λ ls. offered ++ ls) (sym (legs_held acts later) ∙ (ap (flat_map (resolved acts)) h.held_is
-    ∙ (flat_map-append (resolved acts) (all_held q) more
-    ∙ ap (λ ls. ls ++ flat_map (resolved acts) more) (legs_held acts q))))
-    ∙ sym (append_assoc offered (q.ready ++ flat_map (resolved acts) q.held) (flat_map (resolved acts) more))
+    ap (λ ls. offered ++ ls) (sym (legs_held acts later) ∙ (ap (flat_map (resolved_legs acts)) h.held_is
+    ∙ (flat_map-append (resolved_legs acts) (all_held q) more
+    ∙ ap (λ ls. ls ++ flat_map (resolved_legs acts) more) (legs_held acts q))))
+    ∙ sym (append_assoc offered (q.ready ++ flat_map (resolved_legs acts) q.held) (flat_map (resolved_legs acts) more))
 
 module _ {P : Type 0} (tells : Passage → P) (rules : Rules) (start : State) (distinct : Distinct rules.pool)
     (done rest : List Arrival) (input : Arrival) (number now : ℕ) (long : length done ≡ number)
-    (clock : max (last_clock start.clock done) input.clock ≡ now) (offered : ℕ → List Leg) (taken : ℕ → List (Told P))
+    (clock : max (last_clock start.clock done) input.clock ≡ now) (offered : ℕ → List Leg) (taken : ℕ → List (TracedAnswer P))
     (d later : Dispatcher P) where
   abbrev all_of : List Arrival
   all_of = (done ++ input ∷ []) ++ rest
@@ -504,59 +504,59 @@ module _ {P : Type 0} (tells : Passage → P) (rules : Rules) (start : State) (d
   abbrev now_done : List Arrival
   now_done = done ++ input ∷ []
 
-  abbrev acts_all : List Act
-  acts_all = (course_from rules start all_of).acts
+  abbrev acts_all : List LegAct
+  acts_all = (effect_from rules start all_of).acts
 
   abbrev at_place : ℕ → ℕ
   at_place v = slice_index rules.pool v
 
   -- the same, but for more that is held and known, with the legs of one input more
-  grown_stands : (extra : ℕ → List Pending) → length later.queues ≡ length d.queues →
+  grown_stands : (extra : ℕ → List PendingLeg) → length later.queues ≡ length d.queues →
       AllHold extra d.queues later.queues →
-      ((v : ℕ) → v < length rules.pool → legs_at (at_place v) (course_from rules start now_done).acts ≡ legs_at
-      (at_place v) (course_from rules start done).acts ++ flat_map (resolved acts_all) (extra v)) →
+      ((v : ℕ) → v < length rules.pool → legs_at (at_place v) (effect_from rules start now_done).acts ≡ legs_at
+      (at_place v) (effect_from rules start done).acts ++ flat_map (resolved_legs acts_all) (extra v)) →
       (AllKnown (whole_of tells rules start all_of) (progress_in d.progress) → AllKnown
-      (whole_of tells rules start all_of) (progress_in later.progress)) → Stands tells rules start done all_of
-      (state_with offered taken d) → Stands tells rules start now_done all_of (state_with offered taken later)
+      (whole_of tells rules start all_of) (progress_in later.progress)) → DispatcherInvariant tells rules start done all_of
+      (state_with offered taken d) → DispatcherInvariant tells rules start now_done all_of (state_with offered taken later)
   grown_stands extra many holds legs known s = record {
     rest = rest;
     whole = refl;
     many = many ∙ s.many;
     lanes = λ v lt. rw ((holds v).offered_stays, (holds v).owed_stays) (s.lanes v lt);
     reaches = λ right.
-        let r : Reaches tells rules start done all_of (state_with offered taken d) = s.reaches right in
+        let r : DispatcherReaches tells rules start done all_of (state_with offered taken d) = s.reaches right in
         record {
           reached = λ v lt. lane_more acts_all (offered v) (taken v) (queue_of d.queues v) (queue_of later.queues v)
               (extra v) (holds v)
-              ∙ (ap (λ ls. ls ++ flat_map (resolved acts_all) (extra v)) (r.reached v lt) ∙ sym (legs v lt));
+              ∙ (ap (λ ls. ls ++ flat_map (resolved_legs acts_all) (extra v)) (r.reached v lt) ∙ sym (legs v lt));
           known = known r.known;
         };
   }
 
   pub refused_stands : (cause : Cause) → admission rules input ≡ Err cause → later.queues ≡ d.queues →
-      progress_in later.progress ≡ slice_set (progress_in d.progress) number (refused (tells Nothing) now cause) →
-      Stands tells rules start done all_of (state_with offered taken d) →
-      Stands tells rules start now_done all_of (state_with offered taken later)
+      progress_in later.progress ≡ slice_set (progress_in d.progress) number (progress_refused (tells Nothing) now cause) →
+      DispatcherInvariant tells rules start done all_of (state_with offered taken d) →
+      DispatcherInvariant tells rules start now_done all_of (state_with offered taken later)
   refused_stands cause is queues written =
-      let before : Course = course_from rules start done in
-      let acts : (course_from rules start now_done).acts ≡ before.acts =
-      ap (λ (r : Course). r.acts) (grown rules start done rest input number now long clock (Err cause) is)
+      let before : RunEffect = effect_from rules start done in
+      let acts : (effect_from rules start now_done).acts ≡ before.acts =
+      ap (λ (r : RunEffect). r.acts) (grown rules start done rest input number now long clock (Err cause) is)
       ∙ append-nil before.acts in
-      let outs : (course_from rules start now_done).outcomes ≡ before.outcomes ++ outcomes.Dropped cause ∷ [] =
-      ap (λ (r : Course). r.outcomes) (grown rules start done rest input number now long clock (Err cause) is) in
-      let front : IsFront (course_from rules start now_done).outcomes (course_from rules start all_of).outcomes =
+      let outs : (effect_from rules start now_done).outcomes ≡ before.outcomes ++ outcomes.Dropped cause ∷ [] =
+      ap (λ (r : RunEffect). r.outcomes) (grown rules start done rest input number now long clock (Err cause) is) in
+      let front : IsFrontOf (effect_from rules start now_done).outcomes (effect_from rules start all_of).outcomes =
       outcomes_begin rules 0 start.clock now_done rest start.list in
-      let e : (course_from rules start all_of).outcomes ≡ (before.outcomes ++ outcomes.Dropped cause ∷ [])
+      let e : (effect_from rules start all_of).outcomes ≡ (before.outcomes ++ outcomes.Dropped cause ∷ [])
       ++ front.0 = sym front.1 ∙ ap (λ (os : List Outcome). os ++ front.0) outs in
-      let there : slice_get (course_from rules start all_of).outcomes number ≡ Some (outcomes.Dropped cause) =
+      let there : slice_get (effect_from rules start all_of).outcomes number ≡ Some (outcomes.Dropped cause) =
       ap (λ (os : List Outcome). slice_get os number) e ∙ get_at before.outcomes (outcomes.Dropped cause) front.0
       number (outcomes_long rules 0 start.clock done start.list ∙ long) in
       grown_stands (λ v. []) (ap length queues)
       (λ v. rw queues (record { offered_stays = refl; owed_stays = refl; held_is = sym (append-nil _) }))
       (λ v lt. rw (acts, append-nil) refl)
       (λ known. rw written (known_set (whole_of tells rules start all_of) (progress_in d.progress) number
-      (refused (tells Nothing) now cause) (ended_known (whole_of tells rules start all_of) number
-      (refused_at (tells Nothing) now cause) (get_map (departed_of tells) (steps_of rules start all_of) number
+      (progress_refused (tells Nothing) now cause) (ended_known (whole_of tells rules start all_of) number
+      (refused_at (tells Nothing) now cause) (get_map (input_result tells) (steps_of rules start all_of) number
       (record { outcome = outcomes.Dropped cause; trace = record { now = now; first = Nothing; second = Nothing } })
       (steps_get rules start all_of number (outcomes.Dropped cause) _ there
       (refused_trace rules start done rest input number now long clock cause is)))) known))
@@ -573,25 +573,25 @@ module _ {P : Type 0} (tells : Passage → P) (rules : Rules) (start : State) (d
     same_first v lt = rw (← served) (same_test rules.pool distinct v w lt within)
 
     -- its first leg alone
-    pub alone_stands : (input.side ≡ Inside → place_of rules (destination packet).address ≡ None) →
+    pub alone_stands : (input.side ≡ Inside → pool_place rules (destination packet).address ≡ None) →
         length later.queues ≡ length d.queues →
         AllHold (λ v. only_at w (Ready leg_of ∷ []) v ++ []) d.queues later.queues →
-        Stands tells rules start done all_of (state_with offered taken d) →
-        Stands tells rules start now_done all_of (state_with offered taken later)
+        DispatcherInvariant tells rules start done all_of (state_with offered taken d) →
+        DispatcherInvariant tells rules start now_done all_of (state_with offered taken later)
     alone_stands none many holds s =
         grown_stands (λ v. only_at w (Ready leg_of ∷ []) v ++ []) many holds
         (λ v lt.
-        let before : Course = course_from rules start done in
+        let before : RunEffect = effect_from rules start done in
         let at_w : ℕ = served_at rules (way_from input.side) packet in
-        let first : Acted = act rules at_w leg_of before.list in
+        let first : LegEffect = act rules at_w leg_of before.list in
         let never : (place : ℕ) (q : List ℕ) → first.end ≢ ends.Onward place q = λ place q h.
         let f : IsForetold rules leg_of place q = foretold rules at_w leg_of before.list place q is.0 is.1 h in
-        let n : place_of rules (destination packet).address ≡ None = none (from_inside input.side f.way) in
-        let t : place_of rules (destination packet).address ≡ Some place = f.served in
+        let n : pool_place rules (destination packet).address ≡ None = none (from_inside input.side f.way) in
+        let t : pool_place rules (destination packet).address ≡ Some place = f.served in
         cc in
-        let acts : (course_from rules start now_done).acts ≡ before.acts ++ first_act rules at_w leg_of before.list
+        let acts : (effect_from rules start now_done).acts ≡ before.acts ++ first_act rules at_w leg_of before.list
         ∷ [] =
-        acts_grow rules start done rest input number now long clock packet admitted ∙ ap (λ (xs : List Act). before.acts
+        acts_grow rules start done rest input number now long clock packet admitted ∙ ap (λ (xs : List LegAct). before.acts
         ++ xs) (single_by rules at_w leg_of first first.end never) in
         rw (
           acts,
@@ -599,7 +599,7 @@ module _ {P : Type 0} (tells : Passage → P) (rules : Rules) (start : State) (d
           cond_map,
           same_first v lt,
           append-nil (only_at w (Ready leg_of ∷ []) v),
-          reads_if (resolved acts_all) (v == w) (Ready leg_of),
+          reads_if (resolved_legs acts_all) (v == w) (Ready leg_of),
         ) refl)
         (λ known. rw same known) s
 
@@ -607,8 +607,8 @@ module _ {P : Type 0} (tells : Passage → P) (rules : Rules) (start : State) (d
     pub placed_stands : (to : ℕ) → to < length rules.pool → at_place to ≡ (destination packet).address →
         input.side ≡ Inside → length later.queues ≡ length d.queues →
         AllHold (λ v. only_at w (Ready leg_of ∷ []) v ++ only_at to (Place number ∷ []) v) d.queues later.queues →
-        Stands tells rules start done all_of (state_with offered taken d) →
-        Stands tells rules start now_done all_of (state_with offered taken later)
+        DispatcherInvariant tells rules start done all_of (state_with offered taken d) →
+        DispatcherInvariant tells rules start now_done all_of (state_with offered taken later)
     placed_stands to to_within goes side many holds s =
         grown_stands (λ v. only_at w (Ready leg_of ∷ []) v ++ only_at to (Place number ∷ []) v) many holds
         (λ v lt. rw (
@@ -618,8 +618,8 @@ module _ {P : Type 0} (tells : Passage → P) (rules : Rules) (start : State) (d
           ← goes,
           same_test rules.pool distinct v to lt to_within,
           flat_map-append,
-          reads_if (resolved acts_all) (v == w) (Ready leg_of),
-          reads_if (resolved acts_all) (v == to) (Place number),
+          reads_if (resolved_legs acts_all) (v == w) (Ready leg_of),
+          reads_if (resolved_legs acts_all) (v == to) (Place number),
         ) refl)
         (λ known. rw same known) s
 
@@ -627,7 +627,7 @@ module _ {P : Type 0} (tells : Passage → P) (rules : Rules) (start : State) (d
 pub refused_admits : {P : Type 0} {tells : Passage → P} (rules : Rules) (number now : ℕ) (input : Arrival)
     (d later : Dispatcher P) (cause : Cause) →
     Distinct rules.pool → admission rules input ≡ Err cause → later.queues ≡ d.queues →
-    progress_in later.progress ≡ slice_set (progress_in d.progress) number (refused (tells Nothing) now cause) →
+    progress_in later.progress ≡ slice_set (progress_in d.progress) number (progress_refused (tells Nothing) now cause) →
     Admits tells rules number now input d later
 refused_admits rules number now input d later cause distinct is queues written =
     grind (arith, common_steps, nat_tests, refused_stands)
@@ -638,11 +638,11 @@ pub admitted_admits : {P : Type 0} {tells : Passage → P} (rules : Rules) (numb
     (w : ℕ) → Distinct rules.pool → OnwardIsForetold → IsPacket packet → admission rules input ≡ Ok packet →
     slice_get rules.pool w ≡ Some (served_at rules (way_from input.side) packet) →
     progress_in later.progress ≡ progress_in d.progress →
-    (to : Option ℕ) → IfSome to (λ place. (input.side ≡ Inside) × (place_of rules (destination packet).address
-    ≡ Some place)) → (to ≡ None → input.side ≡ Inside → place_of rules (destination packet).address ≡ None) →
+    (to : Option ℕ) → IfSome to (λ place. (input.side ≡ Inside) × (pool_place rules (destination packet).address
+    ≡ Some place)) → (to ≡ None → input.side ≡ Inside → pool_place rules (destination packet).address ≡ None) →
     length later.queues ≡ length d.queues →
     (let leg : Leg = record { number = number; now = now; way = way_from input.side; packet = packet } in
-    AllHold (λ v. only_at w (Ready leg ∷ []) v ++ place_at number to v) d.queues later.queues) →
+    AllHold (λ v. only_at w (Ready leg ∷ []) v ++ lane_at number to v) d.queues later.queues) →
     Admits tells rules number now input d later
 admitted_admits
     {tells = tells} rules number now input d later packet w distinct foretold is admitted place same None some none many
@@ -665,15 +665,15 @@ admitted_admits {tells = tells} rules number now input d later packet w distinct
 
 -- THE START
 
-none_known : {P : Type 0} (whole : Whole P) (i : ℕ) (p : Progress P) →
-    slice_get (let ps : List (Progress P) = [] in ps) i ≡ Some p → IsKnown whole i p
+none_known : {P : Type 0} (whole : RunLegs P) (i : ℕ) (p : InputProgress P) →
+    slice_get (let ps : List (InputProgress P) = [] in ps) i ≡ Some p → ProgressIsKnown whole i p
 none_known whole i p h = cc
 
 pub begin_stands : {P : Type 0} {tells : Passage → P} (rules : Rules) (start : State) (inputs : List Arrival)
-    (offered : List (List Leg)) (taken : List (List (Told P)))
-    (d : Dispatcher P) → d.queues ≡ replicate (length rules.pool) unused →
+    (offered : List (List Leg)) (taken : List (List (TracedAnswer P)))
+    (d : Dispatcher P) → d.queues ≡ replicate (length rules.pool) unused_queue →
     offered ≡ replicate (length rules.pool) [] → taken ≡ replicate (length rules.pool) [] →
-    progress_in d.progress ≡ [] → Stands tells rules start [] inputs
+    progress_in d.progress ≡ [] → DispatcherInvariant tells rules start [] inputs
     (state_with (of_worker offered) (of_worker taken) d)
 begin_stands rules start inputs offered taken d is no_legs no_answers progress =
     grind (arith, common_steps, nat_tests, of_replicate, length-replicate, none_known)
@@ -686,39 +686,39 @@ pub all_taken : {P : Type 0} (lane : Lane P) → LaneStands lane → lane.queue.
 all_taken lane o none = grind (arith, common_steps, nat_tests, length-map, length-append)
 
 module _ {P : Type 0} {tells : Passage → P} (rules : Rules) (start : State) (inputs : List Arrival)
-    (offered : List (List Leg)) (taken : ℕ → List (Told P)) (d : Dispatcher P)
-    (s : Stands tells rules start inputs inputs (state_with (of_worker offered) taken d))
+    (offered : List (List Leg)) (taken : ℕ → List (TracedAnswer P)) (d : Dispatcher P)
+    (s : DispatcherInvariant tells rules start inputs inputs (state_with (of_worker offered) taken d))
     (times : times_in d.progress ≡ map (λ i. i.time) inputs)
     (right : AreRight tells rules start (state_with (of_worker offered) taken d)) where
-  abbrev whole : Whole P
+  abbrev whole : RunLegs P
   whole = whole_of tells rules start inputs
 
   -- what left is the front of what the run gives
-  pub left_right : IsFront d.progress.left (timed inputs (departed tells rules start inputs))
+  pub left_right : IsFrontOf d.progress.left (timed_results inputs (input_results tells rules start inputs))
   left_right = left_front whole d.progress inputs times (s.reaches right).known (departed_long tells rules start inputs)
 
   -- all of it, where no input is open
-  pub dispatched : length offered ≡ length rules.pool → IsDone d → d.progress.under_way ≡ [] →
-      (d.progress.left ≡ timed inputs (departed tells rules start inputs))
-      × IsDispatchedFrom rules start inputs offered (map outcome_of d.progress.left) (counts_in d.queues)
+  pub dispatched : length offered ≡ length rules.pool → DispatcherIsDone d → d.progress.under_way ≡ [] →
+      (d.progress.left ≡ timed_results inputs (input_results tells rules start inputs))
+      × IsDispatchedFrom rules start inputs offered (map collected_outcome d.progress.left) (counts_in d.queues)
   dispatched many idle none =
       let long = departed_long tells rules start inputs in
       let reached : (w : ℕ) → w < length rules.pool → of_worker offered w
       ≡ legs_at (slice_index rules.pool w) whole.acts = λ w lt.
-      let q : QueueState = queue_of d.queues w in
-      let none : count_held q ≡ 0 = idle.held w in
+      let q : WorkerQueueModel = queue_of d.queues w in
+      let none : held_legs_count q ≡ 0 = idle.held w in
       rw (nothing q.ready (omega (arith, none)), nothing q.held (omega (arith, none)), append-nil)
       at ((s.reaches right).reached w lt) in
-      let left : d.progress.left ≡ timed inputs (departed tells rules start inputs) =
+      let left : d.progress.left ≡ timed_results inputs (input_results tells rules start inputs) =
       left_whole whole d.progress inputs times (s.reaches right).known long none in (
         left,
         record {
           legs = map_at (λ address. legs_at address whole.acts) offered [] rules.pool many reached;
-          outcomes_are = ap (map outcome_of) left ∙ (timed_outcomes inputs (departed tells rules start inputs) long
+          outcomes_are = ap (map collected_outcome) left ∙ (timed_outcomes inputs (input_results tells rules start inputs) long
               ∙ departed_outcomes tells rules start inputs);
           numbers_are = map_at (λ address. length (legs_at address whole.acts)) (counts_in d.queues) 0 rules.pool
               (length-map d.queues (λ q. q.offered) ∙ s.many)
-              (λ w lt. get_or-map (λ q. q.offered) d.queues w unused 0 (rw s.many lt)
+              (λ w lt. get_or-map (λ q. q.offered) d.queues w unused_queue 0 (rw s.many lt)
               ∙ ((s.lanes w lt).counted ∙ ap length (reached w lt)));
         },
       )

@@ -4,30 +4,30 @@
 -- right is a premise here: it is proved once the workers are joined.
 use Rattle.std.specs.Prelude.{◌≡◌, ⊤, ℕ, zero, suc, ◌<◌, ◌≤◌, max, Bool, true, false, List, [], ◌∷◌, ◌++◌, map, length, slice_index, slice_index_or, Result, Ok, Err}
 use Rattle.napt_config.specs.Rules.{Rules}
-use Rattle.napt_rules.specs.{Prelude.{of, taken, Arrival, rows, State, anew, course_from, legs_at, Kept}, declared.{Row.Row, Leg.Leg, Outcome.Outcome}}
-use Rattle.napt_translate.specs.Translators.{TranslatorState, begun, with_kept}
+use Rattle.napt_rules.specs.{Prelude.{bindings_at, live_and_held, Arrival, rows, State, initial_state, effect_from, legs_at, LocalState}, declared.{Row.Row, Leg.Leg, Outcome.Outcome}}
+use Rattle.napt_translate.specs.Translators.{TranslatorModel, initial_translator, with_local_state}
 use Rattle.napt_pool.specs.{Faults.{IsFaultOf, is_shut}, declared.fault.PoolFault.PoolFault}
-use Rattle.napt_sequential.specs.declared.{fault.RunFault.RunFault, passage.Passage.Passage, telling.Told.Told, outcome.Stepped.Stepped}
+use Rattle.napt_sequential.specs.declared.{fault.RunFault.RunFault, passage.Passage.Passage, leg_trace.TracedAnswer.TracedAnswer, outcome.StepResult.StepResult}
 use Rattle.napt_sequential.specs.Steps.{steps_of, told_replies}
-use Rattle.napt_dispatch.specs.declared.departures.Departed.{Departed}
+use Rattle.napt_dispatch.specs.declared.outcome_sink.InputResult.{InputResult}
 use Rattle.napt_sequential.specs.declared.fault.RunFault.TheVariants as faults
-use Rattle.napt_laws.specs.Dispatching.{IsFront}
+use Rattle.napt_laws.specs.Dispatching.{IsFrontOf}
 
 -- WORKERS
 
 -- the bindings of an address in a state, at its clock
-abbrev pub fresh : State → ℕ → Kept
-fresh start address = record { list = of address start.list; at = start.clock }
+abbrev pub local_bindings : State → ℕ → LocalState
+local_bindings start address = record { list = bindings_at address start.list; at = start.clock }
 
 -- the translators of the first n addresses of the pool in a state
-abbrev pub started_from : Rules → State → ℕ → List TranslatorState
+abbrev pub started_from : Rules → State → ℕ → List TranslatorModel
 started_from rules start zero = []
 started_from rules start (suc n) =
-    started_from rules start n ++ with_kept (begun n rules) (fresh start (slice_index rules.pool n)) ∷ []
+    started_from rules start n ++ with_local_state (initial_translator n rules) (local_bindings start (slice_index rules.pool n)) ∷ []
 
 -- before any leg
-abbrev pub started : Rules → ℕ → List TranslatorState
-started rules n = started_from rules (anew rules) n
+abbrev pub started_translators : Rules → ℕ → List TranslatorModel
+started_translators rules n = started_from rules (initial_state rules) n
 
 -- the list of one worker
 abbrev pub of_worker : {X : Type 0} → List (List X) → ℕ → List X
@@ -46,37 +46,37 @@ IsDispatchFault open_gate faults.TooMany = ⊥
 IsDispatchFault open_gate (faults.Pool fault) = IsFaultOf (λ w. ⊤) fault × (open_gate ≡ true → is_shut fault ≡ false)
 
 -- the bindings of a worker's translator that are live at a time
-abbrev pub rows_after : ℕ → TranslatorState → List Row
+abbrev pub rows_after : ℕ → TranslatorModel → List Row
 rows_after now state = rows state.rules.timers (max now state.table.at) state.table.list
 
 -- a worker's translator that is left with the bindings of its address in a state
-pub record IsLeftWith (rules : Rules) (state : State) (address : ℕ) (translator : TranslatorState) : Type 0 where
+pub record IsLeftWith (rules : Rules) (state : State) (address : ℕ) (translator : TranslatorModel) : Type 0 where
   pub timers : translator.rules.timers ≡ rules.timers
   pub past : translator.table.at ≤ state.clock
-  pub taken_are : taken rules.timers state.clock translator.table.list ≡ of address state.list
+  pub taken_are : live_and_held rules.timers state.clock translator.table.list ≡ bindings_at address state.list
 
 -- WHAT IS OFFERED AND ANSWERED
 
 -- the answers taken from each worker, and what is told with them, are its translator's, to the legs that it was offered
-abbrev pub Right : {P : Type 0} → (Passage → P) → Rules → State → List (List Leg) → List (List (Told P)) → Type 0
-Right tells rules start offered taken =
+abbrev pub AnswersAreRight : {P : Type 0} → (Passage → P) → Rules → State → List (List Leg) → List (List (TracedAnswer P)) → Type 0
+AnswersAreRight tells rules start offered taken =
     (w : ℕ) → w < length rules.pool →
     let address : ℕ = slice_index rules.pool w in
-    IsFront (of_worker taken w) (told_replies tells rules address (of_worker offered w) (fresh start address))
+    IsFrontOf (of_worker taken w) (told_replies tells rules address (of_worker offered w) (local_bindings start address))
 
 -- WHAT INPUTS COME TO
 
 -- what an input of the run came to, as these are told of its legs
-abbrev pub departed_of : {P : Type 0} → (Passage → P) → Stepped → Departed P
-departed_of tells step = record {
+abbrev pub input_result : {P : Type 0} → (Passage → P) → StepResult → InputResult P
+input_result tells step = record {
   outcome = step.outcome;
   now = step.trace.now;
   first = tells step.trace.first;
   second = tells step.trace.second;
 }
 
-abbrev pub departed : {P : Type 0} → (Passage → P) → Rules → State → List Arrival → List (Departed P)
-departed tells rules start inputs = map (departed_of tells) (steps_of rules start inputs)
+abbrev pub input_results : {P : Type 0} → (Passage → P) → Rules → State → List Arrival → List (InputResult P)
+input_results tells rules start inputs = map (input_result tells) (steps_of rules start inputs)
 
 -- THE END
 
@@ -89,6 +89,6 @@ first_fault (Ok dispatched) (Ok ended) = Ok (dispatched, ended)
 -- what a dispatcher returns for a run over the inputs from a state
 pub record IsDispatchedFrom (rules : Rules) (start : State) (inputs : List Arrival) (offered : List (List Leg))
     (outcomes : List Outcome) (numbers : List ℕ) : Type 0 where
-  pub legs : offered ≡ map (λ address. legs_at address (course_from rules start inputs).acts) rules.pool
-  pub outcomes_are : outcomes ≡ (course_from rules start inputs).outcomes
-  pub numbers_are : numbers ≡ map (λ address. length (legs_at address (course_from rules start inputs).acts)) rules.pool
+  pub legs : offered ≡ map (λ address. legs_at address (effect_from rules start inputs).acts) rules.pool
+  pub outcomes_are : outcomes ≡ (effect_from rules start inputs).outcomes
+  pub numbers_are : numbers ≡ map (λ address. length (legs_at address (effect_from rules start inputs).acts)) rules.pool

@@ -1,6 +1,6 @@
-pub mod Collecting
+pub mod OutcomeLists
 pub mod Dispatch
-pub mod Passing
-pub mod QueueStates
-pub mod Standing
-pub mod Windows
+pub mod RunsThrough
+pub mod WorkerQueues
+pub mod DispatcherInvariants
+pub mod RunProgresses

@@ -5,35 +5,35 @@
 //! is read, a placeholder for the second leg is held for that worker. Everything behind it waits for that answer; nothing
 //! else does.
 ghost use Rattle.std.specs.Prelude.{◌≡◌, ◌<◌, ◌^◌, [], length, map, replicate, IfOk, IfErr, OnOk, OnErr};
-ghost use Rattle.napt_pool.specs.{Pools.{starts, accepts, takes, zip_with}, Histories.replies};
-ghost use Rattle.napt_rules.specs.Prelude.{State, anew};
-ghost use Rattle.napt_dispatch.specs.{Dispatch.{started, IsDispatchFault, IsDispatchedFrom}, Passing.{EndsBy, EndsHalted}, QueueStates.unused};
+ghost use Rattle.napt_pool.specs.{Pools.{initial_machines, accepted_items, taken_answers, zip_with}, Histories.replies};
+ghost use Rattle.napt_rules.specs.Prelude.{State, initial_state};
+ghost use Rattle.napt_dispatch.specs.{Dispatch.{started_translators, IsDispatchFault, IsDispatchedFrom}, RunsThrough.{DispatchPost, DispatchErr}, WorkerQueues.unused_queue};
 
+mod buffer_pool;
 mod holding;
 mod offering;
 mod placing;
 mod progress;
 mod reading;
 mod run_progress;
-mod spares;
 mod taking;
-mod vectors;
+mod vector_pool;
 mod worker_queue;
 mod worker_queues;
 
 use crate::Worker;
-use crate::collected::Collected;
-use crate::departures::Departures;
 use crate::faults::DispatchFault;
 use crate::inputs::copies;
+use crate::outcome_list::OutcomeList;
+use crate::outcome_sink::OutcomeSink;
 use napt_config::Config;
 use napt_pool::{Gate, Machine, Pool};
-use napt_sequential::{Arrivals, Input, Outcome, RunFault, Telling, Untold};
+use napt_sequential::{Input, InputSource, LegTrace, NoTrace, Outcome, RunFault};
 use reading::EndOfInputs;
 use run_progress::RunProgress;
 use std::alloc::{AllocError, Global};
 use std::sync::Wait;
-use vectors::Vectors;
+use vector_pool::VectorPool;
 use worker_queues::WorkerQueues;
 
 /// The number of legs in a message, if the ring has room for four times as many. A power of 2.
@@ -49,10 +49,10 @@ pub(crate) struct Dispatcher<P> {
     mask: usize,
     queues: WorkerQueues,
     progress: RunProgress<P>,
-    vectors: Vectors<P>,
+    vectors: VectorPool<P>,
 }
 
-impl<P: Telling> Dispatcher<P> {
+impl<P: LegTrace> Dispatcher<P> {
     /// The state before the first input, for a number of workers, the number of legs that fit in a ring, and a clock in ns.
     fn new(
         alloc: Global,
@@ -62,7 +62,7 @@ impl<P: Telling> Dispatcher<P> {
     ) -> Result<Dispatcher<P>, AllocError>
         requires { 0 < workers }
         ensures clock { IfOk result (λ d. d.clock ≡ clock) }
-        ensures queues { IfOk result (λ d. d.queues ≡ replicate workers unused) }
+        ensures queues { IfOk result (λ d. d.queues ≡ replicate workers unused_queue) }
         ensures left { IfOk result (λ d. d.progress.left ≡ []) }
         ensures under_way { IfOk result (λ d. d.progress.under_way ≡ []) }
     {
@@ -72,7 +72,7 @@ impl<P: Telling> Dispatcher<P> {
             mask: mask_of(ring),
             queues: WorkerQueues::new(alloc, workers)?,
             progress: RunProgress::new(alloc),
-            vectors: Vectors::new(alloc),
+            vectors: VectorPool::new(alloc),
         })
     }
 }
@@ -85,35 +85,35 @@ impl<P: Telling> Dispatcher<P> {
 pub fn dispatch<R: Wait, G: Gate>(
     rt: &R,
     alloc: Global,
-    pool: &mut Pool<Worker<Untold>, G>,
+    pool: &mut Pool<Worker<NoTrace>, G>,
     config: &Config,
     inputs: &[Input],
 ) -> Result<(Vec<Outcome>, Vec<u64>), RunFault>
     requires few { length inputs.now < 2 ^ 32 }
-    requires started { starts pool.old ≡ started config.now (length config.now.pool) }
-    requires unoffered { accepts pool.old ≡ replicate (length config.now.pool) [] }
-    requires untaken { takes pool.old ≡ replicate (length config.now.pool) [] }
-    ensures starts { starts pool.new ≡ starts pool.old }
-    ensures settled { OnOk result (map length (takes pool.new) ≡ map length (accepts pool.new)) }
-    ensures run { IfOk result (λ done. takes pool.new
-        ≡ zip_with (replies ⟦<Worker<Untold> as Machine>⟧) (starts pool.new) (accepts pool.new) →
-        IsDispatchedFrom config.now (anew config.now) inputs.now (accepts pool.new) done.0.items
+    requires started { initial_machines pool.old ≡ started_translators config.now (length config.now.pool) }
+    requires unoffered { accepted_items pool.old ≡ replicate (length config.now.pool) [] }
+    requires untaken { taken_answers pool.old ≡ replicate (length config.now.pool) [] }
+    ensures starts { initial_machines pool.new ≡ initial_machines pool.old }
+    ensures settled { OnOk result (map length (taken_answers pool.new) ≡ map length (accepted_items pool.new)) }
+    ensures run { IfOk result (λ done. taken_answers pool.new
+        ≡ zip_with (replies ⟦<Worker<NoTrace> as Machine>⟧) (initial_machines pool.new) (accepted_items pool.new) →
+        IsDispatchedFrom config.now (initial_state config.now) inputs.now (accepted_items pool.new) done.0.items
         done.1.items) }
     ensures fault { IfErr result (IsDispatchFault G.is_open) }
 {
-    let mut collected = Collected::with_capacity(alloc, inputs.len())?;
+    let mut collected = OutcomeList::with_capacity(alloc, inputs.len())?;
     let mut inputs = copies(alloc, inputs)?;
     let done = dispatch_to(rt, alloc, pool, config, 0, &mut inputs, &mut collected)?;
     match done.ending {
-        Ending::Whole => Ok((collected.outcomes, done.legs)),
-        Ending::Arrival(none) => match none {},
-        Ending::Departure(_) => Err(RunFault::Memory),
+        DispatchEnd::Whole => Ok((collected.outcomes, done.legs)),
+        DispatchEnd::Arrival(none) => match none {},
+        DispatchEnd::Departure(_) => Err(RunFault::Memory),
     }
 }
 
 /// How dispatching ended.
 #[derive(Drop)]
-pub(crate) enum Ending<A, D> {
+pub(crate) enum DispatchEnd<A, D> {
     /// The arrivals ended, and every outcome has left.
     Whole,
     /// The arrivals failed, and the outcome of every input before the fault has left.
@@ -124,17 +124,17 @@ pub(crate) enum Ending<A, D> {
 
 /// The result of dispatching.
 #[derive(Drop)]
-pub(crate) struct Dispatched<A, D> {
+pub(crate) struct DispatchResult<A, D> {
     /// The number of legs offered to each worker. Empty if the departures failed.
     pub(crate) legs: Vec<u64>,
     /// The greatest clock of the inputs and of the state before them, in ns. 0 if the departures failed.
     pub(crate) clock: u64,
-    pub(crate) ending: Ending<A, D>,
+    pub(crate) ending: DispatchEnd<A, D>,
 }
 
 /// Dispatches inputs until their end or a fault, from a state of this clock, in ns. Their outcomes leave in the order of
 /// the inputs. Before a device is asked for an input, and at the end, every outcome has left and is settled.
-pub(crate) fn dispatch_to<R: Wait, G: Gate, A: Arrivals, D: Departures>(
+pub(crate) fn dispatch_to<R: Wait, G: Gate, A: InputSource, D: OutcomeSink>(
     rt: &R,
     alloc: Global,
     pool: &mut Pool<Worker<D::Told>, G>,
@@ -142,47 +142,47 @@ pub(crate) fn dispatch_to<R: Wait, G: Gate, A: Arrivals, D: Departures>(
     clock: u64,
     arrivals: &mut A,
     departures: &mut D,
-) -> Result<Dispatched<A::Fault, D::Fault>, RunFault>
-    requires workers { length (starts pool.old) ≡ length config.now.pool }
-    requires unoffered { accepts pool.old ≡ replicate (length config.now.pool) [] }
-    requires untaken { takes pool.old ≡ replicate (length config.now.pool) [] }
-    ensures starts { starts pool.new ≡ starts pool.old }
+) -> Result<DispatchResult<A::Fault, D::Fault>, RunFault>
+    requires workers { length (initial_machines pool.old) ≡ length config.now.pool }
+    requires unoffered { accepted_items pool.old ≡ replicate (length config.now.pool) [] }
+    requires untaken { taken_answers pool.old ≡ replicate (length config.now.pool) [] }
+    ensures starts { initial_machines pool.new ≡ initial_machines pool.old }
     ensures ends { IfOk result (λ done. (start : State) → start.clock ≡ clock →
-        EndsBy D.Told.tells config.now start A.hands A.ends D.takes D.fails D.is_settled
+        DispatchPost D.Told.tells config.now start A.hands A.ends D.takes D.fails D.is_settled
         arrivals.old departures.old pool.new arrivals.new departures.new done done.ending) }
     ensures halts { OnErr result ((start : State) → start.clock ≡ clock →
-        EndsHalted D.Told.tells config.now start A.hands A.ends D.takes D.fails D.is_settled
+        DispatchErr D.Told.tells config.now start A.hands A.ends D.takes D.fails D.is_settled
         arrivals.old departures.old pool.new arrivals.new departures.new) }
     ensures fault { IfErr result (IsDispatchFault G.is_open) }
 {
     let workers = config.pool().len() as u32;
     let mut dispatcher = Dispatcher::<D::Told>::new(alloc, workers, config.ring(), clock)?;
     match dispatcher.pass_all(rt, pool, config, arrivals, departures) {
-        Ok(EndOfInputs { clock, fault }) => Ok(Dispatched {
+        Ok(EndOfInputs { clock, fault }) => Ok(DispatchResult {
             legs: dispatcher.queues.counts(alloc)?,
             clock,
-            ending: Ending::of(fault),
+            ending: DispatchEnd::of(fault),
         }),
-        Err(DispatchFault::Departure(fault)) => Ok(Dispatched {
+        Err(DispatchFault::Departure(fault)) => Ok(DispatchResult {
             legs: Vec::new(alloc),
             clock: 0,
-            ending: Ending::Departure(fault),
+            ending: DispatchEnd::Departure(fault),
         }),
         Err(DispatchFault::Run(fault)) => Err(fault),
     }
 }
 
-impl<A, D> Ending<A, D> {
+impl<A, D> DispatchEnd<A, D> {
     ghost use Rattle.std.specs.Prelude.{◌≡◌, MatchOption};
-    ghost use Rattle.napt_dispatch.specs.declared.dispatcher.Ending.TheVariants.{Whole, Arrival};
+    ghost use Rattle.napt_dispatch.specs.declared.dispatcher.DispatchEnd.TheVariants.{Whole, Arrival};
 
     /// The ending of a run whose arrivals ended, or failed with this fault.
-    fn of(fault: Option<A>) -> Ending<A, D>
+    fn of(fault: Option<A>) -> DispatchEnd<A, D>
         ensures { MatchOption fault (result ≡ Whole) (λ fault. result ≡ Arrival fault) }
     {
         match fault {
-            None => Ending::Whole,
-            Some(fault) => Ending::Arrival(fault),
+            None => DispatchEnd::Whole,
+            Some(fault) => DispatchEnd::Arrival(fault),
         }
     }
 }

@@ -4,16 +4,16 @@
 //! dispatches, joins the workers, and returns what the sequential run returns.
 #![tactic(auto)]
 
-mod collected;
-mod departures;
 mod dispatcher;
 mod faults;
 mod inputs;
+mod outcome_list;
+mod outcome_sink;
 mod worker;
 mod workers;
 
-pub use departures::{Departed, Departures};
 pub use dispatcher::dispatch;
 pub use faults::PassFault;
+pub use outcome_sink::{InputResult, OutcomeSink};
 pub use worker::Worker;
-pub use workers::{Passed, run_through, run_workers};
+pub use workers::{RunSummary, run_through, run_workers};

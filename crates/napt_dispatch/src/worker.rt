@@ -4,7 +4,7 @@ ghost use Rattle.std.specs.Prelude.{◌≡◌, IfOk};
 ghost use Rattle.napt_dispatch.specs.Dispatch.{rows_after};
 
 use napt_pool::Machine;
-use napt_sequential::{Telling, Told};
+use napt_sequential::{LegTrace, TracedAnswer};
 use napt_table::Row;
 use napt_translate::{Leg, Translator};
 use std::alloc::{AllocError, Global};
@@ -19,14 +19,14 @@ pub struct Worker<P> {
 }
 
 impl<P> Model for Worker<P> {
-    ghost use Rattle.napt_translate.specs.Translators.{TranslatorState};
+    ghost use Rattle.napt_translate.specs.Translators.{TranslatorModel};
 
-    ghost Value = { TranslatorState };
+    ghost Value = { TranslatorModel };
 
     ghost view = { λ worker. worker.translator };
 }
 
-impl<P: Telling> Worker<P> {
+impl<P: LegTrace> Worker<P> {
     /// Returns the bindings that are live at a time, in ns.
     pub(crate) fn bindings(&self, alloc: Global, now: u64) -> Result<Vec<Row>, AllocError>
         ensures { IfOk result (λ made. made.items ≡ rows_after now self.now) }
@@ -42,19 +42,19 @@ impl<P: Telling> Worker<P> {
     }
 }
 
-impl<P: Telling> Machine for Worker<P> {
-    ghost use Rattle.napt_sequential.specs.CountedTranslators.{told_at};
-    ghost use Rattle.napt_translate.specs.Translators.{left_by};
+impl<P: LegTrace> Machine for Worker<P> {
+    ghost use Rattle.napt_sequential.specs.CountedTranslators.{traced_answer};
+    ghost use Rattle.napt_translate.specs.Translators.{translator_after};
 
     type Item = Leg;
 
-    type Answer = Told<P>;
+    type Answer = TracedAnswer<P>;
 
-    ghost stepped = { λ state leg. left_by leg state };
+    ghost stepped = { λ state leg. translator_after leg state };
 
-    ghost reply = { λ state leg. told_at P.tells leg state };
+    ghost reply = { λ state leg. traced_answer P.tells leg state };
 
-    fn step(&mut self, alloc: Global, leg: Leg) -> Result<Told<P>, AllocError> {
+    fn step(&mut self, alloc: Global, leg: Leg) -> Result<TracedAnswer<P>, AllocError> {
         P::tell(alloc, &mut self.translator, leg)
     }
 

@@ -1,23 +1,23 @@
 //! Runs over workers on threads of their own.
 
 ghost use Rattle.std.specs.Prelude.{◌≡◌, ◌↔◌, ◌^◌, ◌≤◌, [], length, map, flat_map, replicate, vec_len, AllPairs, IfOk, IfErr, OnOk, Ok, Err, true, false};
-ghost use Rattle.napt_config.specs.Rules.{KeepsRules};
-ghost use Rattle.napt_pool.specs.{Histories.{after, replies, AllBegin}, Pools.{starts, accepts, takes, zip_with}};
+ghost use Rattle.napt_config.specs.Rules.{RulesInvariant};
+ghost use Rattle.napt_pool.specs.{Histories.{after, replies, ArePrefixesOf}, Pools.{initial_machines, accepted_items, taken_answers, zip_with}};
 ghost use Rattle.napt_rules.specs.Sequential as model;
-ghost use Rattle.napt_dispatch.specs.{Dispatch.{first_fault, started_from, rows_after, IsDispatchFault, IsFaultUnder}, Passing.{Passes, IsStoppedUnder}};
-ghost use Rattle.napt_sequential.specs.Faults.{is_gate_fault};
-ghost use Rattle.napt_rules.specs.Prelude.{AreRowsApart, Takes, under};
+ghost use Rattle.napt_dispatch.specs.{Dispatch.{first_fault, started_from, rows_after, IsDispatchFault, IsFaultUnder}, RunsThrough.{RunThroughPost, IsStoppedUnder}};
+ghost use Rattle.napt_sequential.specs.Faults.{is_run_gate_fault};
+ghost use Rattle.napt_rules.specs.Prelude.{AreRowsApart, TakesState, with_redirects};
 
 use crate::Worker;
-use crate::departures::Departures;
-use crate::dispatcher::{Dispatched, Ending, dispatch, dispatch_to};
+use crate::dispatcher::{DispatchEnd, DispatchResult, dispatch, dispatch_to};
 use crate::faults::PassFault;
 use crate::inputs::last_clock;
+use crate::outcome_sink::OutcomeSink;
 use napt_config::Config;
 use napt_pool::{Ended, Gate, Machine, Pool, PoolFault};
 use napt_rules::State;
 use napt_sequential::{
-    Arrivals, Input, MOST_INPUTS, Run, RunFault, Telling, Untold, runs_are_sound,
+    Input, InputSource, LegTrace, MOST_INPUTS, NoTrace, Run, RunFault, runs_are_sound,
 };
 use napt_table::Row;
 use napt_translate::Translator;
@@ -27,15 +27,15 @@ use std::sync::{Arc, Wait};
 use std::thread::Threads;
 
 /// Makes the workers of all external addresses in a state, in the order of the pool.
-fn workers<P: Telling>(
+fn workers<P: LegTrace>(
     alloc: Global,
     config: &Config,
     state: &State,
 ) -> Result<Vec<Worker<P>>, AllocError>
-    requires { Takes config.now state.now }
-    ensures kept { KeepsRules config.now }
+    requires { TakesState config.now state.now }
+    ensures kept { RulesInvariant config.now }
     ensures made { IfOk result (λ made. made.items ≡ started_from config.now
-        (under config.now state.now) (length config.now.pool)) }
+        (with_redirects config.now state.now) (length config.now.pool)) }
     ensures many { IfOk result (λ made. vec_len made ≡ length config.now.pool) }
 {
     let many = config.pool().len() as u32;
@@ -51,7 +51,7 @@ fn workers<P: Telling>(
 }
 
 /// Returns the bindings that are live at a time, in ns, address by address.
-fn bindings<P: Telling>(
+fn bindings<P: LegTrace>(
     alloc: Global,
     ended: &[Ended<Worker<P>>],
     now: u64,
@@ -69,7 +69,7 @@ fn bindings<P: Telling>(
 
 /// Starts a worker in a state on a thread of its own for each external address.
 fn start<
-    P: Telling,
+    P: LegTrace,
     R: Threads + Wait + Copy + Send + 'static,
     G: Gate + Send + Sync + Drop + 'static,
 >(
@@ -79,11 +79,11 @@ fn start<
     state: &State,
     gate: Arc<G>,
 ) -> Result<Pool<Worker<P>, G>, RunFault>
-    requires { Takes config.now state.now }
-    ensures started { IfOk result (λ pool. starts pool ≡ started_from config.now
-        (under config.now state.now) (length config.now.pool)) }
-    ensures unoffered { IfOk result (λ pool. accepts pool ≡ replicate (length config.now.pool) []) }
-    ensures untaken { IfOk result (λ pool. takes pool ≡ replicate (length config.now.pool) []) }
+    requires { TakesState config.now state.now }
+    ensures started { IfOk result (λ pool. initial_machines pool ≡ started_from config.now
+        (with_redirects config.now state.now) (length config.now.pool)) }
+    ensures unoffered { IfOk result (λ pool. accepted_items pool ≡ replicate (length config.now.pool) []) }
+    ensures untaken { IfOk result (λ pool. taken_answers pool ≡ replicate (length config.now.pool) []) }
     ensures fault { IfErr result (IsFaultUnder G.is_open) }
 {
     let machines = workers::<P>(alloc, config, state)?;
@@ -91,7 +91,7 @@ fn start<
 }
 
 /// Joins the results of dispatching and of closing. A fault of dispatching is reported before one of the pool.
-fn first_fault<P: Telling, D: Drop>(
+fn first_fault<P: LegTrace, D: Drop>(
     dispatched: Result<D, RunFault>,
     closed: Result<Vec<Ended<Worker<P>>>, PoolFault>,
 ) -> Result<(D, Vec<Ended<Worker<P>>>), RunFault>
@@ -103,7 +103,7 @@ fn first_fault<P: Telling, D: Drop>(
 
 /// Closes the pool, also if dispatching failed. Returns the result of dispatching and the workers as they ended. A fault of
 /// dispatching is reported before one of the pool.
-fn close<P: Telling, R: Threads, G: Gate, D: Drop>(
+fn close<P: LegTrace, R: Threads, G: Gate, D: Drop>(
     rt: &R,
     alloc: Global,
     pool: Pool<Worker<P>, G>,
@@ -111,12 +111,12 @@ fn close<P: Telling, R: Threads, G: Gate, D: Drop>(
 ) -> Result<(D, Vec<Ended<Worker<P>>>), RunFault>
     ensures given { IfOk result (λ both. dispatched ≡ Ok both.0) }
     ensures machines { IfOk result (λ both. map (λ e. e.machine) both.1.items
-        ≡ zip_with (after ⟦<Worker<P> as Machine>⟧) (starts pool) (accepts pool)) }
-    ensures taken { AllBegin (takes pool) (zip_with (replies ⟦<Worker<P> as Machine>⟧)
-        (starts pool) (accepts pool)) }
-    ensures settled { map length (takes pool) ≡ map length (accepts pool) →
-        OnOk result (takes pool ≡ zip_with (replies ⟦<Worker<P> as Machine>⟧)
-        (starts pool) (accepts pool)) }
+        ≡ zip_with (after ⟦<Worker<P> as Machine>⟧) (initial_machines pool) (accepted_items pool)) }
+    ensures taken { ArePrefixesOf (taken_answers pool) (zip_with (replies ⟦<Worker<P> as Machine>⟧)
+        (initial_machines pool) (accepted_items pool)) }
+    ensures settled { map length (taken_answers pool) ≡ map length (accepted_items pool) →
+        OnOk result (taken_answers pool ≡ zip_with (replies ⟦<Worker<P> as Machine>⟧)
+        (initial_machines pool) (accepted_items pool)) }
     ensures first { IfErr dispatched (λ fault. result ≡ Err fault) }
     ensures fault { IfErr dispatched (IsDispatchFault G.is_open) →
         IfErr result (IsFaultUnder G.is_open) }
@@ -135,11 +135,11 @@ pub fn run_workers<
     R: Threads + Wait + Copy + Send + 'static,
     G: Gate + Send + Sync + Drop + 'static,
 >(rt: &R, alloc: Global, config: &Config, inputs: &[Input], gate: Arc<G>) -> Result<Run, RunFault>
-    ensures run { IfOk result (λ run. run ≡ model.ran config.now inputs.now) }
+    ensures run { IfOk result (λ run. run ≡ model.run_result config.now inputs.now) }
     ensures too_many { (result ≡ Err RunFault.TooMany) ↔ (2 ^ 32 ≤ length inputs.now) }
     ensures one_each { IfOk result (λ run. length run.outcomes ≡ length inputs.now) }
     ensures apart { IfOk result (λ run. AllPairs AreRowsApart run.bindings) }
-    ensures gate { G.is_open ≡ true → IfErr result (λ fault. is_gate_fault fault ≡ false) }
+    ensures gate { G.is_open ≡ true → IfErr result (λ fault. is_run_gate_fault fault ≡ false) }
 {
     runs_are_sound();
     // called for its clause alone: a configuration keeps its rules
@@ -151,7 +151,7 @@ pub fn run_workers<
         clock: 0,
         list: Vec::new(alloc),
     };
-    let mut pool = start::<Untold, _, _>(rt, alloc, config, &nothing, gate)?;
+    let mut pool = start::<NoTrace, _, _>(rt, alloc, config, &nothing, gate)?;
     let dispatched = dispatch(rt, alloc, &mut pool, config, inputs);
     let ((outcomes, legs), ended) = close(rt, alloc, pool, dispatched)?;
     let bindings = bindings(alloc, &ended, last_clock(inputs))?;
@@ -164,7 +164,7 @@ pub fn run_workers<
 
 /// The result of a run, besides the outcomes of its inputs.
 #[derive(Drop)]
-pub struct Passed {
+pub struct RunSummary {
     /// The bindings that are live at the last clock, in the order of `Run`.
     pub bindings: Vec<Row>,
     /// The number of legs that acted at each external address, in the order of the pool.
@@ -175,16 +175,16 @@ pub struct Passed {
     pub clock: u64,
 }
 
-impl Passed {
+impl RunSummary {
     ghost use Rattle.napt_config.specs.Rules.{Rules};
-    ghost use Rattle.napt_rules.specs.Prelude.{IsInOrder, State};
-    ghost use Rattle.napt_dispatch.specs.Passing.{LeavesState};
+    ghost use Rattle.napt_rules.specs.Prelude.{IsStateInOrder, State};
+    ghost use Rattle.napt_dispatch.specs.RunsThrough.{LeavesState};
 
     /// The state that the run leaves: its bindings that are live or held at the last clock, by external address in the order
     /// of the pool, then by protocol (ICMP, TCP, UDP) and external number.
     pub fn left(&self, alloc: Global) -> Result<State, AllocError>
         ensures { (rules : Rules) (state : State) → LeavesState rules state self.now →
-            IfOk result (IsInOrder rules state) }
+            IfOk result (IsStateInOrder rules state) }
     {
         let mut list = Vec::new(alloc);
         for translator in &self.translators {
@@ -198,7 +198,7 @@ impl Passed {
 }
 
 /// Takes the translators out of the workers.
-fn translators<P: Telling>(
+fn translators<P: LegTrace>(
     alloc: Global,
     ended: Vec<Ended<Worker<P>>>,
 ) -> Result<Vec<Translator>, AllocError>
@@ -212,12 +212,12 @@ fn translators<P: Telling>(
 }
 
 /// The result of a run whose workers ended so.
-fn result_of<P: Telling>(
+fn result_of<P: LegTrace>(
     alloc: Global,
     ended: Vec<Ended<Worker<P>>>,
     legs: Vec<u64>,
     clock: u64,
-) -> Result<Passed, AllocError>
+) -> Result<RunSummary, AllocError>
     ensures bindings { IfOk result (λ passed. passed.bindings.items
         ≡ flat_map (λ e. rows_after clock e.machine) ended.items) }
     ensures translators { IfOk result (λ passed. passed.translators.items
@@ -226,7 +226,7 @@ fn result_of<P: Telling>(
     ensures clock { IfOk result (λ passed. passed.clock ≡ clock) }
 {
     let bindings = bindings(alloc, &ended, clock)?;
-    Ok(Passed {
+    Ok(RunSummary {
         bindings,
         legs,
         translators: translators(alloc, ended)?,
@@ -245,8 +245,8 @@ fn result_of<P: Telling>(
 pub fn run_through<
     R: Threads + Wait + Copy + Send + 'static,
     G: Gate + Send + Sync + Drop + 'static,
-    A: Arrivals,
-    D: Departures,
+    A: InputSource,
+    D: OutcomeSink,
 >(
     rt: &R,
     alloc: Global,
@@ -255,9 +255,9 @@ pub fn run_through<
     arrivals: &mut A,
     departures: &mut D,
     gate: Arc<G>,
-) -> Result<Passed, PassFault<A::Fault, D::Fault>>
-    requires { Takes config.now state.now }
-    ensures passes { Passes D.Told.tells config.now (under config.now state.now) A.hands A.ends
+) -> Result<RunSummary, PassFault<A::Fault, D::Fault>>
+    requires { TakesState config.now state.now }
+    ensures passes { RunThroughPost D.Told.tells config.now (with_redirects config.now state.now) A.hands A.ends
         D.takes D.fails D.is_settled arrivals.old departures.old arrivals.new departures.new result }
     ensures fault { IfErr result (IsStoppedUnder G.is_open) }
 {
@@ -272,17 +272,17 @@ pub fn run_through<
         departures,
     );
     let (dispatched, ended) = close(rt, alloc, pool, dispatched)?;
-    let Dispatched {
+    let DispatchResult {
         legs,
         clock,
         ending,
     } = dispatched;
     match ending {
-        Ending::Whole => match result_of(alloc, ended, legs, clock) {
+        DispatchEnd::Whole => match result_of(alloc, ended, legs, clock) {
             Ok(passed) => Ok(passed),
             Err(_) => Err(PassFault::Run(RunFault::Memory)),
         },
-        Ending::Arrival(fault) => Err(PassFault::Arrival(fault)),
-        Ending::Departure(fault) => Err(PassFault::Departure(fault)),
+        DispatchEnd::Arrival(fault) => Err(PassFault::Arrival(fault)),
+        DispatchEnd::Departure(fault) => Err(PassFault::Departure(fault)),
     }
 }

@@ -16,5 +16,5 @@ mod shapes;
 mod svg;
 mod tallies;
 
-pub use crate::picture::scene::{BindingKind, DrawnBinding, NumberClass, Pass, Scene};
+pub use crate::picture::scene::{BindingKind, DrawnBinding, DrawnPacket, NumberClass, Scene};
 pub use crate::picture::svg::{MOST_BARS, drawing_of};

@@ -4,15 +4,15 @@
 mod capture;
 mod cause;
 mod config;
-mod expected;
-mod inside;
+mod expected_words;
+mod inside_hosts;
 mod part;
 mod reason;
 mod room;
 mod spelling;
 
-pub use crate::reasons::capture::{Splitting, capture_reasons};
+pub use crate::reasons::capture::{SplitAdvice, capture_reasons};
 pub use crate::reasons::cause::{advice, meaning};
 pub use crate::reasons::config::config_reasons;
-pub use crate::reasons::inside::inside_prefixes;
+pub use crate::reasons::inside_hosts::inside_prefixes;
 pub use crate::reasons::reason::Reason;

@@ -4,7 +4,7 @@ use Rattle.std.{specs.List.{All, AllPairs, Contains, range_with_len}, proofs.lem
 use Rattle.std.proofs.Math.Nat.{mod-eq_of_lt, add-mod_left, mod-mod_of_dvd}
 use Rattle.std.proofs.lemmas.List.Elements.{All-append, All-contains, Contains-append_left, Contains-append_right}
 use Rattle.std.proofs.lemmas.List.FromFn.{length-map-range_with_len, get_or-map-range_with_len}
-use Rattle.napt_rules.specs.Prelude.{Each, IsOfBlock, BlockBegins, BlockIsThose, BlockDiffers, BlockKeepsParity, numbers_below, mixed, every_other, each_one, place_in, block_from, candidates, IsBlock, Block, Choosing, Seed, Endpoint, Protocol}
+use Rattle.napt_rules.specs.Prelude.{Each, IsBlockNumber, BlockCandidatesBegin, BlockCandidatesAreTheBlock, BlockCandidatesDiffer, BlockCandidatesKeepParity, numbers_below, mixed, every_other, each_one, place_in, block_from, candidates, IsPortBlock, PortBlock, NumberAssignment, Seed, Endpoint, Protocol}
 use Rattle.napt_laws.proofs.Classes.{AllPairs-append, each_from}
 
 -- EACH NUMBER BELOW A LIMIT, CHANGED
@@ -41,7 +41,7 @@ first_mapped f (suc many) some = (map f (range_with_len 1 many), refl)
 
 -- IN A BLOCK
 
-module _ (block : Block) (is : IsBlock block) where
+module _ (block : PortBlock) (is : IsPortBlock block) where
   -- a place wraps at most once
   wrapped : (x : ℕ) → x < 2 * block.size → ((x % block.size ≡ x) × (x < block.size))
       ⊎ ((x % block.size ≡ x - block.size) × (block.size ≤ x))
@@ -116,19 +116,19 @@ module _ (block : Block) (is : IsBlock block) where
         all_mapped (λ k. block.first + (place + 2 * k) % block.size) (block.size / 2)
         (λ n. (n - block.first) % 2 ≡ place % 2) (λ k within. omega (arith, at_parity k within))
 
-  every_is : (place : ℕ) → All (IsOfBlock block) (every_other block place)
+  every_is : (place : ℕ) → All (IsBlockNumber block) (every_other block place)
   every_is place =
-      all_mapped (λ k. block.first + (place + 2 * k) % block.size) (block.size / 2) (IsOfBlock block) (λ k within.
+      all_mapped (λ k. block.first + (place + 2 * k) % block.size) (block.size / 2) (IsBlockNumber block) (λ k within.
       let some : 0 < block.size = omega (arith, is.some) in
       let less : (place + 2 * k) % block.size < block.size = mod_below (place + 2 * k) block.size some in
       record { first = omega arith; last = omega (arith, less) })
 
 -- FROM A PLACE OF IT ON
 
-module _ (block : Block) (is : IsBlock block) (place : ℕ) (inside : place < block.size) where
+module _ (block : PortBlock) (is : IsPortBlock block) (place : ℕ) (inside : place < block.size) where
   -- by twos
-  two_all : All (IsOfBlock block) (block_from true block place)
-  two_all = All-append (IsOfBlock block) (every_other block place) (every_other block (place + 1))
+  two_all : All (IsBlockNumber block) (block_from true block place)
+  two_all = All-append (IsBlockNumber block) (every_other block place) (every_other block (place + 1))
       (every_is block is place) (every_is block is (place + 1))
 
   two_begins : (others : List ℕ) × (block_from true block place ≡ (block.first + place) ∷ others)
@@ -142,7 +142,7 @@ module _ (block : Block) (is : IsBlock block) (place : ℕ) (inside : place < bl
             ∙ ap (λ (n : ℕ). (block.first + n) ∷ (rest ++ every_other block (place + 1))) here,
       )
 
-  two_has : (n : ℕ) → IsOfBlock block n → Contains (block_from true block place) n
+  two_has : (n : ℕ) → IsBlockNumber block n → Contains (block_from true block place) n
   two_has n of =
       let o : ℕ = n - block.first in
       let small : o < block.size = omega (arith, of.first, of.last) in
@@ -192,9 +192,9 @@ module _ (block : Block) (is : IsBlock block) (place : ℕ) (inside : place < bl
     ]
   ]
 
-  one_all : All (IsOfBlock block) (block_from false block place)
+  one_all : All (IsBlockNumber block) (block_from false block place)
   one_all =
-      all_mapped (λ k. block.first + one_at k) block.size (IsOfBlock block) (λ k within.
+      all_mapped (λ k. block.first + one_at k) block.size (IsBlockNumber block) (λ k within.
       let some : 0 < block.size = omega (arith, is.some) in
       let less : one_at k < block.size = mod_below (place + k) block.size some in
       record { first = omega arith; last = omega (arith, less) })
@@ -206,7 +206,7 @@ module _ (block : Block) (is : IsBlock block) (place : ℕ) (inside : place < bl
       ap (λ n. n % block.size) (let z : place + 0 ≡ place = omega arith in z) ∙ mod-eq_of_lt inside in
       (rest, starts ∙ ap (λ (n : ℕ). (block.first + n) ∷ rest) here)
 
-  one_has : (n : ℕ) → IsOfBlock block n → Contains (block_from false block place) n
+  one_has : (n : ℕ) → IsBlockNumber block n → Contains (block_from false block place) n
   one_has n of =
       let o : ℕ = n - block.first in
       let small : o < block.size = omega (arith, of.first, of.last) in
@@ -234,7 +234,7 @@ module _ (block : Block) (is : IsBlock block) (place : ℕ) (inside : place < bl
       (λ i j less within same. ones_differ i j less within (omega (arith, same)))
 
   -- by either
-  from_all : (keeps : Bool) → All (IsOfBlock block) (block_from keeps block place)
+  from_all : (keeps : Bool) → All (IsBlockNumber block) (block_from keeps block place)
   from_all true = two_all
   from_all false = one_all
 
@@ -242,7 +242,7 @@ module _ (block : Block) (is : IsBlock block) (place : ℕ) (inside : place < bl
   from_begins true = two_begins
   from_begins false = one_begins
 
-  from_has : (keeps : Bool) (n : ℕ) → IsOfBlock block n → Contains (block_from keeps block place) n
+  from_has : (keeps : Bool) (n : ℕ) → IsBlockNumber block n → Contains (block_from keeps block place) n
   from_has true = two_has
   from_has false = one_has
 
@@ -250,7 +250,7 @@ module _ (block : Block) (is : IsBlock block) (place : ℕ) (inside : place < bl
   from_differ true = two_differ
   from_differ false = one_differ
 
-place_inside : (seed : Option Seed) (keeps : Bool) (block : Block) → IsBlock block → (protocol : Protocol)
+place_inside : (seed : Option Seed) (keeps : Bool) (block : PortBlock) → IsPortBlock block → (protocol : Protocol)
     (inside : Endpoint) → place_in seed keeps block.size protocol inside < block.size
 place_inside None keeps block is protocol inside =
     let some : 0 < block.size = omega (arith, is.some) in mod_below inside.number block.size some
@@ -264,8 +264,8 @@ place_inside (Some seed) false block is protocol inside =
     let some : 0 < block.size = omega (arith, is.some) in mod_below (mixed seed protocol inside) block.size some
 
 -- what holds of each number of a block holds of the candidates there
-pub each_of_block : (P : ℕ → Type 0) (choosing : Choosing) (block : Block) → IsBlock block → (protocol : Protocol)
-    (inside : Endpoint) → ((n : ℕ) → IsOfBlock block n → P n) →
+pub each_of_block : (P : ℕ → Type 0) (choosing : NumberAssignment) (block : PortBlock) → IsPortBlock block → (protocol : Protocol)
+    (inside : Endpoint) → ((n : ℕ) → IsBlockNumber block n → P n) →
     Each P (candidates choosing (Some block) protocol inside)
 each_of_block P choosing block is protocol inside holds =
     let place : ℕ = place_in choosing.seed choosing.keeps_parity block.size protocol inside in
@@ -275,28 +275,28 @@ each_of_block P choosing block is protocol inside holds =
 
 -- THE LAWS
 
-pub block_begins : BlockBegins
+pub block_begins : BlockCandidatesBegin
 block_begins choosing block is protocol inside =
     let place : ℕ = place_in choosing.seed choosing.keeps_parity block.size protocol inside in
     let within : place < block.size = place_inside choosing.seed choosing.keeps_parity block is protocol inside in
     (within, from_begins block is place within choosing.keeps_parity)
 
-pub block_is_those : BlockIsThose
+pub block_is_those : BlockCandidatesAreTheBlock
 block_is_those choosing block is protocol inside n =
     let place : ℕ = place_in choosing.seed choosing.keeps_parity block.size protocol inside in
     let within : place < block.size = place_inside choosing.seed choosing.keeps_parity block is protocol inside in (
-      λ h. All-contains (IsOfBlock block) (block_from choosing.keeps_parity block place) n
+      λ h. All-contains (IsBlockNumber block) (block_from choosing.keeps_parity block place) n
           (from_all block is place within choosing.keeps_parity) h,
       λ h. from_has block is place within choosing.keeps_parity n h,
     )
 
-pub block_differs : BlockDiffers
+pub block_differs : BlockCandidatesDiffer
 block_differs choosing block is protocol inside =
     let place : ℕ = place_in choosing.seed choosing.keeps_parity block.size protocol inside in
     let within : place < block.size = place_inside choosing.seed choosing.keeps_parity block is protocol inside in
     from_differ block is place within choosing.keeps_parity
 
-pub block_keeps_parity : BlockKeepsParity
+pub block_keeps_parity : BlockCandidatesKeepParity
 block_keeps_parity None block is protocol inside = mod-mod_of_dvd 2 inside.number
     (dvd_of_mod-eq-zero 2 is.size_even)
 block_keeps_parity (Some seed) block is protocol inside =

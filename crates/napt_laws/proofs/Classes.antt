@@ -4,7 +4,7 @@ use Rattle.std.specs.{Bool.beq, Cmp.booleans_Decides, List.{All, AllPairs, Conta
 use Rattle.std.proofs.lemmas.{Bool.{and_parts, and_from, ltb-true, lt-ltb, leb-true, leb-false, le-leb, Decides.{Decides-eqb, nat_tests}}, Nat.mod_below}
 use Rattle.std.proofs.lemmas.List.Elements.{All-append, All-contains, All-filter, Contains-append_left, Contains-append_right, filter_passes}
 use Rattle.std.proofs.lemmas.List.{FromFn.{length-range_with_len, get_or-range_with_len}, Kept.{AllPairs-cons, AllPairs-filter, AllPairs-from_increasing}}
-use Rattle.napt_rules.specs.Prelude.{Each, IsPortFor, IsNumberFor, is_port_for, is_number_for, numbers_below, numbers_for, mixed, start_of, upwards, candidates, IsFirst, CandidatesBegin, CandidatesAreThose, CandidatesDiffer, Choosing, Seed, Endpoint, Protocol, Icmp, Tcp, Udp}
+use Rattle.napt_rules.specs.Prelude.{Each, IsPortFor, IsNumberFor, is_port_for, is_number_for, numbers_below, numbers_for, mixed, start_of, upwards, candidates, IsFirstCandidate, CandidatesBeginWithTheirFirst, CandidatesAreTheirClass, CandidatesDiffer, NumberAssignment, Seed, Endpoint, Protocol, Icmp, Tcp, Udp}
 
 -- THE TEST
 
@@ -236,13 +236,13 @@ module _ (keeps : Bool) (protocol : Protocol) (inside : Endpoint)
             (place_within seed),
       )
 
-  start_first : (seed : Option Seed) → IsFirst seed keeps protocol inside (start_of seed own protocol inside)
+  start_first : (seed : Option Seed) → IsFirstCandidate seed keeps protocol inside (start_of seed own protocol inside)
   start_first None = refl
   start_first (Some seed) = below_place own (mixed seed protocol inside % length own) inside.number
       (numbers_rise keeps protocol inside.number) (place_within seed)
 
 -- what holds of each number that may stand for one holds of its candidates
-pub each_candidate : (P : ℕ → Type 0) (choosing : Choosing) (protocol : Protocol) (inside : Endpoint) →
+pub each_candidate : (P : ℕ → Type 0) (choosing : NumberAssignment) (protocol : Protocol) (inside : Endpoint) →
     ((n : ℕ) → IsNumberFor choosing.keeps_parity protocol inside.number n → P n) →
     Each P (candidates choosing None protocol inside)
 each_candidate P choosing protocol inside holds =
@@ -253,7 +253,7 @@ each_candidate P choosing protocol inside holds =
 
 -- THE LAWS
 
-pub candidates_begin : CandidatesBegin
+pub candidates_begin : CandidatesBeginWithTheirFirst
 candidates_begin choosing protocol inside is =
     let numbers : List ℕ = numbers_for choosing.keeps_parity protocol inside.number in
     let start : ℕ = start_of choosing.seed numbers protocol inside in
@@ -261,7 +261,7 @@ candidates_begin choosing protocol inside is =
     (start_in choosing.keeps_parity protocol inside is choosing.seed) in
     (start, others, begins, start_first choosing.keeps_parity protocol inside is choosing.seed)
 
-pub candidates_are_those : CandidatesAreThose
+pub candidates_are_those : CandidatesAreTheirClass
 candidates_are_those choosing protocol inside n =
     let numbers : List ℕ = numbers_for choosing.keeps_parity protocol inside.number in
     let start : ℕ = start_of choosing.seed numbers protocol inside in (

@@ -3,19 +3,19 @@ use Rattle.std.proofs.Common.{◌≡◌, ℕ, ◌+◌, ◌≤◌, max, List, [],
 use Rattle.std.proofs.lemmas.List.{map-append}
 use Rattle.napt_wire.specs.declared.Protocol.TheVariants as protocols
 use Rattle.napt_wire.specs.declared.Kind.TheVariants.{Udp, Tcp, Echo, ErrorOf}
-use Rattle.napt_rules.specs.Prelude.{Binding, of, purge, hold_ago, taken, rows_of, rows, is_of_inside, has_number, granting_of, out_taken, in_taken, inbound_of, Out, In, end_out, end_in, error_out, error_in, no_flags, sent_of, received_of, act_out, act_in, act_by, served_at, Acted, act, Arrival, admission, Act, Course, ahead, follow_by, first_leg, step_as, step, run_from, last_clock, legs_at, ran_of, State, course_from, left_by, ran_from, behind, added, and_then, GoesOn, RunsGoOn, GoneChangeNothing, from_clock, EarlierClocksAreTheStates, Protocol, Way, Outgoing, Incoming, Flags, Cause, Kind, kind, Rules}
+use Rattle.napt_rules.specs.Prelude.{Binding, bindings_at, purge, hold_ago, live_and_held, rows_of, rows, is_of_inside, has_number, assignment_rules, out_taken, in_taken, inbound_rules, OutboundEffect, InboundEffect, end_out, end_in, error_out, error_in, no_flags, outbound_packet, inbound_packet, act_out, act_in, act_by, served_at, LegEffect, act, Arrival, admission, LegAct, RunEffect, effect_then, with_second_leg, first_leg, step_as, step, run_from, last_clock, legs_at, run_result_of, State, effect_from, next_state, run_result_from, act_behind, added_counts, run_then, RunGoesOn, RunsGoOn, GoneBindingsChangeNothing, inputs_from_clock, EarlierClocksAreTheStates, Protocol, Way, Outgoing, Incoming, Flags, Cause, Kind, kind, Rules}
 use Rattle.napt_rules.specs.declared.{Row.Row, Leg.Leg, Outcome.Outcome, End.{End, TheVariants.{ToOutside, ToInside, Onward, Dropped}}}
-use Rattle.napt_laws.proofs.{Beside.{AreBeside, run_both}, Grown.{run_append, clock_on}, Purges.of_purge, Living.{taken_later, taken_twice, purge_taken}}
+use Rattle.napt_laws.proofs.{RunsBeside.{AreBeside, run_both}, OneMoreInput.{run_append, clock_on}, Purges.of_purge, SeenElements.{taken_later, taken_twice, purge_taken}}
 
 -- THE NUMBERS
 
-abbrev pub renumbered : ℕ → Course → Course
-renumbered before course = record course { acts = map (behind before) course.acts }
+abbrev pub renumbered : ℕ → RunEffect → RunEffect
+renumbered before course = record course { acts = map (act_behind before) course.acts }
 
 module _ (rules : Rules) (before number now : ℕ) where
-  follow_behind : (address : ℕ) (leg : Leg) (first : Acted) (end : End) →
-      follow_by rules address (record leg { number = before + leg.number }) first end
-      ≡ renumbered before (follow_by rules address leg first end)
+  follow_behind : (address : ℕ) (leg : Leg) (first : LegEffect) (end : End) →
+      with_second_leg rules address (record leg { number = before + leg.number }) first end
+      ≡ renumbered before (with_second_leg rules address leg first end)
   follow_behind address leg first (ToOutside packet) = refl
   follow_behind address leg first (ToInside packet) = refl
   follow_behind address leg first (Onward place packet) = refl
@@ -30,10 +30,10 @@ module _ (rules : Rules) (before number now : ℕ) where
       let address : ℕ = served_at rules leg.way packet in
       follow_behind address leg (act rules address leg list) (act rules address leg list).end
 
-ahead_behind : (before : ℕ) (first rest : Course) → ahead (renumbered before first) (renumbered before rest)
-    ≡ renumbered before (ahead first rest)
-ahead_behind before first rest = ap (λ (acts : List Act). record (ahead first rest) { acts = acts })
-    (sym (map-append (behind before) first.acts rest.acts))
+ahead_behind : (before : ℕ) (first rest : RunEffect) → effect_then (renumbered before first) (renumbered before rest)
+    ≡ renumbered before (effect_then first rest)
+ahead_behind before first rest = ap (λ (acts : List LegAct). record (effect_then first rest) { acts = acts })
+    (sym (map-append (act_behind before) first.acts rest.acts))
 
 -- a run from a later number on has the same legs, by later numbers
 pub run_behind : (rules : Rules) (before number at clock : ℕ) (inputs : List Arrival) (list : List Binding) →
@@ -42,12 +42,12 @@ pub run_behind : (rules : Rules) (before number at clock : ℕ) (inputs : List A
 run_behind rules before number at clock [] list e = refl
 run_behind rules before number at clock (input ∷ inputs) list e =
     let now : ℕ = max clock input.clock in
-    let first : Course = step rules number now input list in
+    let first : RunEffect = step rules number now input list in
     let is : step rules at now input list ≡ renumbered before first =
     ap (λ (n : ℕ). step rules n now input list) (sym e)
     ∙ step_behind rules before number now input list (admission rules input) in
-    ap (λ (s : Course). ahead s (run_from rules (at + 1) now inputs s.list)) is
-    ∙ (ap (ahead (renumbered before first))
+    ap (λ (s : RunEffect). effect_then s (run_from rules (at + 1) now inputs s.list)) is
+    ∙ (ap (effect_then (renumbered before first))
     (run_behind rules before (number + 1) (at + 1) now inputs first.list (omega (arith, e)))
     ∙ ahead_behind before first (run_from rules (number + 1) now inputs first.list))
 
@@ -55,30 +55,30 @@ run_behind rules before number at clock (input ∷ inputs) list e =
 
 -- lists that are one in what is taken at a time
 abbrev AreAsOne : Rules → ℕ → List Binding → List Binding → Type 0
-AreAsOne rules now a b = taken rules.timers now a ≡ taken rules.timers now b
+AreAsOne rules now a b = live_and_held rules.timers now a ≡ live_and_held rules.timers now b
 
 as_one_later : (rules : Rules) (n m : ℕ) → n ≤ m → (a b : List Binding) → AreAsOne rules n a b → AreAsOne rules m a b
 as_one_later rules n m le a b same = sym (taken_later rules.timers n m le a)
-    ∙ (ap (taken rules.timers m) same ∙ taken_later rules.timers n m le b)
+    ∙ (ap (live_and_held rules.timers m) same ∙ taken_later rules.timers n m le b)
 
 -- a leg, and what is taken at its time of the list that it leaves
-abbrev acted_taken : Rules → ℕ → Acted → Acted
-acted_taken rules now acted = record acted { list = taken rules.timers now acted.list }
+abbrev acted_taken : Rules → ℕ → LegEffect → LegEffect
+acted_taken rules now acted = record acted { list = live_and_held rules.timers now acted.list }
 
 -- one that leaves the list as it is
-abbrev unmoved : End → List Binding → Acted
+abbrev unmoved : End → List Binding → LegEffect
 unmoved end list = record { end = end; through = None; list = list }
 
-abbrev course_taken : Rules → ℕ → Course → Course
-course_taken rules now course = record course { list = taken rules.timers now course.list }
+abbrev course_taken : Rules → ℕ → RunEffect → RunEffect
+course_taken rules now course = record course { list = live_and_held rules.timers now course.list }
 
 module _ (rules : Rules) (address : ℕ) (leg : Leg) (a b : List Binding) (same : AreAsOne rules leg.now a b) where
   same_out : (protocol : Protocol) (flags : Flags) → acted_taken rules leg.now
       (act_out rules address leg a protocol flags)
       ≡ acted_taken rules leg.now (act_out rules address leg b protocol flags)
   same_out protocol flags = ap (λ (l : List Binding).
-      let out : Out = out_taken rules.timers (granting_of rules) address
-      (sent_of rules protocol flags leg.now leg.packet) l in
+      let out : OutboundEffect = out_taken rules.timers (assignment_rules rules) address
+      (outbound_packet rules protocol flags leg.now leg.packet) l in
       acted_taken rules leg.now
       (record { end = end_out rules address leg.packet out.number; through = out.through; list = out.list })) same
 
@@ -86,8 +86,8 @@ module _ (rules : Rules) (address : ℕ) (leg : Leg) (a b : List Binding) (same 
       (act_in rules address leg a protocol flags)
       ≡ acted_taken rules leg.now (act_in rules address leg b protocol flags)
   same_in protocol flags = ap (λ (l : List Binding).
-      let came : In = in_taken rules.timers (inbound_of rules) address
-      (received_of protocol flags leg.now leg.packet) l in
+      let came : InboundEffect = in_taken rules.timers (inbound_rules rules) address
+      (inbound_packet protocol flags leg.now leg.packet) l in
       acted_taken rules leg.now
       (record { end = end_in leg.packet came.inside; through = came.through; list = came.list })) same
 
@@ -100,7 +100,7 @@ module _ (rules : Rules) (address : ℕ) (leg : Leg) (a b : List Binding) (same 
       (unmoved (end_of (find test (purge rules.timers leg.now a))) a)
       ≡ acted_taken rules leg.now (unmoved (end_of (find test (purge rules.timers leg.now b))) b)
   same_error end_of test = ap (λ (l : List Binding).
-      unmoved (end_of (find test l)) (taken rules.timers leg.now a)) seen
+      unmoved (end_of (find test l)) (live_and_held rules.timers leg.now a)) seen
       ∙ ap (unmoved (end_of (find test (purge rules.timers leg.now b)))) same
 
   same_by : (way : Way) (kind : Kind) → acted_taken rules leg.now (act_by rules address leg a way kind)
@@ -126,26 +126,26 @@ pub run_same : (rules : Rules) (number clock : ℕ) (inputs : List Arrival) (a b
     ≡ course_taken rules last (run_from rules number clock inputs b))
 run_same rules number clock inputs a b same =
     let last : ℕ = last_clock clock inputs in
-    let x : Course = run_from rules number clock inputs a in
-    let y : Course = run_from rules number clock inputs b in
+    let x : RunEffect = run_from rules number clock inputs a in
+    let y : RunEffect = run_from rules number clock inputs b in
     let beside : AreBeside (AreAsOne rules) last x y = run_both rules (AreAsOne rules) (as_one_later rules)
     (λ address leg a b served so. let acted = act_same rules address leg a b so in record {
-      end = ap (λ (x : Acted). x.end) acted;
-      through = ap (λ (x : Acted). x.through) acted;
-      list = ap (λ (x : Acted). x.list) acted;
+      end = ap (λ (x : LegEffect). x.end) acted;
+      through = ap (λ (x : LegEffect). x.through) acted;
+      list = ap (λ (x : LegEffect). x.list) acted;
     }) number clock inputs a b same in
-    ap (λ (os : List Outcome). record { outcomes = os; acts = x.acts; list = taken rules.timers last x.list })
+    ap (λ (os : List Outcome). record { outcomes = os; acts = x.acts; list = live_and_held rules.timers last x.list })
     beside.outcomes
-    ∙ (ap (λ (acts : List Act). record { outcomes = y.outcomes; acts = acts; list = taken rules.timers last x.list })
+    ∙ (ap (λ (acts : List LegAct). record { outcomes = y.outcomes; acts = acts; list = live_and_held rules.timers last x.list })
     beside.acts ∙ ap (λ (l : List Binding). record { outcomes = y.outcomes; acts = y.acts; list = l }) beside.list)
 
 -- WHAT A RUN GIVES
 
 rows_same : (rules : Rules) (now address : ℕ) (list : List Binding) →
-    rows rules.timers now (of address (taken rules.timers now list)) ≡ rows rules.timers now (of address list)
+    rows rules.timers now (bindings_at address (live_and_held rules.timers now list)) ≡ rows rules.timers now (bindings_at address list)
 rows_same rules now address list = ap rows_of
     (ap (purge rules.timers now) (of_purge rules.timers (hold_ago rules.timers now) address list)
-    ∙ purge_taken rules.timers now (of address list))
+    ∙ purge_taken rules.timers now (bindings_at address list))
 
 flat_same : {X Y : Type 0} (f g : X → List Y) → ((x : X) → f x ≡ g x) → (xs : List X) → flat_map f xs ≡ flat_map g xs
 flat_same f g same [] = refl
@@ -153,45 +153,45 @@ flat_same f g same (x ∷ xs) = ap (λ (l : List _). l ++ flat_map f xs) (same x
     ∙ ap (λ (l : List _). g x ++ l) (flat_same f g same xs)
 
 -- with what is taken at its clock alone, a course gives the same
-ran_taken : (rules : Rules) (now : ℕ) (course : Course) → ran_of rules now (course_taken rules now course)
-    ≡ ran_of rules now course
-ran_taken rules now course = ap (λ (rows : List Row). record (ran_of rules now course) { bindings = rows })
-    (flat_same (λ (address : ℕ). rows rules.timers now (of address (taken rules.timers now course.list)))
-    (λ address. rows rules.timers now (of address course.list))
+ran_taken : (rules : Rules) (now : ℕ) (course : RunEffect) → run_result_of rules now (course_taken rules now course)
+    ≡ run_result_of rules now course
+ran_taken rules now course = ap (λ (rows : List Row). record (run_result_of rules now course) { bindings = rows })
+    (flat_same (λ (address : ℕ). rows rules.timers now (bindings_at address (live_and_held rules.timers now course.list)))
+    (λ address. rows rules.timers now (bindings_at address course.list))
     (λ address. rows_same rules now address course.list) rules.pool)
 
 -- LEGS
 
-numbers_apart : (before address : ℕ) (acts : List Act) → length (legs_at address (map (behind before) acts))
+numbers_apart : (before address : ℕ) (acts : List LegAct) → length (legs_at address (map (act_behind before) acts))
     ≡ length (legs_at address acts)
 numbers_apart before address [] = refl
 numbers_apart before address (a ∷ acts) = grind (arith, numbers_apart before address acts)
 
-legs_added : (address : ℕ) (first rest : List Act) → length (legs_at address (first ++ rest))
+legs_added : (address : ℕ) (first rest : List LegAct) → length (legs_at address (first ++ rest))
     ≡ length (legs_at address first) + length (legs_at address rest)
 legs_added address [] rest = omega arith
 legs_added address (a ∷ first) rest = grind (arith, legs_added address first rest)
 
-counts_added : (f g h : ℕ → ℕ) → ((x : ℕ) → f x ≡ g x + h x) → (xs : List ℕ) → map f xs ≡ added (map g xs) (map h xs)
+counts_added : (f g h : ℕ → ℕ) → ((x : ℕ) → f x ≡ g x + h x) → (xs : List ℕ) → map f xs ≡ added_counts (map g xs) (map h xs)
 counts_added f g h sum [] = refl
 counts_added f g h sum (x ∷ xs) = ap (λ (n : ℕ). n ∷ map f xs) (sum x)
     ∙ ap (λ (l : List ℕ). (g x + h x) ∷ l) (counts_added f g h sum xs)
 
 -- THE LAWS
 
-pub gone_change_nothing : GoneChangeNothing
+pub gone_change_nothing : GoneBindingsChangeNothing
 gone_change_nothing rules state inputs =
     let last : ℕ = last_clock state.clock inputs in
-    let here : List Binding = taken rules.timers state.clock state.list in
+    let here : List Binding = live_and_held rules.timers state.clock state.list in
     let same : course_taken rules last (run_from rules 0 state.clock inputs here)
     ≡ course_taken rules last (run_from rules 0 state.clock inputs state.list) =
     run_same rules 0 state.clock inputs here state.list
     (taken_twice rules.timers state.clock state.list) in
     record {
       ran = sym (ran_taken rules last (run_from rules 0 state.clock inputs here))
-          ∙ (ap (ran_of rules last) same ∙ ran_taken rules last (run_from rules 0 state.clock inputs state.list));
-      acts = ap (λ (r : Course). r.acts) same;
-      left = ap (λ (r : Course). record { clock = last; list = r.list }) same;
+          ∙ (ap (run_result_of rules last) same ∙ ran_taken rules last (run_from rules 0 state.clock inputs state.list));
+      acts = ap (λ (r : RunEffect). r.acts) same;
+      left = ap (λ (r : RunEffect). record { clock = last; list = r.list }) same;
     }
 
 module _ (rules : Rules) (state : State) (first rest : List Arrival) where
@@ -201,46 +201,46 @@ module _ (rules : Rules) (state : State) (first rest : List Arrival) where
   abbrev last : ℕ
   last = last_clock clock rest
 
-  abbrev begins : Course
-  begins = course_from rules state first
+  abbrev begins : RunEffect
+  begins = effect_from rules state first
 
-  abbrev goes : Course
-  goes = course_from rules (left_by rules state first) rest
+  abbrev goes : RunEffect
+  goes = effect_from rules (next_state rules state first) rest
 
   -- the whole course, with what is taken in the end
-  course_on : course_taken rules last (course_from rules state (first ++ rest))
-      ≡ course_taken rules last (ahead begins (renumbered (length first) goes))
+  course_on : course_taken rules last (effect_from rules state (first ++ rest))
+      ≡ course_taken rules last (effect_then begins (renumbered (length first) goes))
   course_on = ap (course_taken rules last)
       (run_append rules 0 state.clock first rest state.list (length first) (omega arith))
-      ∙ (ap (λ (r : Course). course_taken rules last (ahead begins r))
+      ∙ (ap (λ (r : RunEffect). course_taken rules last (effect_then begins r))
       (run_behind rules (length first) 0 (length first) clock rest begins.list (omega arith))
-      ∙ ap (λ (r : Course). ahead begins (renumbered (length first) r))
-      (run_same rules 0 clock rest begins.list (taken rules.timers clock begins.list)
+      ∙ ap (λ (r : RunEffect). effect_then begins (renumbered (length first) r))
+      (run_same rules 0 clock rest begins.list (live_and_held rules.timers clock begins.list)
       (sym (taken_twice rules.timers clock begins.list))))
 
-  ran_on : ran_of rules last (ahead begins (renumbered (length first) goes))
-      ≡ and_then (ran_from rules state first) (ran_from rules (left_by rules state first) rest)
+  ran_on : run_result_of rules last (effect_then begins (renumbered (length first) goes))
+      ≡ run_then (run_result_from rules state first) (run_result_from rules (next_state rules state first) rest)
   ran_on = ap (λ (counts : List ℕ).
-      record (ran_of rules last (ahead begins (renumbered (length first) goes))) { legs = counts })
-      (counts_added (λ (address : ℕ). length (legs_at address (begins.acts ++ map (behind (length first)) goes.acts)))
+      record (run_result_of rules last (effect_then begins (renumbered (length first) goes))) { legs = counts })
+      (counts_added (λ (address : ℕ). length (legs_at address (begins.acts ++ map (act_behind (length first)) goes.acts)))
       (λ address. length (legs_at address begins.acts)) (λ address. length (legs_at address goes.acts))
-      (λ address. legs_added address begins.acts (map (behind (length first)) goes.acts)
+      (λ address. legs_added address begins.acts (map (act_behind (length first)) goes.acts)
       ∙ ap (λ (n : ℕ). length (legs_at address begins.acts) + n) (numbers_apart (length first) address goes.acts))
       rules.pool)
 
-  go_on : GoesOn rules state first rest
+  go_on : RunGoesOn rules state first rest
   go_on = record {
-    ran = ap (λ (t : ℕ). ran_of rules t (course_from rules state (first ++ rest))) (clock_on state.clock first rest)
-        ∙ (sym (ran_taken rules last (course_from rules state (first ++ rest)))
-        ∙ (ap (ran_of rules last) course_on
-        ∙ (ran_taken rules last (ahead begins (renumbered (length first) goes)) ∙ ran_on)));
-    acts = ap (λ (r : Course). r.acts) course_on;
+    ran = ap (λ (t : ℕ). run_result_of rules t (effect_from rules state (first ++ rest))) (clock_on state.clock first rest)
+        ∙ (sym (ran_taken rules last (effect_from rules state (first ++ rest)))
+        ∙ (ap (run_result_of rules last) course_on
+        ∙ (ran_taken rules last (effect_then begins (renumbered (length first) goes)) ∙ ran_on)));
+    acts = ap (λ (r : RunEffect). r.acts) course_on;
     left = ap (λ (t : ℕ). record {
       clock = t;
-      list = taken rules.timers t (course_from rules state (first ++ rest)).list;
+      list = live_and_held rules.timers t (effect_from rules state (first ++ rest)).list;
     })
         (clock_on state.clock first rest)
-        ∙ ap (λ (r : Course). record { clock = last; list = r.list }) course_on;
+        ∙ ap (λ (r : RunEffect). record { clock = last; list = r.list }) course_on;
   }
 
 pub runs_go_on : RunsGoOn
@@ -252,22 +252,22 @@ same_time : (least clock time : ℕ) → least ≤ clock → max clock (max leas
 same_time least clock time le = omega arith
 
 run_from_clock : (rules : Rules) (number least clock : ℕ) → least ≤ clock → (inputs : List Arrival)
-    (list : List Binding) → run_from rules number clock (from_clock least inputs) list
+    (list : List Binding) → run_from rules number clock (inputs_from_clock least inputs) list
     ≡ run_from rules number clock inputs list
 run_from_clock rules number least clock le [] list = refl
 run_from_clock rules number least clock le (input ∷ inputs) list =
     let now : ℕ = max clock input.clock in
-    let first : Course = step rules number now input list in
-    ap (λ (t : ℕ). ahead (step rules number t input list)
-    (run_from rules (number + 1) t (from_clock least inputs) (step rules number t input list).list))
+    let first : RunEffect = step rules number now input list in
+    ap (λ (t : ℕ). effect_then (step rules number t input list)
+    (run_from rules (number + 1) t (inputs_from_clock least inputs) (step rules number t input list).list))
     (same_time least clock input.clock le)
-    ∙ ap (ahead first) (run_from_clock rules (number + 1) least now (omega arith) inputs first.list)
+    ∙ ap (effect_then first) (run_from_clock rules (number + 1) least now (omega arith) inputs first.list)
 
 last_from_clock : (least clock : ℕ) → least ≤ clock → (inputs : List Arrival) →
-    last_clock clock (from_clock least inputs) ≡ last_clock clock inputs
+    last_clock clock (inputs_from_clock least inputs) ≡ last_clock clock inputs
 last_from_clock least clock le [] = refl
 last_from_clock least clock le (input ∷ inputs) =
-    ap (λ (t : ℕ). last_clock t (from_clock least inputs)) (same_time least clock input.clock le)
+    ap (λ (t : ℕ). last_clock t (inputs_from_clock least inputs)) (same_time least clock input.clock le)
     ∙ last_from_clock least (max clock input.clock) (omega arith) inputs
 
 pub earlier_clocks : EarlierClocksAreTheStates

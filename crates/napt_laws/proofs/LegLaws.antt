@@ -1,14 +1,14 @@
 -- What every leg keeps to.
 use Rattle.std.proofs.Common.{◌≡◌, ℕ, true, max, List, Option, Some, None, Result, Ok, Err, refl, ◌∙◌, ap}
 use Rattle.napt_wire.specs.declared.Kind.TheVariants.{Udp, Tcp, Echo, ErrorOf}
-use Rattle.napt_rules.specs.Prelude.{Binding, onward_by, gone_out, end_out, end_in, error_out, error_in, act_by, Kept, time_after, ErrorsChangeNothing, IsToItsSide, LegsEndAtTheirSide, is_in_or_dropped, InStaysIn, Way, Outgoing, Incoming, Cause, Endpoint, Kind, destination, kind, is_error, Rules, place_of}
+use Rattle.napt_rules.specs.Prelude.{Binding, onward_end, outbound_end, end_out, end_in, error_out, error_in, act_by, LocalState, time_after, ErrorsChangeNothing, IsToItsSide, LegsEndAtTheirSide, is_in_or_dropped, InboundStaysInside, Way, Outgoing, Incoming, Cause, Endpoint, Kind, destination, kind, is_error, Rules, pool_place}
 use Rattle.napt_rules.specs.declared.Leg.{Leg}
 
 -- ERRORS
 
 module _ (rules : Rules) (address : ℕ) (leg : Leg) (list : List Binding) (at : ℕ) where
   error_keeps : (way : Way) (k : Kind) → is_error k ≡ true →
-      (let kept : Kept = record {
+      (let kept : LocalState = record {
         list = (act_by rules address leg list way k).list;
         at = time_after k at leg.now;
       } in kept ≡ record { list = list; at = at })
@@ -25,13 +25,13 @@ errors_change_nothing rules address leg kept h =
 -- SIDES
 
 module _ (rules : Rules) where
-  onward_side : (packet : List ℕ) (place : Option ℕ) → place_of rules (destination packet).address ≡ place →
-      IsToItsSide rules (onward_by place packet)
+  onward_side : (packet : List ℕ) (place : Option ℕ) → pool_place rules (destination packet).address ≡ place →
+      IsToItsSide rules (onward_end place packet)
   onward_side packet None h = h
   onward_side packet (Some place) h = h
 
-  out_side : (packet : List ℕ) → IsToItsSide rules (gone_out rules packet)
-  out_side packet = onward_side packet (place_of rules (destination packet).address) refl
+  out_side : (packet : List ℕ) → IsToItsSide rules (outbound_end rules packet)
+  out_side packet = onward_side packet (pool_place rules (destination packet).address) refl
 
   sent_side : (address : ℕ) (packet : List ℕ) (number : Result ℕ Cause) →
       IsToItsSide rules (end_out rules address packet number)
@@ -82,7 +82,7 @@ leg_in rules address leg list (Tcp flags) = came_in _ _
 leg_in rules address leg list Echo = came_in _ _
 leg_in rules address leg list (ErrorOf inner) = error_came_in _ _
 
-pub in_stays_in : InStaysIn
+pub in_stays_in : InboundStaysInside
 in_stays_in rules address leg kept way =
     let then : Leg = record leg { now = max leg.now kept.at } in
     ap (λ (w : Way). is_in_or_dropped (act_by rules address then kept.list w (kind leg.packet)).end) way

@@ -5,17 +5,17 @@ pub mod Finds
 -- ONE BINDING, AND ITS NUMBER
 
 pub mod Purges
-pub mod Living
-pub mod Fresh
+pub mod SeenElements
+pub mod FreshBindings
 pub mod Classes
 pub mod Blocks
 pub mod Endpoints
 -- STEPS: how a list of bindings begins, and what a packet does to it
 
-pub mod Held
+pub mod HeldNumbers
 pub mod Passes
 pub mod Shuffles
-pub mod Alike
+pub mod AlikeLists
 pub mod StepRows
 pub mod Quotas
 pub mod StepsLocal
@@ -24,39 +24,39 @@ pub mod StepsSound
 pub mod StepsQuota
 pub mod StepsAlike
 pub mod Accounts
-pub mod Named
-pub mod Opened
+pub mod RowNumbers
+pub mod OpeningList
 pub mod Orders
 -- LEGS
 
 pub mod Pools
 pub mod Acts
 pub mod LegLaws
-pub mod Foreseen
-pub mod Onward
+pub mod OnwardForeseen
+pub mod OnwardLegs
 pub mod LegsLocal
-pub mod Through
+pub mod BindingUseLaws
 -- RUNS
 
 pub mod AnyStep
 pub mod Turns
-pub mod Beside
+pub mod RunsBeside
 pub mod Routes
 pub mod RunsLocal
-pub mod Alone
+pub mod LegsAlone
 pub mod RunsSound
 pub mod RunsQuota
 pub mod RunsBlocks
-pub mod Taken
-pub mod Owned
+pub mod TakenStates
+pub mod OwnBindings
 pub mod OwnStates
 pub mod Rows
-pub mod Grown
+pub mod OneMoreInput
 pub mod GoingOn
 pub mod RunsAlike
-pub mod Saved
+pub mod SavedStates
 pub mod EachLeg
-pub mod Dispatched
+pub mod DispatchLaws
 pub mod OneInput
 pub mod Places
 pub mod Holders

@@ -1,21 +1,21 @@
 -- One input more.
 use Rattle.std.proofs.Common.{◌≡◌, ℕ, zero, suc, ◌+◌, ◌<◌, max, List, [], ◌∷◌, ◌++◌, length, Some, Result, refl, sym, ◌∙◌, ap, arith, get_or, take, drop, slice_get}
 use Rattle.std.proofs.lemmas.List.{take_more, take-append-drop}
-use Rattle.napt_rules.specs.Prelude.{Binding, Arrival, admission, Course, ahead, first_leg, step_as, step, run_from, last_clock, State, course_from, Cause, Rules}
+use Rattle.napt_rules.specs.Prelude.{Binding, Arrival, admission, RunEffect, effect_then, first_leg, step_as, step, run_from, last_clock, State, effect_from, Cause, Rules}
 use Rattle.napt_rules.specs.declared.Outcome.{Outcome}
-use Rattle.napt_laws.{specs.Dispatching.IsFront, proofs.{Grown.run_append, Dispatched.runs_grow}}
+use Rattle.napt_laws.{specs.Dispatching.IsFrontOf, proofs.{OneMoreInput.run_append, DispatchLaws.runs_grow}}
 
 -- A RUN BEGINS AS THAT OF ITS FIRST INPUTS
 
 pub acts_begin : (rules : Rules) (number clock : ℕ) (xs ys : List Arrival) (list : List Binding) →
-    IsFront (run_from rules number clock xs list).acts (run_from rules number clock (xs ++ ys) list).acts
+    IsFrontOf (run_from rules number clock xs list).acts (run_from rules number clock (xs ++ ys) list).acts
 acts_begin rules number clock xs ys list =
-    (_, sym (ap (λ (r : Course). r.acts) (run_append rules number clock xs ys list _ refl)))
+    (_, sym (ap (λ (r : RunEffect). r.acts) (run_append rules number clock xs ys list _ refl)))
 
 pub outcomes_begin : (rules : Rules) (number clock : ℕ) (xs ys : List Arrival) (list : List Binding) →
-    IsFront (run_from rules number clock xs list).outcomes (run_from rules number clock (xs ++ ys) list).outcomes
+    IsFrontOf (run_from rules number clock xs list).outcomes (run_from rules number clock (xs ++ ys) list).outcomes
 outcomes_begin rules number clock xs ys list =
-    (_, sym (ap (λ (r : Course). r.outcomes) (run_append rules number clock xs ys list _ refl)))
+    (_, sym (ap (λ (r : RunEffect). r.outcomes) (run_append rules number clock xs ys list _ refl)))
 
 pub get_at : (xs : List Outcome) (o : Outcome) (rest : List Outcome) (n : ℕ) → length xs ≡ n →
     slice_get ((xs ++ o ∷ []) ++ rest) n ≡ Some o
@@ -29,14 +29,14 @@ module _ (rules : Rules) (state : State) (done rest : List Arrival) (input : Arr
     (clock : max (last_clock state.clock done) input.clock ≡ now) where
   -- the run of one input more
   pub grown : (admitted_as : Result (List ℕ) Cause) → admission rules input ≡ admitted_as →
-      course_from rules state (done ++ input ∷ []) ≡ ahead (course_from rules state done)
-      (step_as rules (first_leg number now input.side) admitted_as (course_from rules state done).list)
+      effect_from rules state (done ++ input ∷ []) ≡ effect_then (effect_from rules state done)
+      (step_as rules (first_leg number now input.side) admitted_as (effect_from rules state done).list)
   grown admitted_as is =
-      let r : Course = course_from rules state done in
+      let r : RunEffect = effect_from rules state done in
       runs_grow rules state done input
-      ∙ (ap (λ (n : ℕ). ahead r (step rules n (max (last_clock state.clock done) input.clock) input r.list)) long
-      ∙ (ap (λ (t : ℕ). ahead r (step rules number t input r.list)) clock
-      ∙ ap (λ (a : Result (List ℕ) Cause). ahead r (step_as rules (first_leg number now input.side) a r.list)) is))
+      ∙ (ap (λ (n : ℕ). effect_then r (step rules n (max (last_clock state.clock done) input.clock) input r.list)) long
+      ∙ (ap (λ (t : ℕ). effect_then r (step rules number t input r.list)) clock
+      ∙ ap (λ (a : Result (List ℕ) Cause). effect_then r (step_as rules (first_leg number now input.side) a r.list)) is))
 
 -- A STEP OF THE LOOP
 

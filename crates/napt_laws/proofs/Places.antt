@@ -1,43 +1,43 @@
 -- Second legs by the number of their input.
 use Rattle.std.proofs.Common.{◌≡◌, ◌≢◌, ℕ, ◌+◌, ◌≤◌, ◌==◌, max, Bool, true, false, cond, Option, List, [], ◌∷◌, ◌++◌, length, map, Ok, refl, sym, ◌∙◌, ap, subst, arith, append_assoc, append-nil, eq-eqb, ne_eqb}
 use Rattle.std.proofs.lemmas.List.{map-append, Elements.filter-append}
-use Rattle.napt_rules.specs.Prelude.{Through, Binding, Each, way_from, served_at, Acted, act, Arrival, admission, Act, Course, follow_by, last_clock, State, course_from, acts_at, legs_at, Way, Outgoing, destination, IsPacket, Rules}
+use Rattle.napt_rules.specs.Prelude.{BindingUse, Binding, Each, way_from, served_at, LegEffect, act, Arrival, admission, LegAct, RunEffect, with_second_leg, last_clock, State, effect_from, acts_at, legs_at, Way, Outgoing, destination, IsPacket, Rules}
 use Rattle.napt_rules.specs.declared.{Leg.Leg, End.{End, TheVariants.{ToOutside, ToInside, Onward, Dropped}}}
-use Rattle.napt_laws.{proofs.Lists.{each_weaker, each_append}, specs.Dispatching.{IsFront, OnwardIsForetold}}
-use Rattle.napt_laws.specs.Places.{first_act, acts_of, numbered, all_but_first, second_legs, second_of, IsSeconded, AnswersFillPlaces, PlacesStandForLegs}
+use Rattle.napt_laws.{proofs.Lists.{each_weaker, each_append}, specs.Dispatching.{IsFrontOf, OnwardIsForetold}}
+use Rattle.napt_laws.specs.SecondLegs.{first_act, acts_of, acts_of_number, all_but_first, second_legs, second_of, IsSeconded, AnswersFillPlaces, PlacesStandForLegs}
 use Rattle.napt_laws.proofs.{EachLeg.each_leg, OneInput.{acts_begin, grown}}
 
 -- the legs of an address in acts, and in more
-pub legs_append : (address : ℕ) (xs ys : List Act) → legs_at address (xs ++ ys) ≡ legs_at address xs
+pub legs_append : (address : ℕ) (xs ys : List LegAct) → legs_at address (xs ++ ys) ≡ legs_at address xs
     ++ legs_at address ys
-legs_append address xs ys = ap (map (λ (a : Act). a.leg)) (filter-append (λ (a : Act). a.address == address) xs ys)
-    ∙ map-append (λ (a : Act). a.leg) (acts_at address xs) (acts_at address ys)
+legs_append address xs ys = ap (map (λ (a : LegAct). a.leg)) (filter-append (λ (a : LegAct). a.address == address) xs ys)
+    ∙ map-append (λ (a : LegAct). a.leg) (acts_at address xs) (acts_at address ys)
 
-numbered_all : (k : ℕ) (P : Act → Type 0) → ((a : Act) → P a → a.leg.number ≡ k) → (acts : List Act) → Each P acts →
-    numbered k acts ≡ acts
+numbered_all : (k : ℕ) (P : LegAct → Type 0) → ((a : LegAct) → P a → a.leg.number ≡ k) → (acts : List LegAct) → Each P acts →
+    acts_of_number k acts ≡ acts
 numbered_all k P is [] h = refl
 numbered_all k P is (a ∷ acts) h =
-    ap (λ b. cond b (a ∷ numbered k acts) (numbered k acts)) (eq-eqb a.leg.number k (is a h.0))
-    ∙ ap (λ (xs : List Act). a ∷ xs) (numbered_all k P is acts h.1)
+    ap (λ b. cond b (a ∷ acts_of_number k acts) (acts_of_number k acts)) (eq-eqb a.leg.number k (is a h.0))
+    ∙ ap (λ (xs : List LegAct). a ∷ xs) (numbered_all k P is acts h.1)
 
-numbered_none : (k : ℕ) (P : Act → Type 0) → ((a : Act) → P a → a.leg.number ≢ k) → (acts : List Act) → Each P acts →
-    numbered k acts ≡ []
+numbered_none : (k : ℕ) (P : LegAct → Type 0) → ((a : LegAct) → P a → a.leg.number ≢ k) → (acts : List LegAct) → Each P acts →
+    acts_of_number k acts ≡ []
 numbered_none k P isnt [] h = refl
 numbered_none k P isnt (a ∷ acts) h =
-    ap (λ b. cond b (a ∷ numbered k acts) (numbered k acts)) (ne_eqb a.leg.number k (isnt a h.0))
+    ap (λ b. cond b (a ∷ acts_of_number k acts) (acts_of_number k acts)) (ne_eqb a.leg.number k (isnt a h.0))
     ∙ numbered_none k P isnt acts h.1
 
 -- ONE INPUT
 
 -- the acts of one input have its number, and one that goes out tells the others
-abbrev SecondsHere : ℕ → List Act → Act → Type 0
+abbrev SecondsHere : ℕ → List LegAct → LegAct → Type 0
 SecondsHere number acts a = (a.leg.number ≡ number) × (a.leg.way ≡ Outgoing →
-    map (λ (x : Act). x.leg) (all_but_first acts) ≡ second_of a.leg a.end)
+    map (λ (x : LegAct). x.leg) (all_but_first acts) ≡ second_of a.leg a.end)
 
-follow_seconds : (rules : Rules) (address : ℕ) (leg : Leg) (through : Option Through) (list : List Binding)
-    (end : End) → (let first : Acted = record { end = end; through = through; list = list } in
-    Each (SecondsHere leg.number (follow_by rules address leg first end).acts)
-    (follow_by rules address leg first end).acts)
+follow_seconds : (rules : Rules) (address : ℕ) (leg : Leg) (through : Option BindingUse) (list : List Binding)
+    (end : End) → (let first : LegEffect = record { end = end; through = through; list = list } in
+    Each (SecondsHere leg.number (with_second_leg rules address leg first end).acts)
+    (with_second_leg rules address leg first end).acts)
 follow_seconds rules address leg through list (ToOutside packet) = ((refl, λ way. refl), tt)
 follow_seconds rules address leg through list (ToInside packet) = ((refl, λ way. refl), tt)
 follow_seconds rules address leg through list (Dropped cause) = ((refl, λ way. refl), tt)
@@ -46,38 +46,38 @@ follow_seconds rules address leg through list (Onward place packet) = ((refl, λ
 -- A RUN
 
 -- of acts whose numbers begin at one
-abbrev SecondsFrom : ℕ → List Act → Act → Type 0
+abbrev SecondsFrom : ℕ → List LegAct → LegAct → Type 0
 SecondsFrom number acts a = (number ≤ a.leg.number) × IsSeconded acts a
 
-module _ (number : ℕ) (firsts rests : List Act) (here : Each (SecondsHere number firsts) firsts)
+module _ (number : ℕ) (firsts rests : List LegAct) (here : Each (SecondsHere number firsts) firsts)
     (later : Each (SecondsFrom (number + 1) rests) rests) where
-  of_first : numbered number (firsts ++ rests) ≡ firsts
+  of_first : acts_of_number number (firsts ++ rests) ≡ firsts
   of_first =
-      filter-append (λ (a : Act). a.leg.number == number) firsts rests
-      ∙ (ap (λ (xs : List Act). numbered number firsts ++ xs) (numbered_none number (SecondsFrom (number + 1) rests)
+      filter-append (λ (a : LegAct). a.leg.number == number) firsts rests
+      ∙ (ap (λ (xs : List LegAct). acts_of_number number firsts ++ xs) (numbered_none number (SecondsFrom (number + 1) rests)
       (λ a h. let le : number + 1 ≤ a.leg.number = h.0 in λ e. absurd (omega arith)) rests later)
-      ∙ (append-nil (numbered number firsts) ∙ numbered_all number (SecondsHere number firsts) (λ a h.
+      ∙ (append-nil (acts_of_number number firsts) ∙ numbered_all number (SecondsHere number firsts) (λ a h.
       h.0) firsts here))
 
-  of_rest : (k : ℕ) → number + 1 ≤ k → numbered k (firsts ++ rests) ≡ numbered k rests
+  of_rest : (k : ℕ) → number + 1 ≤ k → acts_of_number k (firsts ++ rests) ≡ acts_of_number k rests
   of_rest k le =
-      filter-append (λ (a : Act). a.leg.number == k) firsts rests
-      ∙ ap (λ (xs : List Act). xs ++ numbered k rests) (numbered_none k (SecondsHere number firsts) (λ a h.
+      filter-append (λ (a : LegAct). a.leg.number == k) firsts rests
+      ∙ ap (λ (xs : List LegAct). xs ++ acts_of_number k rests) (numbered_none k (SecondsHere number firsts) (λ a h.
       let e : a.leg.number ≡ number = h.0 in λ same. absurd (omega arith)) firsts here)
 
-  first_seconded : (a : Act) → SecondsHere number firsts a → SecondsFrom number (firsts ++ rests) a
+  first_seconded : (a : LegAct) → SecondsHere number firsts a → SecondsFrom number (firsts ++ rests) a
   first_seconded a h =
       let e : a.leg.number ≡ number = h.0 in (
         omega arith,
         λ way. ap (λ (k : ℕ). second_legs k (firsts ++ rests)) e
-            ∙ (ap (λ (xs : List Act). map (λ (x : Act). x.leg) (all_but_first xs)) of_first ∙ h.1 way),
+            ∙ (ap (λ (xs : List LegAct). map (λ (x : LegAct). x.leg) (all_but_first xs)) of_first ∙ h.1 way),
       )
 
-  rest_seconded : (a : Act) → SecondsFrom (number + 1) rests a → SecondsFrom number (firsts ++ rests) a
+  rest_seconded : (a : LegAct) → SecondsFrom (number + 1) rests a → SecondsFrom number (firsts ++ rests) a
   rest_seconded a h =
       let le : number + 1 ≤ a.leg.number = h.0 in (
         omega arith,
-        λ way. ap (λ (xs : List Act). map (λ (x : Act). x.leg) (all_but_first xs)) (of_rest a.leg.number le) ∙ h.1 way,
+        λ way. ap (λ (xs : List LegAct). map (λ (x : LegAct). x.leg) (all_but_first xs)) (of_rest a.leg.number le) ∙ h.1 way,
       )
 
   seconds_more : Each (SecondsFrom number (firsts ++ rests)) (firsts ++ rests)
@@ -88,7 +88,7 @@ module _ (number : ℕ) (firsts rests : List Act) (here : Each (SecondsHere numb
 
 pub answers_fill : AnswersFillPlaces
 answers_fill rules state inputs =
-    let course : Course = course_from rules state inputs in
+    let course : RunEffect = effect_from rules state inputs in
     each_weaker (SecondsFrom 0 course.acts) (IsSeconded course.acts) (λ a h. h.1) course.acts
     (each_leg rules (λ number course. SecondsHere number course.acts) (λ number course. SecondsFrom number course.acts)
     (follow_seconds rules) (λ number first rest one. seconds_more number first.acts rest.acts) 0 state.clock inputs
@@ -96,7 +96,7 @@ answers_fill rules state inputs =
 
 -- ONE INPUT MORE
 
-pub cond_map : (b : Bool) (a : Act) → map (λ (x : Act). x.leg) (cond b (a ∷ []) []) ≡ cond b (a.leg ∷ []) []
+pub cond_map : (b : Bool) (a : LegAct) → map (λ (x : LegAct). x.leg) (cond b (a ∷ []) []) ≡ cond b (a.leg ∷ []) []
 cond_map true a = refl
 cond_map false a = refl
 
@@ -104,16 +104,16 @@ cond_none : (b : Bool) → cond b (let ls : List Leg = [] in ls) [] ≡ []
 cond_none true = refl
 cond_none false = refl
 
-cond_two : (b c : Bool) (x y : Act) → map (λ (a : Act). a.leg) (cond b (x ∷ cond c (y ∷ []) []) (cond c (y ∷ []) []))
+cond_two : (b c : Bool) (x y : LegAct) → map (λ (a : LegAct). a.leg) (cond b (x ∷ cond c (y ∷ []) []) (cond c (y ∷ []) []))
     ≡ cond b (x.leg ∷ []) [] ++ cond c (y.leg ∷ []) []
 cond_two true true x y = refl
 cond_two true false x y = refl
 cond_two false true x y = refl
 cond_two false false x y = refl
 
-module _ (rules : Rules) (first_at : ℕ) (leg : Leg) (first : Acted) (to address : ℕ) where
+module _ (rules : Rules) (first_at : ℕ) (leg : Leg) (first : LegEffect) (to address : ℕ) where
   abbrev Both : End → Type 0
-  Both e = legs_at address (follow_by rules first_at leg first e).acts ≡ cond (first_at == address) (leg ∷ []) []
+  Both e = legs_at address (with_second_leg rules first_at leg first e).acts ≡ cond (first_at == address) (leg ∷ []) []
       ++ cond (to == address) (second_of leg e) []
 
   single : cond (first_at == address) (leg ∷ []) [] ≡ cond (first_at == address) (leg ∷ []) []
@@ -136,8 +136,8 @@ at_seam P [] x rest h = h.0
 at_seam P (y ∷ xs) x rest h = at_seam P xs x rest h.1
 
 -- a first leg comes first
-head_by : (rules : Rules) (address : ℕ) (leg : Leg) (first : Acted) (e : End) → (tail : List Act)
-    × ((follow_by rules address leg first e).acts
+head_by : (rules : Rules) (address : ℕ) (leg : Leg) (first : LegEffect) (e : End) → (tail : List LegAct)
+    × ((with_second_leg rules address leg first e).acts
     ≡ record { address = address; leg = leg; end = first.end; through = first.through } ∷ tail)
 head_by rules address leg first (ToOutside packet) = ([], refl)
 head_by rules address leg first (ToInside packet) = ([], refl)
@@ -148,11 +148,11 @@ module _ (rules : Rules) (state : State) (done rest : List Arrival) (input : Arr
     (long : length done ≡ number)
     (clock : max (last_clock state.clock done) input.clock ≡ now)
     (packet : List ℕ) (admitted : admission rules input ≡ Ok packet) where
-  abbrev whole : List Act
-  whole = (course_from rules state ((done ++ input ∷ []) ++ rest)).acts
+  abbrev whole : List LegAct
+  whole = (effect_from rules state ((done ++ input ∷ []) ++ rest)).acts
 
-  abbrev before : Course
-  before = course_from rules state done
+  abbrev before : RunEffect
+  before = effect_from rules state done
 
   abbrev leg_of : Leg
   leg_of = record { number = number; now = now; way = way_from input.side; packet = packet }
@@ -160,32 +160,32 @@ module _ (rules : Rules) (state : State) (done rest : List Arrival) (input : Arr
   abbrev at_first : ℕ
   at_first = served_at rules (way_from input.side) packet
 
-  pub acts_grow : (course_from rules state (done ++ input ∷ [])).acts ≡ before.acts
+  pub acts_grow : (effect_from rules state (done ++ input ∷ [])).acts ≡ before.acts
       ++ acts_of rules at_first leg_of before.list
-  acts_grow = ap (λ (r : Course). r.acts) (grown rules state done rest input number now long clock (Ok packet) admitted)
+  acts_grow = ap (λ (r : RunEffect). r.acts) (grown rules state done rest input number now long clock (Ok packet) admitted)
 
   -- the run over all inputs tells the second legs by the end of the first
   filled : way_from input.side ≡ Outgoing → second_legs number whole
       ≡ second_of leg_of (act rules at_first leg_of before.list).end
   filled way =
-      let first : Acted = act rules at_first leg_of before.list in
-      let head : (tail : List Act) × (acts_of rules at_first leg_of before.list
+      let first : LegEffect = act rules at_first leg_of before.list in
+      let head : (tail : List LegAct) × (acts_of rules at_first leg_of before.list
       ≡ first_act rules at_first leg_of before.list ∷ tail) = head_by rules at_first leg_of first first.end in
-      let front : IsFront (course_from rules state (done ++ input ∷ [])).acts whole =
+      let front : IsFrontOf (effect_from rules state (done ++ input ∷ [])).acts whole =
       acts_begin rules 0 state.clock (done ++ input ∷ []) rest state.list in
       let is : whole ≡ before.acts ++ (first_act rules at_first leg_of before.list ∷ (head.0 ++ front.0)) =
-      sym front.1 ∙ (ap (λ (xs : List Act). xs ++ front.0)
-      (acts_grow ∙ ap (λ (xs : List Act). before.acts ++ xs) head.1) ∙ append_assoc before.acts
+      sym front.1 ∙ (ap (λ (xs : List LegAct). xs ++ front.0)
+      (acts_grow ∙ ap (λ (xs : List LegAct). before.acts ++ xs) head.1) ∙ append_assoc before.acts
       (first_act rules at_first leg_of before.list ∷ head.0) front.0) in
       at_seam (IsSeconded whole) before.acts (first_act rules at_first leg_of before.list) (head.0 ++ front.0)
       (subst (Each (IsSeconded whole)) is (answers_fill rules state ((done ++ input ∷ []) ++ rest))) way
 
   pub place_stands : OnwardIsForetold → IsPacket packet → way_from input.side ≡ Outgoing → (address : ℕ) →
-      legs_at address (course_from rules state (done ++ input ∷ [])).acts
+      legs_at address (effect_from rules state (done ++ input ∷ [])).acts
       ≡ legs_at address before.acts ++ (cond (at_first == address) (leg_of ∷ []) []
       ++ cond ((destination packet).address == address) (second_legs number whole) [])
   place_stands foretold is way address =
-      let first : Acted = act rules at_first leg_of before.list in
+      let first : LegEffect = act rules at_first leg_of before.list in
       let goes : (place : ℕ) (q : List ℕ) → first.end ≡ Onward place q → (destination q).address
       ≡ (destination packet).address = λ place q h.
       (foretold rules at_first leg_of before.list place q is.0 is.1 h).kept in
@@ -200,10 +200,10 @@ pub places_stand : OnwardIsForetold → PlacesStandForLegs
 places_stand foretold rules state done rest input packet side admitted is address =
     let number : ℕ = length done in
     let now : ℕ = max (last_clock state.clock done) input.clock in
-    let all : List Act = (course_from rules state ((done ++ input ∷ []) ++ rest)).acts in
+    let all : List LegAct = (effect_from rules state ((done ++ input ∷ []) ++ rest)).acts in
     let way : way_from input.side ≡ Outgoing = ap way_from side in
-    subst (λ (w : Way). legs_at address (course_from rules state (done ++ input ∷ [])).acts
-    ≡ legs_at address (course_from rules state done).acts
+    subst (λ (w : Way). legs_at address (effect_from rules state (done ++ input ∷ [])).acts
+    ≡ legs_at address (effect_from rules state done).acts
     ++ (cond (served_at rules w packet == address) (record { number = number; now = now; way = w; packet = packet }
     ∷ []) [] ++ cond ((destination packet).address == address) (second_legs number all) [])) way
     (place_stands rules state done rest input number now refl refl packet admitted foretold is way address)

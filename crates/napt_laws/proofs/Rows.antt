@@ -3,7 +3,7 @@ use Rattle.std.proofs.Common.{◌≡◌, ◌≢◌, ℕ, suc, ◌<◌, inl, inr,
 use Rattle.std.proofs.lemmas.{Bool.{cases_lt, eqb-true}, List.get_or_default}
 use Rattle.std.proofs.lemmas.List.Elements.{All-nil, All-cons, All-head, All-tail, All-append, All-map, All-filter, filter_passes}
 use Rattle.std.proofs.lemmas.List.{Kept.{AllPairs-cons, AllPairs-filter}, Sorted.All-permutation}
-use Rattle.napt_rules.specs.Prelude.{Binding, is_at, of, is_live, with_live_flows, purge, opening, Arrival, row, rank, put, in_order, rows, Course, run, last_clock, ran, AreRowsApart, AreApart, RunsStayApart, Rules, KeepsRules, Timers}
+use Rattle.napt_rules.specs.Prelude.{Binding, is_at, bindings_at, is_live, with_live_flows, purge, opening, Arrival, row, rank, insert_row, sorted_rows, rows, RunEffect, run, last_clock, run_result, AreRowsApart, AreApart, RunsStayApart, Rules, RulesInvariant, Timers}
 use Rattle.napt_rules.specs.declared.Row.{Row}
 use Rattle.napt_laws.proofs.Orders.{put-moves, in_order-moves}
 
@@ -36,22 +36,22 @@ turned : (a b : Row) → AreRowsApart a b → AreRowsApart b a
 turned a b h = λ same. let p = h (sym same) in ((λ e. p.0 (sym e)), (λ e. p.1 (sym e)))
 
 apart_put : (x : Row) (xs : List Row) → All (AreRowsApart x) xs → AllPairs AreRowsApart xs →
-    AllPairs AreRowsApart (put x xs)
+    AllPairs AreRowsApart (insert_row x xs)
 apart_put x [] here h = AllPairs-cons AreRowsApart x [] here h
 apart_put x (y ∷ xs) here h = elim (nat_le (rank x) (rank y)) as (λ v.
-    AllPairs AreRowsApart (cond v (x ∷ y ∷ xs) (y ∷ put x xs))) [
+    AllPairs AreRowsApart (cond v (x ∷ y ∷ xs) (y ∷ insert_row x xs))) [
       | true ↦ AllPairs-cons AreRowsApart x (y ∷ xs) here h
-      | false ↦ AllPairs-cons AreRowsApart y (put x xs) (All-permutation (AreRowsApart y) (x ∷ xs) (put x xs)
+      | false ↦ AllPairs-cons AreRowsApart y (insert_row x xs) (All-permutation (AreRowsApart y) (x ∷ xs) (insert_row x xs)
           (put-moves x xs) (All-cons (AreRowsApart y) x xs (turned x y (All-head (AreRowsApart x) y xs here))
           (head_pairs AreRowsApart y xs h)))
           (apart_put x xs (All-tail (AreRowsApart x) y xs here) (tail_pairs AreRowsApart y xs h))
     ]
 
-apart_ordered : (xs : List Row) → AllPairs AreRowsApart xs → AllPairs AreRowsApart (in_order xs)
+apart_ordered : (xs : List Row) → AllPairs AreRowsApart xs → AllPairs AreRowsApart (sorted_rows xs)
 apart_ordered [] h = h
 apart_ordered (x ∷ xs) h =
-    apart_put x (in_order xs)
-    (All-permutation (AreRowsApart x) xs (in_order xs) (in_order-moves xs) (head_pairs AreRowsApart x xs h))
+    apart_put x (sorted_rows xs)
+    (All-permutation (AreRowsApart x) xs (sorted_rows xs) (in_order-moves xs) (head_pairs AreRowsApart x xs h))
     (apart_ordered xs (tail_pairs AreRowsApart x xs h))
 
 -- TWO ADDRESSES
@@ -71,9 +71,9 @@ module _ (list : List Binding) (apart : AllPairs AreApart list) (a b : ℕ) (dif
         ]
       ]
 
-  across : All (λ x. All (AreApart x) (of b list)) (of a list)
+  across : All (λ x. All (AreApart x) (bindings_at b list)) (bindings_at a list)
   across k d lt =
-      All-filter (λ c. is_at a c.row) (λ x. is_at a x.row ≡ true → All (AreApart x) (of b list)) list
+      All-filter (λ c. is_at a c.row) (λ x. is_at a x.row ≡ true → All (AreApart x) (bindings_at b list)) list
       (λ i e i_in at_a m f below. All-filter (λ c. is_at b c.row)
       (λ y. is_at b y.row ≡ true → AreApart (get_or list i e) y) list
       (λ j g j_in at_b. subst (AreApart (get_or list i e)) (get_or_default list j e g j_in)
@@ -101,7 +101,7 @@ module _ (timers : Timers) (now : ℕ) where
 
   module _ (list : List Binding) (apart : AllPairs AreApart list) where
     abbrev rows_at : ℕ → List Row
-    rows_at a = rows timers now (of a list)
+    rows_at a = rows timers now (bindings_at a list)
 
     all_pool : (P : Row → Type 0) (pool : List ℕ) → All (λ b. All P (rows_at b)) pool → All P (flat_map rows_at pool)
     all_pool P [] h = All-nil P
@@ -113,12 +113,12 @@ module _ (timers : Timers) (now : ℕ) where
     pool_apart [] differ = λ i j d lt within. absurd (omega arith)
     pool_apart (a ∷ pool) differ =
         joined AreRowsApart (rows_at a) (flat_map rows_at pool)
-        (rows_of_one (of a list) (AllPairs-filter AreApart (λ b. is_at a b.row) list apart))
+        (rows_of_one (bindings_at a list) (AllPairs-filter AreApart (λ b. is_at a b.row) list apart))
         (pool_apart pool (tail_pairs (λ a b. a ≢ b) a pool differ))
-        (all_rows (λ x. All (AreRowsApart x) (flat_map rows_at pool)) (of a list) (λ k d lt.
-        let x : Row = row (get_or (of a list) k d) in
+        (all_rows (λ x. All (AreRowsApart x) (flat_map rows_at pool)) (bindings_at a list) (λ k d lt.
+        let x : Row = row (get_or (bindings_at a list) k d) in
         all_pool (AreRowsApart x) pool (λ m e below. let b : ℕ = get_or pool m e in
-        all_rows (AreRowsApart x) (of b list)
+        all_rows (AreRowsApart x) (bindings_at b list)
         (across list apart a b (head_pairs (λ a b. a ≢ b) a pool differ m e below) k d lt))))
 
 distinct : (xs : List ℕ) → ((i j : ℕ) → i < length xs → j < length xs → get_or xs i 0 ≡ get_or xs j 0 → i ≡ j) →
@@ -128,10 +128,10 @@ distinct xs h i j d lt within same =
     (get_or_default xs i 0 d (omega arith) ∙ (same ∙ get_or_default xs j d 0 within)) in
     absurd (omega arith)
 
-pub rows_apart : RunsStayApart → (rules : Rules) → KeepsRules rules → (inputs : List Arrival) →
-    AllPairs AreRowsApart (ran rules inputs).bindings
-unfolding ran
+pub rows_apart : RunsStayApart → (rules : Rules) → RulesInvariant rules → (inputs : List Arrival) →
+    AllPairs AreRowsApart (run_result rules inputs).bindings
+unfolding run_result
 rows_apart apart rules keeps inputs =
-    let course : Course = run rules inputs (opening rules) in
+    let course : RunEffect = run rules inputs (opening rules) in
     pool_apart rules.timers (last_clock 0 inputs) course.list (apart rules keeps inputs) rules.pool
     (distinct rules.pool keeps.pool.distinct)

@@ -1,10 +1,10 @@
 -- Runs from states that are alike are one.
 use Rattle.std.proofs.Common.{◌≡◌, ℕ, ◌+◌, ◌*◌, ◌^◌, ◌<◌, ◌≤◌, true, false, ◌||◌, List, [], ◌∷◌, ◌++◌, map, flat_map, length, refl, sym, ◌∙◌, ap, subst, arith, eqb-true}
 use Rattle.std.{specs.List.{list_any, Sorted.IsPermutation}, proofs.lemmas.List.Sorted.{IsPermutation-sym, IsPermutation-map}}
-use Rattle.napt_rules.specs.Prelude.{Binding, Each, of, is_at, purge, row, protocol_rank, rows, in_order, act, Arrival, Act, Course, run_from, last_clock, legs_at, ran_of, AreRowsApart, Apart, IsSound, AreAlike, GoesOnAlike, AlikeStatesGoOn, Protocol, Icmp, Tcp, Udp, PacketsCarryNumbers, Rules, KeepsRules, pair_of}
+use Rattle.napt_rules.specs.Prelude.{Binding, Each, bindings_at, is_at, purge, row, protocol_rank, rows, sorted_rows, act, Arrival, LegAct, RunEffect, run_from, last_clock, legs_at, run_result_of, AreRowsApart, AreBindingsApart, IsSound, AreAlike, AlikeRunGoesOn, AlikeStatesGoOn, Protocol, Icmp, Tcp, Udp, PacketsCarryNumbers, Rules, RulesInvariant, pair_of}
 use Rattle.napt_rules.{specs.declared.{Row.Row, Leg.Leg, Outcome.Outcome}, proofs.Lists.each_filter}
-use Rattle.napt_laws.proofs.{Lists.{each_weaker, each_parts}, Finds.Once, Orders.{same_rank, same_rank-true, in_order_alike, in_order-moves}, Opened.sound_at, StepsSound.{purge_stays_sound, out_stays_sound, in_stays_sound}}
-use Rattle.napt_laws.proofs.{Shuffles.{filter_once, each_moved}, Alike.{filter_of, purge_some, alike_some, alike_later, alike_taken}, StepsAlike.acts_alike, Turns.IsServed, Beside.{AreActsBeside, AreBeside, run_both}, RunsSound.sound_by}
+use Rattle.napt_laws.proofs.{Lists.{each_weaker, each_parts}, Finds.Once, Orders.{same_rank, same_rank-true, in_order_alike, in_order-moves}, OpeningList.sound_at, StepsSound.{purge_stays_sound, out_stays_sound, in_stays_sound}}
+use Rattle.napt_laws.proofs.{Shuffles.{filter_once, each_moved}, AlikeLists.{filter_of, purge_some, alike_some, alike_later, alike_taken}, StepsAlike.acts_alike, Turns.IsServed, RunsBeside.{AreActsBeside, AreBeside, run_both}, RunsSound.sound_by}
 
 -- THE ROWS of one address differ in rank, where numbers are below 2 ^ 16
 
@@ -40,7 +40,7 @@ module _ (address : ℕ) (x : Row) where
         | false ↦ λ e. none_ranked r at small is list apart.1 (here.0.1, here.1.1)
       ] refl
 
-  once_ranked : (list : List Row) → Apart list → AreHere list → Once (same_rank x) list
+  once_ranked : (list : List Row) → AreBindingsApart list → AreHere list → Once (same_rank x) list
   once_ranked [] apart here = tt
   once_ranked (r ∷ list) apart here = (
     λ e. none_ranked r here.0.0 here.1.0 e list apart.0 (here.0.1, here.1.1),
@@ -50,11 +50,11 @@ module _ (address : ℕ) (x : Row) where
 module _ (rules : Rules) (now : ℕ) (pair : ℕ → ℕ) (a b : List Binding) (sound : IsSound pair a)
     (alike : AreAlike rules.timers now a b) where
   abbrev rows_at : List Binding → ℕ → List Row
-  rows_at list address = rows rules.timers now (of address list)
+  rows_at list address = rows rules.timers now (bindings_at address list)
 
   module _ (address : ℕ) where
     abbrev here : List Binding → List Row
-    here list = map row (purge rules.timers now (of address list))
+    here list = map row (purge rules.timers now (bindings_at address list))
 
     at_address : Each (λ r. r.external.address ≡ address) (here a)
     at_address = subst (Each (λ r. r.external.address ≡ address))
@@ -68,10 +68,10 @@ module _ (rules : Rules) (now : ℕ) (pair : ℕ → ℕ) (a b : List Binding) (
     rows_one small =
         let moved : IsPermutation (here a) (here b) =
         IsPermutation-map row _ _ (alike_some rules.timers now (is_at address) a b alike).live in
-        let low : Each IsSmall (here a) = each_moved IsSmall (in_order (here a)) (here a)
+        let low : Each IsSmall (here a) = each_moved IsSmall (sorted_rows (here a)) (here a)
         (IsPermutation-sym _ _ (in_order-moves (here a))) small in
-        let apart : Apart (here a) =
-        (purge_stays_sound (λ host. address) rules.timers now (of address a) (sound_at pair address a sound)).apart in
+        let apart : AreBindingsApart (here a) =
+        (purge_stays_sound (λ host. address) rules.timers now (bindings_at address a) (sound_at pair address a sound)).apart in
         sym (in_order_alike (here a) (here b) (λ x. filter_once (same_rank x) (here a) (here b) moved
         (once_ranked address x (here a) apart (at_address, low))))
 
@@ -85,7 +85,7 @@ module _ (rules : Rules) (now : ℕ) (pair : ℕ → ℕ) (a b : List Binding) (
 
 -- RUNS
 
-module _ (carry : PacketsCarryNumbers) (rules : Rules) (keeps : KeepsRules rules) where
+module _ (carry : PacketsCarryNumbers) (rules : Rules) (keeps : RulesInvariant rules) where
   -- two sound lists that are alike
   record AreTwo (now : ℕ) (a b : List Binding) : Type 0 where
     pub one : IsSound (pair_of rules) a
@@ -113,25 +113,25 @@ module _ (carry : PacketsCarryNumbers) (rules : Rules) (keeps : KeepsRules rules
     abbrev last : ℕ
     last = last_clock clock inputs
 
-    abbrev course : List Binding → Course
+    abbrev course : List Binding → RunEffect
     course list = run_from rules 0 clock inputs list
 
     both : AreBeside AreTwo last (course a) (course b)
     both = run_both rules AreTwo two_later legs_alike 0 clock inputs a b two
 
-    go_alike : GoesOnAlike rules (record { clock = clock; list = a }) (record { clock = clock; list = b }) inputs
+    go_alike : AlikeRunGoesOn rules (record { clock = clock; list = a }) (record { clock = clock; list = b }) inputs
     go_alike = record {
       outcomes = sym both.outcomes;
       acts = sym both.acts;
-      ran = λ small. ap (λ (os : List Outcome). record (ran_of rules last (course b)) { outcomes = os })
+      ran = λ small. ap (λ (os : List Outcome). record (run_result_of rules last (course b)) { outcomes = os })
           (sym both.outcomes)
-          ∙ (ap (λ (rs : List Row). record (ran_of rules last (course b)) {
+          ∙ (ap (λ (rs : List Row). record (run_result_of rules last (course b)) {
             outcomes = (course a).outcomes;
             bindings = rs;
           })
           (all_rows rules last (pair_of rules) (course a).list (course b).list both.list.one both.list.alike rules.pool
           small)
-          ∙ ap (λ (acts : List Act). record (ran_of rules last (course a)) {
+          ∙ ap (λ (acts : List LegAct). record (run_result_of rules last (course a)) {
             legs = map (λ address. length (legs_at address acts)) rules.pool;
           }) (sym both.acts));
       left = alike_taken rules.timers last (course a).list (course b).list both.list.alike;
@@ -139,6 +139,6 @@ module _ (carry : PacketsCarryNumbers) (rules : Rules) (keeps : KeepsRules rules
 
 pub alike_go_on : PacketsCarryNumbers → AlikeStatesGoOn
 alike_go_on carry rules keeps state other one two same alike inputs =
-    subst (λ (clock : ℕ). GoesOnAlike rules state (record { clock = clock; list = other.list }) inputs) (sym same)
+    subst (λ (clock : ℕ). AlikeRunGoesOn rules state (record { clock = clock; list = other.list }) inputs) (sym same)
     (go_alike carry rules keeps state.clock state.list other.list
     (record { one = one; other = two; alike = alike }) inputs)

@@ -4,9 +4,9 @@ use Rattle.std.specs.{List.list_any, List.Sorted.IsPermutation}
 use Rattle.std.proofs.lemmas.List.Sorted.{IsPermutation-keeps, IsPermutation-refl, IsPermutation-cons, IsPermutation-trans, IsPermutation-append_comm, IsPermutation-append_left, list_any-IsPermutation}
 use Rattle.std.proofs.lemmas.Bool.{true≢false, or_parts}
 use Rattle.std.specs.List.{swap}
-use Rattle.napt_rules.specs.Prelude.{Each, Apart, AreRowsApart}
+use Rattle.napt_rules.specs.Prelude.{Each, AreBindingsApart, AreRowsApart}
 use Rattle.napt_rules.specs.declared.Row.{Row}
-use Rattle.napt_laws.proofs.{Finds.Once, Taken.turned}
+use Rattle.napt_laws.proofs.{Finds.Once, TakenStates.turned}
 
 module _ {X : Type 0} where
   pub data Shuffled : List X → List X → Type 0 where
@@ -123,11 +123,11 @@ module _ {X : Type 0} where
   pub each_moved : (P : X → Type 0) (xs ys : List X) → IsPermutation xs ys → Each P xs → Each P ys
   each_moved P xs ys s = each_shuffled P (shuffled xs ys s)
 
-apart_shuffled : {xs ys : List Row} → Shuffled xs ys → Apart xs → Apart ys
+apart_shuffled : {xs ys : List Row} → Shuffled xs ys → AreBindingsApart xs → AreBindingsApart ys
 apart_shuffled none h = h
 apart_shuffled (under {x} s) h = (each_shuffled (AreRowsApart x) s h.0, apart_shuffled s h.1)
 apart_shuffled (turn {x} {y}) h = ((turned y x h.0.0, h.1.0), (h.0.1, h.1.1))
 apart_shuffled (then s t) h = apart_shuffled t (apart_shuffled s h)
 
-pub apart_moved : (xs ys : List Row) → IsPermutation xs ys → Apart xs → Apart ys
+pub apart_moved : (xs ys : List Row) → IsPermutation xs ys → AreBindingsApart xs → AreBindingsApart ys
 apart_moved xs ys s = apart_shuffled (shuffled xs ys s)

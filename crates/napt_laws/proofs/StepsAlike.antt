@@ -3,12 +3,12 @@ use Rattle.std.proofs.Common.{◌≡◌, ℕ, Bool, true, false, not, ◌&&◌, 
 use Rattle.std.{specs.{List.{Sorted.IsPermutation}, Option.option_map}, proofs.lemmas.{List.{length-map, Sorted.{IsPermutation-refl, length_permutation, list_any-IsPermutation}}, Option.same_Some, Bool.and_parts}}
 use Rattle.napt_wire.specs.declared.Protocol.TheVariants as protocols
 use Rattle.napt_wire.specs.declared.Kind.TheVariants.{Udp, Tcp, Echo, ErrorOf}
-use Rattle.napt_rules.specs.Prelude.{Binding, change_first, has_number, is_of_inside, is_live, with_live_flows, purge, hold_ago, taken, permits, row, counts_for, count_for, reaches, choice, is_free, candidates, granting_of, inbound_of, of_source, sent_by, Out, out_made, granted_again, out_found, step_out, of_destination, received_by, of_live_destination, received_live, In, in_found, step_in, no_flags, Acted, end_out, end_in, error_out, error_in, sent_of, received_of, act_out, act_in, act_by, act, Apart, IsSound, AreAlike, Protocol, Way, Outgoing, Incoming, Flags, Kind, kind, Rules, Cause, OverQuota, NoPort, Filtered}
-use Rattle.napt_rules.specs.Quota.{granted}
-use Rattle.napt_rules.specs.declared.{Granting.Granting, Inbound.Inbound, Sent.Sent, Received.Received, Leg.Leg, Row.Row}
+use Rattle.napt_rules.specs.Prelude.{Binding, change_first, has_number, is_of_inside, is_live, with_live_flows, purge, hold_ago, live_and_held, permits, row, counts_for, count_for, reaches_quota, choice, is_free, candidates, assignment_rules, inbound_rules, is_of_source, binding_after_out, OutboundEffect, out_made, granted_again, out_found, step_out, is_of_destination, binding_after_in, is_of_live_destination, live_binding_after_in, InboundEffect, in_found, step_in, no_flags, LegEffect, end_out, end_in, error_out, error_in, outbound_packet, inbound_packet, act_out, act_in, act_by, act, AreBindingsApart, IsSound, AreAlike, Protocol, Way, Outgoing, Incoming, Flags, Kind, kind, Rules, Cause, OverQuota, NoPort, Filtered}
+use Rattle.napt_rules.specs.Quota.{assigned_number}
+use Rattle.napt_rules.specs.declared.{AssignmentRules.AssignmentRules, InboundRules.InboundRules, OutboundPacket.OutboundPacket, InboundPacket.InboundPacket, Leg.Leg, Row.Row}
 use Rattle.napt_config.specs.declared.settings.Timers.{Timers}
-use Rattle.napt_laws.proofs.{Lists.find_agree, Finds.{Once, passes}, Living.{find_seen, purge_taken}, Endpoints.{once_inside, once_number}, StepsSound.purge_stays_sound}
-use Rattle.napt_laws.proofs.{Shuffles.{filter_moved, find_once}, Alike.{filter_of, any_of_all, find_of, once_of, changed_last, alike_taken, alike_put}}
+use Rattle.napt_laws.proofs.{Lists.find_agree, Finds.{Once, passes}, SeenElements.{find_seen, purge_taken}, Endpoints.{once_inside, once_number}, StepsSound.purge_stays_sound}
+use Rattle.napt_laws.proofs.{Shuffles.{filter_moved, find_once}, AlikeLists.{filter_of, any_of_all, find_of, once_of, changed_last, alike_taken, alike_put}}
 
 -- THE ROWS OF A LIST, in some order, tell whether a number is granted and which
 
@@ -24,19 +24,19 @@ module _ (a b : List Binding) (rows : IsPermutation (map row a) (map row b)) whe
       let long = λ (l : List Binding). sym (length-map (filter (λ b. q b.row) l) row) ∙ ap length (filter_of row q l) in
       long a ∙ (sym (length_permutation _ _ (filter_moved q _ _ rows)) ∙ sym (long b))
 
-  granted_same : (granting : Granting) (address : ℕ) (packet : Sent) → granted granting a address packet
-      ≡ granted granting b address packet
+  granted_same : (granting : AssignmentRules) (address : ℕ) (packet : OutboundPacket) → assigned_number granting a address packet
+      ≡ assigned_number granting b address packet
   granted_same granting address packet =
-      ap (λ n. cond (reaches granting.quota n) (Err OverQuota)
+      ap (λ n. cond (reaches_quota granting.quota n) (Err OverQuota)
       (ok_or (choice granting.choosing packet.block a packet.protocol address packet.inside) NoPort))
       (count_same address packet.inside.address)
-      ∙ ap (λ (o : Option ℕ). cond (reaches granting.quota (count_for address packet.inside.address b))
+      ∙ ap (λ (o : Option ℕ). cond (reaches_quota granting.quota (count_for address packet.inside.address b))
       (Err OverQuota) (ok_or o NoPort))
       (find_agree (is_free a address packet.protocol) (is_free b address packet.protocol)
       (candidates granting.choosing packet.block packet.protocol packet.inside)
       (free_same address packet.protocol))
 
-  again_by : (granting : Granting) (address : ℕ) (packet : Sent) (x y : Option Binding) →
+  again_by : (granting : AssignmentRules) (address : ℕ) (packet : OutboundPacket) (x y : Option Binding) →
       option_map row x ≡ option_map row y →
       granted_again granting a address packet x ≡ granted_again granting b address packet y
   again_by granting address packet (Some x) (Some y) e =
@@ -45,23 +45,23 @@ module _ (a b : List Binding) (rows : IsPermutation (map row a) (map row b)) whe
   again_by granting address packet None (Some y) e = cc
   again_by granting address packet None None e = granted_same granting address packet
 
-  again_same : Apart (map row a) → (granting : Granting) (address : ℕ) (packet : Sent) →
-      granted_again granting a address packet (find (of_source address packet) a)
-      ≡ granted_again granting b address packet (find (of_source address packet) b)
+  again_same : AreBindingsApart (map row a) → (granting : AssignmentRules) (address : ℕ) (packet : OutboundPacket) →
+      granted_again granting a address packet (find (is_of_source address packet) a)
+      ≡ granted_again granting b address packet (find (is_of_source address packet) b)
   again_same apart granting address packet =
       let q : Row → Bool = is_of_inside address packet.protocol packet.inside in
-      again_by granting address packet (find (of_source address packet) a) (find (of_source address packet) b)
+      again_by granting address packet (find (is_of_source address packet) a) (find (is_of_source address packet) b)
       (find_of row q a ∙ (find_once q _ _ rows (once_of row q a
       (once_inside address packet.protocol packet.inside a apart)) ∙ sym (find_of row q b)))
 
 -- A STEP
 
-pub record AreOutAlike (timers : Timers) (now : ℕ) (x y : Out) : Type 0 where
+pub record AreOutAlike (timers : Timers) (now : ℕ) (x y : OutboundEffect) : Type 0 where
   pub number : x.number ≡ y.number
   pub through : x.through ≡ y.through
   pub list : AreAlike timers now x.list y.list
 
-pub record AreInAlike (timers : Timers) (now : ℕ) (x y : In) : Type 0 where
+pub record AreInAlike (timers : Timers) (now : ℕ) (x y : InboundEffect) : Type 0 where
   pub inside : x.inside ≡ y.inside
   pub through : x.through ≡ y.through
   pub list : AreAlike timers now x.list y.list
@@ -98,9 +98,9 @@ module _ (timers : Timers) (now : ℕ) (q : Row → Bool) (g : Binding → Bindi
       (seen_last b once_b in_b)
 
 -- on the bindings whose numbers are taken
-module _ (timers : Timers) (a b : List Binding) (one : Apart (map row a)) (other : Apart (map row b))
+module _ (timers : Timers) (a b : List Binding) (one : AreBindingsApart (map row a)) (other : AreBindingsApart (map row b))
     (rows : IsPermutation (map row a) (map row b)) where
-  module _ (granting : Granting) (address : ℕ) (packet : Sent) (alike : AreAlike timers packet.now a b) where
+  module _ (granting : AssignmentRules) (address : ℕ) (packet : OutboundPacket) (alike : AreAlike timers packet.now a b) where
     abbrev source : Row → Bool
     source = is_of_inside address packet.protocol packet.inside
 
@@ -114,33 +114,33 @@ module _ (timers : Timers) (a b : List Binding) (one : Apart (map row a)) (other
           (IsPermutation-refl _);
     }
 
-    out_alike : (o : Option Binding) → find (of_source address packet) (purge timers packet.now a) ≡ o →
-        find (of_source address packet) (purge timers packet.now b) ≡ o → AreOutAlike timers packet.now
+    out_alike : (o : Option Binding) → find (is_of_source address packet) (purge timers packet.now a) ≡ o →
+        find (is_of_source address packet) (purge timers packet.now b) ≡ o → AreOutAlike timers packet.now
         (out_found timers granting a address packet o) (out_found timers granting b address packet o)
     out_alike None in_a in_b =
         subst (λ (r : Result ℕ Cause). AreOutAlike timers packet.now
-        (out_made a address packet (granted_again granting a address packet (find (of_source address packet) a)))
+        (out_made a address packet (granted_again granting a address packet (find (is_of_source address packet) a)))
         (out_made b address packet r)) (again_same a b rows one granting address packet)
-        (made_alike (granted_again granting a address packet (find (of_source address packet) a)))
+        (made_alike (granted_again granting a address packet (find (is_of_source address packet) a)))
     out_alike (Some binding) in_a in_b = record {
       number = refl;
       through = refl;
-      list = changed_alike timers packet.now source (sent_by packet) binding a b
+      list = changed_alike timers packet.now source (binding_after_out packet) binding a b
           (once_inside address packet.protocol packet.inside a one)
           (once_inside address packet.protocol packet.inside b other) alike in_a in_b;
     }
 
-  module _ (inbound : Inbound) (address : ℕ) (packet : Received) (alike : AreAlike timers packet.now a b) where
-    in_alike : (o : Option Binding) → find (of_destination address packet) (purge timers packet.now a) ≡ o →
-        find (of_destination address packet) (purge timers packet.now b) ≡ o → AreInAlike timers packet.now
+  module _ (inbound : InboundRules) (address : ℕ) (packet : InboundPacket) (alike : AreAlike timers packet.now a b) where
+    in_alike : (o : Option Binding) → find (is_of_destination address packet) (purge timers packet.now a) ≡ o →
+        find (is_of_destination address packet) (purge timers packet.now b) ≡ o → AreInAlike timers packet.now
         (in_found timers inbound a address packet o) (in_found timers inbound b address packet o)
     in_alike None in_a in_b = record { inside = refl; through = refl; list = alike }
     in_alike (Some binding) in_a in_b =
-        let by : Bool → List Binding → In = λ v list. cond v
+        let by : Bool → List Binding → InboundEffect = λ v list. cond v
         (record {
           inside = Ok binding.row.inside;
-          through = Some (record { binding = received_by inbound packet binding; made = false });
-          list = change_first (of_live_destination timers address packet) (received_live timers inbound packet) list;
+          through = Some (record { binding = binding_after_in inbound packet binding; made = false });
+          list = change_first (is_of_live_destination timers address packet) (live_binding_after_in timers inbound packet) list;
         })
         (record { inside = Err Filtered; through = None; list = list }) in
         elim (permits inbound binding packet.remote) as (λ v. AreInAlike timers packet.now (by v a) (by v b)) [
@@ -148,7 +148,7 @@ module _ (timers : Timers) (a b : List Binding) (one : Apart (map row a)) (other
             inside = refl;
             through = refl;
             list = changed_alike timers packet.now (has_number address packet.protocol packet.number)
-                (received_by inbound packet) binding a b
+                (binding_after_in inbound packet) binding a b
                 (once_number address packet.protocol packet.number a one)
                 (once_number address packet.protocol packet.number b other) alike in_a in_b;
           }
@@ -157,7 +157,7 @@ module _ (timers : Timers) (a b : List Binding) (one : Apart (map row a)) (other
 
 -- A LEG
 
-pub record AreActsAlike (rules : Rules) (now : ℕ) (x y : Acted) : Type 0 where
+pub record AreActsAlike (rules : Rules) (now : ℕ) (x y : LegEffect) : Type 0 where
   pub end : x.end ≡ y.end
   pub through : x.through ≡ y.through
   pub list : AreAlike rules.timers now x.list y.list
@@ -165,18 +165,18 @@ pub record AreActsAlike (rules : Rules) (now : ℕ) (x y : Acted) : Type 0 where
 module _ (rules : Rules) (pair : ℕ → ℕ) (address : ℕ) (leg : Leg) (a b : List Binding) (one : IsSound pair a)
     (other : IsSound pair b) (alike : AreAlike rules.timers leg.now a b) where
   abbrev held_of : List Binding → List Binding
-  held_of = taken rules.timers leg.now
+  held_of = live_and_held rules.timers leg.now
 
-  apart_held : (list : List Binding) → IsSound pair list → Apart (map row (held_of list))
+  apart_held : (list : List Binding) → IsSound pair list → AreBindingsApart (map row (held_of list))
   apart_held list sound = (purge_stays_sound pair rules.timers (hold_ago rules.timers leg.now) list sound).apart
 
   -- what lives is found in both
-  seen : (q : Row → Bool) → ((list : List Binding) → Apart (map row list) → Once (λ b. q b.row) list) →
+  seen : (q : Row → Bool) → ((list : List Binding) → AreBindingsApart (map row list) → Once (λ b. q b.row) list) →
       find (λ x. q x.row) (purge rules.timers leg.now a) ≡ find (λ x. q x.row) (purge rules.timers leg.now b)
   seen q once = find_once (λ x. q x.row) _ _ alike.live
       (once _ (purge_stays_sound pair rules.timers leg.now a one).apart)
 
-  seen_held : (q : Row → Bool) → ((list : List Binding) → Apart (map row list) → Once (λ b. q b.row) list) →
+  seen_held : (q : Row → Bool) → ((list : List Binding) → AreBindingsApart (map row list) → Once (λ b. q b.row) list) →
       find (λ x. q x.row) (purge rules.timers leg.now (held_of b))
       ≡ find (λ x. q x.row) (purge rules.timers leg.now (held_of a))
   seen_held q once =
@@ -186,36 +186,36 @@ module _ (rules : Rules) (pair : ℕ → ℕ) (address : ℕ) (leg : Leg) (a b :
   sent_alike : (protocol : Protocol) (flags : Flags) → AreActsAlike rules leg.now
       (act_out rules address leg a protocol flags) (act_out rules address leg b protocol flags)
   sent_alike protocol flags =
-      let packet : Sent = sent_of rules protocol flags leg.now leg.packet in
-      let found : Option Binding = find (of_source address packet) (purge rules.timers leg.now (held_of a)) in
-      let same : find (of_source address packet) (purge rules.timers leg.now (held_of b)) ≡ found =
+      let packet : OutboundPacket = outbound_packet rules protocol flags leg.now leg.packet in
+      let found : Option Binding = find (is_of_source address packet) (purge rules.timers leg.now (held_of a)) in
+      let same : find (is_of_source address packet) (purge rules.timers leg.now (held_of b)) ≡ found =
       seen_held (is_of_inside address protocol packet.inside) (once_inside address protocol packet.inside) in
       let out : AreOutAlike rules.timers leg.now
-      (step_out rules.timers (granting_of rules) address packet a)
-      (step_out rules.timers (granting_of rules) address packet b) =
+      (step_out rules.timers (assignment_rules rules) address packet a)
+      (step_out rules.timers (assignment_rules rules) address packet b) =
       subst (λ (o : Option Binding). AreOutAlike rules.timers leg.now
-      (out_found rules.timers (granting_of rules) (held_of a) address packet found)
-      (out_found rules.timers (granting_of rules) (held_of b) address packet o)) (sym same)
+      (out_found rules.timers (assignment_rules rules) (held_of a) address packet found)
+      (out_found rules.timers (assignment_rules rules) (held_of b) address packet o)) (sym same)
       (out_alike rules.timers (held_of a) (held_of b) (apart_held a one) (apart_held b other)
-      (alike.held (hold_ago rules.timers leg.now) (omega arith)) (granting_of rules) address packet
+      (alike.held (hold_ago rules.timers leg.now) (omega arith)) (assignment_rules rules) address packet
       (alike_taken rules.timers leg.now a b alike) found refl same) in
       record { end = ap (end_out rules address leg.packet) out.number; through = out.through; list = out.list }
 
   came_alike : (protocol : Protocol) (flags : Flags) → AreActsAlike rules leg.now
       (act_in rules address leg a protocol flags) (act_in rules address leg b protocol flags)
   came_alike protocol flags =
-      let packet : Received = received_of protocol flags leg.now leg.packet in
-      let found : Option Binding = find (of_destination address packet) (purge rules.timers leg.now (held_of a)) in
-      let same : find (of_destination address packet) (purge rules.timers leg.now (held_of b)) ≡ found =
+      let packet : InboundPacket = inbound_packet protocol flags leg.now leg.packet in
+      let found : Option Binding = find (is_of_destination address packet) (purge rules.timers leg.now (held_of a)) in
+      let same : find (is_of_destination address packet) (purge rules.timers leg.now (held_of b)) ≡ found =
       seen_held (has_number address protocol packet.number) (once_number address protocol packet.number) in
       let came : AreInAlike rules.timers leg.now
-      (step_in rules.timers (inbound_of rules) address packet a)
-      (step_in rules.timers (inbound_of rules) address packet b) =
+      (step_in rules.timers (inbound_rules rules) address packet a)
+      (step_in rules.timers (inbound_rules rules) address packet b) =
       subst (λ (o : Option Binding). AreInAlike rules.timers leg.now
-      (in_found rules.timers (inbound_of rules) (held_of a) address packet found)
-      (in_found rules.timers (inbound_of rules) (held_of b) address packet o)) (sym same)
+      (in_found rules.timers (inbound_rules rules) (held_of a) address packet found)
+      (in_found rules.timers (inbound_rules rules) (held_of b) address packet o)) (sym same)
       (in_alike rules.timers (held_of a) (held_of b) (apart_held a one) (apart_held b other)
-      (alike.held (hold_ago rules.timers leg.now) (omega arith)) (inbound_of rules) address packet
+      (alike.held (hold_ago rules.timers leg.now) (omega arith)) (inbound_rules rules) address packet
       (alike_taken rules.timers leg.now a b alike) found refl same) in
       record { end = ap (end_in leg.packet) came.inside; through = came.through; list = came.list }
 

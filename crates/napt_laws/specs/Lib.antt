@@ -1,6 +1,6 @@
-pub mod Agreeing
+pub mod LocalAgreement
 pub mod Dispatching
-pub mod Held
+pub mod HoldTimes
 pub mod Hosts
-pub mod Places
-pub mod Through
+pub mod SecondLegs
+pub mod BindingUses

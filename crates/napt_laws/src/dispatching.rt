@@ -1,7 +1,7 @@
 //! Laws of runs for a dispatcher.
 
 ghost use Rattle.napt_laws.specs.Dispatching.{RightAnswersAreTheRuns, RunsGrow, AnswersTellOutcomes, OnwardIsForetold};
-ghost use Rattle.napt_laws.specs.Places.{AnswersFillPlaces, PlacesStandForLegs};
+ghost use Rattle.napt_laws.specs.SecondLegs.{AnswersFillPlaces, PlacesStandForLegs};
 
 use napt_wire::packets_keep_their_way;
 

@@ -1,14 +1,14 @@
 //! Laws of legs.
 
-ghost use Rattle.napt_rules.specs.Prelude.{ErrorsChangeNothing, LegsEndAtTheirSide, InStaysIn, LegsAnswerAlone, LegsLeaveTheirOwn};
-ghost use Rattle.napt_laws.specs.Through.{OutSaysItsBinding, InSaysItsBinding, ErrorsGoThroughNone, DroppedGoThroughNone};
+ghost use Rattle.napt_rules.specs.Prelude.{ErrorsChangeNothing, LegsEndAtTheirSide, InboundStaysInside, LegsAnswerAlone, LegsLeaveTheirOwn};
+ghost use Rattle.napt_laws.specs.BindingUses.{OutSaysItsBinding, InSaysItsBinding, ErrorsGoThroughNone, DroppedGoThroughNone};
 
 /// An ICMP error changes no binding and no time; what leaves goes to no address of the pool, what goes onward to
 /// the one at that place; what comes in reaches the inside or is dropped.
 pub fn legs_keep_to_their_way()
     ensures errors { ErrorsChangeNothing }
     ensures sides { LegsEndAtTheirSide }
-    ensures incoming { InStaysIn }
+    ensures incoming { InboundStaysInside }
 {}
 
 /// The legs of each external address act on that address's bindings alone.

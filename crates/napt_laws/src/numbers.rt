@@ -1,6 +1,6 @@
 //! A law of external numbers.
 
-ghost use Rattle.napt_rules.specs.Prelude.{CandidatesBegin, CandidatesAreThose, CandidatesDiffer, BlockBegins, BlockIsThose, BlockDiffers, BlockKeepsParity};
+ghost use Rattle.napt_rules.specs.Prelude.{CandidatesBeginWithTheirFirst, CandidatesAreTheirClass, CandidatesDiffer, BlockCandidatesBegin, BlockCandidatesAreTheBlock, BlockCandidatesDiffer, BlockCandidatesKeepParity};
 
 /// The candidates of a number are those that it may be mapped to, each once: a port keeps its side of 1024 and, unless that
 /// is free, its parity (RFC 4787, REQ-3 (a) and REQ-4; RFC 7857, section 8), an identifier may become any (RFC 5508, section
@@ -8,11 +8,11 @@ ghost use Rattle.napt_rules.specs.Prelude.{CandidatesBegin, CandidatesAreThose, 
 /// itself, in a block that at the number's place; where numbers are random it is that at the place of the hash (RFC 6056,
 /// section 3.3.3).
 pub fn candidates_are_the_class()
-    ensures begin { CandidatesBegin }
-    ensures those { CandidatesAreThose }
+    ensures begin { CandidatesBeginWithTheirFirst }
+    ensures those { CandidatesAreTheirClass }
     ensures differ { CandidatesDiffer }
-    ensures block_begins { BlockBegins }
-    ensures block_is_those { BlockIsThose }
-    ensures block_differs { BlockDiffers }
-    ensures block_parity { BlockKeepsParity }
+    ensures block_begins { BlockCandidatesBegin }
+    ensures block_is_those { BlockCandidatesAreTheBlock }
+    ensures block_differs { BlockCandidatesDiffer }
+    ensures block_parity { BlockCandidatesKeepParity }
 {}

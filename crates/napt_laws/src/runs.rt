@@ -1,8 +1,8 @@
 //! Laws of runs.
 
-ghost use Rattle.napt_rules.specs.Prelude.{RunsGoOn, GoneChangeNothing, EarlierClocksAreTheStates, AlikeStatesGoOn, RunsAreSound, RunsStayApart, RunsKeepQuota, RunsKeepToBlocks};
-ghost use Rattle.napt_rules.specs.Prelude.{OrderedAreAlike, OrderedAreTaken, SavedRunsGoOn};
-ghost use Rattle.napt_rules.specs.Prelude.{TakenAreSound, TakenKeepToBlocks, TakenKeepQuota, TakenAreOwn, OwnStatesStay, OwnStatesAreTaken, TranslatorsAnswerFrom, TranslatorsKeepFrom, TranslatorsHoldFrom};
+ghost use Rattle.napt_rules.specs.Prelude.{RunsGoOn, GoneBindingsChangeNothing, EarlierClocksAreTheStates, AlikeStatesGoOn, RunsAreSound, RunsStayApart, RunsKeepQuota, RunsKeepToBlocks};
+ghost use Rattle.napt_rules.specs.Prelude.{OrderedStatesAreAlike, OrderedStatesAreTaken, SavedRunsGoOn};
+ghost use Rattle.napt_rules.specs.Prelude.{TakenStatesAreSound, TakenStatesKeepToBlocks, TakenStatesKeepQuota, TakenStatesAreOwn, OwnStatesStay, OwnStatesAreTaken, TranslatorsAnswerFrom, TranslatorsKeepFrom, TranslatorsHoldFrom};
 
 use crate::steps::{no_host_exceeds_its_quota, opening_is_sound, steps_stay_sound};
 use napt_wire::packets_carry_numbers;
@@ -11,7 +11,7 @@ use napt_wire::packets_carry_numbers;
 /// from one of which packets see the same.
 pub fn runs_go_on()
     ensures go_on { RunsGoOn }
-    ensures gone { GoneChangeNothing }
+    ensures gone { GoneBindingsChangeNothing }
     ensures clocks { EarlierClocksAreTheStates }
     ensures alike { AlikeStatesGoOn }
 {
@@ -45,10 +45,10 @@ pub fn runs_keep_to_blocks()
 /// than the quota gets no further one. Each binding is an inside host's, no use of it is after the clock, and no two of its
 /// flows are of one remote.
 pub fn taken_states_are_kept()
-    ensures sound { TakenAreSound }
-    ensures blocks { TakenKeepToBlocks }
-    ensures quota { TakenKeepQuota }
-    ensures own { TakenAreOwn }
+    ensures sound { TakenStatesAreSound }
+    ensures blocks { TakenStatesKeepToBlocks }
+    ensures quota { TakenStatesKeepQuota }
+    ensures own { TakenStatesAreOwn }
 {
     packets_carry_numbers();
 }
@@ -64,8 +64,8 @@ pub fn own_states_stay()
 /// What a run leaves, saved one address after another, is a state of which packets see the same: the configuration of the run
 /// takes it, and the run that goes on from it is the rest of the run over all inputs.
 pub fn saved_runs_go_on()
-    ensures alike { OrderedAreAlike }
-    ensures taken { OrderedAreTaken }
+    ensures alike { OrderedStatesAreAlike }
+    ensures taken { OrderedStatesAreTaken }
     ensures go_on { SavedRunsGoOn }
 {
     packets_carry_numbers();

@@ -1,13 +1,13 @@
 //! Sets at the borders of their words.
 
-use napt_collections::Bits;
+use napt_collections::BitSet;
 use std::test::Fail;
 
 /// One past the greatest number.
 const END: u32 = 65_536;
 
 /// The first numbers that are absent from a place on: of all, and of those below an end.
-fn absent(set: &Bits, from: u32, end: u32) -> [Option<u32>; 2] {
+fn absent(set: &BitSet, from: u32, end: u32) -> [Option<u32>; 2] {
     [
         set.first_absent(from, END),
         set.first_absent(from, end.min(END)),
@@ -16,7 +16,7 @@ fn absent(set: &Bits, from: u32, end: u32) -> [Option<u32>; 2] {
 
 #[test]
 fn nothing_is_in_a_new_set(rt: HostRuntime) -> Result<(), Fail> {
-    let set = Bits::new(rt.alloc())?;
+    let set = BitSet::new(rt.alloc())?;
     for from in [0, 63, 64, 4_095, 4_096, 65_535] {
         assert_eq!(rt; absent(&set, from, from), [Some(from), None]);
     }
@@ -29,7 +29,7 @@ fn nothing_is_in_a_new_set(rt: HostRuntime) -> Result<(), Fail> {
 fn one_number_at_a_border(rt: HostRuntime) -> Result<(), Fail> {
     for number in [0, 63, 64, 4_095, 4_096, 65_534] {
         let place = u32::from(number);
-        let mut set = Bits::new(rt.alloc())?;
+        let mut set = BitSet::new(rt.alloc())?;
         for is_put in [true, true, false, false] {
             if is_put {
                 set.put(number);
@@ -49,7 +49,7 @@ fn one_number_at_a_border(rt: HostRuntime) -> Result<(), Fail> {
 /// A full set without one number, which then is there again.
 #[test]
 fn all_numbers_but_one(rt: HostRuntime) -> Result<(), Fail> {
-    let mut set = Bits::new(rt.alloc())?;
+    let mut set = BitSet::new(rt.alloc())?;
     for number in 0..=u16::MAX {
         set.put(number);
     }

@@ -4,8 +4,8 @@ ghost use Rattle.std.specs.Prelude.{◌<◌, ◌*◌, ◌^◌, length, All, IfOk
 ghost use Rattle.napt_capture.specs.Text.{IsWritable};
 
 use napt_capture::{
-    CaptureFault, Faulty, Plan, Record, Sink, Source, Trouble, Watched, WriteFault, read_capture,
-    write_capture, write_text,
+    CaptureFault, FaultPlan, Faulty, InjectedFault, Record, Sink, Source, Watched, WriteFault,
+    read_capture, write_capture, write_text,
 };
 use napt_samples::captures::{ONE_PACKET, WRITTEN};
 use napt_samples::packets::UDP_QUERY;
@@ -19,10 +19,10 @@ use std::test::*;
 pub(crate) type Shape = (usize, bool);
 
 /// Moves at most so many bytes at a time, but for 0, and goes wrong at a call, counted from 1, or at none.
-pub(crate) fn at_most(most: usize, call: u64, trouble: Trouble) -> Plan
+pub(crate) fn at_most(most: usize, call: u64, trouble: InjectedFault) -> FaultPlan
     ensures { 0 < result.most }
 {
-    Plan {
+    FaultPlan {
         most: most.max(1),
         call,
         trouble,
@@ -30,7 +30,7 @@ pub(crate) fn at_most(most: usize, call: u64, trouble: Trouble) -> Plan
 }
 
 /// The shape of a capture that is read whole from a device.
-pub(crate) fn shape_of(alloc: Global, bytes: &[u8], plan: Plan) -> Result<Shape, CaptureFault>
+pub(crate) fn shape_of(alloc: Global, bytes: &[u8], plan: FaultPlan) -> Result<Shape, CaptureFault>
     requires { 0 < plan.most }
 {
     let capture = read_capture(alloc, &mut Faulty::new(Watched::new(bytes), plan))?;
@@ -60,7 +60,7 @@ fn each_read_fails_in_turn(rt: HostRuntime) {
     let all_reads = [4, 4, 5, 6, 13, 36, 71];
     for (most, reads) in [100, 70, 29, 16, 7, 2, 1].iter().zip(&all_reads) {
         for call in 0..=*reads {
-            let plan = at_most(*most, call, Trouble::Fails);
+            let plan = at_most(*most, call, InjectedFault::Fails);
             let wanted = if call == 0 {
                 Ok((1, false))
             } else {
@@ -77,10 +77,10 @@ fn each_read_fails_in_turn(rt: HostRuntime) {
 fn each_read_finds_the_end(rt: HostRuntime) {
     for given in 0..=70u16 {
         let (front, wanted) = (&ONE_PACKET[..usize::from(given)], shape_of_front(given));
-        let whole = at_most(100, 0, Trouble::Fails);
+        let whole = at_most(100, 0, InjectedFault::Fails);
         let cut = shape_of(rt.alloc(), front, whole);
         assert_eq!(rt; cut, wanted, "{given} bytes");
-        let plan = at_most(1, u64::from(given) + 1, Trouble::TakesNone);
+        let plan = at_most(1, u64::from(given) + 1, InjectedFault::TakesNone);
         let ended = shape_of(rt.alloc(), &ONE_PACKET, plan);
         assert_eq!(rt; ended, wanted, "none after {given} bytes");
     }
@@ -99,7 +99,7 @@ fn packet(alloc: Global) -> Result<Record, Fail>
 }
 
 /// How writing to a disk ended, and what the disk holds.
-type Written = (Result<(), WriteFault>, Vec<u8>);
+type DiskOutcome = (Result<(), WriteFault>, Vec<u8>);
 
 /// Writes to a disk that goes wrong as planned.
 macro_rules! written {
@@ -111,7 +111,12 @@ macro_rules! written {
 }
 
 /// What a disk is to hold once it was written to, and how that is to have ended.
-fn assert_written(rt: &impl Abort, written: Written, wanted: Result<(), WriteFault>, front: usize) {
+fn assert_written(
+    rt: &impl Abort,
+    written: DiskOutcome,
+    wanted: Result<(), WriteFault>,
+    front: usize,
+) {
     let (result, held) = written;
     assert_eq!(rt; result, wanted);
     assert_eq!(rt; Some(held.as_slice()), WRITTEN.get(..front));
@@ -120,7 +125,7 @@ fn assert_written(rt: &impl Abort, written: Written, wanted: Result<(), WriteFau
 #[test]
 fn one_packet_or_none_is_written(rt: HostRuntime) -> Result<(), Fail> {
     let records = [packet(rt.alloc())?];
-    let plan = at_most(100, 0, Trouble::Fails);
+    let plan = at_most(100, 0, InjectedFault::Fails);
     assert_written(&rt, written!(rt, plan, write_capture(&records)), Ok(()), 70);
     assert_written(&rt, written!(rt, plan, write_capture(&[])), Ok(()), 24);
     Ok(())
@@ -130,10 +135,10 @@ fn one_packet_or_none_is_written(rt: HostRuntime) -> Result<(), Fail> {
 #[test]
 fn each_write_fails_in_turn(rt: HostRuntime) -> Result<(), Fail> {
     let records = [packet(rt.alloc())?];
-    for trouble in [Trouble::Fails, Trouble::TakesNone] {
+    for trouble in [InjectedFault::Fails, InjectedFault::TakesNone] {
         for taken in 0..=71u8 {
             let front = usize::from(taken).min(70);
-            let wanted = if taken == 71 || taken == 70 && trouble == Trouble::TakesNone {
+            let wanted = if taken == 71 || taken == 70 && trouble == InjectedFault::TakesNone {
                 Ok(())
             } else {
                 let written = u64::from(taken);
@@ -151,13 +156,13 @@ fn each_write_fails_in_turn(rt: HostRuntime) -> Result<(), Fail> {
 
 /// Counts the calls that reach it. Each is good, and moves a byte where it has room, or each fails.
 #[derive(Drop)]
-struct Counted {
+struct CountingDevice {
     fault: Option<io::ErrorKind>,
     /// The reads, the writes and the flushes.
     calls: [u8; 3],
 }
 
-impl Counted {
+impl CountingDevice {
     fn call(&mut self, kind: usize) -> io::Result<()> {
         if let Some(calls) = self.calls.get_mut(kind) {
             *calls = calls.saturating_add(1);
@@ -169,14 +174,14 @@ impl Counted {
     }
 }
 
-impl Read for Counted {
+impl Read for CountingDevice {
     fn read(&mut self, buffer: &mut [u8]) -> io::Result<usize> {
         self.call(0)?;
         Ok(buffer.len().min(1))
     }
 }
 
-impl Write for Counted {
+impl Write for CountingDevice {
     fn write(&mut self, bytes: &[u8]) -> io::Result<usize> {
         self.call(1)?;
         Ok(bytes.len().min(1))
@@ -193,13 +198,13 @@ fn calls_are_handed_on_once(rt: HostRuntime) {
     let (broken, interrupted) = (io::ErrorKind::BrokenPipe, io::ErrorKind::Interrupted);
     for fault in [None, Some(broken), Some(interrupted)] {
         let calls = [0; 3];
-        let mut read = Watched::new(Counted { fault, calls });
+        let mut read = Watched::new(CountingDevice { fault, calls });
         assert_eq!(rt; read.read(&mut [0; 2]).is_ok(), fault.is_none());
         assert_eq!(rt; read.into_inner().calls, [1, 0, 0]);
-        let mut written = Watched::new(Counted { fault, calls });
+        let mut written = Watched::new(CountingDevice { fault, calls });
         assert_eq!(rt; written.write(&[7; 2]).is_ok(), fault.is_none());
         assert_eq!(rt; written.into_inner().calls, [0, 1, 0]);
-        let mut flushed = Watched::new(Counted { fault, calls });
+        let mut flushed = Watched::new(CountingDevice { fault, calls });
         assert_eq!(rt; flushed.flush().is_ok(), fault.is_none());
         assert_eq!(rt; flushed.into_inner().calls, [0, 0, 1]);
     }

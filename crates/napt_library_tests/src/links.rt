@@ -3,7 +3,7 @@
 ghost use Rattle.std.specs.Prelude.{◌≡◌, ◌<◌, true, length};
 ghost use Rattle.napt_collections.specs.Links.{next, prev};
 
-use napt_collections::{Links, put_before, take_out};
+use napt_collections::{Links, link_before, unlink};
 use std::process::Abort;
 use std::test::Fail;
 
@@ -45,7 +45,7 @@ fn change(
 ) -> Result<(), Fail> {
     assert!(rt; is_inside(links, node));
     if let Some(place) = order.iter().position(|other| *other == node) {
-        take_out(links, node);
+        unlink(links, node);
         order.remove(place);
         return Ok(());
     }
@@ -53,7 +53,7 @@ fn change(
     let place = 1 + drawn % (order.len() - 1);
     let after = order[place];
     assert!(rt; is_inside(links, after));
-    put_before(links, node, after);
+    link_before(links, node, after);
     order.insert(place, node)?;
     Ok(())
 }

@@ -1,6 +1,6 @@
 //! Which number an inside endpoint gets where its class is full. Others are told in `tests/calls` and `tests/numbers`.
 
-use napt_config::Choosing;
+use napt_config::NumberAssignment;
 use napt_table::Numbers;
 use napt_wire::{Endpoint, Protocol};
 use std::test::Fail;
@@ -15,7 +15,7 @@ fn inside(number: u16) -> Endpoint {
 
 /// What stands for each number.
 fn choices(numbers: &Numbers, of: [u16; 4]) -> [Option<u16>; 4] {
-    of.map(|number| numbers.choose(Choosing::DEFAULT, None, inside(number)))
+    of.map(|number| numbers.choose(NumberAssignment::DEFAULT, None, inside(number)))
 }
 
 #[test]

@@ -3,7 +3,9 @@
 ghost use Rattle.std.specs.Prelude.{◌<◌};
 
 use crate::captures::{Shape, at_most, shape_of};
-use napt_capture::{CaptureFault, Faulty, Next, Plan, Records, Trouble, Watched};
+use napt_capture::{
+    CaptureFault, FaultPlan, Faulty, InjectedFault, NextRead, RecordReader, Watched,
+};
 use napt_samples::captures::ONE_PACKET;
 use std::alloc::Global;
 use std::test::*;
@@ -18,16 +20,16 @@ fn two_packets(alloc: Global) -> Result<Vec<u8>, Fail> {
 }
 
 /// How many records a capture has, read one after another, and whether its last is cut.
-fn shape_one_by_one(alloc: Global, bytes: &[u8], plan: Plan) -> Result<Shape, CaptureFault>
+fn shape_one_by_one(alloc: Global, bytes: &[u8], plan: FaultPlan) -> Result<Shape, CaptureFault>
     requires { 0 < plan.most }
 {
     let mut source = Faulty::new(Watched::new(bytes), plan);
-    let mut records = Records::open(alloc, &mut source)?;
+    let mut records = RecordReader::open(alloc, &mut source)?;
     for count in 0..9 {
         match records.next(&mut source, Vec::new(alloc))? {
-            Next::Whole(record) if record.bytes.as_slice() == &ONE_PACKET[40..] => {}
-            Next::Whole(_) => return Err(CaptureFault::BadMagic),
-            Next::End(cut) => return Ok((count, cut)),
+            NextRead::Whole(record) if record.bytes.as_slice() == &ONE_PACKET[40..] => {}
+            NextRead::Whole(_) => return Err(CaptureFault::BadMagic),
+            NextRead::End(cut) => return Ok((count, cut)),
         }
     }
     Err(CaptureFault::TooLarge)
@@ -40,8 +42,12 @@ fn one_by_one_is_the_same_as_whole(rt: HostRuntime) -> Result<(), Fail> {
     for length in 20..=90 {
         let rest = &bytes[..bytes.len().min(length)];
         let most = [1, 7, 4096][length % 3];
-        let found = shape_one_by_one(rt.alloc(), rest, at_most(most, 0, Trouble::Fails));
-        let whole = shape_of(rt.alloc(), rest, at_most(usize::MAX, 0, Trouble::Fails));
+        let found = shape_one_by_one(rt.alloc(), rest, at_most(most, 0, InjectedFault::Fails));
+        let whole = shape_of(
+            rt.alloc(),
+            rest,
+            at_most(usize::MAX, 0, InjectedFault::Fails),
+        );
         assert_eq!(rt; found, whole, "{length} bytes by {most}");
     }
     Ok(())
@@ -51,7 +57,11 @@ fn one_by_one_is_the_same_as_whole(rt: HostRuntime) -> Result<(), Fail> {
 #[test]
 fn a_failed_read_is_told(rt: HostRuntime) {
     for call in 1..=6 {
-        let found = shape_one_by_one(rt.alloc(), &ONE_PACKET, at_most(16, call, Trouble::Fails));
+        let found = shape_one_by_one(
+            rt.alloc(),
+            &ONE_PACKET,
+            at_most(16, call, InjectedFault::Fails),
+        );
         assert_eq!(rt; found, Err(CaptureFault::Read), "read {call}");
     }
 }

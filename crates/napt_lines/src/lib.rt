@@ -1,24 +1,24 @@
 //! The lines of packets, in the style of tcpdump: what the commands `show` and `compare` of `explain` tell of a run.
 #![tactic(auto)]
 
-mod against;
-mod choice;
+mod column_widths;
 mod digits;
-mod ended;
+mod ended_bindings;
 mod lines;
-mod matched;
-mod only;
+mod packet_fields;
+mod packet_selection;
 mod remotes;
 mod replies;
-mod shown;
+mod run_comparison;
+mod single_packet;
 mod summary;
-mod widths;
+mod unmatched_selection;
 
-pub use crate::against::Against;
-pub use crate::choice::Choice;
-pub use crate::lines::{Line, has_party};
-pub use crate::matched::Unmatched;
-pub use crate::only::Only;
+pub use crate::lines::{PacketLine, has_party};
+pub use crate::packet_selection::PacketSelection;
 pub use crate::remotes::Remotes;
 pub use crate::replies::{Replies, ends_of};
-pub use crate::summary::{FromOutside, Lines};
+pub use crate::run_comparison::RunComparison;
+pub use crate::single_packet::SinglePacket;
+pub use crate::summary::{OutsideSummary, PacketLines};
+pub use crate::unmatched_selection::UnmatchedSelection;

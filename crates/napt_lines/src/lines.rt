@@ -1,14 +1,14 @@
 //! The lines of packets.
 
-use crate::choice::Choice;
+use crate::column_widths::{BEFORE, ColumnWidths, HAPPENED};
 use crate::digits::{add_number_within, add_seconds, end_column};
+use crate::packet_fields::{add_arrival, add_packet, is_end_of, is_end_of_arrival};
+use crate::packet_selection::PacketSelection;
 use crate::replies::Replies;
-use crate::shown::{add_arrival, add_packet, is_end_of, is_end_of_arrival};
-use crate::widths::{BEFORE, HAPPENED, Widths};
-use napt_account::{Note, Party};
-use napt_commands::Passing;
+use napt_account::{LogNote, Party};
+use napt_commands::RunPacket;
 use napt_display::reasons::meaning;
-use napt_log_text::Object;
+use napt_log_text::JsonObject;
 use napt_records::cause_name;
 use napt_sequential::Outcome;
 use napt_table::Row;
@@ -17,19 +17,19 @@ use std::alloc::{AllocError, Global};
 
 /// A packet of a run.
 #[derive(Clone, Copy)]
-pub struct Line<'a> {
-    pub passing: Passing<'a>,
+pub struct PacketLine<'a> {
+    pub passing: RunPacket<'a>,
     /// The packets from outside, if they are replies.
     replies: Option<Replies<'a>>,
     /// The inside endpoint that it named, if it is a reply that reads.
     end: Option<Endpoint>,
 }
 
-impl<'a> Line<'a> {
+impl<'a> PacketLine<'a> {
     /// That of a packet as it comes by.
-    pub fn of(passing: Passing<'a>, replies: Option<Replies<'a>>) -> Line<'a> {
+    pub fn of(passing: RunPacket<'a>, replies: Option<Replies<'a>>) -> PacketLine<'a> {
         let end = replies.and_then(|replies| replies.end_at(passing.number));
-        Line {
+        PacketLine {
             passing,
             replies,
             end,
@@ -41,8 +41,8 @@ impl<'a> Line<'a> {
     }
 
     /// What its object tells.
-    pub fn object(self) -> Object<'a> {
-        Object {
+    pub fn object(self) -> JsonObject<'a> {
+        JsonObject {
             number: self.passing.number,
             input: self.passing.input,
             outcome: self.outcome(),
@@ -51,7 +51,7 @@ impl<'a> Line<'a> {
     }
 
     /// Whether it is selected.
-    pub fn is_chosen(self, alloc: Global, choice: Choice) -> Result<bool, AllocError> {
+    pub fn is_chosen(self, alloc: Global, choice: PacketSelection) -> Result<bool, AllocError> {
         let is_dropped = matches!(self.outcome(), Outcome::Dropped(_));
         match choice.host {
             _ if !choice.takes(self.passing.number, is_dropped) => Ok(false),
@@ -72,8 +72,13 @@ impl<'a> Line<'a> {
 
     /// Appends its line. The columns of all lines align, except for an ICMP error, which quotes more than fits, and where
     /// a number or a time first needs a digit more.
-    pub fn add(self, alloc: Global, text: &mut String, widths: Widths) -> Result<(), AllocError> {
-        let Passing { number, input, .. } = self.passing;
+    pub fn add(
+        self,
+        alloc: Global,
+        text: &mut String,
+        widths: ColumnWidths,
+    ) -> Result<(), AllocError> {
+        let RunPacket { number, input, .. } = self.passing;
         add_number_within(text, number, widths.number())?;
         text.push_str(" ")?;
         add_seconds(text, input.time, widths.seconds())?;
@@ -87,7 +92,7 @@ impl<'a> Line<'a> {
 
     /// Appends what happened to it, and the packet as it leaves.
     fn add_rest(self, text: &mut String) -> Result<(), AllocError> {
-        let Passing { input, step, .. } = self.passing;
+        let RunPacket { input, step, .. } = self.passing;
         let (packet, is_hairpin) = match &step.outcome {
             Outcome::Dropped(cause) => return self.add_loss(text, *cause),
             Outcome::ToInside(packet) => (packet, input.side == Side::Inside),
@@ -139,11 +144,11 @@ pub fn has_party(row: &Row, host: Option<Party>) -> bool {
 }
 
 /// What a forwarded packet did to a binding.
-fn used(packet: &Packet, note: Note) -> &'static str {
+fn used(packet: &Packet, note: LogNote) -> &'static str {
     match (packet.kind(), note) {
         (Kind::ErrorOf(_), _) => "error about a binding",
-        (_, Note::Made) => "made a binding",
-        (_, Note::Redirect) => "found a redirect",
-        (_, Note::Found | Note::Nothing) => "found a binding",
+        (_, LogNote::Made) => "made a binding",
+        (_, LogNote::Redirect) => "found a redirect",
+        (_, LogNote::Found | LogNote::Nothing) => "found a binding",
     }
 }

@@ -1,7 +1,7 @@
 //! What packets from outside say as answers to what left just before. Only the remotes of the last minutes are kept.
 
-use napt_account::Note;
-use napt_commands::{Exit, Losses, Passing, destination_of, source_of};
+use napt_account::LogNote;
+use napt_commands::{Exit, LossCounts, RunPacket, destination_of, source_of};
 use napt_sequential::{Input, Outcome};
 use napt_wire::{Cause, Side};
 use std::alloc::{AllocError, Global};
@@ -15,7 +15,7 @@ const FEW: usize = 1024;
 
 /// What inside hosts sent to a remote.
 #[derive(Clone, Copy)]
-struct Sent {
+struct SentCounts {
     /// The time in ns of the last packet.
     at: u64,
     /// The host that sent it.
@@ -27,7 +27,7 @@ struct Sent {
 /// The remotes so far, and counts of packets from outside.
 #[derive(Drop)]
 pub struct Remotes {
-    sent: BTreeMap<u32, Sent>,
+    sent: BTreeMap<u32, SentCounts>,
     /// How many remotes there are when the next old ones are forgotten.
     full: usize,
     /// How many of the packets that found no binding, or were not for the gateway, are answers.
@@ -54,7 +54,7 @@ impl Remotes {
     }
 
     /// Whether at least half of the packets from outside that found no binding, or were not for the gateway, are answers.
-    pub fn are_answers(&self, losses: &Losses) -> bool {
+    pub fn are_answers(&self, losses: &LossCounts) -> bool {
         let others = losses.unmet().saturating_sub(self.unmet_answers);
         self.unmet_answers > 0 && self.unmet_answers >= others
     }
@@ -76,11 +76,11 @@ impl Remotes {
     }
 
     /// Takes the next packet.
-    pub fn take(&mut self, passing: Passing<'_>) -> Result<(), AllocError> {
+    pub fn take(&mut self, passing: RunPacket<'_>) -> Result<(), AllocError> {
         let (input, step) = (passing.input, passing.step);
         match (input.side, &step.outcome) {
             (Side::Inside, Outcome::ToOutside(_)) => self.send(input),
-            (Side::Outside, outcome) if step.used.note != Note::Redirect => {
+            (Side::Outside, outcome) if step.used.note != LogNote::Redirect => {
                 self.come(passing.number, input, outcome);
                 Ok(())
             }
@@ -94,7 +94,7 @@ impl Remotes {
         let (Some(host), Some(remote)) = (source_of(bytes), destination_of(bytes)) else {
             return Ok(());
         };
-        let mut sent = Sent {
+        let mut sent = SentCounts {
             at: input.clock,
             host,
             by_others: false,
@@ -136,7 +136,7 @@ impl Remotes {
     }
 
     /// The packet of this number comes from a remote to which this was sent just before.
-    fn answer(&mut self, number: u64, sent: Sent, outcome: &Outcome) {
+    fn answer(&mut self, number: u64, sent: SentCounts, outcome: &Outcome) {
         let is_astray = match outcome {
             Outcome::Dropped(cause) => *cause == Cause::NoBinding,
             Outcome::ToInside(packet) => {

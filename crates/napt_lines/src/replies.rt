@@ -1,7 +1,7 @@
 //! Replies that were dropped, in a user's words.
 
 use crate::digits::{add_address, add_endpoint};
-use napt_commands::{Losses, Outside, SourceKind};
+use napt_commands::{LossCounts, OutsideCapture, SourceKind};
 use napt_config::{Address, Config};
 use napt_sequential::Input;
 use napt_wire::{Cause, Endpoint, Packet, Side, Way};
@@ -59,7 +59,7 @@ fn end_of(alloc: Global, input: &mut Input) -> Option<Endpoint> {
 impl<'a> Replies<'a> {
     /// Those of a run under a configuration, with the inside endpoints that they named, if the outside capture holds some.
     pub fn of(
-        outside: Outside,
+        outside: OutsideCapture,
         config: &'a Config,
         ends: &'a [Option<Endpoint>],
     ) -> Option<Replies<'a>> {
@@ -106,7 +106,7 @@ impl<'a> Replies<'a> {
         self,
         text: &mut String,
         cause: Cause,
-        losses: &Losses,
+        losses: &LossCounts,
     ) -> Result<(), AllocError> {
         match cause {
             Cause::NoBinding if losses.no_binding > 0 => writeln!(
@@ -124,7 +124,7 @@ impl<'a> Replies<'a> {
         }
     }
 
-    fn add_spoofed(self, text: &mut String, losses: &Losses) -> Result<(), AllocError> {
+    fn add_spoofed(self, text: &mut String, losses: &LossCounts) -> Result<(), AllocError> {
         let many = losses.from_inside;
         if many > 0 {
             writeln!(text, "    {many} from inside addresses: {FROM_INSIDE}")?;

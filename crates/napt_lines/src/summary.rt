@@ -1,16 +1,16 @@
 //! The lines of a run as it goes on, and its summary: the live bindings, and what became of the packets.
 
-use crate::choice::Choice;
-use crate::ended::{add_binding, add_end};
-use crate::lines::{Line, has_party};
+use crate::column_widths::ColumnWidths;
+use crate::ended_bindings::{add_binding, add_end};
+use crate::lines::{PacketLine, has_party};
+use crate::packet_selection::PacketSelection;
 use crate::remotes::Remotes;
 use crate::replies::{Replies, advice_of_replies};
-use crate::widths::Widths;
 use napt_account::Entry;
-use napt_commands::{Ending, Exit, Losses, Page, Passing, Seconds, Sorted};
+use napt_commands::{Exit, LossCounts, Page, RunEnd, RunPacket, Seconds, SortedEntries};
 use napt_config::Config;
 use napt_display::reasons::{advice, meaning};
-use napt_records::{Counts, cause_name};
+use napt_records::{OutcomeCounts, cause_name};
 use napt_table::Row;
 use napt_wire::Cause;
 use std::alloc::{AllocError, Global};
@@ -23,36 +23,36 @@ addresses: give what inside hosts got as --replies";
 
 /// The lines of a run, and the counts for its summary.
 #[derive(Drop)]
-pub struct Lines {
-    choice: Choice,
-    widths: Widths,
-    counts: Counts,
+pub struct PacketLines {
+    choice: PacketSelection,
+    widths: ColumnWidths,
+    counts: OutcomeCounts,
 }
 
 /// What became of the packets from outside, and whether they are replies.
 #[derive(Drop)]
-pub struct FromOutside<'a> {
-    pub losses: Losses,
+pub struct OutsideSummary<'a> {
+    pub losses: LossCounts,
     pub remotes: Remotes,
     pub replies: Option<Replies<'a>>,
 }
 
-impl<'a> FromOutside<'a> {
+impl<'a> OutsideSummary<'a> {
     /// Before the first packet.
     pub fn new(
         alloc: Global,
         config: &Config,
         replies: Option<Replies<'a>>,
-    ) -> Result<FromOutside<'a>, AllocError> {
-        Ok(FromOutside {
-            losses: Losses::new(alloc, config)?,
+    ) -> Result<OutsideSummary<'a>, AllocError> {
+        Ok(OutsideSummary {
+            losses: LossCounts::new(alloc, config)?,
             remotes: Remotes::new(alloc),
             replies,
         })
     }
 
     /// Takes the next packet, of a run under this configuration.
-    pub fn take(&mut self, config: &Config, passing: Passing<'_>) -> Result<(), AllocError> {
+    pub fn take(&mut self, config: &Config, passing: RunPacket<'_>) -> Result<(), AllocError> {
         self.losses
             .take(config, passing.input, &passing.step.outcome);
         match self.replies {
@@ -62,13 +62,13 @@ impl<'a> FromOutside<'a> {
     }
 }
 
-impl Lines {
+impl PacketLines {
     /// Before the first packet.
-    pub fn new(choice: Choice) -> Lines {
-        Lines {
+    pub fn new(choice: PacketSelection) -> PacketLines {
+        PacketLines {
             choice,
-            widths: Widths::default(),
-            counts: Counts::new(),
+            widths: ColumnWidths::default(),
+            counts: OutcomeCounts::new(),
         }
     }
 
@@ -78,9 +78,9 @@ impl Lines {
         &mut self,
         alloc: Global,
         text: &mut String,
-        line: Line<'_>,
+        line: PacketLine<'_>,
     ) -> Result<(), AllocError> {
-        let Passing {
+        let RunPacket {
             number,
             input,
             step,
@@ -108,8 +108,8 @@ impl Lines {
         &self,
         rt: &R,
         page: &mut Page,
-        ending: &Ending<'_>,
-        outside: &FromOutside<'_>,
+        ending: &RunEnd<'_>,
+        outside: &OutsideSummary<'_>,
     ) -> Result<(), Exit> {
         self.tell_bindings(rt, page, ending)?;
         self.add_counts(&mut page.text, outside)?;
@@ -122,10 +122,10 @@ impl Lines {
         &self,
         rt: &R,
         page: &mut Page,
-        ending: &Ending<'_>,
+        ending: &RunEnd<'_>,
     ) -> Result<(), Exit> {
         let living = ending.living.iter().map(|listed| listed.entry);
-        let living = Sorted::of(living.collect(rt.alloc())?)?;
+        let living = SortedEntries::of(living.collect(rt.alloc())?)?;
         let time = Seconds(ending.last);
         let many = ending.rows.len();
         writeln!(page.text, "live bindings at {time}: {many}")?;
@@ -140,7 +140,11 @@ impl Lines {
     }
 
     /// Appends the counts of outcomes, and what to do if more than a fifth of the packets were dropped for one cause.
-    fn add_counts(&self, text: &mut String, outside: &FromOutside<'_>) -> Result<(), AllocError> {
+    fn add_counts(
+        &self,
+        text: &mut String,
+        outside: &OutsideSummary<'_>,
+    ) -> Result<(), AllocError> {
         let counts = &self.counts;
         writeln!(text, "packets: {}", counts.packets())?;
         writeln!(text, "  {} to the outside", counts.to_outside())?;
@@ -154,7 +158,7 @@ impl Lines {
     fn add_cause(
         &self,
         text: &mut String,
-        outside: &FromOutside<'_>,
+        outside: &OutsideSummary<'_>,
         cause: Cause,
     ) -> Result<(), AllocError> {
         let many = self.counts.dropped(cause);
@@ -177,7 +181,7 @@ impl Lines {
     fn add_advice(
         &self,
         text: &mut String,
-        outside: &FromOutside<'_>,
+        outside: &OutsideSummary<'_>,
         cause: Cause,
     ) -> Result<(), AllocError> {
         let is_answered = outside.replies.is_none()

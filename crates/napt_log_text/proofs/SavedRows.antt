@@ -8,29 +8,29 @@ use Rattle.std.proofs.lemmas.{Bool.{both_ways, eqb-false, false_from_ne_true, or
 use Rattle.std.proofs.lemmas.List.{Folds.{list_any-append, list_any_at}, Splits.{slice_split_at, slice_split_none}}
 use Rattle.napt_wire.specs.declared.{Cause.{Cause, TheVariants.OverQuota}, Protocol.{Protocol, TheVariants.{Icmp, Tcp, Udp}}}
 use Rattle.napt_config.specs.{Rules.Rules, Text.address_text}
-use Rattle.napt_account.specs.declared.log.Listed.{Listed}
-use Rattle.napt_log_text.specs.declared.event.Event.{Event}
-use Rattle.napt_log_text.specs.Rows.{csv_row, date_of_any, fields, flag_text, listed_fields, number_if_any, protocol_number, quota_text, row_text, shortage_number}
-use Rattle.napt_log_text.specs.{SavedRows.{fields_in, flag_number, is_comma}, Times.{Text, clock_text, date_if_any, date_text, day_text, has_date, padded}}
+use Rattle.napt_account.specs.declared.log.LogEntry.{LogEntry}
+use Rattle.napt_log_text.specs.declared.event.LogEvent.{LogEvent}
+use Rattle.napt_log_text.specs.Rows.{csv_row, date_of_any, fields, csv_flag, listed_fields, number_if_any, csv_protocol, quota_text, row_text, shortage_number}
+use Rattle.napt_log_text.specs.{LogRows.{fields_in, flag_number, is_comma}, Times.{TimeText, clock_text, date_if_any, date_text, day_text, has_date, padded}}
 
 -- what ends a field
 abbrev is_mark : ℕ → Bool
 is_mark byte = is_comma byte || (byte == 10)
 
-abbrev has_mark : Text → Bool
+abbrev has_mark : TimeText → Bool
 has_mark text = list_any is_mark text
 
-no_mark_at : (text : Text) → has_mark text ≡ false → All (λ byte. is_mark byte ≡ false) text
+no_mark_at : (text : TimeText) → has_mark text ≡ false → All (λ byte. is_mark byte ≡ false) text
 no_mark_at text none k d within =
     false_from_ne_true _ (λ is. both_ways _ none (list_any_at is_mark text k d within is))
 
-no_comma_at : (text : Text) → has_mark text ≡ false → All (λ byte. is_comma byte ≡ false) text
+no_comma_at : (text : TimeText) → has_mark text ≡ false → All (λ byte. is_comma byte ≡ false) text
 no_comma_at text none k d within = (or_parts (is_comma (get_or text k d)) _ (no_mark_at text none k d within)).0
 
-abbrev pub IsLine : Text → Type 0
+abbrev pub IsLine : TimeText → Type 0
 IsLine text = All (λ byte. byte ≢ 10) text
 
-no_end_at : (text : Text) → has_mark text ≡ false → IsLine text
+no_end_at : (text : TimeText) → has_mark text ≡ false → IsLine text
 no_end_at text none k d within =
     eqb-false (get_or text k d) 10 (or_parts (is_comma (get_or text k d)) _ (no_mark_at text none k d within)).1
 
@@ -39,7 +39,7 @@ no_end_at text none k d within =
 glyph : (digit : ℕ) → is_mark (digit_glyph false digit) ≡ false
 glyph digit = grind (arith, nat_tests)
 
-in_digits : (many number : ℕ) (text : Text) → has_mark text ≡ false →
+in_digits : (many number : ℕ) (text : TimeText) → has_mark text ≡ false →
     has_mark (digits_onto many 10 false number text) ≡ false
 in_digits zero number text none = none
 in_digits (suc many) number text none =
@@ -83,7 +83,7 @@ in_date_of : (time : Option ℕ) → has_mark (date_of_any time) ≡ false
 in_date_of None = refl
 in_date_of (Some time) = in_date_if_any time
 
-in_flag : (flag : Bool) → has_mark (flag_text flag) ≡ false
+in_flag : (flag : Bool) → has_mark (csv_flag flag) ≡ false
 in_flag true = refl
 in_flag false = refl
 
@@ -93,19 +93,19 @@ in_quota _ = refl
 
 -- ROWS
 
-abbrev have_marks : List Text → Bool
+abbrev have_marks : List TimeText → Bool
 have_marks texts = list_any has_mark texts
 
 -- the text of a row before the line feed at its end
-abbrev joined : Text → List Text → Text
+abbrev joined : TimeText → List TimeText → TimeText
 joined first [] = first
 joined first (field ∷ more) = first ++ 44 ∷ joined field more
 
-row_text-joined : (first : Text) (more : List Text) → row_text (first ∷ more) ≡ joined first more ++ codes "\n"
+row_text-joined : (first : TimeText) (more : List TimeText) → row_text (first ∷ more) ≡ joined first more ++ codes "\n"
 row_text-joined first [] = refl
 row_text-joined first (field ∷ more) = rw (row_text-joined field more) (simp append_assoc)
 
-split-joined : (first : Text) (more : List Text) → have_marks (first ∷ more) ≡ false →
+split-joined : (first : TimeText) (more : List TimeText) → have_marks (first ∷ more) ≡ false →
     slice_split is_comma (joined first more) ≡ first ∷ more
 split-joined first [] none =
     slice_split_none is_comma first (no_comma_at first (or_parts (has_mark first) false none).0)
@@ -114,36 +114,36 @@ split-joined first (field ∷ more) none =
     slice_split_at is_comma first 44 (joined field more) (no_comma_at first here) refl
     ∙ ap (λ parts. first ∷ parts) (split-joined field more behind)
 
-fields_in-row : (row : Text) (texts : List Text) → 0 < length texts → have_marks texts ≡ false →
+fields_in-row : (row : TimeText) (texts : List TimeText) → 0 < length texts → have_marks texts ≡ false →
     row_text texts ≡ row ++ codes "\n" → fields_in row ≡ texts
 fields_in-row row [] some none is = absurd (omega arith)
 fields_in-row row (first ∷ more) some none is =
     ap (slice_split is_comma) (append_cancel_right _ _ (codes "\n") (sym is ∙ row_text-joined first more))
     ∙ split-joined first more none
 
-in_listed : (time event : Option ℕ) (listed : Listed) →
+in_listed : (time event : Option ℕ) (listed : LogEntry) →
     have_marks (number_if_any time ∷ date_of_any time ∷ listed_fields event listed) ≡ false
 in_listed time event listed =
     simp (in_number, in_date_of, in_decimal, in_address, in_flag)
 
-in_fields : (rules : Rules) (event : Event) → have_marks (fields rules event) ≡ false
+in_fields : (rules : Rules) (event : LogEvent) → have_marks (fields rules event) ≡ false
 in_fields rules event =
     grind (arith, common_steps, nat_tests, in_listed, in_decimal, in_date_if_any, in_address, in_quota)
 
-many : (rules : Rules) (event : Event) → length (fields rules event) ≡ 15
+many : (rules : Rules) (event : LogEvent) → length (fields rules event) ≡ 15
 many rules event = grind (arith, common_steps, nat_tests)
 
-pub fields_read : (rules : Rules) (event : Event) (row : Text) → csv_row rules event ≡ row ++ codes "\n" →
+pub fields_read : (rules : Rules) (event : LogEvent) (row : TimeText) → csv_row rules event ≡ row ++ codes "\n" →
     fields_in row ≡ fields rules event
 unfolding csv_row
 fields_read rules event row is =
     fields_in-row row (fields rules event) (omega (arith, many rules event)) (in_fields rules event) is
 
-pub fields_read-many : (rules : Rules) (event : Event) (row : Text) → csv_row rules event ≡ row ++ codes "\n" →
+pub fields_read-many : (rules : Rules) (event : LogEvent) (row : TimeText) → csv_row rules event ≡ row ++ codes "\n" →
     length (fields_in row) ≡ 15
 fields_read-many rules event row is = ap length (fields_read rules event row is) ∙ many rules event
 
-pub small_protocol : (protocol : Protocol) → protocol_number protocol < 2 ^ 128
+pub small_protocol : (protocol : Protocol) → csv_protocol protocol < 2 ^ 128
 small_protocol Icmp = lit< tt
 small_protocol Tcp = lit< tt
 small_protocol Udp = lit< tt
@@ -156,14 +156,14 @@ pub small_flag : (flag : Bool) → flag_number flag < 2 ^ 128
 small_flag true = lit< tt
 small_flag false = lit< tt
 
-pub flag_text-decimal : (flag : Bool) → flag_text flag ≡ decimal (flag_number flag)
+pub flag_text-decimal : (flag : Bool) → csv_flag flag ≡ decimal (flag_number flag)
 unfolding digits
 flag_text-decimal true = refl
 flag_text-decimal false = refl
 
 -- LINES
 
-joined-line : (first : Text) (more : List Text) → have_marks (first ∷ more) ≡ false → IsLine (joined first more)
+joined-line : (first : TimeText) (more : List TimeText) → have_marks (first ∷ more) ≡ false → IsLine (joined first more)
 joined-line first [] none = no_end_at first (or_parts (has_mark first) false none).0
 joined-line first (field ∷ more) none =
     let (here, behind) = or_parts (has_mark first) (have_marks (field ∷ more)) none in
@@ -171,19 +171,19 @@ joined-line first (field ∷ more) none =
     (All-cons (λ byte. byte ≢ 10) 44 (joined field more) (λ is. omega arith) (joined-line field more behind))
 
 -- a row is a line
-abbrev pub Line : Text → Type 0
-Line text = (row : Text) × (text ≡ row ++ codes "\n") × IsLine row
+abbrev pub Line : TimeText → Type 0
+Line text = (row : TimeText) × (text ≡ row ++ codes "\n") × IsLine row
 
-row_text-line : (texts : List Text) → 0 < length texts → have_marks texts ≡ false → Line (row_text texts)
+row_text-line : (texts : List TimeText) → 0 < length texts → have_marks texts ≡ false → Line (row_text texts)
 row_text-line [] some none = absurd (omega arith)
 row_text-line (first ∷ more) some none = (joined first more, row_text-joined first more, joined-line first more none)
 
-pub csv_row-line : (rules : Rules) (event : Event) → Line (csv_row rules event)
+pub csv_row-line : (rules : Rules) (event : LogEvent) → Line (csv_row rules event)
 unfolding csv_row
 csv_row-line rules event =
     row_text-line (fields rules event) (omega (arith, many rules event)) (in_fields rules event)
 
-module _ (left new : Option (List ℕ)) (old line : Text) (text rest : Text) (none : old ≡ [])
+module _ (left new : Option (List ℕ)) (old line : TimeText) (text rest : TimeText) (none : old ≡ [])
     (got : IfSome left (λ xs. line ≡ old ++ take_through 10 xs)) (left_is : left ≡ Some (text ++ rest)) where
   -- a line that is read is the first of what is left, which loses it
   pub line_read : IfSome left (λ xs. new ≡ Some (drop_through 10 xs)) → Line text → (line ≡ text) × (new ≡ Some rest)
@@ -196,7 +196,7 @@ module _ (left new : Option (List ℕ)) (old line : Text) (text rest : Text) (no
       omega (arith, ap length empty, ap length is, length-append text rest, length-append row (codes "\n"))
 
 -- what breaks off has no end of a line
-pub torn_read : (left : Option (List ℕ)) (old line torn front : Text) → old ≡ [] →
+pub torn_read : (left : Option (List ℕ)) (old line torn front : TimeText) → old ≡ [] →
     IfSome left (λ xs. line ≡ old ++ take_through 10 xs) → left ≡ Some torn → IsLine torn →
     line ≡ front ++ codes "\n" → ⊥
 torn_read left old line torn front none got left_is whole ended =

@@ -5,5 +5,5 @@ pub mod Requests
 pub mod Holders
 pub mod Logs
 pub mod Objects
-pub mod SavedRows
-pub mod SavedLogs
+pub mod LogRows
+pub mod LogReaders

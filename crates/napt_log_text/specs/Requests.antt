@@ -3,17 +3,17 @@ use Rattle.std.specs.Prelude.{ℕ, nat_lt, nat_le, Bool, true, false, ◌&&◌, 
 use Rattle.napt_wire.specs.declared.Protocol.{Protocol}
 use Rattle.napt_rules.specs.Prelude.{same_protocol}
 use Rattle.napt_account.specs.{Questions.is_meant, declared.log.Entry.Entry}
-use Rattle.napt_log_text.specs.declared.request.{Request.Request, Span.Span}
+use Rattle.napt_log_text.specs.declared.request.{Request.Request, TimeSpan.TimeSpan}
 
 -- no protocol means any
-abbrev pub is_of : Option Protocol → Protocol → Bool
-is_of None protocol = true
-is_of (Some wanted) protocol = same_protocol wanted protocol
+abbrev pub holder_is_of : Option Protocol → Protocol → Bool
+holder_is_of None protocol = true
+holder_is_of (Some wanted) protocol = same_protocol wanted protocol
 
 -- whether the binding of an entry had the endpoint asked about, or one of the address asked about, at some time
 abbrev pub is_asked : Request → Entry → Bool
 is_asked request entry =
-    is_of request.protocol entry.binding.protocol && is_meant request.party entry.binding.external
+    holder_is_of request.protocol entry.binding.protocol && is_meant request.party entry.binding.external
 
 -- no end means never
 abbrev pub ends_behind : ℕ → Option ℕ → Bool
@@ -21,11 +21,11 @@ ends_behind time None = true
 ends_behind time (Some end) = nat_lt time end
 
 -- whether a binding, from its making until its end, has a moment in common with a span
-abbrev pub has_moment_of : Span → Entry → Bool
+abbrev pub has_moment_of : TimeSpan → Entry → Bool
 has_moment_of span entry = nat_lt entry.made span.until && ends_behind span.first entry.end
 
 -- no span means any time
-abbrev pub meets : Option Span → Entry → Bool
+abbrev pub meets : Option TimeSpan → Entry → Bool
 meets None entry = true
 meets (Some span) entry = has_moment_of span entry
 
@@ -42,12 +42,12 @@ ends_by time None = false
 ends_by time (Some end) = nat_le end time
 
 -- whether a binding had ended before the span
-abbrev pub is_gone : Option Span → Entry → Bool
+abbrev pub is_gone : Option TimeSpan → Entry → Bool
 is_gone None entry = false
 is_gone (Some span) entry = ends_by span.first entry.end
 
 -- whether a binding was made after the span
-abbrev pub is_to_come : Option Span → Entry → Bool
+abbrev pub is_to_come : Option TimeSpan → Entry → Bool
 is_to_come None entry = false
 is_to_come (Some span) entry = nat_le span.until entry.made
 

@@ -5,34 +5,34 @@ use Rattle.std.specs.Prelude.{ℕ, nat_lt, ◌||◌, Bool, true, false, List, []
 use Rattle.napt_wire.specs.declared.{Cause.{Cause, TheVariants.OverQuota}, Endpoint.Endpoint, Protocol.{Protocol, TheVariants.{Icmp, Tcp, Udp}}}
 use Rattle.napt_config.specs.{Rules.{Rules, pair_of}, Text.address_text}
 use Rattle.napt_rules.specs.declared.Row.{Row}
-use Rattle.napt_account.specs.declared.log.{Entry.Entry, Shortage.Shortage, Listed.Listed}
-use Rattle.napt_log_text.specs.{declared.event.Event.{Event, TheVariants.{Made, Ended, Living, Refused}}, Times.{Text, date_if_any}}
+use Rattle.napt_account.specs.declared.log.{Entry.Entry, Shortage.Shortage, LogEntry.LogEntry}
+use Rattle.napt_log_text.specs.{declared.event.LogEvent.{LogEvent, TheVariants.{Made, Ended, Living, Refused}}, Times.{TimeText, date_if_any}}
 
-abbrev pub row_text : List Text → Text
+abbrev pub row_text : List TimeText → TimeText
 row_text [] = codes "\n"
 row_text (last ∷ []) = last ++ codes "\n"
 row_text (field ∷ (next ∷ more)) = field ++ codes "," ++ row_text (next ∷ more)
 
 -- each with a comma behind it
-abbrev pub before_more : List Text → Text
+abbrev pub before_more : List TimeText → TimeText
 before_more [] = []
 before_more (field ∷ []) = field ++ codes ","
 before_more (field ∷ (next ∷ more)) = field ++ codes "," ++ before_more (next ∷ more)
 
 -- what does not apply is empty
-abbrev pub number_if_any : Option ℕ → Text
+abbrev pub number_if_any : Option ℕ → TimeText
 number_if_any None = []
 number_if_any (Some number) = decimal number
 
-abbrev pub date_of_any : Option ℕ → Text
+abbrev pub date_of_any : Option ℕ → TimeText
 date_of_any None = []
 date_of_any (Some time) = date_if_any time
 
 -- a time in ns, and as a date in UTC
-abbrev pub time_fields : Option ℕ → List Text
+abbrev pub time_fields : Option ℕ → List TimeText
 time_fields time = number_if_any time ∷ date_of_any time ∷ []
 
-abbrev pub time_text : Option ℕ → Text
+abbrev pub time_text : Option ℕ → TimeText
 time_text time = number_if_any time ++ codes "," ++ date_of_any time
 
 -- natEvent: 8, NAT44 BIB create; 9, NAT44 BIB delete; 12, NAT ports exhausted; 13, quota exceeded (RFC 8158)
@@ -41,69 +41,69 @@ shortage_number OverQuota = 13
 shortage_number _ = 12
 
 -- natQuotaExceededEvent: 3, maximum entries per user (RFC 8158)
-abbrev pub quota_text : Cause → Text
+abbrev pub quota_text : Cause → TimeText
 quota_text OverQuota = codes "3"
 quota_text _ = []
 
 -- protocolIdentifier (IANA)
-abbrev pub protocol_number : Protocol → ℕ
-protocol_number Icmp = 1
-protocol_number Tcp = 6
-protocol_number Udp = 17
+abbrev pub csv_protocol : Protocol → ℕ
+csv_protocol Icmp = 1
+csv_protocol Tcp = 6
+csv_protocol Udp = 17
 
-abbrev pub endpoint_fields : Endpoint → List Text
+abbrev pub endpoint_fields : Endpoint → List TimeText
 endpoint_fields endpoint = address_text endpoint.address ∷ decimal endpoint.number ∷ []
 
-abbrev pub flag_text : Bool → Text
-flag_text true = codes "1"
-flag_text false = codes "0"
+abbrev pub csv_flag : Bool → TimeText
+csv_flag true = codes "1"
+csv_flag false = codes "0"
 
 -- when a packet last went through a binding, if one did
 abbrev pub last_use : Entry → Option ℕ
 last_use entry = if nat_lt 0 entry.sent || nat_lt 0 entry.received then Some entry.last else None
 
 -- the fields from natEvent on, of a binding; what happens behind the run's last packet is no event
-abbrev pub binding_fields : Option ℕ → Row → List Text
+abbrev pub binding_fields : Option ℕ → Row → List TimeText
 binding_fields event binding =
-    number_if_any event ∷ decimal (protocol_number binding.protocol) ∷ endpoint_fields binding.inside
+    number_if_any event ∷ decimal (csv_protocol binding.protocol) ∷ endpoint_fields binding.inside
     ++ endpoint_fields binding.external
 
-abbrev pub entry_fields : Listed → List Text
+abbrev pub entry_fields : LogEntry → List TimeText
 entry_fields listed =
-    decimal listed.number ∷ flag_text listed.entry.binding.fixed ∷ decimal listed.entry.sent
+    decimal listed.number ∷ csv_flag listed.entry.binding.fixed ∷ decimal listed.entry.sent
     ∷ decimal listed.entry.received ∷ time_fields (last_use listed.entry)
 
-abbrev pub listed_fields : Option ℕ → Listed → List Text
+abbrev pub listed_fields : Option ℕ → LogEntry → List TimeText
 listed_fields event listed = binding_fields event listed.entry.binding ++ [] ∷ entry_fields listed
 
 -- and of a packet that got none: its host has an external address even so, but no number there
-abbrev pub refusal_fields : Shortage → List Text
+abbrev pub refusal_fields : Shortage → List TimeText
 refusal_fields shortage =
-    decimal (shortage_number shortage.cause) ∷ decimal (protocol_number shortage.protocol)
+    decimal (shortage_number shortage.cause) ∷ decimal (csv_protocol shortage.protocol)
     ∷ address_text shortage.host ∷ [] ∷ []
 
-abbrev pub shortage_fields : ℕ → Shortage → List Text
+abbrev pub shortage_fields : ℕ → Shortage → List TimeText
 shortage_fields external shortage =
     refusal_fields shortage
     ++ address_text external ∷ [] ∷ quota_text shortage.cause ∷ [] ∷ [] ∷ [] ∷ [] ∷ [] ∷ [] ∷ []
 
-abbrev pub fields : Rules → Event → List Text
+abbrev pub fields : Rules → LogEvent → List TimeText
 fields rules (Made listed) = time_fields (Some listed.entry.made) ++ listed_fields (Some 8) listed
 fields rules (Ended listed) = time_fields listed.entry.end ++ listed_fields (Some 9) listed
 fields rules (Living listed) = time_fields listed.entry.end ++ listed_fields None listed
 fields rules (Refused shortage) =
     time_fields (Some shortage.at) ++ shortage_fields (pair_of rules shortage.host) shortage
 
-unfoldable pub csv_row : Rules → Event → Text
+unfoldable pub csv_row : Rules → LogEvent → TimeText
 csv_row rules event = row_text (fields rules event)
 
 -- the first row: the names of the fields, those in mixed case IPFIX information elements (IANA)
-abbrev pub names : List Text
+abbrev pub names : List TimeText
 names =
     codes "observationTimeNanoseconds" ∷ codes "time" ∷ codes "natEvent" ∷ codes "protocolIdentifier"
     ∷ codes "sourceIPv4Address" ∷ codes "sourceTransportPort" ∷ codes "postNATSourceIPv4Address"
     ∷ codes "postNAPTSourceTransportPort" ∷ codes "natQuotaExceededEvent" ∷ codes "binding" ∷ codes "redirect"
     ∷ codes "packets_out" ∷ codes "packets_in" ∷ codes "flowEndNanoseconds" ∷ codes "last_use" ∷ []
 
-abbrev pub header : Text
-header = row_text names
+abbrev pub csv_header : TimeText
+csv_header = row_text names

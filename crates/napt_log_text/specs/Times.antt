@@ -2,45 +2,45 @@
 use Rattle.std.specs.Prelude.{ℕ, ◌-◌, ◌*◌, ◌/◌, ◌%◌, nat_lt, Bool, List, [], ◌++◌, length, replicate, codes, decimal, if◌then◌else◌}
 use Rattle.napt_log_text.specs.{declared.date.Date.Date, Calendar.{date_on, dated_days}}
 
-abbrev pub Text : Type 0
-Text = List ℕ
+abbrev pub TimeText : Type 0
+TimeText = List ℕ
 
 -- a number in decimal, with zeros in front of it up to a width
-unfoldable pub padded : ℕ → ℕ → Text
+unfoldable pub padded : ℕ → ℕ → TimeText
 padded width number = replicate (width - length (decimal number)) 48 ++ decimal number
 
-abbrev pub second : ℕ
-second = 1000000000
+abbrev pub ns_per_log_second : ℕ
+ns_per_log_second = 1000000000
 
-unfoldable pub day_text : Date → Text
+unfoldable pub day_text : Date → TimeText
 day_text date = padded 4 date.year ++ codes "-" ++ padded 2 date.month ++ codes "-" ++ padded 2 date.day
 
 -- hours, minutes and seconds of the second of a day
-unfoldable pub clock_text : ℕ → Text
+unfoldable pub clock_text : ℕ → TimeText
 clock_text seconds =
     padded 2 (seconds / 3600) ++ codes ":" ++ padded 2 (seconds / 60 % 60) ++ codes ":" ++ padded 2 (seconds % 60)
 
 -- the date and the time of day in UTC (RFC 3339, section 5.6), always with nine decimals, so that the order of texts is
 -- that of times
-unfoldable pub date_text : ℕ → Text
+unfoldable pub date_text : ℕ → TimeText
 date_text time =
-    day_text (date_on (time / second / 86400)) ++ codes "T" ++ clock_text (time / second % 86400) ++ codes "."
-    ++ padded 9 (time % second)
+    day_text (date_on (time / ns_per_log_second / 86400)) ++ codes "T" ++ clock_text (time / ns_per_log_second % 86400) ++ codes "."
+    ++ padded 9 (time % ns_per_log_second)
     ++ codes "Z"
 
 -- a year of RFC 3339 has four digits
 abbrev pub has_date : ℕ → Bool
-has_date time = nat_lt time (dated_days * 86400 * second)
+has_date time = nat_lt time (dated_days * 86400 * ns_per_log_second)
 
-abbrev pub date_if_any : ℕ → Text
+abbrev pub date_if_any : ℕ → TimeText
 date_if_any time = if has_date time then date_text time else []
 
-unfoldable pub seconds_text : ℕ → Text
-seconds_text time = decimal (time / second) ++ codes "." ++ padded 9 (time % second)
+unfoldable pub seconds_text : ℕ → TimeText
+seconds_text time = decimal (time / ns_per_log_second) ++ codes "." ++ padded 9 (time % ns_per_log_second)
 
-abbrev pub date_in_brackets : ℕ → Text
+abbrev pub date_in_brackets : ℕ → TimeText
 date_in_brackets time = if has_date time then codes " (" ++ date_text time ++ codes ")" else []
 
 -- a time in seconds, and its date
-unfoldable pub moment_text : ℕ → Text
+unfoldable pub moment_text : ℕ → TimeText
 moment_text time = seconds_text time ++ date_in_brackets time

@@ -3,9 +3,9 @@ ghost use Rattle.std.specs.Prelude.{◌≡◌, ◌++◌, OnOk, Some, decimal, co
 ghost use Rattle.napt_log_text.specs.Rows as rows;
 
 use crate::digits::{add_address, add_number};
-use crate::moment::Moment;
+use crate::moment::TimeStamp;
 use itoa::Buffer;
-use napt_account::{Entry, Listed, Shortage};
+use napt_account::{Entry, LogEntry, Shortage};
 use napt_config::Config;
 use napt_rules::Row;
 use napt_wire::{Cause, Endpoint, Protocol};
@@ -25,7 +25,7 @@ const NO_BINDING: &str = ",,,,,,\n";
 
 /// The first row of the log: the names of its fields.
 pub fn header() -> &'static str
-    ensures { result.now ≡ rows.header }
+    ensures { result.now ≡ rows.csv_header }
 {
     "observationTimeNanoseconds,time,natEvent,protocolIdentifier,sourceIPv4Address,sourceTransportPort,\
     postNATSourceIPv4Address,postNAPTSourceTransportPort,natQuotaExceededEvent,binding,redirect,packets_out,\
@@ -34,18 +34,18 @@ pub fn header() -> &'static str
 
 /// An event of the log.
 #[derive(Clone, Copy, Debug, PartialEq, Eq)]
-pub enum Event {
+pub enum LogEvent {
     /// A binding was made.
-    Made(Listed),
+    Made(LogEntry),
     /// A binding expired, at the end in its entry.
-    Ended(Listed),
+    Ended(LogEntry),
     /// No event: a binding lives at the run's last packet, and ends as its entry says if no packet comes.
-    Living(Listed),
+    Living(LogEntry),
     /// A packet got no binding.
     Refused(Shortage),
 }
 
-impl Event {
+impl LogEvent {
     /// Appends its row. The configuration has the external address of a host that got no binding. Fails only if memory
     /// runs out.
     #[tactic(auto, unfolding(crate::specs::Rows::csv_row))]
@@ -54,22 +54,24 @@ impl Event {
             ++ rows.csv_row config.now self.now) }
     {
         match self {
-            Event::Made(listed) => {
+            LogEvent::Made(listed) => {
                 let made = u128::from(listed.entry.made);
                 add_listed(listed, Some(made), Some(BINDING_MADE), text)
             }
-            Event::Ended(listed) => {
+            LogEvent::Ended(listed) => {
                 add_listed(listed, listed.entry.end, Some(BINDING_ENDED), text)
             }
-            Event::Living(listed) => add_listed(listed, listed.entry.end, None, text),
-            Event::Refused(shortage) => { add_shortage(shortage, config.pair(shortage.host), text) }
+            LogEvent::Living(listed) => add_listed(listed, listed.entry.end, None, text),
+            LogEvent::Refused(shortage) => {
+                add_shortage(shortage, config.pair(shortage.host), text)
+            }
         }
     }
 }
 
 /// Appends the row of an event of a binding at a time, or of none.
 fn add_listed(
-    listed: &Listed,
+    listed: &LogEntry,
     at: Option<u128>,
     event: Option<u64>,
     text: &mut String,
@@ -87,10 +89,10 @@ fn add_listed(
 }
 
 /// Appends the number of an entry and the fields behind it.
-fn add_entry(listed: &Listed, text: &mut String) -> Result<(), AllocError>
+fn add_entry(listed: &LogEntry, text: &mut String) -> Result<(), AllocError>
     ensures { OnOk result (string_bytes text.new
         ≡ string_bytes text.old ++ (decimal listed.now.number
-        ++ codes "," ++ rows.flag_text listed.now.entry.binding.fixed ++ codes ","
+        ++ codes "," ++ rows.csv_flag listed.now.entry.binding.fixed ++ codes ","
         ++ decimal listed.now.entry.sent ++ codes "," ++ decimal listed.now.entry.received ++ codes ","
         ++ rows.time_text (rows.last_use listed.now.entry))) }
 {
@@ -113,7 +115,7 @@ fn add_time(time: Option<u128>, text: &mut String) -> Result<(), AllocError>
     let mut digits = Buffer::new();
     text.push_str(digits.format(time))?;
     text.push_str(",")?;
-    Moment(time).add_date(text)?;
+    TimeStamp(time).add_date(text)?;
     Ok(())
 }
 
@@ -211,7 +213,7 @@ fn quota(cause: Cause) -> &'static str
 
 /// A protocol's number (IANA).
 fn protocol_number(protocol: Protocol) -> u64
-    ensures { result ≡ rows.protocol_number protocol }
+    ensures { result ≡ rows.csv_protocol protocol }
 {
     match protocol {
         Protocol::Icmp => 1,
@@ -221,7 +223,7 @@ fn protocol_number(protocol: Protocol) -> u64
 }
 
 fn flag(is_set: bool) -> &'static str
-    ensures { result.now ≡ rows.flag_text is_set }
+    ensures { result.now ≡ rows.csv_flag is_set }
 {
     if is_set { "1" } else { "0" }
 }

@@ -3,8 +3,8 @@ ghost use Rattle.std.specs.Prelude.{◌≡◌, ◌++◌, OnOk, false, option_map
 ghost use Rattle.napt_log_text.specs.Holders as holders;
 
 use crate::digits::{add_address, add_endpoint, add_number};
-use crate::moment::Moment;
-use crate::request::{Nearest, Request, Span};
+use crate::moment::TimeStamp;
+use crate::request::{NearestEntries, Request, TimeSpan};
 use napt_account::{Entry, Party};
 use napt_config::Config;
 use napt_records::protocol_name;
@@ -68,7 +68,7 @@ fn add_open(fixed: bool, made: u64, text: &mut String) -> Result<(), AllocError>
         return text.push_str(" always, a redirect");
     }
     text.push_str(" from ")?;
-    Moment(u128::from(made)).add_to(text)?;
+    TimeStamp(u128::from(made)).add_to(text)?;
     text.push_str(why_open(fixed))
 }
 
@@ -89,9 +89,9 @@ fn add_times(made: u64, end: u128, last: u64, text: &mut String) -> Result<(), A
         ≡ string_bytes text.old ++ holders.times_text last made end) }
 {
     text.push_str(" from ")?;
-    Moment(u128::from(made)).add_to(text)?;
+    TimeStamp(u128::from(made)).add_to(text)?;
     text.push_str(" until ")?;
-    Moment(end).add_to(text)?;
+    TimeStamp(end).add_to(text)?;
     text.push_str(premise(end, last))?;
     Ok(())
 }
@@ -112,7 +112,7 @@ fn premise(end: u128, last: u64) -> &'static str
 #[tactic(auto, unfolding(crate::specs::Holders::nobody_line))]
 pub fn add_nobody(
     request: &Request,
-    nearest: &Nearest,
+    nearest: &NearestEntries,
     config: Option<&Config>,
     last: u64,
     text: &mut String,
@@ -157,7 +157,7 @@ fn add_party(party: Party, text: &mut String) -> Result<(), AllocError>
 /// after.
 fn add_reason(
     request: &Request,
-    nearest: &Nearest,
+    nearest: &NearestEntries,
     config: Option<&Config>,
     last: u64,
     text: &mut String,
@@ -188,7 +188,7 @@ fn is_foreign(config: Option<&Config>, address: u32) -> bool
 }
 
 /// Appends when it was that nobody had the endpoint.
-fn add_asked(at: Option<Span>, text: &mut String) -> Result<(), AllocError>
+fn add_asked(at: Option<TimeSpan>, text: &mut String) -> Result<(), AllocError>
     ensures { OnOk result (string_bytes text.new ≡ string_bytes text.old ++ holders.asked_text at) }
 {
     let Some(span) = at else {
@@ -196,18 +196,18 @@ fn add_asked(at: Option<Span>, text: &mut String) -> Result<(), AllocError>
     };
     if is_single(span) {
         text.push_str(" at ")?;
-        return Moment(span.first).add_to(text);
+        return TimeStamp(span.first).add_to(text);
     }
     text.push_str(" from ")?;
-    Moment(span.first).add_to(text)?;
+    TimeStamp(span.first).add_to(text)?;
     text.push_str(" until ")?;
-    Moment(span.until).add_to(text)?;
+    TimeStamp(span.until).add_to(text)?;
     Ok(())
 }
 
 /// Appends the last holder before a span, and how long before it had ended.
 fn add_before(
-    span: Span,
+    span: TimeSpan,
     entry: &Option<Entry>,
     last: u64,
     text: &mut String,
@@ -224,7 +224,7 @@ fn add_before(
 
 /// Appends the first holder after a span, and how long after it was made.
 fn add_after(
-    span: Span,
+    span: TimeSpan,
     entry: &Option<Entry>,
     last: u64,
     text: &mut String,
@@ -240,7 +240,7 @@ fn add_after(
 }
 
 /// The last time that the text of a span shows.
-fn shown_last(span: Span) -> u128
+fn shown_last(span: TimeSpan) -> u128
     ensures { result ≡ holders.shown_last span }
 {
     if is_single(span) {
@@ -250,7 +250,7 @@ fn shown_last(span: Span) -> u128
     }
 }
 
-fn is_single(span: Span) -> bool
+fn is_single(span: TimeSpan) -> bool
     ensures { result ≡ holders.is_single span }
 {
     span.until.saturating_sub(1) == span.first
@@ -268,7 +268,7 @@ fn add_near(
         ≡ string_bytes text.old ++ holders.near_text apart words.now last entry.now) }
 {
     text.push_str("; ")?;
-    Moment(apart).add_seconds(text)?;
+    TimeStamp(apart).add_seconds(text)?;
     text.push_str(words)?;
     add_binding(entry, last, text)?;
     Ok(())

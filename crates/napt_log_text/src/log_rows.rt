@@ -1,10 +1,10 @@
 //! The text of the log of a run, part by part, while packets come.
 ghost use Rattle.std.specs.{Prelude.{◌≡◌, ◌++◌, OnOk, option_map, string_bytes}, Int.NonZero.{non_zero_u32_get}};
-ghost use Rattle.napt_account.specs.{KnownRuns.told_of, ResumedLogs.told_first, TraceLogs.told_in};
+ghost use Rattle.napt_account.specs.{TrackedRuns.told_of_input, ResumedLogs.told_first, TraceLogs.told_in};
 ghost use Rattle.napt_log_text.specs.Logs as logs;
 
-use crate::event::{Event, header};
-use napt_account::{Listed, LoggedStep, LoggedTrace, Shortage, logs_go_on, traces_tell_the_log};
+use crate::event::{LogEvent, header};
+use napt_account::{LogEntry, LogStep, LogTrace, Shortage, logs_go_on, traces_tell_the_log};
 use napt_config::Config;
 use std::alloc::AllocError;
 use std::num::NonZeroU32;
@@ -13,7 +13,11 @@ const NANOSECONDS_A_SECOND: u64 = 1_000_000_000;
 
 /// Appends the beginning of a log: the names of its fields, and a row for each binding that lives before the first packet,
 /// as the redirects of a run that begins anew. Fails only if memory runs out.
-pub fn add_opening(config: &Config, living: &[Listed], text: &mut String) -> Result<(), AllocError>
+pub fn add_opening(
+    config: &Config,
+    living: &[LogEntry],
+    text: &mut String,
+) -> Result<(), AllocError>
     ensures { OnOk result (string_bytes text.new ≡ string_bytes text.old
         ++ logs.opening_text config.now living.now) }
 {
@@ -25,8 +29,8 @@ pub fn add_opening(config: &Config, living: &[Listed], text: &mut String) -> Res
 /// memory runs out.
 pub fn add_first(
     config: &Config,
-    ended: &[Listed],
-    made: &[Listed],
+    ended: &[LogEntry],
+    made: &[LogEntry],
     text: &mut String,
 ) -> Result<(), AllocError>
     ensures { OnOk result (string_bytes text.new ≡ string_bytes text.old
@@ -38,9 +42,9 @@ pub fn add_first(
 
 /// Appends the rows of what the log tells with an input: the bindings that ended since the clock of the input before, the
 /// binding that its packet made, and the packet itself if no binding could be made for it. Fails only if memory runs out.
-pub fn add_told(config: &Config, step: &LoggedStep, text: &mut String) -> Result<(), AllocError>
+pub fn add_told(config: &Config, step: &LogStep, text: &mut String) -> Result<(), AllocError>
     ensures { OnOk result (string_bytes text.new ≡ string_bytes text.old
-        ++ logs.told_rows config.now (told_of step.now)) }
+        ++ logs.told_rows config.now (told_of_input step.now)) }
 {
     add_ended(config, &step.ended, text)?;
     add_made(config, &step.made, text)?;
@@ -49,7 +53,7 @@ pub fn add_told(config: &Config, step: &LoggedStep, text: &mut String) -> Result
 
 /// Appends the rows of what the log tells with the trace of an input, as `add_told` does. Fails only if memory runs out.
 #[inline(never)]
-pub fn add_entered(config: &Config, told: &LoggedTrace, text: &mut String) -> Result<(), AllocError>
+pub fn add_entered(config: &Config, told: &LogTrace, text: &mut String) -> Result<(), AllocError>
     ensures { OnOk result (string_bytes text.new ≡ string_bytes text.old
         ++ logs.told_rows config.now (told_in told.now)) }
 {
@@ -72,12 +76,12 @@ pub fn begins_piece(each: Option<NonZeroU32>, last: Option<u64>, now: u64) -> bo
 }
 
 /// Appends the end of a log: a row without an event for each binding that lives at the end. Fails only if memory runs out.
-pub fn add_living(config: &Config, living: &[Listed], text: &mut String) -> Result<(), AllocError>
+pub fn add_living(config: &Config, living: &[LogEntry], text: &mut String) -> Result<(), AllocError>
     ensures { OnOk result (string_bytes text.new ≡ string_bytes text.old
         ++ logs.living_rows config.now living.now) }
 {
     for listed in living {
-        Event::Living(*listed).add_row(config, text)?;
+        LogEvent::Living(*listed).add_row(config, text)?;
     }
     Ok(())
 }
@@ -107,22 +111,22 @@ pub fn traces_have_the_rows()
     traces_tell_the_log();
 }
 
-fn add_made(config: &Config, made: &[Listed], text: &mut String) -> Result<(), AllocError>
+fn add_made(config: &Config, made: &[LogEntry], text: &mut String) -> Result<(), AllocError>
     ensures { OnOk result (string_bytes text.new ≡ string_bytes text.old
         ++ logs.made_rows config.now made.now) }
 {
     for listed in made {
-        Event::Made(*listed).add_row(config, text)?;
+        LogEvent::Made(*listed).add_row(config, text)?;
     }
     Ok(())
 }
 
-fn add_ended(config: &Config, ended: &[Listed], text: &mut String) -> Result<(), AllocError>
+fn add_ended(config: &Config, ended: &[LogEntry], text: &mut String) -> Result<(), AllocError>
     ensures { OnOk result (string_bytes text.new ≡ string_bytes text.old
         ++ logs.ended_rows config.now ended.now) }
 {
     for listed in ended {
-        Event::Ended(*listed).add_row(config, text)?;
+        LogEvent::Ended(*listed).add_row(config, text)?;
     }
     Ok(())
 }
@@ -132,7 +136,7 @@ fn add_refused(config: &Config, refused: &[Shortage], text: &mut String) -> Resu
         ++ logs.refused_rows config.now refused.now) }
 {
     for shortage in refused {
-        Event::Refused(*shortage).add_row(config, text)?;
+        LogEvent::Refused(*shortage).add_row(config, text)?;
     }
     Ok(())
 }

@@ -16,12 +16,12 @@ const UNDATED: u128 = 253_402_300_800_000_000_000;
 
 /// A time, in ns since 1970-01-01 UTC.
 #[derive(Clone, Copy, Debug, PartialEq, Eq)]
-pub struct Moment(pub u128);
+pub struct TimeStamp(pub u128);
 
-impl Moment {
+impl TimeStamp {
     /// The whole seconds.
     fn seconds(self) -> u128
-        ensures { result ≡ self.0 / times.second }
+        ensures { result ≡ self.0 / times.ns_per_log_second }
     {
         match u64::try_from(self.0) {
             Ok(time) => u128::from(time / SECOND),
@@ -31,7 +31,7 @@ impl Moment {
 
     /// The ns after the last whole second.
     fn rest(self) -> u32
-        ensures { result ≡ self.0 % times.second }
+        ensures { result ≡ self.0 % times.ns_per_log_second }
     {
         match u64::try_from(self.0) {
             Ok(time) => (time % SECOND) as u32,

@@ -8,7 +8,7 @@ use std::alloc::{AllocError, Global};
 
 /// A span of time in ns since 1970-01-01 UTC: from its first moment until one that is no longer in it.
 #[derive(Clone, Copy, Debug, PartialEq, Eq)]
-pub struct Span {
+pub struct TimeSpan {
     pub first: u128,
     pub until: u128,
 }
@@ -20,12 +20,12 @@ pub struct Request {
     pub protocol: Option<Protocol>,
     pub party: Party,
     /// At some moment of this span; if absent, at any time.
-    pub at: Option<Span>,
+    pub at: Option<TimeSpan>,
 }
 
 /// Those who had the endpoint last before the span of a request, and first after it.
 #[derive(Clone, Copy)]
-pub struct Nearest {
+pub struct NearestEntries {
     /// The one that ended last; of several that ended then, the one that was made last.
     pub before: Option<Entry>,
     /// The one that was made first.
@@ -45,11 +45,11 @@ impl Request {
     }
 
     /// The nearest holders among the entries of a log.
-    pub fn nearest_among(&self, entries: &[Entry]) -> Nearest
+    pub fn nearest_among(&self, entries: &[Entry]) -> NearestEntries
         ensures before { result.before ≡ requests.last_before self.now entries.now }
         ensures after { result.after ≡ requests.first_after self.now entries.now }
     {
-        Nearest {
+        NearestEntries {
             before: self.last_before(entries),
             after: entries.iter().copied().find(|entry| self.is_before(entry)),
         }
@@ -116,7 +116,7 @@ impl Request {
     }
 }
 
-impl Span {
+impl TimeSpan {
     /// Whether the binding of an entry has a moment in common with it.
     fn meets(self, entry: &Entry) -> bool
         ensures { result ≡ requests.has_moment_of self entry.now }
@@ -131,7 +131,7 @@ impl Span {
 
 /// Whether a protocol is the one that is wanted, if one is.
 fn is_of(wanted: Option<Protocol>, protocol: Protocol) -> bool
-    ensures { result ≡ requests.is_of wanted protocol }
+    ensures { result ≡ requests.holder_is_of wanted protocol }
 {
     match (wanted, protocol) {
         (None, _)

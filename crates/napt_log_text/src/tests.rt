@@ -2,10 +2,10 @@
 //! kind.
 
 use crate::{
-    Event, Listed, Moment, Object, Request, SavedFault, SavedField, SavedLog, SavedRow, Span,
-    add_holder, add_mark, add_nobody, header,
+    JsonObject, LogEntry, LogEvent, LogField, LogFileFault, LogReader, LogRow, Request, TimeSpan,
+    TimeStamp, add_holder, add_mark, add_nobody, header,
 };
-use napt_account::{Entry, Note, Party, Shortage};
+use napt_account::{Entry, LogNote, Party, Shortage};
 use napt_config::Config;
 use napt_rules::{Outcome, Row};
 use napt_sequential::Input;
@@ -37,7 +37,7 @@ const CONFIG: &[u8] = b"inside = [\"10.0.0.0/8\"]\npool = [\"203.0.113.1\"]\n";
 fn dates_are_those_of_the_calendar(rt: HostRuntime) -> Result<(), Fail> {
     for (time, date) in DATES {
         let mut text = String::new(rt.alloc());
-        Moment(*time).add_date(&mut text)?;
+        TimeStamp(*time).add_date(&mut text)?;
         assert_eq!(rt; text.as_str(), *date);
     }
     Ok(())
@@ -66,7 +66,7 @@ const ENTRY: Entry = Entry {
 };
 
 /// The row of an event.
-fn row_of(alloc: Global, event: Event) -> Result<String, Fail> {
+fn row_of(alloc: Global, event: LogEvent) -> Result<String, Fail> {
     let config = Config::read(alloc, CONFIG)?;
     let mut text = String::new(alloc);
     event.add_row(&config, &mut text)?;
@@ -75,7 +75,7 @@ fn row_of(alloc: Global, event: Event) -> Result<String, Fail> {
 
 #[test]
 fn each_event_has_a_row(rt: HostRuntime) -> Result<(), Fail> {
-    let listed = Listed {
+    let listed = LogEntry {
         number: 7,
         entry: ENTRY,
     };
@@ -85,22 +85,22 @@ fn each_event_has_a_row(rt: HostRuntime) -> Result<(), Fail> {
         protocol: Protocol::Icmp,
         host: 0x0A00_0003,
     };
-    let made = row_of(rt.alloc(), Event::Made(listed))?;
+    let made = row_of(rt.alloc(), LogEvent::Made(listed))?;
     assert_eq!(rt;
         made.as_str(),
         "1000000000,1970-01-01T00:00:01.000000000Z,8,17,10.0.0.2,5000,203.0.113.1,1024,,7,0,3,2,4000000000,1970-01-01T00:00:04.000000000Z\n"
     );
-    let ended = row_of(rt.alloc(), Event::Ended(listed))?;
+    let ended = row_of(rt.alloc(), LogEvent::Ended(listed))?;
     assert_eq!(rt;
         ended.as_str(),
         "304000000000,1970-01-01T00:05:04.000000000Z,9,17,10.0.0.2,5000,203.0.113.1,1024,,7,0,3,2,4000000000,1970-01-01T00:00:04.000000000Z\n"
     );
-    let living = row_of(rt.alloc(), Event::Living(listed))?;
+    let living = row_of(rt.alloc(), LogEvent::Living(listed))?;
     assert_eq!(rt;
         living.as_str(),
         "304000000000,1970-01-01T00:05:04.000000000Z,,17,10.0.0.2,5000,203.0.113.1,1024,,7,0,3,2,4000000000,1970-01-01T00:00:04.000000000Z\n"
     );
-    let refused = row_of(rt.alloc(), Event::Refused(shortage))?;
+    let refused = row_of(rt.alloc(), LogEvent::Refused(shortage))?;
     assert_eq!(rt;
         refused.as_str(),
         "5,1970-01-01T00:00:00.000000005Z,13,1,10.0.0.3,,203.0.113.1,,3,,,,,,\n"
@@ -110,15 +110,15 @@ fn each_event_has_a_row(rt: HostRuntime) -> Result<(), Fail> {
 }
 
 /// A row of the binding of `ENTRY`, read back.
-fn saved(event: SavedField) -> SavedRow {
-    SavedRow {
-        time: SavedField::Number(304_000_000_000),
+fn saved(event: LogField) -> LogRow {
+    LogRow {
+        time: LogField::Number(304_000_000_000),
         event,
-        protocol: SavedField::Number(17),
+        protocol: LogField::Number(17),
         inside: Some(ENTRY.binding.inside),
         external: Some(ENTRY.binding.external),
-        number: SavedField::Number(7),
-        redirect: SavedField::Number(0),
+        number: LogField::Number(7),
+        redirect: LogField::Number(0),
     }
 }
 
@@ -126,38 +126,38 @@ fn saved(event: SavedField) -> SavedRow {
 fn logs_are_read_back(rt: HostRuntime) -> Result<(), Fail> {
     let ended = "304000000000,,9,17,10.0.0.2,5000,203.0.113.1,1024,,7,0,3,2,4000000000,";
     let text = format!(in rt.alloc(); "{}{ended}\n{ended}", header())?;
-    let Ok(mut log) = SavedLog::open(rt.alloc(), text.as_bytes()) else {
+    let Ok(mut log) = LogReader::open(rt.alloc(), text.as_bytes()) else {
         return Err(Fail::from(text.len()));
     };
-    assert!(rt; matches!(log.next(), Ok(Some(row)) if row == saved(SavedField::Number(9))));
-    assert!(rt; matches!(log.next(), Err(SavedFault::Torn)));
+    assert!(rt; matches!(log.next(), Ok(Some(row)) if row == saved(LogField::Number(9))));
+    assert!(rt; matches!(log.next(), Err(LogFileFault::Torn)));
     assert!(rt; matches!(log.next(), Ok(None)));
-    assert!(rt; SavedLog::open(rt.alloc(), ended.as_bytes()).is_err());
-    assert_eq!(rt; saved(SavedField::Empty).binding(), Ok(ENTRY.binding));
-    assert_eq!(rt; SavedRow::read(",,,,,,,,,,,,,"), None);
+    assert!(rt; LogReader::open(rt.alloc(), ended.as_bytes()).is_err());
+    assert_eq!(rt; saved(LogField::Empty).binding(), Ok(ENTRY.binding));
+    assert_eq!(rt; LogRow::read(",,,,,,,,,,,,,"), None);
     Ok(())
 }
 
 #[test]
 fn fields_are_read_back(rt: HostRuntime) -> Result<(), Fail> {
-    let redirect = SavedRow {
-        time: SavedField::Other,
-        number: SavedField::Other,
-        redirect: SavedField::Number(1),
-        ..saved(SavedField::Number(8))
+    let redirect = LogRow {
+        time: LogField::Other,
+        number: LogField::Other,
+        redirect: LogField::Number(1),
+        ..saved(LogField::Number(8))
     };
     let row = "x,,8,17,10.0.0.2,5000,203.0.113.1,1024,,x,1,0,0,,";
-    assert_eq!(rt; SavedRow::read(row), Some(redirect));
-    let refused = SavedRow {
-        time: SavedField::Number(5),
+    assert_eq!(rt; LogRow::read(row), Some(redirect));
+    let refused = LogRow {
+        time: LogField::Number(5),
         inside: None,
         external: None,
-        number: SavedField::Empty,
-        redirect: SavedField::Empty,
-        ..saved(SavedField::Number(12))
+        number: LogField::Empty,
+        redirect: LogField::Empty,
+        ..saved(LogField::Number(12))
     };
     assert_eq!(rt;
-        SavedRow::read("5,,12,17,10.0.0.3,,203.0.113.1,,,,,,,,"),
+        LogRow::read("5,,12,17,10.0.0.3,,203.0.113.1,,,,,,,,"),
         Some(refused)
     );
     assert!(rt; refused.binding().is_err());
@@ -177,7 +177,7 @@ fn request(number: u16, first: u128, until: u128) -> Request {
     Request {
         protocol: Some(Protocol::Udp),
         party: party(number),
-        at: Some(Span { first, until }),
+        at: Some(TimeSpan { first, until }),
     }
 }
 
@@ -306,10 +306,10 @@ fn object_of(
     number: u64,
     input: &Input,
     outcome: &Outcome,
-    note: Note,
+    note: LogNote,
 ) -> Result<String, Fail> {
     let mut text = String::new(alloc);
-    let object = Object {
+    let object = JsonObject {
         number,
         input,
         outcome,
@@ -324,7 +324,7 @@ fn a_packet_that_leaves_has_an_object(rt: HostRuntime) -> Result<(), Fail> {
     let alloc = rt.alloc();
     let query = input(alloc, Side::Inside, QUERY)?;
     let left = Outcome::ToOutside(packet(alloc, Side::Inside, QUERY_OUT)?);
-    let made = object_of(alloc, 1, &query, &left, Note::Made)?;
+    let made = object_of(alloc, 1, &query, &left, LogNote::Made)?;
     assert_eq!(rt;
         made.as_str(),
         "{\"number\":1,\"time\":1000000000,\"side\":\"inside\",\"outcome\":\"to-outside\",\"cause\":null,\"binding\":\"made\",\"hairpin\":false,\"before\":{\"kind\":\"udp\",\"source\":\"10.0.0.2\",\"source_port\":5000,\"destination\":\"198.51.100.7\",\"destination_port\":53,\"identifier\":null,\"about\":null},\"after\":{\"kind\":\"udp\",\"source\":\"203.0.113.1\",\"source_port\":5000,\"destination\":\"198.51.100.7\",\"destination_port\":53,\"identifier\":null,\"about\":null}}\n"
@@ -332,7 +332,7 @@ fn a_packet_that_leaves_has_an_object(rt: HostRuntime) -> Result<(), Fail> {
     // as a hairpin would: only the side that it leaves for counts
     let echo = input(alloc, Side::Inside, ECHO)?;
     let back = Outcome::ToInside(packet(alloc, Side::Inside, ECHO)?);
-    let hairpin = object_of(alloc, 2, &echo, &back, Note::Redirect)?;
+    let hairpin = object_of(alloc, 2, &echo, &back, LogNote::Redirect)?;
     assert_eq!(rt;
         hairpin.as_str(),
         "{\"number\":2,\"time\":1000000000,\"side\":\"inside\",\"outcome\":\"to-inside\",\"cause\":null,\"binding\":\"redirect\",\"hairpin\":true,\"before\":{\"kind\":\"icmp-echo-request\",\"source\":\"10.0.0.2\",\"source_port\":null,\"destination\":\"198.51.100.7\",\"destination_port\":null,\"identifier\":7,\"about\":null},\"after\":{\"kind\":\"icmp-echo-request\",\"source\":\"10.0.0.2\",\"source_port\":null,\"destination\":\"198.51.100.7\",\"destination_port\":null,\"identifier\":7,\"about\":null}}\n"
@@ -345,14 +345,14 @@ fn an_error_has_an_object_that_tells_what_it_quotes(rt: HostRuntime) -> Result<(
     let alloc = rt.alloc();
     let error = input(alloc, Side::Outside, UNREACHABLE)?;
     let left = Outcome::ToInside(packet(alloc, Side::Outside, UNREACHABLE_IN)?);
-    let told = object_of(alloc, 3, &error, &left, Note::Nothing)?;
+    let told = object_of(alloc, 3, &error, &left, LogNote::Nothing)?;
     assert_eq!(rt;
         told.as_str(),
         "{\"number\":3,\"time\":1000000000,\"side\":\"outside\",\"outcome\":\"to-inside\",\"cause\":null,\"binding\":null,\"hairpin\":false,\"before\":{\"kind\":\"icmp-error\",\"source\":\"198.51.100.7\",\"source_port\":null,\"destination\":\"203.0.113.1\",\"destination_port\":null,\"identifier\":null,\"about\":{\"protocol\":\"udp\",\"source\":\"203.0.113.1\",\"source_port\":5000,\"destination\":\"198.51.100.7\",\"destination_port\":53,\"identifier\":null}},\"after\":{\"kind\":\"icmp-error\",\"source\":\"198.51.100.7\",\"source_port\":null,\"destination\":\"10.0.0.2\",\"destination_port\":null,\"identifier\":null,\"about\":{\"protocol\":\"udp\",\"source\":\"10.0.0.2\",\"source_port\":5000,\"destination\":\"198.51.100.7\",\"destination_port\":53,\"identifier\":null}}}\n"
     );
     let cut = input(alloc, Side::Outside, &QUERY[..8])?;
     let dropped = Outcome::Dropped(Cause::Truncated);
-    let refused = object_of(alloc, 4, &cut, &dropped, Note::Nothing)?;
+    let refused = object_of(alloc, 4, &cut, &dropped, LogNote::Nothing)?;
     assert_eq!(rt;
         refused.as_str(),
         "{\"number\":4,\"time\":1000000000,\"side\":\"outside\",\"outcome\":\"dropped\",\"cause\":\"truncated\",\"binding\":null,\"hairpin\":false,\"before\":null,\"after\":null}\n"

@@ -1,7 +1,7 @@
 //! How a thread waits for another thread.
 
 ghost use Rattle.std.specs.Prelude.{◌≡◌, ◌+◌, ◌≤◌, ◌<◌};
-ghost use Rattle.napt_pool.specs.declared.backoff.Pause.TheVariants.{Spin, Yield, Park};
+ghost use Rattle.napt_pool.specs.declared.backoff.BackoffStep.TheVariants.{Spin, Yield, Park};
 
 use std::sync::Wait;
 use std::thread::Parker;
@@ -19,25 +19,25 @@ const SHORTEST_SLEEP: u64 = 1;
 
 /// What a thread does before it looks again.
 #[derive(Debug, Clone, Copy, PartialEq, Eq)]
-enum Pause {
+enum BackoffStep {
     Spin,
     Yield,
     Park,
 }
 
-impl Pause {
+impl BackoffStep {
     /// The pause after this many looks.
-    const fn after(looks: u32) -> Pause
+    const fn after(looks: u32) -> BackoffStep
         ensures spin { looks < 32 → result ≡ Spin }
         ensures yields { 32 ≤ looks → looks < 512 → result ≡ Yield }
         ensures park { 512 ≤ looks → result ≡ Park }
     {
         if looks < SPINS {
-            Pause::Spin
+            BackoffStep::Spin
         } else if looks < LOOKS {
-            Pause::Yield
+            BackoffStep::Yield
         } else {
-            Pause::Park
+            BackoffStep::Park
         }
     }
 }
@@ -69,10 +69,10 @@ impl Backoff {
         ensures counted { self.old.looks < 512 → self.new.looks ≡ self.old.looks + 1 }
         ensures asleep { 512 ≤ self.old.looks → self.new.looks ≡ self.old.looks }
     {
-        match Pause::after(self.looks) {
-            Pause::Spin => hint::spin_loop(),
-            Pause::Yield => thread::yield_now(),
-            Pause::Park => self
+        match BackoffStep::after(self.looks) {
+            BackoffStep::Spin => hint::spin_loop(),
+            BackoffStep::Yield => thread::yield_now(),
+            BackoffStep::Park => self
                 .parker
                 .park_timeout(rt, Duration::from_nanos(SHORTEST_SLEEP)),
         }

@@ -2,7 +2,7 @@
 
 ghost use Rattle.std.specs.Prelude.{◌≡◌, ◌≤◌, [], vec_capacity, IfOk};
 
-use crate::closing::{Closing, Ended};
+use crate::closing::{ClosingWorker, Ended};
 use crate::fault::WorkerFault;
 use crate::gate::Gate;
 use crate::machine::Machine;
@@ -12,7 +12,7 @@ use std::alloc::{AllocError, Global};
 #[derive(Drop)]
 pub(crate) struct CloseBuffers<M: Machine, G: Gate> {
     pub(crate) count: usize,
-    pub(crate) closing: Vec<Closing<M, G>>,
+    pub(crate) closing: Vec<ClosingWorker<M, G>>,
     pub(crate) ends: Vec<Result<Ended<M>, WorkerFault>>,
     pub(crate) ended: Vec<Ended<M>>,
     ghost empty: { (closing.items ≡ []) × (ends.items ≡ []) × (ended.items ≡ []) },

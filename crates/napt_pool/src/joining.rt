@@ -2,19 +2,19 @@
 
 ghost use Rattle.std.specs.Prelude.{◌≡◌, ◌≤◌, ◌<◌, ◌^◌, vec_len, vec_capacity, [], map, IfOk, IfErr};
 ghost use Rattle.napt_pool.specs.Faults.{IsLeastFault};
-ghost use Rattle.napt_pool.specs.Workers.{machine_of, thread_state_of, accepted_of, taken_of, heard_of, closing_machine, closing_thread_state, closing_accepted, closing_taken, closing_heard, AreEnds, AreJoined};
+ghost use Rattle.napt_pool.specs.Workers.{machine_of, thread_state_of, accepted_of, taken_of, heard_of, closing_machine, closing_thread_state, closing_accepted, closing_taken, closing_heard, AreEnds, AreWorkersJoined};
 
 use crate::close_buffers::CloseBuffers;
-use crate::closing::{Closing, Ended};
+use crate::closing::{ClosingWorker, Ended};
 use crate::fault::{PoolFault, WorkerFault};
 use crate::gate::Gate;
 use crate::machine::Machine;
-use crate::worker::Worker;
+use crate::worker::WorkerHandle;
 use std::thread::Threads;
 
 /// Why a worker was not started, and how those started before it ended.
 #[derive(Drop)]
-pub(crate) struct NotStarted<M: Machine> {
+pub(crate) struct StartFailure<M: Machine> {
     pub(crate) fault: PoolFault,
     // How many were started.
     pub(crate) started: usize,
@@ -25,13 +25,13 @@ pub(crate) struct NotStarted<M: Machine> {
 pub(crate) fn give_up<M: Machine, G: Gate, R: Threads>(
     rt: &R,
     fault: PoolFault,
-    workers: Vec<Worker<M, G>>,
+    workers: Vec<WorkerHandle<M, G>>,
     buffers: CloseBuffers<M, G>,
-) -> NotStarted<M>
+) -> StartFailure<M>
     requires room { vec_len workers ≤ buffers.count }
     ensures fault { result.fault ≡ fault }
     ensures started { result.started ≡ vec_len workers }
-    ensures joined { AreJoined G M.Machine G.is_open (map machine_of workers.items)
+    ensures joined { AreWorkersJoined G M.Machine G.is_open (map machine_of workers.items)
         result.ends.items }
 {
     let CloseBuffers {
@@ -42,7 +42,7 @@ pub(crate) fn give_up<M: Machine, G: Gate, R: Threads>(
     } = buffers;
     let started = workers.len();
     let closing = close_all(workers, closing);
-    NotStarted {
+    StartFailure {
         fault,
         started,
         ends: join_all(rt, closing, ends),
@@ -51,9 +51,9 @@ pub(crate) fn give_up<M: Machine, G: Gate, R: Threads>(
 
 /// Sends Close to each worker.
 pub(crate) fn close_all<M: Machine, G: Gate>(
-    workers: Vec<Worker<M, G>>,
-    into: Vec<Closing<M, G>>,
-) -> Vec<Closing<M, G>>
+    workers: Vec<WorkerHandle<M, G>>,
+    into: Vec<ClosingWorker<M, G>>,
+) -> Vec<ClosingWorker<M, G>>
     requires empty { into.items ≡ [] }
     requires room { vec_len workers ≤ vec_capacity into }
     ensures machines { map closing_machine result.items ≡ map machine_of workers.items }
@@ -74,7 +74,7 @@ pub(crate) fn close_all<M: Machine, G: Gate>(
 /// Joins each worker.
 pub(crate) fn join_all<M: Machine, G: Gate, R: Threads>(
     rt: &R,
-    workers: Vec<Closing<M, G>>,
+    workers: Vec<ClosingWorker<M, G>>,
     into: Vec<Result<Ended<M>, WorkerFault>>,
 ) -> Vec<Result<Ended<M>, WorkerFault>>
     requires empty { into.items ≡ [] }

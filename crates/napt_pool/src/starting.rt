@@ -1,14 +1,14 @@
 //! Starting a list of workers.
 
 ghost use Rattle.std.specs.Prelude.{◌≡◌, ◌≤◌, vec_len, IfOk, IfErr};
-ghost use Rattle.napt_pool.specs.{Faults.IsStartFault, Workers.{AreNew, AreGivenUp}};
+ghost use Rattle.napt_pool.specs.{Faults.IsStartFault, Workers.{AreWorkersNew, AreWorkersGivenUp}};
 
 use crate::close_buffers::CloseBuffers;
 use crate::fault::PoolFault;
 use crate::gate::Gate;
-use crate::joining::{NotStarted, give_up};
+use crate::joining::{StartFailure, give_up};
 use crate::machine::Machine;
-use crate::worker::Worker;
+use crate::worker::WorkerHandle;
 use std::alloc::Global;
 use std::sync::{Arc, Wait};
 use std::thread::Threads;
@@ -25,7 +25,7 @@ pub(crate) fn start_all<
     capacity: usize,
     gate: Arc<G>,
     buffers: CloseBuffers<M, G>,
-) -> Result<(Vec<Worker<M, G>>, CloseBuffers<M, G>), NotStarted<M>>
+) -> Result<(Vec<WorkerHandle<M, G>>, CloseBuffers<M, G>), StartFailure<M>>
 where
     M: 'static,
     M::Item: 'static,
@@ -33,10 +33,10 @@ where
     requires capacity { (1 ≤ capacity) × (capacity ≤ 4096) }
     requires count { vec_len machines ≤ 16 }
     requires room { vec_len machines ≤ buffers.count }
-    ensures started { IfOk result (λ made. AreNew machines capacity made.0) }
+    ensures started { IfOk result (λ made. AreWorkersNew machines capacity made.0) }
     ensures buffers { IfOk result (λ made. made.1 ≡ buffers) }
     ensures refused { IfErr result (λ gone. IsStartFault gone.fault) }
-    ensures joined { IfErr result (λ gone. AreGivenUp G M.Machine G.is_open machines.items
+    ensures joined { IfErr result (λ gone. AreWorkersGivenUp G M.Machine G.is_open machines.items
         gone.started gone.ends.items) }
 {
     let Ok(mut workers) = Vec::with_capacity(alloc, machines.len()) else {
@@ -44,7 +44,7 @@ where
     };
     let mut number = 0u32;
     for machine in machines {
-        let worker = match Worker::start(rt, alloc, machine, capacity, &gate, number) {
+        let worker = match WorkerHandle::start(rt, alloc, machine, capacity, &gate, number) {
             Ok(worker) => worker,
             Err(fault) => return Err(give_up(rt, fault, workers, buffers)),
         };

@@ -4,8 +4,8 @@ use Rattle.std.proofs.Common.{◌≡◌, ◌≤◌, Bool, true, false, List, [],
 use Rattle.clap.specs.Words.{App, HasKind, HasMatchesOf, IsAmong, Kinds, Row, Text, fault_of, first_value, found_of, is_simple, is_simple_and_free, kind_of, rows_of}
 use Rattle.clap.{proofs.WalkLemmas.first_value-rows, specs.declared.{error.{kind.ErrorKind.ErrorKind, Error.Error}, parser.matches.ArgMatches.ArgMatches}}
 use Rattle.clap.specs.declared.error.kind.ErrorKind.TheVariants as kind
-use Rattle.napt_program.specs.CommandLine.{Files, app_for, files, files_in, files_of, help, is_misused, line_by, line_for, log_in, mistake, seconds_in, seconds_of, version}
-use Rattle.napt_program.{specs.declared.options.Options.Options, proofs.OneKind.one_fault}
+use Rattle.napt_program.specs.CommandLine.{CommandLineFiles, app_for, files, files_in, files_of, help, is_misused, line_by, line_for, log_in, mistake, seconds_in, seconds_of, version}
+use Rattle.napt_program.{specs.declared.options.RunOptions.RunOptions, proofs.OneKind.one_fault}
 
 line_is_simple : (takes_log : Bool) → is_simple (app_for takes_log) ≡ true
 line_is_simple takes_log = grind (arith, common_steps, nat_tests)
@@ -24,10 +24,10 @@ unfolding line_for
 taken_line takes_log app words m is matches none = grind (arith, common_steps, nat_tests, line_is_free, line_is_simple)
 
 -- files that are misused are a mistake
-pub misused_line : (named : Files) → is_misused named ≡ true → line_by [] named ≡ mistake
+pub misused_line : (named : CommandLineFiles) → is_misused named ≡ true → line_by [] named ≡ mistake
 misused_line named misused = rw misused refl
 
-pub used_line : (named : Files) → is_misused named ≡ false → line_by [] named ≡ files named
+pub used_line : (named : CommandLineFiles) → is_misused named ≡ false → line_by [] named ≡ files named
 used_line named used = rw used refl
 
 -- a list of one kind at most, with this kind among them, is this kind alone
@@ -61,7 +61,7 @@ version_line takes_log app words e is fails shown =
     let only = fault_is takes_log app words e is fails (λ m. cc) in
     rw (only, shown) refl
 
-mistake_by : (k : ErrorKind) (named : Files) → k ≢ kind.DisplayHelp → k ≢ kind.DisplayVersion
+mistake_by : (k : ErrorKind) (named : CommandLineFiles) → k ≢ kind.DisplayHelp → k ≢ kind.DisplayVersion
     → line_by (k ∷ []) named ≡ mistake
 mistake_by k named h v = grind (arith, common_steps, nat_tests)
 
@@ -96,17 +96,17 @@ pub files_read : (m : ArgMatches) (config resume inside outside to_outside to_in
 files_read m config resume inside outside to_outside to_inside report save a b c d e f g h =
     grind (arith, common_steps, nat_tests, first_value-rows)
 
-abbrev pub with_log : Options → Option Text → Option ℕ → Files
+abbrev pub with_log : RunOptions → Option Text → Option ℕ → CommandLineFiles
 with_log o log seconds = record (files_of o) { log = log; log_each = seconds }
 
 -- with the log and the seconds of its pieces, they are the files of the line
-pub log_read : (takes_log : Bool) (rows : List Row) (o : Options) (log : Option Text) (seconds : Option ℕ)
+pub log_read : (takes_log : Bool) (rows : List Row) (o : RunOptions) (log : Option Text) (seconds : Option ℕ)
     → files_of o ≡ files_in false rows → log ≡ log_in takes_log rows → seconds ≡ seconds_in takes_log rows
     → files_in takes_log rows ≡ with_log o log seconds
 log_read takes_log rows o log seconds read is each = grind (arith, common_steps, nat_tests)
 
 -- seconds that are not misused are not 0
-pub some_second : (named : Files) → is_misused named ≡ false → named.log_each ≢ Some 0
+pub some_second : (named : CommandLineFiles) → is_misused named ≡ false → named.log_each ≢ Some 0
 some_second named used = grind (arith, common_steps, nat_tests)
 
 -- of a program that takes it, the value of the log is that of its option

@@ -2,12 +2,12 @@
 use native.Mathlib.Omega.{arith}
 use Rattle.std.proofs.lemmas.{Grind.common_steps, Bool.Decides.nat_tests}
 use Rattle.std.proofs.Common.{◌≡◌, ◌&&◌, ◌||◌, ℕ, List, option_map, Bool, true, false, not, is_some, Option, Some, None, if◌then◌else◌}
-use Rattle.napt_program.specs.{CommandLine.{Files, files_of, files_with_log}, Standard.{is_log_again, is_standard, is_stream, standard_again}}
-use Rattle.napt_program.specs.{Streams.closed_stream, declared.{options_with_log.OptionsWithLog.OptionsWithLog, role.Role.Role, streams.Streams.Streams}}
-use Rattle.napt_program.specs.declared.role.Role.TheVariants as role
+use Rattle.napt_program.specs.{CommandLine.{CommandLineFiles, files_of, files_with_log}, Standard.{is_log_again, is_standard, is_stream, standard_again}}
+use Rattle.napt_program.specs.{Streams.closed_stream, declared.{options_with_log.OptionsWithLog.OptionsWithLog, role.FileRole.FileRole, streams.StandardStreams.StandardStreams}}
+use Rattle.napt_program.specs.declared.role.FileRole.TheVariants as role
 
 -- the role of the first condition that holds, or what comes behind them all
-abbrev pub first_role : (a b c d e f : Bool) (j k l m n o : Role) → Option Role → Option Role
+abbrev pub first_role : (a b c d e f : Bool) (j k l m n o : FileRole) → Option FileRole → Option FileRole
 first_role a b c d e f j k l m n o behind =
     if a then Some j
     else (if b then Some k
@@ -15,36 +15,36 @@ first_role a b c d e f j k l m n o behind =
     else (if d then Some m else (if e then Some n else (if f then Some o else behind)))))
 
 -- what is behind changes nothing where one holds
-pub first_kept : (a b c d e f : Bool) (j k l m n o found : Role) (behind : Option Role)
+pub first_kept : (a b c d e f : Bool) (j k l m n o found : FileRole) (behind : Option FileRole)
     → first_role a b c d e f j k l m n o None ≡ Some found → first_role a b c d e f j k l m n o behind ≡ Some found
 first_kept a b c d e f j k l m n o found behind is = grind (arith, common_steps, nat_tests)
 
 -- and is all where none does
-pub first_behind : (a b c d e f : Bool) (j k l m n o : Role) (behind : Option Role)
+pub first_behind : (a b c d e f : Bool) (j k l m n o : FileRole) (behind : Option FileRole)
     → first_role a b c d e f j k l m n o None ≡ None → first_role a b c d e f j k l m n o behind ≡ behind
 first_behind a b c d e f j k l m n o behind is = grind (arith, common_steps, nat_tests)
 
 -- the conditions of `standard_again`, in its order
-abbrev config_by_default : Files → Bool
+abbrev config_by_default : CommandLineFiles → Bool
 config_by_default n = is_stream n role.Config && not (is_some n.inside)
 
-abbrev config_and_inside : Files → Bool
+abbrev config_and_inside : CommandLineFiles → Bool
 config_and_inside n = is_stream n role.Config && is_stream n role.Inside
 
-abbrev outside_too : Files → Bool
+abbrev outside_too : CommandLineFiles → Bool
 outside_too n = is_stream n role.Outside && (is_stream n role.Config || is_standard n role.Inside)
 
-abbrev to_inside_too : Files → Bool
+abbrev to_inside_too : CommandLineFiles → Bool
 to_inside_too n = is_stream n role.ToInside && is_standard n role.ToOutside
 
-abbrev report_too : Files → Bool
+abbrev report_too : CommandLineFiles → Bool
 report_too n = is_stream n role.Report && (is_stream n role.ToInside || is_standard n role.ToOutside)
 
-abbrev log_if : Bool → Option Role
+abbrev log_if : Bool → Option FileRole
 log_if asked = if asked then Some role.Log else None
 
 -- an option before the log that wants a standard stream which another has is the first
-pub again_kept : (o : OptionsWithLog) (found : Role) → standard_again (files_of o.files) ≡ Some found
+pub again_kept : (o : OptionsWithLog) (found : FileRole) → standard_again (files_of o.files) ≡ Some found
     → standard_again (files_with_log o) ≡ Some found
 again_kept o found is =
     let n = files_of o.files in
@@ -58,7 +58,7 @@ pub again_behind : (o : OptionsWithLog) → standard_again (files_of o.files) �
 again_behind o none wants = grind (arith, common_steps, nat_tests, first_behind)
 
 -- a closed stream that stands for an option before the log is the first
-pub closed_kept : (s : Streams) (o : OptionsWithLog) (found : Role) → closed_stream s (files_of o.files) ≡ Some found
+pub closed_kept : (s : StandardStreams) (o : OptionsWithLog) (found : FileRole) → closed_stream s (files_of o.files) ≡ Some found
     → closed_stream s (files_with_log o) ≡ Some found
 closed_kept s o found is = grind (arith, common_steps, nat_tests, first_kept)
 

@@ -1,33 +1,33 @@
 -- What stops a program: its arguments, what it opens, or its run.
 use Rattle.std.specs.Prelude.{◌≡◌, ◌||◌, Bool, true, false, not, is_some, if◌then◌else◌}
-use Rattle.napt_program.specs.{CommandLine.{Files, Line, files, help, mistake, version}, Standard.is_named, declared.role.Role.Role}
-use Rattle.napt_program.specs.declared.{stop.{Stop.Stop, TheConstants.MEMORY}, streams.Streams.Streams}
+use Rattle.napt_program.specs.{CommandLine.{CommandLineFiles, CommandLineMeaning, files, help, mistake, version}, Standard.names_file, declared.role.FileRole.FileRole}
+use Rattle.napt_program.specs.declared.{stop.{Stop.Stop, TheConstants.MEMORY}, streams.StandardStreams.StandardStreams}
 use Rattle.napt_program.specs.declared.options.LineFault.{LineFault}
 use Rattle.napt_program.specs.declared.options.LineFault.TheVariants as fault
-use Rattle.napt_program.specs.declared.role.Role.TheVariants as role
+use Rattle.napt_program.specs.declared.role.FileRole.TheVariants as role
 use Rattle.napt_program.specs.declared.stop.Stop.TheVariants as stop
 use Rattle.napt_records.specs.{Faults.tells_shut_gate, declared.Fault.{Fault, TheVariants.Capture}}
 use Rattle.napt_wire.specs.declared.Side.TheVariants.{Outside}
 
 -- what may fail as a file: one that is named, or a closed standard stream
-abbrev pub can_fail : Streams → Files → Role → Bool
+abbrev pub can_fail : StandardStreams → CommandLineFiles → FileRole → Bool
 can_fail streams named role.Inside = is_some named.inside || not streams.input
 can_fail streams named role.ToOutside = is_some named.to_outside || not streams.output
-can_fail streams named other = is_named named other
+can_fail streams named other = names_file named other
 
 -- a fault of the outside capture comes of one that is named
-abbrev pub IsOfGiven : Files → Fault → Type 0
+abbrev pub IsOfGiven : CommandLineFiles → Fault → Type 0
 IsOfGiven named (Capture Outside fault) = is_some named.outside ≡ true
 IsOfGiven named other = Unit {0}
 
 -- what a fault of a run over these files is told as: what stands for an outside capture that is not named has none, so
 -- memory was refused
-abbrev pub stop_after : Files → Fault → Stop
+abbrev pub stop_after : CommandLineFiles → Fault → Stop
 stop_after named (Capture Outside fault) = if is_some named.outside then stop.Run (Capture Outside fault) else MEMORY
 stop_after named fault = stop.Run fault
 
 -- what stops a run over these files, under a gate that always opens
-abbrev pub IsRunStop : Streams → Files → Stop → Type 0
+abbrev pub IsRunStop : StandardStreams → CommandLineFiles → Stop → Type 0
 IsRunStop streams named stop.LineMemory = Unit {0}
 IsRunStop streams named (stop.Config fault) = Unit {0}
 IsRunStop streams named (stop.File role) = can_fail streams named role ≡ true
@@ -50,10 +50,10 @@ IsUsageStop stop.Usage = Unit {0}
 IsUsageStop other = ⊥
 
 -- help or the version was asked for
-abbrev pub IsAsked : LineFault → Type 0
-IsAsked (fault.Help text) = Unit {0}
-IsAsked (fault.Version text) = Unit {0}
-IsAsked other = ⊥
+abbrev pub HelpIsAsked : LineFault → Type 0
+HelpIsAsked (fault.Help text) = Unit {0}
+HelpIsAsked (fault.Version text) = Unit {0}
+HelpIsAsked other = ⊥
 
 -- what stops the program where a command line names no run
 abbrev pub IsLineAnswer : LineFault → Stop → Type 0
@@ -63,18 +63,18 @@ IsLineAnswer fault.Usage s = s ≡ stop.Usage
 IsLineAnswer fault.Memory s = s ≡ stop.LineMemory
 
 -- what stops the program on a command line
-abbrev pub IsLineStop : Streams → Line → Stop → Type 0
+abbrev pub IsLineStop : StandardStreams → CommandLineMeaning → Stop → Type 0
 IsLineStop streams (files named) s = IsRunStop streams named s
 IsLineStop streams help s = IsHelpStop s
 IsLineStop streams version s = IsHelpStop s
 IsLineStop streams mistake s = IsUsageStop s
 
 -- the arguments were understood
-abbrev pub IsTaken : Line → Type 0
-IsTaken mistake = ⊥
-IsTaken other = Unit {0}
+abbrev pub LineIsTaken : CommandLineMeaning → Type 0
+LineIsTaken mistake = ⊥
+LineIsTaken other = Unit {0}
 
 -- no shut gate
-abbrev pub IsUnderOpenGate : Stop → Type 0
-IsUnderOpenGate (stop.Run fault) = tells_shut_gate fault ≡ false
-IsUnderOpenGate other = Unit {0}
+abbrev pub IsStopUnderOpenGate : Stop → Type 0
+IsStopUnderOpenGate (stop.Run fault) = tells_shut_gate fault ≡ false
+IsStopUnderOpenGate other = Unit {0}

@@ -4,9 +4,9 @@ use Rattle.std.specs.{Char.is_ascii_digit, List.list_all, Str.Parse.{digits_valu
 use Rattle.std.specs.Int.NonZero.{non_zero_u32_get}
 use Rattle.clap.specs.Words.{App, Kinds, Row, Rule, Text, fault_of, first_of, matches_of, new_app, new_rule, with_rule}
 use Rattle.clap.specs.declared.{builder.action.ArgAction.TheVariants.Set, error.kind.ErrorKind.TheVariants.{DisplayHelp, DisplayVersion}}
-use Rattle.napt_program.specs.declared.{options.{Options.Options, LineFault.LineFault}, options_with_log.OptionsWithLog.OptionsWithLog}
-use Rattle.napt_program.specs.declared.{options.LineFault.TheVariants.{Help, Version}, role.Role.Role}
-use Rattle.napt_program.specs.declared.role.Role.TheVariants as role
+use Rattle.napt_program.specs.declared.{options.{RunOptions.RunOptions, LineFault.LineFault}, options_with_log.OptionsWithLog.OptionsWithLog}
+use Rattle.napt_program.specs.declared.{options.LineFault.TheVariants.{Help, Version}, role.FileRole.FileRole}
+use Rattle.napt_program.specs.declared.role.FileRole.TheVariants as role
 
 -- `--name FILE`: a plain option that takes one value, the name of a file or other words
 abbrev pub file_option : Text → Rule
@@ -34,7 +34,7 @@ app_for false = napt_app
 app_for true = with_options napt_app (codes "log" ∷ codes "log-each" ∷ [])
 
 -- the file that each option names, and the seconds of each piece of the log
-pub record Files : Type 0 where
+pub record CommandLineFiles : Type 0 where
   pub config : Option Text
   pub resume : Option Text
   pub inside : Option Text
@@ -46,7 +46,7 @@ pub record Files : Type 0 where
   pub log : Option Text
   pub log_each : Option ℕ
 
-abbrev pub files_of : Options → Files
+abbrev pub files_of : RunOptions → CommandLineFiles
 files_of o = record {
   config = option_map string_bytes o.config;
   resume = option_map string_bytes o.resume;
@@ -60,7 +60,7 @@ files_of o = record {
   log_each = None;
 }
 
-abbrev pub files_with_log : OptionsWithLog → Files
+abbrev pub files_with_log : OptionsWithLog → CommandLineFiles
 files_with_log o = record (files_of o.files) {
   log = option_map string_bytes o.log;
   log_each = option_map non_zero_u32_get o.log_each;
@@ -84,7 +84,7 @@ seconds_in false rows = None
 seconds_in true rows = option_map seconds_of (first_of (codes "log-each") rows)
 
 -- the values in clap's matches
-abbrev pub files_in : Bool → List Row → Files
+abbrev pub files_in : Bool → List Row → CommandLineFiles
 files_in takes_log rows = record {
   config = first_of (codes "config") rows;
   resume = first_of (codes "resume") rows;
@@ -99,11 +99,11 @@ files_in takes_log rows = record {
 }
 
 -- what a command line means: files, a request for help or for the version, or a mistake
-pub data Line : Type 0 where
-  files : Files → Line
-  help : Line
-  version : Line
-  mistake : Line
+pub data CommandLineMeaning : Type 0 where
+  files : CommandLineFiles → CommandLineMeaning
+  help : CommandLineMeaning
+  version : CommandLineMeaning
+  mistake : CommandLineMeaning
 
 -- `-` is no file, but a standard stream
 abbrev pub is_dash : Text → Bool
@@ -114,7 +114,7 @@ is_dash_given None = false
 is_dash_given (Some path) = is_dash path
 
 -- a state is given as `-`
-abbrev pub misuses_state : Files → Bool
+abbrev pub misuses_state : CommandLineFiles → Bool
 misuses_state named = is_dash_given named.resume || is_dash_given named.save
 
 -- pieces are asked for of a log that is no file, or each of no second
@@ -123,29 +123,29 @@ misuses_pieces log None = false
 misuses_pieces None (Some seconds) = true
 misuses_pieces (Some path) (Some seconds) = seconds == 0 || is_dash path
 
-abbrev pub is_misused : Files → Bool
+abbrev pub is_misused : CommandLineFiles → Bool
 is_misused named = misuses_state named || misuses_pieces named.log named.log_each
 
 -- clap finds no fault in arguments that it accepts, and reports help and the version as faults of those kinds
-abbrev pub line_by : Kinds → Files → Line
+abbrev pub line_by : Kinds → CommandLineFiles → CommandLineMeaning
 line_by [] named = if is_misused named then mistake else files named
 line_by (DisplayHelp ∷ more) named = help
 line_by (DisplayVersion ∷ more) named = version
 line_by (other ∷ more) named = mistake
 
 -- what a command line means to a program that takes a log, or does not; the arguments begin with the program's name
-unfoldable pub line_for : Bool → List Text → Line
+unfoldable pub line_for : Bool → List Text → CommandLineMeaning
 line_for takes_log words =
     line_by (fault_of (app_for takes_log) words) (files_in takes_log (matches_of (app_for takes_log) words))
 
-abbrev pub line_of_words : List Text → Line
+abbrev pub line_of_words : List Text → CommandLineMeaning
 line_of_words words = line_for false words
 
-abbrev pub line_with_log : List Text → Line
+abbrev pub line_with_log : List Text → CommandLineMeaning
 line_with_log words = line_for true words
 
 -- the name of the file's option
-abbrev pub role_name : Role → Text
+abbrev pub role_name : FileRole → Text
 role_name role.Config = codes "config"
 role_name role.Resume = codes "resume"
 role_name role.Inside = codes "inside"

@@ -1,7 +1,7 @@
 -- The result of reading a configuration's file.
 use Rattle.std.specs.Prelude.{◌≡◌, ◌≢◌, ℕ, List, Bool, true, Result, Ok, Err}
 use Rattle.napt_config.specs.{Configured.configuration_of, Rules.Rules, declared.fault.ConfigFault.TheVariants.Memory}
-use Rattle.napt_program.specs.declared.role.Role.TheVariants as role
+use Rattle.napt_program.specs.declared.role.FileRole.TheVariants as role
 use Rattle.napt_program.specs.declared.stop.Stop.{Stop}
 use Rattle.napt_program.specs.declared.stop.Stop.TheVariants as stop
 
@@ -12,10 +12,10 @@ IsConfigStop named (stop.File role.Config) = named ≡ true
 IsConfigStop named other = ⊥
 
 -- the file of the configuration was not read: memory ran out, or the file failed
-abbrev pub IsUnread : Stop → Type 0
-IsUnread (stop.Config Memory) = Unit {0}
-IsUnread (stop.File role.Config) = Unit {0}
-IsUnread other = ⊥
+abbrev pub ConfigIsUnread : Stop → Type 0
+ConfigIsUnread (stop.Config Memory) = Unit {0}
+ConfigIsUnread (stop.File role.Config) = Unit {0}
+ConfigIsUnread other = ⊥
 
 -- the result for a text: its configuration or its own fault, unless it was not read or memory ran out
 abbrev pub IsReadingOf : List ℕ → Result Rules Stop → Type 0

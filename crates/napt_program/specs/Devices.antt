@@ -3,15 +3,15 @@ use Rattle.std.specs.{Prelude.{◌≡◌, ℕ, List, Option, IfSome, option_map}
 use Rattle.std.specs.declared.io.buffered.BufWriter.{BufWriter}
 use Rattle.either.specs.{Either.{either, left}, declared.Either.Either}
 use Rattle.napt_capture.specs.{Watched.{device_of, failed_of}, declared.watched.Watched.Watched}
-use Rattle.napt_program.specs.declared.{devices.{Devices.Devices, Outputs.Outputs}, files.RunFiles.RunFiles, log_file.LogOutput.LogOutput}
+use Rattle.napt_program.specs.declared.{devices.{RunDevices.RunDevices, OutputDevices.OutputDevices}, files.RunFiles.RunFiles, log_file.LogOutput.LogOutput}
 
 -- the bytes that a device has left to read, or shows as written
 abbrev pub Bytes : Type 0
 Bytes = Option (List ℕ)
 
 -- the bytes that reads of the device will give, by those of the reader under it
-abbrev pub bytes_left : {D A : Type 0} → (D → Bytes) → Watched (BufReader D A) → Bytes
-bytes_left remaining made = reader_remaining remaining (device_of made)
+abbrev pub device_bytes_left : {D A : Type 0} → (D → Bytes) → Watched (BufReader D A) → Bytes
+device_bytes_left remaining made = reader_remaining remaining (device_of made)
 
 -- the bytes that were written to the device, by those of the writer under it
 abbrev pub bytes_written : {D A : Type 0} → (D → Bytes) → Watched (BufWriter D A) → Bytes
@@ -26,12 +26,12 @@ abbrev pub failed_in : {D E : Type 0} → Either (Watched D) E → ℕ
 failed_in device = either failed_of (λ other. 0) device
 
 -- no call of a device failed yet
-abbrev pub AreOutputsFresh : {T F : Type 0} → Outputs T F → Type 0
+abbrev pub AreOutputsFresh : {T F : Type 0} → OutputDevices T F → Type 0
 AreOutputsFresh outputs = (failed_of outputs.to_outside ≡ 0)
     × (failed_in outputs.to_inside ≡ 0)
     × (failed_in outputs.report ≡ 0)
 
-abbrev pub AreFresh : {S T F : Type 0} → Devices S T F → Type 0
+abbrev pub AreFresh : {S T F : Type 0} → RunDevices S T F → Type 0
 AreFresh devices = (failed_of devices.inside ≡ 0)
     × (failed_in devices.outside ≡ 0)
     × AreOutputsFresh devices.outputs
@@ -43,10 +43,10 @@ IsFreshLog log = IfSome log (λ it. failed_of it.device ≡ 0)
 -- each device tells or shows what its file does: by what standard input tells, standard output shows, and a file tells
 -- and shows
 abbrev pub AreOver : {S T F : Type 0} → (S → Bytes) → (T → Bytes) → (F → Bytes) → (F → Bytes)
-    → RunFiles S T F → Devices S T F → Type 0
+    → RunFiles S T F → RunDevices S T F → Type 0
 AreOver input output remaining contents files devices =
-    (bytes_left (either input remaining) devices.inside ≡ either input remaining files.inside)
-    × (option_map (bytes_left (either input remaining)) (left devices.outside)
+    (device_bytes_left (either input remaining) devices.inside ≡ either input remaining files.inside)
+    × (option_map (device_bytes_left (either input remaining)) (left devices.outside)
     ≡ option_map (either input remaining) files.outside)
     × (bytes_written (either output contents) devices.outputs.to_outside ≡ either output contents files.to_outside)
     × (option_map (bytes_written (either output contents)) (left devices.outputs.to_inside)

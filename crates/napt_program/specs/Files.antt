@@ -1,13 +1,13 @@
 -- The result of opening the files of a run.
 use Rattle.std.specs.Prelude.{◌≡◌, ◌⊎◌, ◌||◌, Bool, true, false, not, IfSome, option_map}
 use Rattle.either.specs.{Either.{either, is_left}, declared.Either.Either}
-use Rattle.napt_program.specs.{CommandLine.Files, Standard.{has_pieces, is_dash, is_named, is_standard, is_stream}, declared.files.InputFiles.InputFiles}
+use Rattle.napt_program.specs.{CommandLine.CommandLineFiles, Standard.{has_pieces, is_dash, names_file, is_standard, is_stream}, declared.files.InputFiles.InputFiles}
 use Rattle.napt_program.specs.declared.{files.{FilesWithLog.FilesWithLog, RunFiles.RunFiles}, stop.{Stop.Stop, TheConstants.MEMORY}}
-use Rattle.napt_program.specs.declared.role.Role.TheVariants as role
+use Rattle.napt_program.specs.declared.role.FileRole.TheVariants as role
 use Rattle.napt_program.specs.declared.stop.Stop.TheVariants as stop
 
 -- exactly the files that are named are there, a standard stream for `-`, and in place of a capture that is not named
-abbrev pub AreOpen : {S T F : Type 0} → Files → RunFiles S T F → Type 0
+abbrev pub AreOpen : {S T F : Type 0} → CommandLineFiles → RunFiles S T F → Type 0
 AreOpen named files = (is_left files.inside ≡ is_standard named role.Inside)
     × (option_map is_left files.outside ≡ option_map is_dash named.outside)
     × (is_left files.to_outside ≡ is_standard named role.ToOutside)
@@ -19,27 +19,27 @@ abbrev pub is_stream_log : {T F P : Type 0} → Either (Either T F) P → Bool
 is_stream_log device = either is_left (λ pieces. false) device
 
 -- the same with a log, in pieces if they are asked for
-abbrev pub AreOpenWithLog : {S T F P : Type 0} → Files → FilesWithLog S T F P → Type 0
+abbrev pub AreOpenWithLog : {S T F P : Type 0} → CommandLineFiles → FilesWithLog S T F P → Type 0
 AreOpenWithLog named opened =
     AreOpen named opened.files
     × (option_map (λ log. is_stream_log log.device) opened.log ≡ option_map is_dash named.log)
     × IfSome opened.log (λ log. is_left log.device ≡ not (has_pieces named))
 
 -- the same of the captures alone
-abbrev pub AreInputsOpen : {S F : Type 0} → Files → InputFiles S F → Type 0
+abbrev pub AreInputsOpen : {S F : Type 0} → CommandLineFiles → InputFiles S F → Type 0
 AreInputsOpen named files = (is_left files.inside ≡ is_standard named role.Inside)
     × (option_map is_left files.outside ≡ option_map is_dash named.outside)
 
 -- a fault of a file that is named
-abbrev pub IsFileStop : Files → Stop → Type 0
-IsFileStop named (stop.File role) = is_named named role ≡ true
-IsFileStop named (stop.LogFile why) = is_named named role.Log ≡ true
+abbrev pub IsFileStop : CommandLineFiles → Stop → Type 0
+IsFileStop named (stop.File role) = names_file named role ≡ true
+IsFileStop named (stop.LogFile why) = names_file named role.Log ≡ true
 IsFileStop named other = ⊥
 
 -- the same, or memory was refused to the reader of standard input, which a capture comes from, to the path of the new
 -- file of a state, or to the end of a log
-abbrev pub IsOpenStop : Files → Stop → Type 0
+abbrev pub IsOpenStop : CommandLineFiles → Stop → Type 0
 IsOpenStop named s = ((s ≡ MEMORY)
-    × ((is_standard named role.Inside || is_stream named role.Outside || is_named named role.Save
-    || is_named named role.Log) ≡ true))
+    × ((is_standard named role.Inside || is_stream named role.Outside || names_file named role.Save
+    || names_file named role.Log) ≡ true))
     ⊎ IsFileStop named s

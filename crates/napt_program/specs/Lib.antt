@@ -4,8 +4,8 @@ pub mod Config
 pub mod Devices
 pub mod Files
 pub mod LogFiles
-pub mod Place
-pub mod Places
+pub mod FileLocation
+pub mod FileLocations
 pub mod Standard
 pub mod State
 pub mod Stop

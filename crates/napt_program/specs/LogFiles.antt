@@ -1,8 +1,8 @@
 -- Which text of a log a run goes on with.
 use Rattle.std.specs.{Prelude.{◌≡◌, ◌≢◌, ◌⊎◌, ◌<◌, ◌^◌, ◌==◌, ◌&&◌, nat_eq, nat_lt, not, ℕ, Bool, List, [], ◌∷◌, ◌++◌, codes, decimal, length, Option, Some, None, if◌then◌else◌}, List.{list_any, starts_with}}
-use Rattle.napt_log_text.specs.Rows.{header}
+use Rattle.napt_log_text.specs.Rows.{csv_header}
 use Rattle.napt_program.specs.declared.{log_file.TheConstants.MOST_TORN, log_pieces.LogPieces.LogPieces, stop.{LogRefusal.LogRefusal, Stop.Stop, TheConstants.MEMORY}}
-use Rattle.napt_program.specs.declared.role.Role.TheVariants as role
+use Rattle.napt_program.specs.declared.role.FileRole.TheVariants as role
 use Rattle.napt_program.specs.declared.stop.LogRefusal.TheVariants as refusal
 use Rattle.napt_program.specs.declared.stop.Stop.TheVariants as stop
 
@@ -35,11 +35,11 @@ piece_of pieces = pieces.number
 
 -- bytes begin a new piece: they begin with the header, and the piece at hand has text
 abbrev pub needs_new_piece : {R F A : Type 0} → LogPieces R F A → List ℕ → Bool
-needs_new_piece pieces bytes = pieces.has_text && starts_with nat_eq bytes header
+needs_new_piece pieces bytes = pieces.has_text && starts_with nat_eq bytes csv_header
 
 -- what is kept of the text: nothing, or what the state tells of
-abbrev pub IsKept : Option ℕ → ℕ → Type 0
-IsKept told kept = (kept ≡ 0) ⊎ (told ≡ Some kept)
+abbrev pub LogTextIsKept : Option ℕ → ℕ → Type 0
+LogTextIsKept told kept = (kept ≡ 0) ⊎ (told ≡ Some kept)
 
 -- the text is refused, or could not be read
 abbrev pub IsLogStop : Stop → Type 0

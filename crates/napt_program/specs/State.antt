@@ -1,26 +1,26 @@
 -- The states of a run's files.
 use Rattle.std.specs.Prelude.{◌≡◌, ℕ, List, [], Bool, true, false, None, IfSome}
 use Rattle.napt_config.specs.Rules.{Rules}
-use Rattle.napt_rules.specs.Prelude.{under}
-use Rattle.napt_account.specs.GoingOn.{IsFew}
-use Rattle.napt_state.specs.{StateText.{saved_text}, declared.saved.Saved.{Saved}}
+use Rattle.napt_rules.specs.Prelude.{with_redirects}
+use Rattle.napt_account.specs.ResumedLogRuns.{IsFew}
+use Rattle.napt_state.specs.{StateText.{saved_text}, declared.state_contents.StateFileContents.{StateFileContents}}
 use Rattle.napt_program.specs.declared.stop.{Stop.Stop, TheConstants.MEMORY}
-use Rattle.napt_program.specs.declared.role.Role.TheVariants as role
+use Rattle.napt_program.specs.declared.role.FileRole.TheVariants as role
 use Rattle.napt_program.specs.declared.stop.Stop.TheVariants as stop
 use Rattle.napt_program.specs.declared.stop.StateRefusal.TheVariants as refusal
 
 -- without bindings, at the time 0, and without a log
-abbrev pub IsAnew : Saved → Type 0
+abbrev pub IsAnew : StateFileContents → Type 0
 IsAnew saved = saved ≡ record { state = record { clock = 0; list = [] }; log = None }
 
 -- a log that a run can count on
-abbrev pub HasFew : Saved → Type 0
+abbrev pub HasFew : StateFileContents → Type 0
 HasFew saved = IfSome saved.log (λ log. IsFew log.log)
 
 -- what goes on under the rules is what the text's state does, with its log
-abbrev pub IsStateOf : Rules → List ℕ → Saved → Type 0
-IsStateOf rules text saved = (told : Saved) × (text ≡ saved_text told)
-    × (under rules saved.state ≡ under rules told.state) × (saved.log ≡ told.log)
+abbrev pub IsStateOf : Rules → List ℕ → StateFileContents → Type 0
+IsStateOf rules text saved = (told : StateFileContents) × (text ≡ saved_text told)
+    × (with_redirects rules saved.state ≡ with_redirects rules told.state) × (saved.log ≡ told.log)
 
 -- a line is refused
 abbrev pub is_bad_line : Stop → Bool

@@ -1,7 +1,7 @@
 -- The fault line and the exit status of a program that stops early.
 use Rattle.std.specs.Prelude.{ℕ, List, ◌++◌, Bool, true, Option, Some, None, Result, Ok, Err, codes, decimal}
-use Rattle.napt_program.specs.{CommandLine.role_name, declared.{role.Role.Role, stop.{Stop.Stop, StateRefusal.StateRefusal}}}
-use Rattle.napt_program.specs.declared.role.Role.TheVariants as role
+use Rattle.napt_program.specs.{CommandLine.role_name, declared.{role.FileRole.FileRole, stop.{Stop.Stop, StateRefusal.StateRefusal}}}
+use Rattle.napt_program.specs.declared.role.FileRole.TheVariants as role
 use Rattle.napt_program.specs.declared.stop.Stop.TheVariants as stop
 use Rattle.napt_program.specs.declared.stop.StateRefusal.TheVariants as state
 use Rattle.napt_rules.specs.declared.Misfit.{Misfit}
@@ -89,7 +89,7 @@ run_name (refused.Pool (pool.GateShut worker)) = codes "gate-shut " ++ decimal w
 run_name (refused.Pool pool.Ring) = codes "ring"
 
 -- the file that an output is written to
-abbrev pub output_role : Which → Role
+abbrev pub output_role : Which → FileRole
 output_role output.Outside = role.ToOutside
 output_role output.Inside = role.ToInside
 output_role output.Report = role.Report

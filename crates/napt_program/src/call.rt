@@ -1,16 +1,16 @@
 //! How a program was called, and what it tells people at a terminal.
 
 ghost use Rattle.std.specs.{Prelude.{◌≡◌, ◌⊎◌, IfErr, OnOk}, Process.exit_status};
-ghost use Rattle.napt_program.specs.{Command.{IsAsked, IsLineAnswer}, Stop.status_at_end};
+ghost use Rattle.napt_program.specs.{Command.{HelpIsAsked, IsLineAnswer}, Stop.status_at_end};
 
 use crate::command::words;
 use crate::options::{LineFault, Manual};
-use crate::role::Role;
+use crate::record_counter::CountedSource;
+use crate::role::FileRole;
 use crate::stop::{LogRefusal, Stop, line_at_end, status_at_end};
-use crate::streams::Streams;
-use crate::tally::Tallied;
+use crate::streams::StandardStreams;
 use napt_config::ConfigFault;
-use napt_log_text::Moment;
+use napt_log_text::TimeStamp;
 use napt_records::Fault;
 use std::alloc::{AllocError, Global};
 use std::env::Env;
@@ -23,7 +23,7 @@ use std::process::ExitCode;
 ///
 /// Fails with `Stop::Help` if it cannot be written, and if the arguments are not understood or memory ran out for them.
 pub fn answer_line(rt: &impl Print, fault: LineFault) -> Result<(), Stop>
-    ensures asked { OnOk result (IsAsked fault) }
+    ensures asked { OnOk result (HelpIsAsked fault) }
     ensures stop { IfErr result (IsLineAnswer fault) }
 {
     match fault {
@@ -42,7 +42,7 @@ pub fn tell_new_entries(
     clock: u64,
 ) -> Result<(), AllocError> {
     let mut date = String::new(alloc);
-    Moment(u128::from(clock)).add_date(&mut date)?;
+    TimeStamp(u128::from(clock)).add_date(&mut date)?;
     let _ = eprintln!(rt;
         "{name}: the log begins a new entry for each binding of the state, at {date}"
     );
@@ -51,7 +51,7 @@ pub fn tell_new_entries(
 
 /// How a program was called.
 #[derive(Clone, Copy, Debug)]
-pub struct Call {
+pub struct ProgramCall {
     /// What it is called.
     pub name: &'static str,
     /// Whether standard error is open.
@@ -60,10 +60,10 @@ pub struct Call {
     pub at_terminal: bool,
 }
 
-impl Call {
+impl ProgramCall {
     /// That of the program with this name.
-    pub fn of(rt: &HostRuntime, streams: Streams, name: &'static str) -> Call {
-        Call {
+    pub fn of(rt: &HostRuntime, streams: StandardStreams, name: &'static str) -> ProgramCall {
+        ProgramCall {
             name,
             is_heard: streams.error,
             at_terminal: streams.error && rt.stderr().is_terminal(),
@@ -89,7 +89,7 @@ impl Call {
         self,
         rt: &R,
         installed: &'static str,
-    ) -> Result<Call, Stop>
+    ) -> Result<ProgramCall, Stop>
         ensures { IfErr result (λ stop. (stop ≡ Stop.Usage) ⊎ (stop ≡ Stop.LineMemory)) }
     {
         let words = words(rt)?;
@@ -98,7 +98,7 @@ impl Call {
         } else {
             self.name
         };
-        Ok(Call { name, ..self })
+        Ok(ProgramCall { name, ..self })
     }
 
     /// The help of the program as it was called, of that by its own name and that by the other.
@@ -136,16 +136,21 @@ impl Call {
     }
 
     /// Tells people at a terminal which captures end inside a record.
-    pub fn tell_cuts<S, Q>(self, rt: &impl Eprint, inside: &Tallied<S>, outside: &Tallied<Q>) {
+    pub fn tell_cuts<S, Q>(
+        self,
+        rt: &impl Eprint,
+        inside: &CountedSource<S>,
+        outside: &CountedSource<Q>,
+    ) {
         if inside.is_cut() {
-            self.tell_cut(rt, Role::Inside);
+            self.tell_cut(rt, FileRole::Inside);
         }
         if outside.is_cut() {
-            self.tell_cut(rt, Role::Outside);
+            self.tell_cut(rt, FileRole::Outside);
         }
     }
 
-    fn tell_cut(self, rt: &impl Eprint, role: Role) {
+    fn tell_cut(self, rt: &impl Eprint, role: FileRole) {
         if self.at_terminal {
             let (name, side) = (self.name, role.name());
             let _ = eprintln!(rt;

@@ -4,25 +4,25 @@ ghost use Rattle.std.specs.{Prelude.{◌≡◌, ◌≢◌, ◌⊎◌, [], Err, I
 ghost use Rattle.napt_program.specs.{CommandLine.files_with_log, Command.{IsRunStop, stop_after}, Devices.{AreFresh, IsFreshLog}};
 ghost use Rattle.napt_program.specs.{Standard.standard_again, Streams.closed_stream};
 ghost use Rattle.napt_records.specs.Faults.{tells_shut_gate};
-ghost use Rattle.napt_account.specs.GoingOn.{IsFew};
-ghost use Rattle.napt_rules.specs.Prelude.{Takes};
+ghost use Rattle.napt_account.specs.ResumedLogRuns.{IsFew};
+ghost use Rattle.napt_rules.specs.Prelude.{TakesState};
 
 use crate::config_file::configuration;
-use crate::devices::{BUFFERED, Devices, HELD, LogDevice, buffered, buffered_log};
+use crate::devices::{BUFFERED, HELD, LogDevice, RunDevices, buffered, buffered_log};
 use crate::files::{FilesWithLog, open_files};
 use crate::log_file::LogOutput;
 use crate::log_pieces::LogPieces;
 use crate::options_with_log::OptionsWithLog;
-use crate::resuming::state_at;
-use crate::saving::{StateFile, state_file};
+use crate::state_file::{StateFile, state_file};
+use crate::state_reading::state_at;
 use crate::stop::{MEMORY, Stop};
-use crate::streams::{Streams, closed_stream_with_log};
+use crate::streams::{StandardStreams, closed_stream_with_log};
 use either::Either;
-use napt_account::LogState;
+use napt_account::SavedLogState;
 use napt_config::Config;
 use napt_records::Fault;
 use napt_rules::State;
-use napt_state::{KeptLog, Saved};
+use napt_state::{LogPosition, StateFileContents};
 use napt_wire::Side;
 use std::alloc::Global;
 use std::env::Env;
@@ -54,13 +54,13 @@ fn unread_words(error: &io::Error) -> Stop
 
 /// Everything that a run needs. `S` reads standard input, `T` writes standard output, `F` is a file, and `P` are pieces of a log.
 #[derive(Drop)]
-pub struct Opened<S, T: Write + Drop, F: Write + Drop, P> {
+pub struct RunResources<S, T: Write + Drop, F: Write + Drop, P> {
     pub config: Config,
     /// The state from which the run goes on.
     pub state: State,
     /// What was kept of its log; without entries, if there was none.
-    pub kept: LogState,
-    pub devices: Devices<S, T, F>,
+    pub kept: SavedLogState,
+    pub devices: RunDevices<S, T, F>,
     /// The log, if one is named.
     pub log: Option<LogOutput<LogDevice<Either<T, F>, P>>>,
     /// The file of the state that the run leaves, if it is saved.
@@ -74,11 +74,11 @@ pub struct Opened<S, T: Write + Drop, F: Write + Drop, P> {
 /// that wants a standard stream which another has; then if the configuration or the state is refused, or as `open_files` does.
 pub fn open<'r, R: Files + Input + Print + AllocGlobal>(
     rt: &'r R,
-    streams: Streams,
+    streams: StandardStreams,
     options: &OptionsWithLog,
-) -> Result<Opened<Box<R::Reader>, Printer<'r, R>, R::File, LogPieces<'r, R>>, Stop>
+) -> Result<RunResources<Box<R::Reader>, Printer<'r, R>, R::File, LogPieces<'r, R>>, Stop>
     ensures fresh { IfOk result (λ o. AreFresh o.devices × IsFreshLog o.log) }
-    ensures taken { IfOk result (λ o. Takes o.config o.state) }
+    ensures taken { IfOk result (λ o. TakesState o.config o.state) }
     ensures few { IfOk result (λ o. IsFew o.kept) }
     ensures save { IfOk result (λ o. is_some o.save ≡ is_some options.now.files.save) }
     ensures log { IfOk result (λ o. is_some o.log ≡ is_some options.now.log) }
@@ -96,11 +96,11 @@ pub fn open<'r, R: Files + Input + Print + AllocGlobal>(
         return Err(Stop::File(role));
     }
     let config = configuration(rt, options.files.config.as_ref())?;
-    let Saved { state, log } = state_at(rt, &config, options.files.resume.as_ref())?;
+    let StateFileContents { state, log } = state_at(rt, &config, options.files.resume.as_ref())?;
     let told = options.files.resume.as_ref().map(|_| bytes_told(&log));
     let FilesWithLog { files, log: file } = open_files(rt, options, told)?;
     let held = if file.is_some() { HELD } else { BUFFERED };
-    Ok(Opened {
+    Ok(RunResources {
         config,
         state,
         kept: entries_of(rt.alloc(), log),
@@ -111,7 +111,7 @@ pub fn open<'r, R: Files + Input + Print + AllocGlobal>(
 }
 
 /// How many bytes a state tells of its log; 0 if it has none.
-fn bytes_told(log: &Option<KeptLog>) -> u64
+fn bytes_told(log: &Option<LogPosition>) -> u64
     ensures some { IfSome log.now (λ log. result ≡ log.length) }
     ensures none { log.now ≡ None → result ≡ 0 }
 {
@@ -122,13 +122,13 @@ fn bytes_told(log: &Option<KeptLog>) -> u64
 }
 
 /// The entries that were kept of a log, none if there is none.
-fn entries_of(alloc: Global, log: Option<KeptLog>) -> LogState
+fn entries_of(alloc: Global, log: Option<LogPosition>) -> SavedLogState
     ensures kept { IfSome log (λ log. result ≡ log.log) }
     ensures none { log ≡ None → result ≡ record { made = 0; living = [] } }
 {
     match log {
-        Some(KeptLog { log, .. }) => log,
-        None => LogState::none(alloc),
+        Some(LogPosition { log, .. }) => log,
+        None => SavedLogState::none(alloc),
     }
 }
 
@@ -136,7 +136,7 @@ fn entries_of(alloc: Global, log: Option<KeptLog>) -> LogState
 /// could not be read, memory was refused to the run.
 pub fn stop_of_run(options: &OptionsWithLog, fault: Fault) -> Stop
     requires { tells_shut_gate fault ≡ false }
-    ensures stop { (streams : Streams) → IsRunStop streams (files_with_log options.now) result }
+    ensures stop { (streams : StandardStreams) → IsRunStop streams (files_with_log options.now) result }
     ensures exact { result ≡ stop_after (files_with_log options.now) fault }
 {
     match fault {

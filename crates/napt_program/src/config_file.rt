@@ -3,10 +3,10 @@
 ghost use Rattle.std.specs.{Prelude.{◌≡◌, ◌≢◌, ◌≤◌, IfErr, IfOk, IfSome, None, OnOk, is_some, length, true, vec_len}, IoError.error_kind};
 ghost use Rattle.napt_config.specs.Configured.{built_in};
 ghost use Rattle.either.specs.Either.{is_left};
-ghost use Rattle.napt_program.specs.{Config.{IsConfigStop, IsReadingOf, IsUnread}, Standard.is_dash};
+ghost use Rattle.napt_program.specs.{Config.{IsConfigStop, IsReadingOf, ConfigIsUnread}, Standard.is_dash};
 
 use crate::options::is_dash;
-use crate::role::Role;
+use crate::role::FileRole;
 use crate::stop::Stop;
 use either::{Either, Left, Right};
 use napt_config::{Config, ConfigFault};
@@ -38,7 +38,7 @@ pub fn configuration<R: Files + Input + AllocGlobal>(
 /// ran out.
 pub fn open_config<R: Files + Input>(rt: &R, path: &str) -> Result<Either<R::Reader, R::File>, Stop>
     ensures stream { IfOk result (λ device. is_left device ≡ is_dash path.now) }
-    ensures refused { IfErr result IsUnread }
+    ensures refused { IfErr result ConfigIsUnread }
 {
     if is_dash(path) {
         return Ok(Left(rt.reader()));
@@ -66,12 +66,12 @@ pub fn config_from<D: Read + Drop>(alloc: Global, device: D) -> Result<Config, S
 pub fn config_text<D: Read + Drop>(alloc: Global, device: D) -> Result<Vec<u8>, Stop>
     ensures told { IfOk result (λ text. IfSome (D.remaining device) (λ bytes. text.items ≡ bytes)) }
     ensures bounded { IfOk result (λ text. vec_len text ≤ MOST_BYTES) }
-    ensures refused { IfErr result IsUnread }
+    ensures refused { IfErr result ConfigIsUnread }
 {
     let mut text = Vec::new(alloc);
     match device.take(MOST_BYTES + 1).read_to_end(&mut text) {
         Ok(_) if text.len() as u64 <= MOST_BYTES => Ok(text),
-        Ok(_) => Err(Stop::File(Role::Config)),
+        Ok(_) => Err(Stop::File(FileRole::Config)),
         Err(error) => Err(unread_config(&error)),
     }
 }
@@ -80,11 +80,11 @@ pub fn config_text<D: Read + Drop>(alloc: Global, device: D) -> Result<Vec<u8>, 
 pub fn unread_config(error: &io::Error) -> Stop
     ensures memory { error_kind error.now ≡ ErrorKind.OutOfMemory
         → result ≡ Stop.Config ConfigFault.Memory }
-    ensures file { error_kind error.now ≢ ErrorKind.OutOfMemory → result ≡ Stop.File Role.Config }
-    ensures unread { IsUnread result }
+    ensures file { error_kind error.now ≢ ErrorKind.OutOfMemory → result ≡ Stop.File FileRole.Config }
+    ensures unread { ConfigIsUnread result }
 {
     match error.kind() {
         ErrorKind::OutOfMemory => Stop::Config(ConfigFault::Memory),
-        _ => Stop::File(Role::Config),
+        _ => Stop::File(FileRole::Config),
     }
 }

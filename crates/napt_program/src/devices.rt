@@ -3,13 +3,13 @@
 ghost use Rattle.std.specs.{Prelude.{◌≡◌, IfErr, IfOk, is_some, option_map}, Io.Buffered.{reader_remaining, writer_contents}};
 ghost use Rattle.either.specs.Either.{either, is_left, left};
 ghost use Rattle.napt_capture.specs.Watched.{failed_of};
-ghost use Rattle.napt_program.specs.Devices.{AreFresh, AreOver, IsFreshLog, bytes_left, bytes_written, failed_in, log_written};
+ghost use Rattle.napt_program.specs.Devices.{AreFresh, AreOver, IsFreshLog, device_bytes_left, bytes_written, failed_in, log_written};
 
 use crate::files::RunFiles;
 use crate::log_file::LogOutput;
 use crate::stop::{MEMORY, Stop};
 use either::{Either, Left, Right};
-use napt_capture::{NoPackets, Nowhere, Watched};
+use napt_capture::{EmptySource, NullSink, Watched};
 use std::alloc::Global;
 use std::io::{BufReader, BufWriter, Read, Write};
 
@@ -20,21 +20,21 @@ pub(crate) const BUFFERED: usize = 65_536;
 /// ahead of both captures (`ROOM`); so nothing of it is written before the log was flushed.
 pub(crate) const HELD: usize = 2_097_152;
 
-/// A device for each file of a run, as `RunFiles` names them; `NoPackets` stands for a capture that was not given, and
-/// `Nowhere` for an output that nobody asked for.
+/// A device for each file of a run, as `RunFiles` names them; `EmptySource` stands for a capture that was not given, and
+/// `NullSink` for an output that nobody asked for.
 #[derive(Drop)]
-pub struct Devices<S, T: Write + Drop, F: Write + Drop> {
+pub struct RunDevices<S, T: Write + Drop, F: Write + Drop> {
     pub inside: Watched<BufReader<Either<S, F>>>,
-    pub outside: Either<Watched<BufReader<Either<S, F>>>, NoPackets>,
-    pub outputs: Outputs<T, F>,
+    pub outside: Either<Watched<BufReader<Either<S, F>>>, EmptySource>,
+    pub outputs: OutputDevices<T, F>,
 }
 
 /// Those that are written.
 #[derive(Drop)]
-pub struct Outputs<T: Write + Drop, F: Write + Drop> {
+pub struct OutputDevices<T: Write + Drop, F: Write + Drop> {
     pub to_outside: Watched<BufWriter<Either<T, F>>>,
-    pub to_inside: Either<Watched<BufWriter<Either<T, F>>>, Nowhere>,
-    pub report: Either<Watched<BufWriter<Either<T, F>>>, Nowhere>,
+    pub to_inside: Either<Watched<BufWriter<Either<T, F>>>, NullSink>,
+    pub report: Either<Watched<BufWriter<Either<T, F>>>, NullSink>,
 }
 
 /// The device of a log: `D` behind a buffer, or its pieces, `P`.
@@ -46,16 +46,16 @@ pub fn buffered<S: Read + Drop, T: Write + Drop, F: Read + Write + Drop>(
     alloc: Global,
     files: RunFiles<S, T, F>,
     held: usize,
-) -> Result<Devices<S, T, F>, Stop>
+) -> Result<RunDevices<S, T, F>, Stop>
     ensures fresh { IfOk result AreFresh }
     ensures over { IfOk result
         (AreOver S.remaining T.contents F.remaining F.contents files) }
     ensures refused { IfErr result (λ stop. stop ≡ MEMORY) }
 {
-    Ok(Devices {
+    Ok(RunDevices {
         inside: source(alloc, files.inside)?,
         outside: source_over(alloc, files.outside)?,
-        outputs: Outputs {
+        outputs: OutputDevices {
             to_outside: sink(alloc, files.to_outside, held)?,
             to_inside: sink_over(alloc, files.to_inside, held)?,
             report: sink_over(alloc, files.report, BUFFERED)?,
@@ -66,7 +66,7 @@ pub fn buffered<S: Read + Drop, T: Write + Drop, F: Read + Write + Drop>(
 /// The device over a reader. Fails, as a run does, if memory runs out.
 fn source<D: Read + Drop>(alloc: Global, device: D) -> Result<Watched<BufReader<D>>, Stop>
     ensures fresh { IfOk result (λ made. failed_of made ≡ 0) }
-    ensures tells { IfOk result (λ made. bytes_left D.remaining made ≡ D.remaining device) }
+    ensures tells { IfOk result (λ made. device_bytes_left D.remaining made ≡ D.remaining device) }
     ensures refused { IfErr result (λ stop. stop ≡ MEMORY) }
 {
     Ok(Watched::new(reader(alloc, device)?))
@@ -84,15 +84,15 @@ pub(crate) fn reader<D: Read + Drop>(alloc: Global, device: D) -> Result<BufRead
 fn source_over<D: Read + Drop>(
     alloc: Global,
     device: Option<D>,
-) -> Result<Either<Watched<BufReader<D>>, NoPackets>, Stop>
+) -> Result<Either<Watched<BufReader<D>>, EmptySource>, Stop>
     ensures fresh { IfOk result (λ made. failed_in made ≡ 0) }
     ensures given { IfOk result (λ made. is_left made ≡ is_some device) }
-    ensures tells { IfOk result (λ made. option_map (bytes_left D.remaining) (left made)
+    ensures tells { IfOk result (λ made. option_map (device_bytes_left D.remaining) (left made)
         ≡ option_map D.remaining device) }
     ensures refused { IfErr result (λ stop. stop ≡ MEMORY) }
 {
     match device {
-        None => Ok(Right(NoPackets::new())),
+        None => Ok(Right(EmptySource::new())),
         Some(device) => Ok(Left(source(alloc, device)?)),
     }
 }
@@ -154,7 +154,7 @@ fn sink_over<D: Write + Drop>(
     alloc: Global,
     device: Option<D>,
     held: usize,
-) -> Result<Either<Watched<BufWriter<D>>, Nowhere>, Stop>
+) -> Result<Either<Watched<BufWriter<D>>, NullSink>, Stop>
     ensures fresh { IfOk result (λ made. failed_in made ≡ 0) }
     ensures given { IfOk result (λ made. is_left made ≡ is_some device) }
     ensures shows { IfOk result (λ made. option_map (bytes_written D.contents) (left made)
@@ -162,7 +162,7 @@ fn sink_over<D: Write + Drop>(
     ensures refused { IfErr result (λ stop. stop ≡ MEMORY) }
 {
     match device {
-        None => Ok(Right(Nowhere::new())),
+        None => Ok(Right(NullSink::new())),
         Some(device) => Ok(Left(sink(alloc, device, held)?)),
     }
 }

@@ -3,14 +3,14 @@
 ghost use Rattle.std.specs.Prelude.{◌≡◌, IfErr, IfOk, IsSome, None, false, option_map, string_bytes, true};
 ghost use Rattle.either.specs.Either.{is_left};
 ghost use Rattle.napt_program.specs.{CommandLine.{files_of, files_with_log}, Files.{AreInputsOpen, AreOpen, AreOpenWithLog, IsFileStop, IsOpenStop}};
-ghost use Rattle.napt_program.specs.{LogFiles.IsKept, Standard.{has_pieces, is_dash}};
+ghost use Rattle.napt_program.specs.{LogFiles.LogTextIsKept, Standard.{has_pieces, is_dash}};
 
+use crate::file_locations::{is_log_lost, lost_file};
 use crate::log_file::{LogOutput, bytes_to_keep, open_log};
 use crate::log_pieces::{LogPieces, last_piece};
-use crate::options::{Options, is_dash};
+use crate::options::{RunOptions, is_dash};
 use crate::options_with_log::OptionsWithLog;
-use crate::places::{is_log_lost, lost_file};
-use crate::role::Role;
+use crate::role::FileRole;
 use crate::stop::{MEMORY, Stop};
 use either::{Either, Left, Right};
 use std::fs::File;
@@ -95,7 +95,7 @@ fn kept_of_log<R: Files + AllocGlobal>(
     options: &OptionsWithLog,
     told: Option<u64>,
 ) -> Result<u64, Stop>
-    ensures kept { has_pieces (files_with_log options.now) ≡ false → IfOk result (IsKept told) }
+    ensures kept { has_pieces (files_with_log options.now) ≡ false → IfOk result (LogTextIsKept told) }
     ensures anew { told ≡ None → IfOk result (λ kept. kept ≡ 0) }
     ensures refused { IfErr result (IsOpenStop (files_with_log options.now)) }
 {
@@ -103,7 +103,7 @@ fn kept_of_log<R: Files + AllocGlobal>(
         return Ok(0);
     };
     if is_log_lost(rt, rt.alloc(), options)? {
-        return Err(Stop::File(Role::Log));
+        return Err(Stop::File(FileRole::Log));
     }
     if options.has_pieces() {
         return last_piece(rt, path, options.files.save.as_ref(), told);
@@ -114,7 +114,7 @@ fn kept_of_log<R: Files + AllocGlobal>(
 /// Creates or empties the outputs of a run whose captures are open. Fails with the role of one that cannot be created.
 fn with_outputs<'r, R: Files + Input + Print>(
     rt: &'r R,
-    options: &Options,
+    options: &RunOptions,
     inputs: InputFiles<Box<R::Reader>, R::File>,
 ) -> Result<RunFiles<Box<R::Reader>, Printer<'r, R>, R::File>, Stop>
     ensures open { AreInputsOpen (files_of options.now) inputs
@@ -124,14 +124,14 @@ fn with_outputs<'r, R: Files + Input + Print>(
     let InputFiles { inside, outside } = inputs;
     let to_outside = match &options.to_outside {
         None => Left(io::writer(rt)),
-        Some(path) => created(rt, path, Role::ToOutside)?,
+        Some(path) => created(rt, path, FileRole::ToOutside)?,
     };
     Ok(RunFiles {
         inside,
         outside,
         to_outside,
-        to_inside: created_at(rt, options.to_inside.as_ref(), Role::ToInside)?,
-        report: created_at(rt, options.report.as_ref(), Role::Report)?,
+        to_inside: created_at(rt, options.to_inside.as_ref(), FileRole::ToInside)?,
+        report: created_at(rt, options.report.as_ref(), FileRole::Report)?,
     })
 }
 
@@ -141,25 +141,25 @@ fn with_outputs<'r, R: Files + Input + Print>(
 /// and, as a run does, if memory runs out for standard input.
 pub fn open_inputs<R: Files + Input + AllocGlobal>(
     rt: &R,
-    options: &Options,
+    options: &RunOptions,
 ) -> Result<InputFiles<Box<R::Reader>, R::File>, Stop>
     ensures open { IfOk result (AreInputsOpen (files_of options.now)) }
     ensures refused { IfErr result (IsOpenStop (files_of options.now)) }
 {
     let inside = match &options.inside {
         None => Left(standard_input(rt)?),
-        Some(path) => opened(rt, path, Role::Inside)?,
+        Some(path) => opened(rt, path, FileRole::Inside)?,
     };
     let outside = match &options.outside {
         None => None,
-        Some(path) => Some(opened(rt, path, Role::Outside)?),
+        Some(path) => Some(opened(rt, path, FileRole::Outside)?),
     };
     refuse_lost_file(rt, options)?;
     Ok(InputFiles { inside, outside })
 }
 
 /// Fails with the role of the first output that an earlier option also names; and, as a run does, if memory runs out.
-fn refuse_lost_file<R: Files + AllocGlobal>(rt: &R, options: &Options) -> Result<(), Stop>
+fn refuse_lost_file<R: Files + AllocGlobal>(rt: &R, options: &RunOptions) -> Result<(), Stop>
     ensures { IfErr result (IsOpenStop (files_of options.now)) }
 {
     match lost_file(rt, rt.alloc(), options)? {
@@ -173,7 +173,7 @@ fn refuse_lost_file<R: Files + AllocGlobal>(rt: &R, options: &Options) -> Result
 fn opened<R: Files + Input + AllocGlobal>(
     rt: &R,
     path: &str,
-    role: Role,
+    role: FileRole,
 ) -> Result<Either<Box<R::Reader>, R::File>, Stop>
     ensures stream { IfOk result (λ file. is_left file ≡ is_dash path.now) }
     ensures file { is_dash path.now ≡ false → IfErr result (λ stop. stop ≡ Stop.File role) }
@@ -198,7 +198,7 @@ fn standard_input<R: Input + AllocGlobal>(rt: &R) -> Result<Box<R::Reader>, Stop
 fn created<'r, R: Files + Print>(
     rt: &'r R,
     path: &str,
-    role: Role,
+    role: FileRole,
 ) -> Result<Either<Printer<'r, R>, R::File>, Stop>
     ensures stream { IfOk result (λ file. is_left file ≡ is_dash path.now) }
     ensures refused { IfErr result (λ stop. stop ≡ Stop.File role) }
@@ -214,7 +214,7 @@ fn created<'r, R: Files + Print>(
 fn created_at<'r, R: Files + Print>(
     rt: &'r R,
     path: Option<&String>,
-    role: Role,
+    role: FileRole,
 ) -> Result<Option<Either<Printer<'r, R>, R::File>>, Stop>
     ensures stream { IfOk result (λ made. option_map is_left made
         ≡ option_map (λ path. is_dash (string_bytes path.now)) path.entry) }

@@ -2,12 +2,12 @@
 
 ghost use Rattle.std.specs.Prelude.{◌≡◌, ◌==◌, ◌⊎◌, IfErr, IfOk, false, true};
 ghost use Rattle.either.specs.Either.{is_left};
-ghost use Rattle.napt_program.specs.{Files.is_stream_log, LogFiles.{IsKept, IsLogStop, refusal_at}, Standard.is_dash};
+ghost use Rattle.napt_program.specs.{Files.is_stream_log, LogFiles.{LogTextIsKept, IsLogStop, refusal_at}, Standard.is_dash};
 
 use crate::devices::LogDevice;
 use crate::log_pieces::LogPieces;
 use crate::options::is_dash;
-use crate::role::Role;
+use crate::role::FileRole;
 use crate::stop::{LogRefusal, Stop, unread};
 use either::{Either, Left, Right};
 use std::fs::{File, OpenFile, OpenOptions};
@@ -36,7 +36,7 @@ pub(crate) fn bytes_to_keep<R: Files + AllocGlobal>(
     path: &str,
     told: Option<u64>,
 ) -> Result<u64, Stop>
-    ensures kept { IfOk result (IsKept told) }
+    ensures kept { IfOk result (LogTextIsKept told) }
     ensures stop { IfErr result IsLogStop }
 {
     if is_dash(path) || bytes_at(rt, path) == 0 {
@@ -66,13 +66,13 @@ fn bytes_at<R: Files>(rt: &R, path: &str) -> u64 {
 fn end_at<R: Files + AllocGlobal>(rt: &R, path: &str, place: u64) -> Result<Vec<u8>, Stop>
     ensures { IfErr result IsLogStop }
 {
-    let mut file = File::open(rt, path).map_err(|error| unread(&error, Role::Log))?;
+    let mut file = File::open(rt, path).map_err(|error| unread(&error, FileRole::Log))?;
     file.seek(SeekFrom::Start(place))
-        .map_err(|error| unread(&error, Role::Log))?;
+        .map_err(|error| unread(&error, FileRole::Log))?;
     let mut end = Vec::new(rt.alloc());
     file.take(MOST_TORN as u64 + 1)
         .read_to_end(&mut end)
-        .map_err(|error| unread(&error, Role::Log))?;
+        .map_err(|error| unread(&error, FileRole::Log))?;
     Ok(end)
 }
 
@@ -98,7 +98,7 @@ pub(crate) fn open_log<'r, R: Files + Print, P>(
     ensures stream { IfOk result (λ log. is_stream_log log.device ≡ is_dash path.now) }
     ensures one { IfOk result (λ log. is_left log.device ≡ true) }
     ensures new { is_dash path.now ≡ false → IfOk result (λ log. log.is_new ≡ (kept == 0)) }
-    ensures refused { IfErr result (λ stop. stop ≡ Stop.File Role.Log) }
+    ensures refused { IfErr result (λ stop. stop ≡ Stop.File FileRole.Log) }
 {
     if is_dash(path) {
         return Ok(LogOutput {
@@ -110,9 +110,9 @@ pub(crate) fn open_log<'r, R: Files + Print, P>(
         .append(true)
         .create(true)
         .open(rt, path)
-        .map_err(|_| Stop::File(Role::Log))?;
+        .map_err(|_| Stop::File(FileRole::Log))?;
     if kept > 0 {
-        file.set_len(kept).map_err(|_| Stop::File(Role::Log))?;
+        file.set_len(kept).map_err(|_| Stop::File(FileRole::Log))?;
     }
     Ok(LogOutput {
         device: Left(Right(file)),

@@ -5,7 +5,7 @@ ghost use Rattle.napt_program.specs.LogFiles.{IsLogStop, IsOfNoPiece, needs_new_
 
 use crate::devices::BUFFERED;
 use crate::log_file::bytes_to_keep;
-use crate::role::Role;
+use crate::role::FileRole;
 use crate::stop::{LogRefusal, Stop, unread};
 use napt_log_text::header;
 use std::alloc::{AllocError, Global};
@@ -36,7 +36,7 @@ impl<'r, R: Files + AllocGlobal> LogPieces<'r, R> {
         let path = String::from_str(rt.alloc(), path)?;
         let (number, piece) = piece_behind(rt, &path, last).map_err(|error| unread(
             &error,
-            Role::Log,
+            FileRole::Log,
         ))?;
         Ok(LogPieces {
             rt,
@@ -149,10 +149,10 @@ pub(crate) fn last_piece<R: Files + AllocGlobal>(
 {
     if let Some(save) = save {
         if number_in(save, path) > 0 {
-            return Err(Stop::File(Role::Log));
+            return Err(Stop::File(FileRole::Log));
         }
     }
-    let last = greatest_number(rt, path).map_err(|error| unread(&error, Role::Log))?;
+    let last = greatest_number(rt, path).map_err(|error| unread(&error, FileRole::Log))?;
     if last == 0 {
         return Ok(0);
     }

@@ -3,10 +3,10 @@ ghost use Rattle.std.specs.Prelude.{◌≡◌, ◌≢◌, IfErr, IfOk, IfSome, N
 ghost use Rattle.std.specs.Int.NonZero.{non_zero_u32_get};
 ghost use Rattle.clap.specs.Words.{app_of, first_value, found_of, kind_of, rows_of, rule_of};
 ghost use Rattle.napt_program.specs.CommandLine.{IsHelp, IsVersion, app_for, file_option, files, files_in, files_of, files_with_log, help, is_misused, line_for, line_of_words, log_in, misuses_pieces, misuses_state, mistake, napt_app, seconds_in, seconds_of, version};
-ghost use Rattle.napt_program.specs.Standard.{file_for, is_dash, is_named, is_standard, is_stream, output_again, standard_again};
+ghost use Rattle.napt_program.specs.Standard.{file_for, is_dash, names_file, is_standard, is_stream, output_again, standard_again};
 
 use crate::options_with_log::OptionsWithLog;
-use crate::role::Role;
+use crate::role::FileRole;
 use clap::error::ErrorKind;
 use clap::{Arg, ArgAction, ArgMatches, Command, Error};
 use std::alloc::{AllocError, Global};
@@ -156,7 +156,7 @@ itself [default: one file, FILE]";
 
 /// The file that each option names, `None` where the option is absent.
 #[derive(Debug, PartialEq, Eq, Drop)]
-pub struct Options {
+pub struct RunOptions {
     /// The configuration; absent, the built-in one.
     pub config: Option<String>,
     /// The state from which the run goes on; absent, the run begins anew.
@@ -175,29 +175,29 @@ pub struct Options {
     pub save: Option<String>,
 }
 
-impl Options {
+impl RunOptions {
     /// The file that the option of a role names.
-    fn file_for(&self, role: Role) -> Option<&String>
+    fn file_for(&self, role: FileRole) -> Option<&String>
         ensures { option_map (λ path. string_bytes path.now) result
             ≡ file_for (files_of self.now) role }
     {
         match role {
-            Role::Config => self.config.as_ref(),
-            Role::Resume => self.resume.as_ref(),
-            Role::Inside => self.inside.as_ref(),
-            Role::Outside => self.outside.as_ref(),
-            Role::ToOutside => self.to_outside.as_ref(),
-            Role::ToInside => self.to_inside.as_ref(),
-            Role::Report => self.report.as_ref(),
-            Role::Save => self.save.as_ref(),
-            Role::Log => None,
+            FileRole::Config => self.config.as_ref(),
+            FileRole::Resume => self.resume.as_ref(),
+            FileRole::Inside => self.inside.as_ref(),
+            FileRole::Outside => self.outside.as_ref(),
+            FileRole::ToOutside => self.to_outside.as_ref(),
+            FileRole::ToInside => self.to_inside.as_ref(),
+            FileRole::Report => self.report.as_ref(),
+            FileRole::Save => self.save.as_ref(),
+            FileRole::Log => None,
         }
     }
 
     /// Whether the option of a role is given as `-`, which is standard input or standard output.
-    pub fn is_stream(&self, role: Role) -> bool
+    pub fn is_stream(&self, role: FileRole) -> bool
         ensures stream { result ≡ is_stream (files_of self.now) role }
-        ensures named { result ≡ true → is_named (files_of self.now) role ≡ true }
+        ensures named { result ≡ true → names_file (files_of self.now) role ≡ true }
     {
         match self.file_for(role) {
             Some(path) => is_dash(path),
@@ -206,24 +206,26 @@ impl Options {
     }
 
     /// Whether a capture stands on its standard stream: its option is absent, or given as `-`.
-    pub fn is_standard(&self, role: Role) -> bool
+    pub fn is_standard(&self, role: FileRole) -> bool
         ensures { result ≡ is_standard (files_of self.now) role }
     {
         self.file_for(role).is_none() || self.is_stream(role)
     }
 
     /// The role of the first option, captures before outputs, that wants a standard stream which another has.
-    pub fn standard_again(&self) -> Option<Role>
+    pub fn standard_again(&self) -> Option<FileRole>
         ensures again { result ≡ standard_again (files_of self.now) }
-        ensures named { IfSome result (λ role. is_named (files_of self.now) role ≡ true) }
+        ensures named { IfSome result (λ role. names_file (files_of self.now) role ≡ true) }
     {
-        let has_config = self.is_stream(Role::Config);
+        let has_config = self.is_stream(FileRole::Config);
         if has_config && self.inside.is_none() {
-            Some(Role::Config)
-        } else if has_config && self.is_stream(Role::Inside) {
-            Some(Role::Inside)
-        } else if self.is_stream(Role::Outside) && (has_config || self.is_standard(Role::Inside)) {
-            Some(Role::Outside)
+            Some(FileRole::Config)
+        } else if has_config && self.is_stream(FileRole::Inside) {
+            Some(FileRole::Inside)
+        } else if self.is_stream(FileRole::Outside)
+            && (has_config || self.is_standard(FileRole::Inside))
+        {
+            Some(FileRole::Outside)
         } else {
             self.output_again()
         }
@@ -233,22 +235,22 @@ impl Options {
     fn misuses_state(&self) -> bool
         ensures { result ≡ misuses_state (files_of self.now) }
     {
-        self.is_stream(Role::Resume) || self.is_stream(Role::Save)
+        self.is_stream(FileRole::Resume) || self.is_stream(FileRole::Save)
     }
 
     /// The same among the outputs.
-    fn output_again(&self) -> Option<Role>
+    fn output_again(&self) -> Option<FileRole>
         ensures again { result ≡ output_again (files_of self.now) }
-        ensures named { IfSome result (λ role. is_named (files_of self.now) role ≡ true) }
+        ensures named { IfSome result (λ role. names_file (files_of self.now) role ≡ true) }
     {
         let (has_capture, to_inside) = (
-            self.is_standard(Role::ToOutside),
-            self.is_stream(Role::ToInside),
+            self.is_standard(FileRole::ToOutside),
+            self.is_stream(FileRole::ToInside),
         );
         if to_inside && has_capture {
-            Some(Role::ToInside)
-        } else if self.is_stream(Role::Report) && (to_inside || has_capture) {
-            Some(Role::Report)
+            Some(FileRole::ToInside)
+        } else if self.is_stream(FileRole::Report) && (to_inside || has_capture) {
+            Some(FileRole::Report)
         } else {
             None
         }
@@ -290,7 +292,7 @@ impl From<AllocError> for LineFault {
 /// Each option is a long one with one value, in the next argument or after `=`, and may be given once. A value begins with
 /// `-` only if it is `-` itself, or follows `=`. The file of a state is not `-`. `-h` and `--help` ask for help, `-V` and `--version` for the version. `Memory`
 /// may be returned in place of any other result.
-pub fn parse_words(alloc: Global, words: Vec<String>) -> Result<Options, LineFault>
+pub fn parse_words(alloc: Global, words: Vec<String>) -> Result<RunOptions, LineFault>
     ensures ok { IfOk result (λ o. line_of_words (map string_bytes words.items)
         ≡ files (files_of o)) }
     ensures help { IfErr result (λ fault. IsHelp fault
@@ -308,7 +310,7 @@ pub fn parse_words_of(
     alloc: Global,
     manual: Manual,
     words: Vec<String>,
-) -> Result<Options, LineFault>
+) -> Result<RunOptions, LineFault>
     ensures ok { IfOk result (λ o. line_of_words (map string_bytes words.items)
         ≡ files (files_of o)) }
     ensures help { IfErr result (λ fault. IsHelp fault
@@ -358,11 +360,11 @@ pub(crate) fn parse_words_for(
 }
 
 /// The values of all options but the log's.
-fn options_in(alloc: Global, matches: &ArgMatches<'_>) -> Result<Options, AllocError>
+fn options_in(alloc: Global, matches: &ArgMatches<'_>) -> Result<RunOptions, AllocError>
     ensures { IfOk result (λ o. files_of o
         ≡ files_in false (rows_of (found_of matches.now))) }
 {
-    Ok(Options {
+    Ok(RunOptions {
         config: value_of(alloc, matches, "config")?,
         resume: value_of(alloc, matches, "resume")?,
         inside: value_of(alloc, matches, "inside")?,
@@ -415,7 +417,7 @@ fn seconds_of(text: &str) -> u32
 }
 
 /// Whether a state is given as `-`, or the pieces of the log are misused.
-fn is_misused(files: &Options, log: &Option<String>, seconds: Option<u32>) -> bool
+fn is_misused(files: &RunOptions, log: &Option<String>, seconds: Option<u32>) -> bool
     ensures { result ≡ is_misused (record (files_of files.now) {
       log = option_map string_bytes log.now;
       log_each = seconds;

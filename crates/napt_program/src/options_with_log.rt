@@ -2,10 +2,10 @@
 
 ghost use Rattle.std.specs.Prelude.{◌≡◌, IfErr, IfOk, IfSome, is_some, map, string_bytes, true};
 ghost use Rattle.napt_program.specs.CommandLine.{IsHelp, IsVersion, files, files_with_log, help, line_with_log, mistake, version};
-ghost use Rattle.napt_program.specs.Standard.{has_pieces, is_log_again, is_named, is_stream, standard_again};
+ghost use Rattle.napt_program.specs.Standard.{has_pieces, is_log_again, names_file, is_stream, standard_again};
 
-use crate::options::{LineFault, Manual, Options, is_dash, parse_words_for};
-use crate::role::Role;
+use crate::options::{LineFault, Manual, RunOptions, is_dash, parse_words_for};
+use crate::role::FileRole;
 use std::alloc::Global;
 use std::num::NonZeroU32;
 
@@ -13,7 +13,7 @@ use std::num::NonZeroU32;
 #[derive(Debug, PartialEq, Eq, Drop)]
 pub struct OptionsWithLog {
     /// All but the log.
-    pub files: Options,
+    pub files: RunOptions,
     /// The log of the bindings; absent, it is not written.
     pub log: Option<String>,
     /// The seconds after which the log goes on in a new file; absent, it is one file.
@@ -23,7 +23,7 @@ pub struct OptionsWithLog {
 impl OptionsWithLog {
     /// Whether the log is given as `-`, which is standard output.
     pub fn is_log_stream(&self) -> bool
-        ensures stream { result ≡ is_stream (files_with_log self.now) Role.Log }
+        ensures stream { result ≡ is_stream (files_with_log self.now) FileRole.Log }
         ensures named { result ≡ true → is_some self.now.log ≡ true }
     {
         match &self.log {
@@ -41,13 +41,13 @@ impl OptionsWithLog {
 
     /// The role of the first option, captures before outputs and the log last, that wants a standard stream which another
     /// has.
-    pub fn standard_again(&self) -> Option<Role>
+    pub fn standard_again(&self) -> Option<FileRole>
         ensures again { result ≡ standard_again (files_with_log self.now) }
-        ensures named { IfSome result (λ role. is_named (files_with_log self.now) role ≡ true) }
+        ensures named { IfSome result (λ role. names_file (files_with_log self.now) role ≡ true) }
     {
         match self.files.standard_again() {
             Some(role) => Some(role),
-            None if self.is_log_again() => Some(Role::Log),
+            None if self.is_log_again() => Some(FileRole::Log),
             None => None,
         }
     }
@@ -58,9 +58,9 @@ impl OptionsWithLog {
         ensures named { result ≡ true → is_some self.now.log ≡ true }
     {
         self.is_log_stream()
-            && (self.files.is_stream(Role::Report)
-                || self.files.is_stream(Role::ToInside)
-                || self.files.is_standard(Role::ToOutside))
+            && (self.files.is_stream(FileRole::Report)
+                || self.files.is_stream(FileRole::ToInside)
+                || self.files.is_standard(FileRole::ToOutside))
     }
 }
 

@@ -3,9 +3,9 @@
 ghost use Rattle.std.specs.Prelude.{◌≡◌, IfErr, IsSome};
 ghost use Rattle.napt_program.specs.{CommandLine.files_of, Files.IsFileStop};
 
-use crate::options::{Options, is_dash};
-use crate::place::folder_of;
-use crate::role::Role;
+use crate::file_location::folder_of;
+use crate::options::{RunOptions, is_dash};
+use crate::role::FileRole;
 use crate::stop::Stop;
 use std::fs::{FileType, OpenOptions};
 use std::io::ErrorKind;
@@ -16,14 +16,14 @@ use std::{fs, io};
 
 /// Fails, with its role, on the first output in the order of the options that cannot be created or emptied, as far as
 /// `unmade` knows. Creates and changes nothing.
-pub fn refuse_unmade<R: Files>(rt: &R, options: &Options) -> Result<(), Stop>
+pub fn refuse_unmade<R: Files>(rt: &R, options: &RunOptions) -> Result<(), Stop>
     ensures { IfErr result (IsFileStop (files_of options.now)) }
 {
-    refuse_unmade_file(rt, options.to_outside.as_ref(), Role::ToOutside)?;
-    refuse_unmade_file(rt, options.to_inside.as_ref(), Role::ToInside)?;
-    refuse_unmade_file(rt, options.report.as_ref(), Role::Report)?;
+    refuse_unmade_file(rt, options.to_outside.as_ref(), FileRole::ToOutside)?;
+    refuse_unmade_file(rt, options.to_inside.as_ref(), FileRole::ToInside)?;
+    refuse_unmade_file(rt, options.report.as_ref(), FileRole::Report)?;
     match &options.save {
-        Some(path) if !has_folder(rt, path) => Err(Stop::File(Role::Save)),
+        Some(path) if !has_folder(rt, path) => Err(Stop::File(FileRole::Save)),
         _ => Ok(()),
     }
 }
@@ -38,7 +38,7 @@ fn has_folder<R: Files>(rt: &R, path: &str) -> bool {
 }
 
 /// Fails, with its role, on a file that cannot be created or emptied.
-fn refuse_unmade_file<R: Files>(rt: &R, path: Option<&String>, role: Role) -> Result<(), Stop>
+fn refuse_unmade_file<R: Files>(rt: &R, path: Option<&String>, role: FileRole) -> Result<(), Stop>
     ensures refused { IfErr result (λ stop. stop ≡ Stop.File role) }
     ensures path { IfErr result (λ stop. IsSome path.entry) }
 {

@@ -5,7 +5,7 @@ ghost use Rattle.napt_program.specs.CommandLine.{role_name};
 
 /// A file of the command line, by its option.
 #[derive(Clone, Copy, Debug, PartialEq, Eq)]
-pub enum Role {
+pub enum FileRole {
     /// The configuration.
     Config,
     /// The state from which the run goes on.
@@ -26,21 +26,21 @@ pub enum Role {
     Log,
 }
 
-impl Role {
+impl FileRole {
     /// The name of the file's option, without its dashes.
     pub fn name(self) -> &'static str
         ensures { result.now ≡ role_name self }
     {
         match self {
-            Role::Config => "config",
-            Role::Resume => "resume",
-            Role::Inside => "inside",
-            Role::Outside => "outside",
-            Role::ToOutside => "to-outside",
-            Role::ToInside => "to-inside",
-            Role::Report => "report",
-            Role::Save => "save",
-            Role::Log => "log",
+            FileRole::Config => "config",
+            FileRole::Resume => "resume",
+            FileRole::Inside => "inside",
+            FileRole::Outside => "outside",
+            FileRole::ToOutside => "to-outside",
+            FileRole::ToInside => "to-inside",
+            FileRole::Report => "report",
+            FileRole::Save => "save",
+            FileRole::Log => "log",
         }
     }
 }

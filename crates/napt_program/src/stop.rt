@@ -2,7 +2,7 @@
 ghost use Rattle.std.specs.{Prelude.{◌≡◌, ◌≢◌, ◌⊎◌, Some, option_map}, IoError.error_kind};
 ghost use Rattle.napt_program.specs.Stop.{capture_name, config_name, fault_text, line_at_end, line_of, misfit_name, output_role, run_name, side_name, state_name, status_at_end, status_of, status_of_fault, stop_text};
 
-use crate::role::Role;
+use crate::role::FileRole;
 use napt_capture::CaptureFault;
 use napt_config::ConfigFault;
 use napt_pool::PoolFault;
@@ -26,7 +26,7 @@ pub enum Stop {
     /// The configuration is refused.
     Config(ConfigFault),
     /// The file cannot be opened or created, or the configuration cannot be read.
-    File(Role),
+    File(FileRole),
     /// The file of the log has text that the run may not go on with. Nothing was created or changed.
     LogFile(LogRefusal),
     /// The run failed.
@@ -87,7 +87,7 @@ impl From<ConfigFault> for Stop {
 }
 
 /// Why the file of a role was not read: memory ran out, or the file failed.
-pub(crate) fn unread(error: &io::Error, role: Role) -> Stop
+pub(crate) fn unread(error: &io::Error, role: FileRole) -> Stop
     ensures memory { error_kind error.now ≡ ErrorKind.OutOfMemory → result ≡ MEMORY }
     ensures file { error_kind error.now ≢ ErrorKind.OutOfMemory → result ≡ Stop.File role }
     ensures either { (result ≡ MEMORY) ⊎ (result ≡ Stop.File role) }
@@ -183,7 +183,7 @@ impl fmt::Display for Stop {
             }
             Stop::LogFile(_) => {
                 f.write_str("file ")?;
-                f.write_str(Role::Log.name())
+                f.write_str(FileRole::Log.name())
             }
             Stop::Run(fault) => {
                 let fault = FaultText(*fault);
@@ -191,7 +191,7 @@ impl fmt::Display for Stop {
             }
             Stop::Log => {
                 f.write_str("write ")?;
-                f.write_str(Role::Log.name())
+                f.write_str(FileRole::Log.name())
             }
             Stop::State(refusal) => {
                 let name = StateRefusalName(*refusal);
@@ -199,7 +199,7 @@ impl fmt::Display for Stop {
             }
             Stop::Save => {
                 f.write_str("write ")?;
-                f.write_str(Role::Save.name())
+                f.write_str(FileRole::Save.name())
             }
         }
     }
@@ -259,13 +259,13 @@ impl fmt::Display for RunFaultName {
 }
 
 /// The file that an output is written to.
-fn role_of(which: Which) -> Role
+fn role_of(which: Which) -> FileRole
     ensures { result ≡ output_role which }
 {
     match which {
-        Which::Outside => Role::ToOutside,
-        Which::Inside => Role::ToInside,
-        Which::Report => Role::Report,
+        Which::Outside => FileRole::ToOutside,
+        Which::Inside => FileRole::ToInside,
+        Which::Report => FileRole::Report,
     }
 }
 

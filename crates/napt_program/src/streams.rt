@@ -3,9 +3,9 @@
 ghost use Rattle.std.specs.Prelude.{◌≡◌, IfSome, true};
 ghost use Rattle.napt_program.specs.{Command.can_fail, CommandLine.{files_of, files_with_log}, Streams.{closed_output, closed_stream}};
 
-use crate::options::Options;
+use crate::options::RunOptions;
 use crate::options_with_log::OptionsWithLog;
-use crate::role::Role;
+use crate::role::FileRole;
 use std::os::fd::AsFd;
 
 /// The system's error for a descriptor that is not open: EBADF of errno(3).
@@ -14,16 +14,16 @@ const NOT_OPEN: i32 = 9;
 /// Which standard streams were open at startup. The next file opened gets the descriptor of a closed one, so a stream that
 /// was closed is neither read nor written.
 #[derive(Clone, Copy, Debug, PartialEq, Eq)]
-pub struct Streams {
+pub struct StandardStreams {
     pub input: bool,
     pub output: bool,
     pub error: bool,
 }
 
-impl Streams {
+impl StandardStreams {
     /// The streams open now. Call at startup, before opening any file.
-    pub fn open_now(rt: &HostRuntime) -> Streams {
-        Streams {
+    pub fn open_now(rt: &HostRuntime) -> StandardStreams {
+        StandardStreams {
             input: is_open(&rt.stdin()),
             output: is_open(&rt.stdout()),
             error: is_open(&rt.stderr()),
@@ -41,46 +41,49 @@ fn is_open(stream: &impl AsFd) -> bool {
 
 /// The role of the first standard stream that is needed, because its option is `-` or no file is named for the role, and is
 /// closed.
-pub fn closed_stream(streams: Streams, options: &Options) -> Option<Role>
+pub fn closed_stream(streams: StandardStreams, options: &RunOptions) -> Option<FileRole>
     ensures first { result ≡ closed_stream streams (files_of options.now) }
     ensures needed { IfSome result (λ role. can_fail streams (files_of options.now) role ≡ true) }
 {
-    if !streams.input && options.is_stream(Role::Config) {
-        Some(Role::Config)
-    } else if !streams.input && options.is_standard(Role::Inside) {
-        Some(Role::Inside)
-    } else if !streams.input && options.is_stream(Role::Outside) {
-        Some(Role::Outside)
+    if !streams.input && options.is_stream(FileRole::Config) {
+        Some(FileRole::Config)
+    } else if !streams.input && options.is_standard(FileRole::Inside) {
+        Some(FileRole::Inside)
+    } else if !streams.input && options.is_stream(FileRole::Outside) {
+        Some(FileRole::Outside)
     } else {
         closed_output(streams, options)
     }
 }
 
 /// The role of the first output that needs standard output, if that is closed.
-fn closed_output(streams: Streams, options: &Options) -> Option<Role>
+fn closed_output(streams: StandardStreams, options: &RunOptions) -> Option<FileRole>
     ensures first { result ≡ closed_output streams (files_of options.now) }
     ensures needed { IfSome result (λ role. can_fail streams (files_of options.now) role ≡ true) }
 {
-    if !streams.output && options.is_standard(Role::ToOutside) {
-        Some(Role::ToOutside)
-    } else if !streams.output && options.is_stream(Role::ToInside) {
-        Some(Role::ToInside)
-    } else if !streams.output && options.is_stream(Role::Report) {
-        Some(Role::Report)
+    if !streams.output && options.is_standard(FileRole::ToOutside) {
+        Some(FileRole::ToOutside)
+    } else if !streams.output && options.is_stream(FileRole::ToInside) {
+        Some(FileRole::ToInside)
+    } else if !streams.output && options.is_stream(FileRole::Report) {
+        Some(FileRole::Report)
     } else {
         None
     }
 }
 
 /// The same with the log, which comes last.
-pub fn closed_stream_with_log(streams: Streams, options: &OptionsWithLog) -> Option<Role>
+pub fn closed_stream_with_log(
+    streams: StandardStreams,
+    options: &OptionsWithLog,
+) -> Option<FileRole>
     ensures first { result ≡ closed_stream streams (files_with_log options.now) }
     ensures needed { IfSome result (λ role. can_fail streams (files_with_log options.now) role
         ≡ true) }
 {
     match closed_stream(streams, &options.files) {
         Some(role) => Some(role),
-        None if options.is_log_stream() && !streams.output => Some(Role::Log),
+        None if options.is_log_stream() && !streams.output => Some(FileRole::Log),
         None => None,
     }
 }

@@ -1,29 +1,29 @@
 -- Where the merged list is cut, the captures are cut too.
 use Rattle.std.proofs.lemmas.{Grind.common_steps, Bool.Decides.nat_tests}
 use Rattle.std.proofs.Common.{◌≡◌, ℕ, zero, suc, ◌≤◌, max, true, false, List, [], ◌∷◌, ◌++◌, length, refl, sym, ◌∙◌, ap, arith}
-use Rattle.napt_capture.specs.Contents.{CapturedRecord}
-use Rattle.napt_rules.specs.Prelude.{Arrival, Inside, Outside, from_clock, last_clock, raised}
-use Rattle.napt_records.specs.{MergeLaws.CapturesCanBeCut, Taking.{input_of, is_outside_next, merged, merged_from}}
+use Rattle.napt_capture.specs.Contents.{RecordModel}
+use Rattle.napt_rules.specs.Prelude.{Arrival, Inside, Outside, inputs_from_clock, last_clock, raised}
+use Rattle.napt_records.specs.{MergeLaws.CapturesCanBeCut, RecordMerging.{input_of, is_outside_next, merged_inputs, merged_from}}
 use Rattle.napt_records.proofs.Merges.{Steps, hands, of_merged}
 
 -- a cut behind so many, from a clock on
-record CutFrom (ins : List CapturedRecord) (clock : ℕ) (outs : List CapturedRecord) (xs : List Arrival)
+record CutFrom (ins : List RecordModel) (clock : ℕ) (outs : List RecordModel) (xs : List Arrival)
     (count : ℕ) : Type 0 where
-  pub ins_first : List CapturedRecord
-  pub ins_rest : List CapturedRecord
-  pub outs_first : List CapturedRecord
-  pub outs_rest : List CapturedRecord
+  pub ins_first : List RecordModel
+  pub ins_rest : List RecordModel
+  pub outs_first : List RecordModel
+  pub outs_rest : List RecordModel
   pub inside : ins ≡ ins_first ++ ins_rest
   pub outside : outs ≡ outs_first ++ outs_rest
   pub many : length (merged_from ins_first clock outs_first) ≡ count
   pub whole : xs ≡ merged_from ins_first clock outs_first
       ++ merged_from ins_rest (last_clock clock (merged_from ins_first clock outs_first)) outs_rest
 
-record IsCut (ins : List CapturedRecord) (clock : ℕ) (outs : List CapturedRecord) (xs : List Arrival) : Type 0 where
+record IsCut (ins : List RecordModel) (clock : ℕ) (outs : List RecordModel) (xs : List Arrival) : Type 0 where
   pub all : xs ≡ merged_from ins clock outs
   pub each : (count : ℕ) → count ≤ length xs → CutFrom ins clock outs xs count
 
-cut_at_once : (ins : List CapturedRecord) (clock : ℕ) (outs : List CapturedRecord) (xs : List Arrival) →
+cut_at_once : (ins : List RecordModel) (clock : ℕ) (outs : List RecordModel) (xs : List Arrival) →
     xs ≡ merged_from ins clock outs →
     CutFrom ins clock outs xs 0
 cut_at_once ins clock outs xs all = record {
@@ -38,12 +38,12 @@ cut_at_once ins clock outs xs all = record {
 }
 
 -- the parts take what the whole takes
-inside_next : (entry : CapturedRecord) (ins outs first some rest : List CapturedRecord) → outs ≡ some ++ rest →
+inside_next : (entry : RecordModel) (ins outs first some rest : List RecordModel) → outs ≡ some ++ rest →
     is_outside_next (entry ∷ ins) outs ≡ false → is_outside_next (entry ∷ first) some ≡ false
 inside_next entry ins outs first [] rest is next = refl
 inside_next entry ins outs first (other ∷ some) rest is next = grind (arith, common_steps, nat_tests)
 
-outside_next : (entry : CapturedRecord) (ins outs first some rest : List CapturedRecord) → ins ≡ some ++ rest →
+outside_next : (entry : RecordModel) (ins outs first some rest : List RecordModel) → ins ≡ some ++ rest →
     is_outside_next ins (entry ∷ outs) ≡ true → is_outside_next some (entry ∷ first) ≡ true
 outside_next entry ins outs first [] rest is next = refl
 outside_next entry ins outs first (other ∷ some) rest is next = grind (arith, common_steps, nat_tests)
@@ -77,7 +77,7 @@ cuts = record {
     none_cut clock zero few = cut_at_once [] clock [] [] refl
     none_cut clock (suc count) few = absurd (omega (arith, few))
 
-    inside_cut : (entry : CapturedRecord) (ins outs : List CapturedRecord) (clock : ℕ) (xs : List Arrival) →
+    inside_cut : (entry : RecordModel) (ins outs : List RecordModel) (clock : ℕ) (xs : List Arrival) →
         is_outside_next (entry ∷ ins) outs ≡ false → IsCut ins (max clock entry.time) outs xs → (count : ℕ) →
         count ≤ length (input_of Inside (max clock entry.time) entry ∷ xs) →
         CutFrom (entry ∷ ins) clock outs (input_of Inside (max clock entry.time) entry ∷ xs) count
@@ -100,7 +100,7 @@ cuts = record {
               (λ (now : ℕ). merged_from c.ins_rest now c.outs_rest) _ _ xs refl is c.whole;
         }
 
-    outside_cut : (entry : CapturedRecord) (ins outs : List CapturedRecord) (clock : ℕ) (xs : List Arrival) →
+    outside_cut : (entry : RecordModel) (ins outs : List RecordModel) (clock : ℕ) (xs : List Arrival) →
         is_outside_next ins (entry ∷ outs) ≡ true → IsCut ins (max clock entry.time) outs xs → (count : ℕ) →
         count ≤ length (input_of Outside (max clock entry.time) entry ∷ xs) →
         CutFrom ins clock (entry ∷ outs) (input_of Outside (max clock entry.time) entry ∷ xs) count
@@ -128,7 +128,7 @@ cuts = record {
 later : (c clock : ℕ) (time : ℕ) → max (max c clock) time ≡ max c (max clock time)
 later c clock time = omega arith
 
-from_later : Steps (λ ins clock outs xs. (c : ℕ) → merged_from ins (max c clock) outs ≡ from_clock c xs)
+from_later : Steps (λ ins clock outs xs. (c : ℕ) → merged_from ins (max c clock) outs ≡ inputs_from_clock c xs)
 from_later = record {
   none = λ clock c. refl;
   inside = λ entry ins outs clock xs next p c.
@@ -143,9 +143,9 @@ from_later = record {
 
 pub can_be_cut : CapturesCanBeCut
 can_be_cut insides outsides count few =
-    let c : CutFrom insides 0 outsides (merged insides outsides) count =
+    let c : CutFrom insides 0 outsides (merged_inputs insides outsides) count =
     (of_merged IsCut cuts insides outsides 0).each count few in
-    let last : ℕ = last_clock 0 (merged c.ins_first c.outs_first) in
+    let last : ℕ = last_clock 0 (merged_inputs c.ins_first c.outs_first) in
     let same : max last 0 ≡ last = omega arith in
     record {
       inside_first = c.ins_first;
@@ -155,7 +155,7 @@ can_be_cut insides outsides count few =
       inside = c.inside;
       outside = c.outside;
       many = c.many;
-      whole = c.whole ∙ ap (λ l. merged c.ins_first c.outs_first ++ l)
+      whole = c.whole ∙ ap (λ l. merged_inputs c.ins_first c.outs_first ++ l)
           (ap (λ (now : ℕ). merged_from c.ins_rest now c.outs_rest) (sym same)
           ∙ of_merged _ from_later c.ins_rest c.outs_rest 0 last);
     }

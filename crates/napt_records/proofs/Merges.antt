@@ -2,47 +2,47 @@
 use Rattle.std.proofs.lemmas.{Grind.common_steps, Bool.Decides.nat_tests, List.Elements.{All-nil, All-cons, All-head, All-tail}}
 use Rattle.std.proofs.Common.{◌≡◌, ℕ, zero, suc, ◌+◌, ◌<◌, ◌≤◌, max, Bool, true, false, ◌↔◌, List, [], ◌∷◌, ◌++◌, append-nil, length, map, take, All, Option, Some, None, Result, Ok, Err, refl, sym, ◌∙◌, ap, subst, arith}
 use Rattle.std.{specs.Prelude.{filter, slice_get}, proofs.lemmas.{Bool.{ltb-false, ltb-true, cases_Bool}, List.length-map}}
-use Rattle.napt_capture.specs.{Contents.CapturedRecord, Text.IsWritable, Capture.CapturedRecords, declared.fault.CaptureFault.CaptureFault}
+use Rattle.napt_capture.specs.{Contents.RecordModel, Text.IsWritable, Capture.CaptureReading, declared.fault.CaptureFault.CaptureFault}
 use Rattle.napt_rules.specs.Prelude.{Arrival, Side, Inside, Outside}
-use Rattle.napt_sequential.specs.Inputs.{IsTaken}
+use Rattle.napt_sequential.specs.Inputs.{InputIsTaken}
 use Rattle.napt_records.specs.{Output.IsTimely, MergeLaws.{HaveAll, MergeEnds, MergeMeets, MergesBefore, MergesFront, MergesWhole, TellsInsideFirst, held_of}}
-use Rattle.napt_records.specs.Taking.{Inputs, Takes, alone, alone_by, at_end, at_fault, before, input_of, inputs_from, inputs_until, is_outside_next, merged, merged_from, unless_fault, until}
-use Rattle.napt_records.specs.declared.merged_streams.{Cuts.Cuts, SideFault.SideFault}
+use Rattle.napt_records.specs.RecordMerging.{MergedInputs, TakesRecord, outside_alone, alone_by, at_end, at_fault, outside_before, input_of, inputs_from, inputs_until, is_outside_next, merged_inputs, merged_from, unless_fault, outside_until}
+use Rattle.napt_records.specs.declared.stream_merger.{CutFlags.CutFlags, SideFault.SideFault}
 use Rattle.napt_records.specs.Merge.{of_record, of_input, is_from, latest, clock_at, reach, IsMerged}
 
 -- THE UNFOLDING LAWS
 
 -- where a capture has no record left, it ended without a fault
-abbrev pub IsKnown : List CapturedRecord → Result Bool CaptureFault → Type 0
+abbrev pub IsKnown : List RecordModel → Result Bool CaptureFault → Type 0
 IsKnown [] (Ok cut) = Unit {0}
 IsKnown [] (Err fault) = ⊥
 IsKnown (entry ∷ entries) end = Unit {0}
 
-inside_first : (a b : Result Bool CaptureFault) (entry : CapturedRecord) (ins outs : List CapturedRecord) (clock : ℕ) →
+inside_first : (a b : Result Bool CaptureFault) (entry : RecordModel) (ins outs : List RecordModel) (clock : ℕ) →
     IsKnown outs b →
     is_outside_next (entry ∷ ins) outs ≡ false → inputs_from a b (entry ∷ ins) clock outs
-    ≡ before (input_of Inside (max clock entry.time) entry) (inputs_from a b ins (max clock entry.time) outs)
+    ≡ outside_before (input_of Inside (max clock entry.time) entry) (inputs_from a b ins (max clock entry.time) outs)
 inside_first a b entry ins outs clock known next = grind (arith, common_steps, nat_tests)
 
-outside_first : (a b : Result Bool CaptureFault) (entry : CapturedRecord) (ins outs : List CapturedRecord) (clock : ℕ)
+outside_first : (a b : Result Bool CaptureFault) (entry : RecordModel) (ins outs : List RecordModel) (clock : ℕ)
     → IsKnown ins a →
     is_outside_next ins (entry ∷ outs) ≡ true → inputs_from a b ins clock (entry ∷ outs)
-    ≡ before (input_of Outside (max clock entry.time) entry) (inputs_from a b ins (max clock entry.time) outs)
+    ≡ outside_before (input_of Outside (max clock entry.time) entry) (inputs_from a b ins (max clock entry.time) outs)
 outside_first a b entry ins outs clock known next = grind (arith, common_steps, nat_tests)
 
-pub hands_until : (a b : Result Bool CaptureFault) (ins outs ins_left outs_left : List CapturedRecord) (clock : ℕ)
+pub hands_until : (a b : Result Bool CaptureFault) (ins outs ins_left outs_left : List RecordModel) (clock : ℕ)
     (side : Side)
-    (entry : CapturedRecord) → IsKnown ins a → IsKnown outs b → Takes ins outs (Some (side, entry)) ins_left outs_left
-    → inputs_from a b ins clock outs ≡ before (input_of side (max clock entry.time) entry)
+    (entry : RecordModel) → IsKnown ins a → IsKnown outs b → TakesRecord ins outs (Some (side, entry)) ins_left outs_left
+    → inputs_from a b ins clock outs ≡ outside_before (input_of side (max clock entry.time) entry)
     (inputs_from a b ins_left (max clock entry.time) outs_left)
 hands_until a b ins outs ins_left outs_left clock side entry in_known out_known taken =
     grind (arith, common_steps, nat_tests, inside_first, outside_first)
 
-no_fault : (entries : List CapturedRecord) → IsKnown entries (Ok false)
+no_fault : (entries : List RecordModel) → IsKnown entries (Ok false)
 no_fault entries = grind (arith, common_steps, nat_tests)
 
-pub hands : (ins outs ins_left outs_left : List CapturedRecord) (clock : ℕ) (side : Side) (entry : CapturedRecord) →
-    Takes ins outs (Some (side, entry)) ins_left outs_left → merged_from ins clock outs
+pub hands : (ins outs ins_left outs_left : List RecordModel) (clock : ℕ) (side : Side) (entry : RecordModel) →
+    TakesRecord ins outs (Some (side, entry)) ins_left outs_left → merged_from ins clock outs
     ≡ input_of side (max clock entry.time) entry ∷ merged_from ins_left (max clock entry.time) outs_left
 hands ins outs ins_left outs_left clock side entry taken = grind (arith, common_steps, nat_tests, hands_until, no_fault)
 
@@ -53,69 +53,69 @@ none_from a b clock = refl
 -- INDUCTION BY STEPS
 
 -- what holds where merging ends, and of one more inside or outside record before what it holds of
-record StepsUntil (a b : Result Bool CaptureFault) (P : List CapturedRecord → ℕ → List CapturedRecord → Inputs →
+record StepsUntil (a b : Result Bool CaptureFault) (P : List RecordModel → ℕ → List RecordModel → MergedInputs →
     Type 0) : Type 0 where
   ends : (x y : Bool) (clock : ℕ) → a ≡ Ok x → b ≡ Ok y → P [] clock [] (at_end x (Ok y))
-  bad_inside : (fault : CaptureFault) (outs : List CapturedRecord) (clock : ℕ) → a ≡ Err fault →
+  bad_inside : (fault : CaptureFault) (outs : List RecordModel) (clock : ℕ) → a ≡ Err fault →
       P [] clock outs (at_fault Inside fault)
-  bad_outside : (fault : CaptureFault) (ins : List CapturedRecord) (clock : ℕ) → b ≡ Err fault → IsKnown ins a →
+  bad_outside : (fault : CaptureFault) (ins : List RecordModel) (clock : ℕ) → b ≡ Err fault → IsKnown ins a →
       P ins clock [] (at_fault Outside fault)
-  inside : (entry : CapturedRecord) (ins outs : List CapturedRecord) (clock : ℕ) (inputs : Inputs) → IsKnown outs b →
+  inside : (entry : RecordModel) (ins outs : List RecordModel) (clock : ℕ) (inputs : MergedInputs) → IsKnown outs b →
       is_outside_next (entry ∷ ins) outs ≡ false → P ins (max clock entry.time) outs inputs
-      → P (entry ∷ ins) clock outs (before (input_of Inside (max clock entry.time) entry) inputs)
-  outside : (entry : CapturedRecord) (ins outs : List CapturedRecord) (clock : ℕ) (inputs : Inputs) → IsKnown ins a →
+      → P (entry ∷ ins) clock outs (outside_before (input_of Inside (max clock entry.time) entry) inputs)
+  outside : (entry : RecordModel) (ins outs : List RecordModel) (clock : ℕ) (inputs : MergedInputs) → IsKnown ins a →
       is_outside_next ins (entry ∷ outs) ≡ true → P ins (max clock entry.time) outs inputs
-      → P ins clock (entry ∷ outs) (before (input_of Outside (max clock entry.time) entry) inputs)
+      → P ins clock (entry ∷ outs) (outside_before (input_of Outside (max clock entry.time) entry) inputs)
 
 known_end : (end : Result Bool CaptureFault) (cut : Bool) → end ≡ Ok cut → IsKnown [] end
 known_end end cut is = rw is tt
 
-module _ (a b : Result Bool CaptureFault) (P : List CapturedRecord → ℕ → List CapturedRecord → Inputs → Type 0)
+module _ (a b : Result Bool CaptureFault) (P : List RecordModel → ℕ → List RecordModel → MergedInputs → Type 0)
     (steps : StepsUntil a b P) where
   of_end : (cut : Bool) (end : Result Bool CaptureFault) (clock : ℕ) → a ≡ Ok cut → b ≡ end →
       P [] clock [] (at_end cut end)
   of_end cut end clock is also = grind (arith, common_steps, nat_tests, known_end)
 
-  of_alone : (cut : Bool) (outs : List CapturedRecord) (clock : ℕ) → a ≡ Ok cut →
-      P [] clock outs (alone cut b clock outs)
+  of_alone : (cut : Bool) (outs : List RecordModel) (clock : ℕ) → a ≡ Ok cut →
+      P [] clock outs (outside_alone cut b clock outs)
   of_alone cut [] clock is = of_end cut b clock is refl
   of_alone cut (other ∷ outs) clock is =
       grind (arith, common_steps, nat_tests, known_end, of_alone cut outs (max clock other.time) is)
 
-  of_last : (first : CapturedRecord) (ins : List CapturedRecord) (clock : ℕ) (end : Result Bool CaptureFault) →
+  of_last : (first : RecordModel) (ins : List RecordModel) (clock : ℕ) (end : Result Bool CaptureFault) →
       b ≡ end →
       P ins (max clock first.time) [] (inputs_from a b ins (max clock first.time) [])
-      → P (first ∷ ins) clock [] (unless_fault end (before (input_of Inside (max clock first.time) first)
+      → P (first ∷ ins) clock [] (unless_fault end (outside_before (input_of Inside (max clock first.time) first)
       (inputs_from a b ins (max clock first.time) [])))
   of_last first ins clock end is more = grind (arith, common_steps, nat_tests, known_end)
 
-  of_until : (first : CapturedRecord) (ins outs : List CapturedRecord) (clock : ℕ) →
-      ((now : ℕ) (left : List CapturedRecord) → P ins now left (inputs_from a b ins now left))
-      → P (first ∷ ins) clock outs (until b first (inputs_from a b ins) clock outs)
+  of_until : (first : RecordModel) (ins outs : List RecordModel) (clock : ℕ) →
+      ((now : ℕ) (left : List RecordModel) → P ins now left (inputs_from a b ins now left))
+      → P (first ∷ ins) clock outs (outside_until b first (inputs_from a b ins) clock outs)
   of_until first ins [] clock more = of_last first ins clock b refl (more (max clock first.time) [])
   of_until first ins (other ∷ outs) clock more =
       grind (arith, common_steps, nat_tests, cases_Bool, of_until first ins outs (max clock other.time) more)
 
-  of_none : (end : Result Bool CaptureFault) (outs : List CapturedRecord) (clock : ℕ) → a ≡ end →
+  of_none : (end : Result Bool CaptureFault) (outs : List RecordModel) (clock : ℕ) → a ≡ end →
       P [] clock outs (alone_by end b clock outs)
   of_none end outs clock is = grind (arith, common_steps, nat_tests, of_alone)
 
-  of_inputs : (ins outs : List CapturedRecord) (clock : ℕ) → P ins clock outs (inputs_from a b ins clock outs)
+  of_inputs : (ins outs : List RecordModel) (clock : ℕ) → P ins clock outs (inputs_from a b ins clock outs)
   of_inputs [] outs clock = of_none a outs clock refl
   of_inputs (first ∷ ins) outs clock = of_until first ins outs clock (λ now left. of_inputs ins left now)
 
 -- the same of the merged list
-pub record Steps (P : List CapturedRecord → ℕ → List CapturedRecord → List Arrival → Type 0) : Type 0 where
+pub record Steps (P : List RecordModel → ℕ → List RecordModel → List Arrival → Type 0) : Type 0 where
   pub none : (clock : ℕ) → P [] clock [] []
-  pub inside : (entry : CapturedRecord) (ins outs : List CapturedRecord) (clock : ℕ) (xs : List Arrival) →
+  pub inside : (entry : RecordModel) (ins outs : List RecordModel) (clock : ℕ) (xs : List Arrival) →
       is_outside_next (entry ∷ ins) outs ≡ false → P ins (max clock entry.time) outs xs
       → P (entry ∷ ins) clock outs (input_of Inside (max clock entry.time) entry ∷ xs)
-  pub outside : (entry : CapturedRecord) (ins outs : List CapturedRecord) (clock : ℕ) (xs : List Arrival) →
+  pub outside : (entry : RecordModel) (ins outs : List RecordModel) (clock : ℕ) (xs : List Arrival) →
       is_outside_next ins (entry ∷ outs) ≡ true → P ins (max clock entry.time) outs xs
       → P ins clock (entry ∷ outs) (input_of Outside (max clock entry.time) entry ∷ xs)
 
-pub of_merged : (P : List CapturedRecord → ℕ → List CapturedRecord → List Arrival → Type 0) → Steps P →
-    (ins outs : List CapturedRecord) →
+pub of_merged : (P : List RecordModel → ℕ → List RecordModel → List Arrival → Type 0) → Steps P →
+    (ins outs : List RecordModel) →
     (clock : ℕ) → P ins clock outs (merged_from ins clock outs)
 of_merged P steps = of_inputs (Ok false) (Ok false) (λ ins clock outs inputs. P ins clock outs inputs.arrivals)
     (record {
@@ -129,19 +129,19 @@ of_merged P steps = of_inputs (Ok false) (Ok false) (λ ins clock outs inputs. P
 -- A FAULT ENDS IT EARLY
 
 -- what is handed out is a front of these, and all if there is no fault
-record IsFront (inputs : Inputs) (all : List Arrival) : Type 0 where
+record IsFront (inputs : MergedInputs) (all : List Arrival) : Type 0 where
   pub left : List Arrival
   pub is : all ≡ inputs.arrivals ++ left
-  pub whole : (cuts : Cuts) → inputs.end ≡ Ok cuts → left ≡ []
+  pub whole : (cuts : CutFlags) → inputs.end ≡ Ok cuts → left ≡ []
 
-front_before : (x : Arrival) (inputs : Inputs) (some all : List Arrival) → all ≡ x ∷ some → IsFront inputs some →
-    IsFront (before x inputs) all
+front_before : (x : Arrival) (inputs : MergedInputs) (some all : List Arrival) → all ≡ x ∷ some → IsFront inputs some →
+    IsFront (outside_before x inputs) all
 front_before x inputs some all is p = record { left = p.left; is = is ∙ ap (λ l. x ∷ l) p.is; whole = p.whole }
 
 front_fault : (side : Side) (fault : CaptureFault) (all : List Arrival) → IsFront (at_fault side fault) all
 front_fault side fault all = record { left = all; is = refl; whole = λ cuts never. absurd cc }
 
-front_from : (a b : Result Bool CaptureFault) (ins outs : List CapturedRecord) (clock : ℕ) →
+front_from : (a b : Result Bool CaptureFault) (ins outs : List RecordModel) (clock : ℕ) →
     IsFront (inputs_from a b ins clock outs) (merged_from ins clock outs)
 front_from a b = of_inputs a b (λ ins clock outs inputs. IsFront inputs (merged_from ins clock outs)) (record {
   ends = λ x y clock is also. record { left = []; is = refl; whole = λ cuts same. refl };
@@ -165,13 +165,13 @@ merges_whole inside outside cuts is =
     ∙ append-nil (inputs_until inside outside).arrivals)
 
 -- how both captures ended
-abbrev EndAs : Result Bool CaptureFault → Result Bool CaptureFault → Inputs → Type 0
-EndAs a b inputs = (cuts : Cuts) → inputs.end ≡ Ok cuts → (a ≡ Ok cuts.inside) × (b ≡ Ok cuts.outside)
+abbrev EndAs : Result Bool CaptureFault → Result Bool CaptureFault → MergedInputs → Type 0
+EndAs a b inputs = (cuts : CutFlags) → inputs.end ≡ Ok cuts → (a ≡ Ok cuts.inside) × (b ≡ Ok cuts.outside)
 
 ends_are : (a b : Result Bool CaptureFault) (x y : Bool) → a ≡ Ok x → b ≡ Ok y → EndAs a b (at_end x (Ok y))
 ends_are a b x y is also = grind (arith, common_steps, nat_tests)
 
-ends_from : (a b : Result Bool CaptureFault) (ins outs : List CapturedRecord) (clock : ℕ) →
+ends_from : (a b : Result Bool CaptureFault) (ins outs : List RecordModel) (clock : ℕ) →
     EndAs a b (inputs_from a b ins clock outs)
 ends_from a b = of_inputs a b (λ ins clock outs inputs. EndAs a b inputs) (record {
   ends = λ x y clock is also. ends_are a b x y is also;
@@ -190,7 +190,7 @@ abbrev end_of : Side → Result Bool CaptureFault → Result Bool CaptureFault �
 end_of Inside a b = a
 end_of Outside a b = b
 
-abbrev records_of : Side → List CapturedRecord → List CapturedRecord → List CapturedRecord
+abbrev records_of : Side → List RecordModel → List RecordModel → List RecordModel
 records_of Inside ins outs = ins
 records_of Outside ins outs = outs
 
@@ -198,10 +198,10 @@ records_of Outside ins outs = outs
 abbrev count : Side → List Arrival → ℕ
 count side inputs = length (filter (is_from side) inputs)
 
-abbrev HasAllOf : Side → List CapturedRecord → List CapturedRecord → List Arrival → Type 0
+abbrev HasAllOf : Side → List RecordModel → List RecordModel → List Arrival → Type 0
 HasAllOf side ins outs inputs = map of_input (filter (is_from side) inputs) ≡ map of_record (records_of side ins outs)
 
-record IsBefore (a b : Result Bool CaptureFault) (ins outs : List CapturedRecord) (inputs : Inputs) : Type 0 where
+record IsBefore (a b : Result Bool CaptureFault) (ins outs : List RecordModel) (inputs : MergedInputs) : Type 0 where
   meets : (f : SideFault) → inputs.end ≡ Err f → end_of f.side a b ≡ Err f.fault
   all : (f : SideFault) → inputs.end ≡ Err f → HasAllOf f.side ins outs inputs.arrivals
   least : (k : ℕ) (side : Side) (its : CaptureFault) → k < length inputs.arrivals → end_of side a b ≡ Err its →
@@ -217,19 +217,19 @@ fault_is : (side : Side) (fault : CaptureFault) (f : SideFault) → (at_fault si
 fault_is side fault f same = cc
 
 -- merging hands out nothing
-at_once : (a b : Result Bool CaptureFault) (ins outs : List CapturedRecord) (side : Side) (fault : CaptureFault) →
+at_once : (a b : Result Bool CaptureFault) (ins outs : List RecordModel) (side : Side) (fault : CaptureFault) →
     end_of side a b ≡ Err fault → records_of side ins outs ≡ []
     → ((its : CaptureFault) → side ≡ Outside → a ≡ Err its → 0 < length ins)
     → IsBefore a b ins outs (at_fault side fault)
 at_once a b ins outs side fault is none more = grind (arith, common_steps, nat_tests, fault_is)
 
-some_left : (entries : List CapturedRecord) (end : Result Bool CaptureFault) (fault : CaptureFault) →
+some_left : (entries : List RecordModel) (end : Result Bool CaptureFault) (fault : CaptureFault) →
     IsKnown entries end →
     end ≡ Err fault → 0 < length entries
 some_left entries end fault known is = grind (arith, common_steps, nat_tests)
 
 -- behind one more inside record
-module _ (a b : Result Bool CaptureFault) (entry : CapturedRecord) (ins outs : List CapturedRecord) (inputs : Inputs)
+module _ (a b : Result Bool CaptureFault) (entry : RecordModel) (ins outs : List RecordModel) (inputs : MergedInputs)
     (now : ℕ) where
   all_in : (side : Side) → HasAllOf side ins outs inputs.arrivals →
       HasAllOf side (entry ∷ ins) outs (input_of Inside now entry ∷ inputs.arrivals)
@@ -241,7 +241,7 @@ module _ (a b : Result Bool CaptureFault) (entry : CapturedRecord) (ins outs : L
   least_in known p k side its less is = grind (arith, common_steps, nat_tests, some_left)
 
   before_in : IsKnown outs b → IsBefore a b ins outs inputs →
-      IsBefore a b (entry ∷ ins) outs (before (input_of Inside now entry) inputs)
+      IsBefore a b (entry ∷ ins) outs (outside_before (input_of Inside now entry) inputs)
   before_in known p = grind (arith, common_steps, nat_tests, all_in, least_in)
 
   -- and outside record
@@ -255,13 +255,13 @@ module _ (a b : Result Bool CaptureFault) (entry : CapturedRecord) (ins outs : L
   least_out known p k side its less is = grind (arith, common_steps, nat_tests, some_left)
 
   before_out : IsKnown ins a → IsBefore a b ins outs inputs →
-      IsBefore a b ins (entry ∷ outs) (before (input_of Outside now entry) inputs)
+      IsBefore a b ins (entry ∷ outs) (outside_before (input_of Outside now entry) inputs)
   before_out known p = grind (arith, common_steps, nat_tests, all_out, least_out)
 
 out_is_in : Inside ≡ Outside → ⊥
 out_is_in is = cc
 
-before_from : (a b : Result Bool CaptureFault) (ins outs : List CapturedRecord) (clock : ℕ) →
+before_from : (a b : Result Bool CaptureFault) (ins outs : List RecordModel) (clock : ℕ) →
     IsBefore a b ins outs (inputs_from a b ins clock outs)
 before_from a b = of_inputs a b (λ ins clock outs inputs. IsBefore a b ins outs inputs) (record {
   ends = λ x y clock is also. before_end a b x y;
@@ -275,11 +275,11 @@ before_from a b = of_inputs a b (λ ins clock outs inputs. IsBefore a b ins outs
       before_out a b entry ins outs inputs (max clock entry.time) known p;
 })
 
-held_end_of : (side : Side) (inside outside : CapturedRecords) → (held_of side inside outside).end
+held_end_of : (side : Side) (inside outside : CaptureReading) → (held_of side inside outside).end
     ≡ end_of side inside.end outside.end
 held_end_of side inside outside = grind (arith, common_steps, nat_tests)
 
-held_records_of : (side : Side) (inside outside : CapturedRecords) → (held_of side inside outside).records
+held_records_of : (side : Side) (inside outside : CaptureReading) → (held_of side inside outside).records
     ≡ records_of side inside.records outside.records
 held_records_of side inside outside = grind (arith, common_steps, nat_tests)
 
@@ -289,7 +289,7 @@ merge_meets inside outside fault is =
     ∙ (before_from inside.end outside.end inside.records outside.records 0).meets fault is
 
 -- where all of a side's records were handed out, there are as many
-all_counted : (side : Side) (inside outside : CapturedRecords) (inputs : List Arrival) →
+all_counted : (side : Side) (inside outside : CaptureReading) (inputs : List Arrival) →
     HaveAll side inside outside inputs →
     count side inputs ≡ length (records_of side inside.records outside.records)
 all_counted side inside outside inputs have = grind (arith, common_steps, nat_tests, length-map, held_records_of)
@@ -298,7 +298,7 @@ pub merges_before : MergesBefore
 merges_before inside outside fault is =
     let p = before_from inside.end outside.end inside.records outside.records 0 in
     let inputs = (inputs_until inside outside).arrivals in (
-      subst (λ (l : List CapturedRecord). map of_input (filter (is_from fault.side) inputs) ≡ map of_record l)
+      subst (λ (l : List RecordModel). map of_input (filter (is_from fault.side) inputs) ≡ map of_record l)
           (sym (held_records_of fault.side inside outside)) (p.all fault is),
       λ k other its less ends have.
           let few = p.least k other its less (sym (held_end_of other inside outside) ∙ ends) in
@@ -313,7 +313,7 @@ tells_inside_first inside outside fault its is also have =
 
 -- HOW MANY
 
-pub as_many : (ins outs : List CapturedRecord) (clock : ℕ) →
+pub as_many : (ins outs : List RecordModel) (clock : ℕ) →
     length (merged_from ins clock outs) ≡ length ins + length outs
 as_many = of_merged (λ ins clock outs xs. length xs ≡ length ins + length outs) (record {
   none = λ clock. refl;
@@ -323,7 +323,7 @@ as_many = of_merged (λ ins clock outs xs. length xs ≡ length ins + length out
 
 -- TIMES THAT A CAPTURE HAS ROOM FOR
 
-pub timely_from : (ins outs : List CapturedRecord) (clock : ℕ) → All IsWritable ins → All IsWritable outs →
+pub timely_from : (ins outs : List RecordModel) (clock : ℕ) → All IsWritable ins → All IsWritable outs →
     All IsTimely (merged_from ins clock outs)
 timely_from = of_merged (λ ins clock outs xs. All IsWritable ins → All IsWritable outs → All IsTimely xs) (record {
   none = λ clock first second. All-nil IsTimely;
@@ -337,9 +337,9 @@ timely_from = of_merged (λ ins clock outs xs. All IsWritable ins → All IsWrit
       ((All-head IsWritable entry outs second).time) (more first (All-tail IsWritable entry outs second));
 })
 
-pub takes_timely : (ins outs ins_left outs_left : List CapturedRecord) (now : ℕ) (side : Side) (entry : CapturedRecord)
+pub takes_timely : (ins outs ins_left outs_left : List RecordModel) (now : ℕ) (side : Side) (entry : RecordModel)
     →
-    Takes ins outs (Some (side, entry)) ins_left outs_left → All IsWritable ins × All IsWritable outs
+    TakesRecord ins outs (Some (side, entry)) ins_left outs_left → All IsWritable ins × All IsWritable outs
     → All IsTimely (input_of side now entry ∷ []) × (All IsWritable ins_left × All IsWritable outs_left)
 takes_timely ins outs ins_left outs_left now Inside entry taken all =
     let mine : All IsWritable (entry ∷ ins_left) = subst (All IsWritable) taken.0 all.0 in (
@@ -368,40 +368,40 @@ clock_more : (place : ℕ) (x : Arrival) (xs : List Arrival) → clock_at (suc p
 clock_more place x xs = ap latest (take_more place x xs)
 
 -- the first of these is no later than this
-abbrev IsFloor : List CapturedRecord → ℕ → Type 0
+abbrev IsFloor : List RecordModel → ℕ → Type 0
 IsFloor [] time = ⊥
 IsFloor (entry ∷ entries) time = entry.time ≤ time
 
 -- inside records were taken up to this time, and outside ones up to before that one; then the next inside record, and
 -- the next outside one
-abbrev MayIn : ℕ → ℕ → List CapturedRecord → Type 0
+abbrev MayIn : ℕ → ℕ → List RecordModel → Type 0
 MayIn m q [] = Unit {0}
 MayIn m q (entry ∷ entries) = q ≤ max m entry.time
 
-abbrev MayOut : ℕ → ℕ → List CapturedRecord → Type 0
+abbrev MayOut : ℕ → ℕ → List RecordModel → Type 0
 MayOut m q [] = Unit {0}
 MayOut m q (entry ∷ entries) = m < max q (suc entry.time)
 
-in_reaches : (m q time : ℕ) (ins : List CapturedRecord) → MayIn m q ins → IsFloor ins time → q ≤ max m time
+in_reaches : (m q time : ℕ) (ins : List RecordModel) → MayIn m q ins → IsFloor ins time → q ≤ max m time
 in_reaches m q time ins may floor = grind (arith, common_steps, nat_tests)
 
-out_reaches : (m q time : ℕ) (outs : List CapturedRecord) → MayOut m q outs → IsFloor outs time → m < max q (suc time)
+out_reaches : (m q time : ℕ) (outs : List RecordModel) → MayOut m q outs → IsFloor outs time → m < max q (suc time)
 out_reaches m q time outs may floor = grind (arith, common_steps, nat_tests)
 
 -- after an inside record
-in_in : (m q time : ℕ) (ins : List CapturedRecord) → q ≤ max m time → MayIn (max m time) q ins
+in_in : (m q time : ℕ) (ins : List RecordModel) → q ≤ max m time → MayIn (max m time) q ins
 in_in m q time ins may = grind (arith, common_steps, nat_tests)
 
-in_out : (m q : ℕ) (entry : CapturedRecord) (ins outs : List CapturedRecord) →
+in_out : (m q : ℕ) (entry : RecordModel) (ins outs : List RecordModel) →
     is_outside_next (entry ∷ ins) outs ≡ false →
     MayOut m q outs → MayOut (max m entry.time) q outs
 in_out m q entry ins outs next may = grind (arith, common_steps, nat_tests, ltb-false)
 
 -- after an outside record
-out_out : (m q time : ℕ) (outs : List CapturedRecord) → m < max q (suc time) → MayOut m (max q (suc time)) outs
+out_out : (m q time : ℕ) (outs : List RecordModel) → m < max q (suc time) → MayOut m (max q (suc time)) outs
 out_out m q time outs may = grind (arith, common_steps, nat_tests)
 
-out_in : (m q : ℕ) (entry : CapturedRecord) (ins outs : List CapturedRecord) →
+out_in : (m q : ℕ) (entry : RecordModel) (ins outs : List RecordModel) →
     is_outside_next ins (entry ∷ outs) ≡ true →
     MayIn m q ins → MayIn m (max q (suc entry.time)) ins
 out_in m q entry ins outs next may = grind (arith, common_steps, nat_tests, ltb-true)
@@ -417,11 +417,11 @@ OrderFrom m q xs =
     (i o : ℕ) (a b : Arrival) → slice_get xs i ≡ Some a → slice_get xs o ≡ Some b → a.side ≡ Inside → b.side ≡ Outside
     → (i < o) ↔ (max m (reach Inside i xs) < max q (suc (reach Outside o xs)))
 
-abbrev Floors : Side → List CapturedRecord → List Arrival → Type 0
+abbrev Floors : Side → List RecordModel → List Arrival → Type 0
 Floors side entries xs = (place : ℕ) (a : Arrival) → slice_get xs place ≡ Some a → a.side ≡ side →
     IsFloor entries (reach side place xs)
 
-order_in : (m q now : ℕ) (entry : CapturedRecord) (outs : List CapturedRecord) (xs : List Arrival) →
+order_in : (m q now : ℕ) (entry : RecordModel) (outs : List RecordModel) (xs : List Arrival) →
     MayOut (max m entry.time) q outs → Floors Outside outs xs → OrderFrom (max m entry.time) q xs
     → OrderFrom m q (input_of Inside now entry ∷ xs)
 order_in m q now entry outs xs may floors order i zero a b at also inside outside =
@@ -438,7 +438,7 @@ order_in m q now entry outs xs may floors order (suc i) (suc o) a b at also insi
       λ less. let before : i < o = older.1 (omega (arith, less, in_is, out_is)) in omega (arith, before),
     )
 
-order_out : (m q now : ℕ) (entry : CapturedRecord) (ins : List CapturedRecord) (xs : List Arrival) →
+order_out : (m q now : ℕ) (entry : RecordModel) (ins : List RecordModel) (xs : List Arrival) →
     MayIn m (max q (suc entry.time)) ins → Floors Inside ins xs → OrderFrom m (max q (suc entry.time)) xs
     → OrderFrom m q (input_of Outside now entry ∷ xs)
 order_out m q now entry ins xs may floors order zero o a b at also inside outside =
@@ -455,15 +455,15 @@ order_out m q now entry ins xs may floors order (suc i) (suc o) a b at also insi
       λ less. let before : i < o = older.1 (omega (arith, less, in_is, out_is)) in omega (arith, before),
     )
 
-floor_own : (side : Side) (now : ℕ) (entry : CapturedRecord) (rest : List CapturedRecord) (xs : List Arrival) →
+floor_own : (side : Side) (now : ℕ) (entry : RecordModel) (rest : List RecordModel) (xs : List Arrival) →
     Floors side (entry ∷ rest) (input_of side now entry ∷ xs)
 floor_own side now entry rest xs = grind (arith, common_steps, nat_tests, reach_more)
 
-floor_in : (now : ℕ) (entry : CapturedRecord) (ins : List CapturedRecord) (xs : List Arrival) → Floors Inside ins xs →
+floor_in : (now : ℕ) (entry : RecordModel) (ins : List RecordModel) (xs : List Arrival) → Floors Inside ins xs →
     Floors Inside ins (input_of Outside now entry ∷ xs)
 floor_in now entry ins xs floors = grind (arith, common_steps, nat_tests, in_out_apart, some_side, reach_more)
 
-floor_out : (now : ℕ) (entry : CapturedRecord) (outs : List CapturedRecord) (xs : List Arrival) →
+floor_out : (now : ℕ) (entry : RecordModel) (outs : List RecordModel) (xs : List Arrival) →
     Floors Outside outs xs →
     Floors Outside outs (input_of Inside now entry ∷ xs)
 floor_out now entry outs xs floors = grind (arith, common_steps, nat_tests, in_out_apart, some_side, reach_more)
@@ -471,13 +471,13 @@ floor_out now entry outs xs floors = grind (arith, common_steps, nat_tests, in_o
 abbrev ClocksFrom : ℕ → List Arrival → Type 0
 ClocksFrom clock xs = (place : ℕ) (a : Arrival) → slice_get xs place ≡ Some a → a.clock ≡ max clock (clock_at place xs)
 
-clocks_more : (side : Side) (clock : ℕ) (entry : CapturedRecord) (xs : List Arrival) →
+clocks_more : (side : Side) (clock : ℕ) (entry : RecordModel) (xs : List Arrival) →
     ClocksFrom (max clock entry.time) xs →
     ClocksFrom clock (input_of side (max clock entry.time) entry ∷ xs)
 clocks_more side clock entry xs clocks = grind (arith, common_steps, nat_tests, clock_more)
 
 -- what the merged list of some records is
-record IsGood (ins : List CapturedRecord) (clock : ℕ) (outs : List CapturedRecord) (xs : List Arrival) : Type 0 where
+record IsGood (ins : List RecordModel) (clock : ℕ) (outs : List RecordModel) (xs : List Arrival) : Type 0 where
   inside : map of_input (filter (is_from Inside) xs) ≡ map of_record ins
   outside : map of_input (filter (is_from Outside) xs) ≡ map of_record outs
   in_floors : Floors Inside ins xs
@@ -524,13 +524,13 @@ good = record {
   };
 }
 
-begin_in : (ins : List CapturedRecord) → MayIn 0 0 ins
+begin_in : (ins : List RecordModel) → MayIn 0 0 ins
 begin_in ins = grind (arith, common_steps, nat_tests)
 
-begin_out : (outs : List CapturedRecord) → MayOut 0 0 outs
+begin_out : (outs : List RecordModel) → MayOut 0 0 outs
 begin_out outs = grind (arith, common_steps, nat_tests)
 
-pub merged_good : (ins outs : List CapturedRecord) → IsMerged ins outs (merged ins outs)
+pub merged_good : (ins outs : List RecordModel) → IsMerged ins outs (merged_inputs ins outs)
 merged_good ins outs =
     let p = of_merged IsGood good ins outs 0 in
     let order = p.order 0 0 (begin_in ins) (begin_out outs) in
@@ -546,5 +546,5 @@ merged_good ins outs =
 
 -- where nothing was handed out, nothing is left
 pub none_left : (before after : List Arrival) (handed : Option Arrival) → ((x : Arrival) → handed ≡ Some x → ⊥) →
-    IsTaken before handed after → before ≡ []
+    InputIsTaken before handed after → before ≡ []
 none_left before after handed never is = grind (arith, common_steps, nat_tests)

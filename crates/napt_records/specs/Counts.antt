@@ -3,15 +3,15 @@ use Rattle.std.specs.Prelude.{◌≡◌, ℕ, List, length, count_by, slice_inde
 use denote.Enum.Declared.{tag_of}
 use Rattle.napt_wire.specs.{contracts.Cause.the_type, declared.Cause.Cause}
 use Rattle.napt_rules.specs.declared.Outcome.{Outcome}
-use Rattle.napt_records.specs.{declared.report.Counts.Counts, Report.{is_to_outside, is_to_inside, is_dropped}}
+use Rattle.napt_records.specs.{declared.report.OutcomeCounts.OutcomeCounts, Report.{is_to_outside, is_to_inside, is_dropped}}
 
 -- the place of a cause in its declaration, from 0
-abbrev pub place_of : Cause → ℕ
-place_of = tag_of the_type
+abbrev pub cause_place : Cause → ℕ
+cause_place = tag_of the_type
 
 -- how many outcomes there are, and how many of each kind
-pub record AreCountsOf (outcomes : List Outcome) (counts : Counts) : Type 0 where
+pub record AreCountsOf (outcomes : List Outcome) (counts : OutcomeCounts) : Type 0 where
   pub packets : counts.packets ≡ length outcomes
   pub to_outside : counts.to_outside ≡ count_by is_to_outside outcomes
   pub to_inside : counts.to_inside ≡ count_by is_to_inside outcomes
-  pub dropped : (cause : Cause) → slice_index counts.dropped (place_of cause) ≡ count_by (is_dropped cause) outcomes
+  pub dropped : (cause : Cause) → slice_index counts.dropped (cause_place cause) ≡ count_by (is_dropped cause) outcomes

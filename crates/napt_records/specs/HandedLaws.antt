@@ -2,23 +2,23 @@
 use Rattle.std.{specs.Prelude.{List, [], ◌++◌, Option, None, Some}, proofs.Common.{refl, sym, ap, ◌∙◌, append_assoc}}
 use Rattle.std.proofs.lemmas.List.Elements.{All-append, All-nil}
 use Rattle.napt_capture.specs.declared.device.Source.{Ghosts}
-use Rattle.napt_records.specs.{declared.merged_streams.MergedStreams.MergedStreams, Merged.HandsOut, Output.IsTimely, Rests.{Follows, inputs_of}, Taking.Inputs}
+use Rattle.napt_records.specs.{declared.stream_merger.StreamMerger.StreamMerger, StreamMergers.HandsOutInputs, Output.IsTimely, UnreadInputs.{InputsCameFirst, inputs_of}, RecordMerging.MergedInputs}
 use Rattle.napt_rules.specs.Prelude.{Arrival}
 
-follows_none : (x : Option Inputs) → Follows x [] x
+follows_none : (x : Option MergedInputs) → InputsCameFirst x [] x
 follows_none None = tt
 follows_none (Some x) = refl
 
-follows_more : (x y z : Option Inputs) (xs ys : List Arrival) → Follows x xs y → Follows y ys z → Follows x (xs ++ ys) z
+follows_more : (x y z : Option MergedInputs) (xs ys : List Arrival) → InputsCameFirst x xs y → InputsCameFirst y ys z → InputsCameFirst x (xs ++ ys) z
 follows_more None y z xs ys first second = tt
 follows_more (Some x) None z xs ys first second = absurd first
 follows_more (Some x) (Some y) None xs ys first second = absurd second
 follows_more (Some x) (Some y) (Some z) xs ys first second =
-    first ∙ ap (λ (i : Inputs). record { arrivals = xs ++ i.arrivals; end = i.end }) second
+    first ∙ ap (λ (i : MergedInputs). record { arrivals = xs ++ i.arrivals; end = i.end }) second
     ∙ ap (λ l. record { arrivals = l; end = z.end }) (sym (append_assoc xs ys z.arrivals))
 
 module _ {R Q : Type 0} {G : Ghosts R} {H : Ghosts Q} where
-  pub HandsOut-none : (x : MergedStreams R Q G H) → HandsOut x [] x
+  pub HandsOut-none : (x : StreamMerger R Q G H) → HandsOutInputs x [] x
   HandsOut-none x = (
     (refl, refl),
     λ live. record {
@@ -30,8 +30,8 @@ module _ {R Q : Type 0} {G : Ghosts R} {H : Ghosts Q} where
     },
   )
 
-  pub HandsOut-more : (x y z : MergedStreams R Q G H) (xs ys : List Arrival) → HandsOut x xs y → HandsOut y ys z →
-      HandsOut x (xs ++ ys) z
+  pub HandsOut-more : (x y z : StreamMerger R Q G H) (xs ys : List Arrival) → HandsOutInputs x xs y → HandsOutInputs y ys z →
+      HandsOutInputs x (xs ++ ys) z
   HandsOut-more x y z xs ys first second = (
     (second.0.0 ∙ first.0.0, second.0.1 ∙ first.0.1),
     λ live.

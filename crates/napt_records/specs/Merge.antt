@@ -1,11 +1,11 @@
 -- The inputs of a run: the records of both captures, merged by arrival time (this product's profile). Captures need not
 -- be sorted.
 use Rattle.std.specs.Prelude.{◌≡◌, ℕ, ◌+◌, ◌≤◌, ◌<◌, ◌↔◌, max, Bool, true, false, List, [], ◌∷◌, map, filter, take, slice_get, Some}
-use Rattle.napt_capture.specs.Contents.{CapturedRecord}
+use Rattle.napt_capture.specs.Contents.{RecordModel}
 use Rattle.napt_rules.specs.Prelude.{Arrival, Side, Inside, Outside}
 
 -- what a record and its input have in common: their time and bytes
-abbrev pub of_record : CapturedRecord → ℕ × List ℕ
+abbrev pub of_record : RecordModel → ℕ × List ℕ
 of_record entry = (entry.time, entry.bytes)
 
 abbrev pub of_input : Arrival → ℕ × List ℕ
@@ -44,7 +44,7 @@ HaveClocks inputs = (place : ℕ) (input : Arrival) → slice_get inputs place �
     input.clock ≡ clock_at place inputs
 
 -- each side's inputs are its records in order, and the sides are in order
-pub record IsMerged (insides outsides : List CapturedRecord) (inputs : List Arrival) : Type 0 where
+pub record IsMerged (insides outsides : List RecordModel) (inputs : List Arrival) : Type 0 where
   pub inside : map of_input (filter (is_from Inside) inputs) ≡ map of_record insides
   pub outside : map of_input (filter (is_from Outside) inputs) ≡ map of_record outsides
   pub order : AreInOrder inputs

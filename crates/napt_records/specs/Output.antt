@@ -2,7 +2,7 @@
 -- input.
 use Rattle.std.specs.Prelude.{ℕ, ◌*◌, ◌<◌, ◌^◌, List, filter_map, zip, Option, Some, None}
 use Rattle.napt_wire.specs.declared.Side.{Side, TheVariants.{Inside, Outside}}
-use Rattle.napt_capture.specs.{Contents.CapturedRecord, Text.entry_of_packet}
+use Rattle.napt_capture.specs.{Contents.RecordModel, Text.entry_of_packet}
 use Rattle.napt_rules.specs.{declared.Outcome.{Outcome, TheVariants.{ToOutside, ToInside}}, Prelude.Arrival}
 
 -- the packet that an outcome sends to a side
@@ -11,11 +11,11 @@ packet_to Outside (ToOutside packet) = Some packet
 packet_to Inside (ToInside packet) = Some packet
 packet_to side other = None
 
-abbrev pub record_at : ℕ → Option (List ℕ) → Option CapturedRecord
+abbrev pub record_at : ℕ → Option (List ℕ) → Option RecordModel
 record_at time (Some packet) = Some (entry_of_packet time packet)
 record_at time None = None
 
-abbrev pub records_to : Side → List Arrival → List Outcome → List CapturedRecord
+abbrev pub records_to : Side → List Arrival → List Outcome → List RecordModel
 records_to side arrivals outcomes =
     filter_map (λ pair. record_at pair.0.time (packet_to side pair.1)) (zip arrivals outcomes)
 

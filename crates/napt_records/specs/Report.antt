@@ -4,14 +4,14 @@ use Rattle.std.specs.Prelude.{ℕ, Bool, true, false, List, [], ◌∷◌, ◌++
 use denote.Enum.Bare.{sameb}
 use Rattle.napt_wire.specs.{contracts.Cause.the_type, declared.Cause.Cause}
 use Rattle.napt_rules.specs.Prelude.{Truncated, NotIpv4, BadHeader, BadChecksum, Fragment, Unsupported, BadInner, BadPort, Spoofed, NotOurs, NoBinding, Filtered, OverQuota, NoPort, Endpoint, Protocol, Icmp, Tcp, Udp, address_text}
-use Rattle.napt_rules.specs.{declared.{Row.Row, Outcome.{Outcome, TheVariants.{ToOutside, ToInside, Dropped}}}, Prelude.Ran}
+use Rattle.napt_rules.specs.{declared.{Row.Row, Outcome.{Outcome, TheVariants.{ToOutside, ToInside, Dropped}}}, Prelude.RunResult}
 
-abbrev pub Text : Type 0
-Text = List ℕ
+abbrev pub ReportText : Type 0
+ReportText = List ℕ
 
 -- COUNTS
 
-abbrev pub count_line : Text → ℕ → Text
+abbrev pub count_line : ReportText → ℕ → ReportText
 count_line name count = name ++ codes " " ++ decimal count ++ codes "\n"
 
 abbrev pub is_to_outside : Outcome → Bool
@@ -29,7 +29,7 @@ causes =
     ∷ NoBinding ∷ Filtered
     ∷ OverQuota ∷ NoPort ∷ []
 
-abbrev pub cause_name : Cause → Text
+abbrev pub cause_name : Cause → ReportText
 cause_name Truncated = codes "truncated"
 cause_name NotIpv4 = codes "not-ipv4"
 cause_name BadHeader = codes "bad-header"
@@ -50,31 +50,31 @@ abbrev pub is_dropped : Cause → Outcome → Bool
 is_dropped cause (Dropped given) = sameb the_type given cause
 is_dropped cause other = false
 
-abbrev pub drop_line : List Outcome → Cause → Text
+abbrev pub drop_line : List Outcome → Cause → ReportText
 drop_line outcomes cause = codes "drop " ++ count_line (cause_name cause) (count_by (is_dropped cause) outcomes)
 
 -- CUTS
 
-abbrev pub cut_line : Text → Bool → Text
+abbrev pub cut_line : ReportText → Bool → ReportText
 cut_line side true = codes "cut " ++ side ++ codes "\n"
 cut_line side false = []
 
 -- BINDINGS
 
-abbrev pub protocol_name : Protocol → Text
+abbrev pub protocol_name : Protocol → ReportText
 protocol_name Icmp = codes "icmp"
 protocol_name Tcp = codes "tcp"
 protocol_name Udp = codes "udp"
 
 -- the address and the number, even the 0 of an echo's other end
-abbrev pub endpoint_text : Endpoint → Text
+abbrev pub endpoint_text : Endpoint → ReportText
 endpoint_text endpoint = address_text endpoint.address ++ codes ":" ++ decimal endpoint.number
 
-abbrev pub fixed_text : Bool → Text
+abbrev pub fixed_text : Bool → ReportText
 fixed_text true = codes " fixed"
 fixed_text false = []
 
-abbrev pub row_line : Row → Text
+abbrev pub row_line : Row → ReportText
 row_line row =
     protocol_name row.protocol ++ codes " " ++ endpoint_text row.inside ++ codes " " ++ endpoint_text row.external
     ++ fixed_text row.fixed
@@ -82,19 +82,19 @@ row_line row =
 
 -- ALL
 
-abbrev pub counts_text : List Outcome → Text
+abbrev pub counts_text : List Outcome → ReportText
 counts_text outcomes =
     count_line (codes "packets") (length outcomes)
     ++ count_line (codes "to outside") (count_by is_to_outside outcomes)
     ++ count_line (codes "to inside") (count_by is_to_inside outcomes)
     ++ flat_map (drop_line outcomes) causes
 
-abbrev pub cuts_text : Bool → Bool → Text
+abbrev pub cuts_text : Bool → Bool → ReportText
 cuts_text inside outside = cut_line (codes "inside") inside ++ cut_line (codes "outside") outside
 
-abbrev pub report_of : Bool → Bool → List Outcome → List Row → Text
+abbrev pub report_of : Bool → Bool → List Outcome → List Row → ReportText
 report_of cut_inside cut_outside outcomes bindings =
     counts_text outcomes ++ cuts_text cut_inside cut_outside ++ flat_map row_line bindings
 
-unfoldable pub report_text : Bool → Bool → Ran → Text
+unfoldable pub report_text : Bool → Bool → RunResult → ReportText
 report_text cut_inside cut_outside ran = report_of cut_inside cut_outside ran.outcomes ran.bindings

@@ -1,7 +1,7 @@
 //! The report: how many packets arrived and what became of them, which captures were cut, and the bindings.
 ghost use Rattle.std.specs.Prelude.{◌≡◌, ◌-◌, ◌^◌, ◌<◌, ◌++◌, ◌∷◌, [], List, IfOk, OnOk, codes, count_by, flat_map, length, slice_index, string_bytes};
 ghost use Rattle.napt_rules.specs.declared.Outcome.{Outcome};
-ghost use Rattle.napt_records.specs.Counts.{AreCountsOf, place_of};
+ghost use Rattle.napt_records.specs.Counts.{AreCountsOf, cause_place};
 ghost use Rattle.napt_records.specs.Report as model;
 
 use crate::names::{EndpointText, cause_name, protocol_name};
@@ -12,7 +12,7 @@ use std::alloc::{AllocError, Global};
 
 /// How many inputs arrived, and what became of them.
 #[derive(Clone, Copy)]
-pub struct Counts {
+pub struct OutcomeCounts {
     packets: u64,
     to_outside: u64,
     to_inside: u64,
@@ -20,12 +20,12 @@ pub struct Counts {
     dropped: [u64; 14],
 }
 
-impl Counts {
+impl OutcomeCounts {
     /// The counts of no inputs.
-    pub fn new() -> Counts
+    pub fn new() -> OutcomeCounts
         ensures { AreCountsOf [] result }
     {
-        Counts {
+        OutcomeCounts {
             packets: 0,
             to_outside: 0,
             to_inside: 0,
@@ -82,10 +82,10 @@ impl Counts {
     }
 }
 
-fn counts_of(outcomes: &[Outcome]) -> Counts
+fn counts_of(outcomes: &[Outcome]) -> OutcomeCounts
     ensures { AreCountsOf outcomes.now result }
 {
-    let mut counts = Counts::new();
+    let mut counts = OutcomeCounts::new();
     for outcome in outcomes {
         counts.count(outcome);
     }
@@ -110,7 +110,7 @@ fn push_drops(
 ) -> Result<(), AllocError>
     ensures { OnOk result (string_bytes report.new ≡ string_bytes report.old ++ flat_map (λ cause.
         codes "drop " ++ model.count_line (model.cause_name cause)
-        (slice_index dropped.now (place_of cause))) causes.now) }
+        (slice_index dropped.now (cause_place cause))) causes.now) }
 {
     for cause in causes {
         report.push_str("drop ")?;
@@ -144,7 +144,7 @@ fn push_rows(alloc: Global, report: &mut String, rows: &[Row]) -> Result<(), All
 }
 
 /// Adds the lines that count the packets.
-fn push_counts(alloc: Global, report: &mut String, counts: &Counts) -> Result<(), AllocError>
+fn push_counts(alloc: Global, report: &mut String, counts: &OutcomeCounts) -> Result<(), AllocError>
     ensures { (outcomes : List Outcome) → AreCountsOf outcomes counts.now → OnOk result
         (string_bytes report.new ≡ string_bytes report.old ++ model.counts_text outcomes) }
 {
@@ -176,7 +176,7 @@ fn push_cuts(report: &mut String, cut_inside: bool, cut_outside: bool) -> Result
 /// after a redirect. Fails only if memory runs out.
 pub fn report_of(
     alloc: Global,
-    counts: &Counts,
+    counts: &OutcomeCounts,
     bindings: &[Row],
     cut_inside: bool,
     cut_outside: bool,

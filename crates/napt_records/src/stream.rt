@@ -1,13 +1,13 @@
 //! A capture that is read as it arrives.
 ghost use Rattle.std.specs.Prelude.{◌≡◌, ◌^◌, ◌-◌, ◌<◌, None};
 
-use napt_capture::{CaptureFault, Next, Record, Records, Source};
+use napt_capture::{CaptureFault, NextRead, Record, RecordReader, Source};
 use std::alloc::Global;
 use std::mem;
 
 /// The source of a capture, and the fault that ended reading it.
 #[derive(Drop)]
-struct Live<'a, R: Source> {
+struct OpenCapture<'a, R: Source> {
     source: &'a mut R,
     /// Why reading ended early, if it did.
     fault: Option<CaptureFault>,
@@ -16,38 +16,42 @@ struct Live<'a, R: Source> {
 
 /// A capture that is read record by record.
 #[derive(Drop)]
-pub struct Stream<'a, R: Source> {
-    live: Live<'a, R>,
-    records: Records,
+pub struct RecordStream<'a, R: Source> {
+    live: OpenCapture<'a, R>,
+    records: RecordReader,
     /// Whether it ends inside a record, once its end is reached.
     cut: Option<bool>,
 }
 
-impl<'a, R: Source> Live<'a, R> {
+impl<'a, R: Source> OpenCapture<'a, R> {
     ghost use Rattle.std.specs.Prelude.{◌≡◌, ◌+◌, ◌^◌, ◌-◌, ◌<◌, None, IfOk, IfErr, Err, OnErr, OnOk};
     ghost use Rattle.napt_capture.specs.Capture.{failed_reads};
-    ghost use Rattle.napt_capture.specs.Reading.{Gives, IsWritableNext, Says};
-    ghost use Rattle.napt_capture.specs.Records.{Asks, KeepsLeft, Tells, next_number, left_of};
+    ghost use Rattle.napt_capture.specs.Reading.{LeavesBytes, IsWritableNext, IsReadResult};
+    ghost use Rattle.napt_capture.specs.RecordReaders.{RecordsAskSource, HandsOutNothing, HandsOutNext, next_number, remaining_text};
 
     /// Reads the next record. After a fault, reads nothing and returns the same fault.
     #[inline(always)]
-    fn next(&mut self, records: &mut Records, vector: Vec<u8>) -> Result<Next, CaptureFault>
+    fn next(
+        &mut self,
+        records: &mut RecordReader,
+        vector: Vec<u8>,
+    ) -> Result<NextRead, CaptureFault>
         ensures name { self.new.source.ghost_name ≡ self.old.source.ghost_name }
-        ensures next { self.old.fault ≡ None → Says result (Gives
-            (left_of records.old (R.remaining self.old.source.now))
-            (left_of records.new (R.remaining self.new.source.now)) (Tells records.old result)) }
+        ensures next { self.old.fault ≡ None → IsReadResult result (LeavesBytes
+            (remaining_text records.old (R.remaining self.old.source.now))
+            (remaining_text records.new (R.remaining self.new.source.now)) (HandsOutNext records.old result)) }
         ensures good { OnOk result (self.old.fault ≡ None) }
         ensures number { self.old.fault ≡ None →
             IfOk result (λ next. records.new.number ≡ next_number next records.old.number) }
         ensures spelling { records.new.spelling ≡ records.old.spelling }
         ensures live { OnOk result (self.new.fault ≡ self.old.fault) }
-        ensures kept { self.old.fault ≡ None → OnErr result (KeepsLeft
+        ensures kept { self.old.fault ≡ None → OnErr result (HandsOutNothing
             records.old (R.remaining self.old.source.now)
             records.new (R.remaining self.new.source.now)) }
         ensures writable { IfOk result IsWritableNext }
         ensures count { self.old.fault ≡ None →
             R.failed self.new.source.now ≡ R.failed self.old.source.now + failed_reads result }
-        ensures asks { (¬ Asks records.old) → self.new.source.now ≡ self.old.source.now }
+        ensures asks { (¬ RecordsAskSource records.old) → self.new.source.now ≡ self.old.source.now }
     {
         if let Some(fault) = self.fault {
             return Err(fault);
@@ -62,17 +66,17 @@ impl<'a, R: Source> Live<'a, R> {
     }
 }
 
-impl<'a, R: Source> Stream<'a, R> {
+impl<'a, R: Source> RecordStream<'a, R> {
     ghost use Rattle.std.specs.Prelude.{◌≡◌, ◌+◌, ◌^◌, ◌-◌, ◌<◌, None, All, IfSome, IfErr, Err, OnErr, OnOk, IsSome, option_to_list, [], false, true};
     ghost use Rattle.napt_capture.specs.Capture.{failed_reads};
-    ghost use Rattle.napt_capture.specs.Reading.{StopsBy};
+    ghost use Rattle.napt_capture.specs.Reading.{IsReadFault};
     ghost use Rattle.napt_capture.specs.Text.{IsWritable};
-    ghost use Rattle.napt_capture.specs.Records.{KeepsLeft};
-    ghost use Rattle.napt_records.specs.Merged.{AsksSource, Counts, IsLive, IsSame};
-    ghost use Rattle.napt_records.specs.Rests.{Stays, stream_holds};
+    ghost use Rattle.napt_capture.specs.RecordReaders.{HandsOutNothing};
+    ghost use Rattle.napt_records.specs.StreamMergers.{AsksSource, CountsFailures, IsStreamLive, HasSameSource};
+    ghost use Rattle.napt_records.specs.UnreadInputs.{KnownStays, stream_holds};
 
     /// The capture of a source whose header has been read.
-    pub fn new(source: &'a mut R, records: Records) -> Stream<'a, R>
+    pub fn new(source: &'a mut R, records: RecordReader) -> RecordStream<'a, R>
         requires { R.failed source.old < 2 ^ 64 - 1 }
         ensures name { result.live.source.ghost_name ≡ source.entry.ghost_name }
         ensures value { result.live.source.now ≡ source.old }
@@ -80,8 +84,8 @@ impl<'a, R: Source> Stream<'a, R> {
         ensures records { result.records ≡ records }
         ensures cut { result.cut ≡ None }
     {
-        Stream {
-            live: Live {
+        RecordStream {
+            live: OpenCapture {
                 source,
                 fault: None,
             },
@@ -99,22 +103,22 @@ impl<'a, R: Source> Stream<'a, R> {
         first: &mut Option<Record>,
         spare: &mut Vec<u8>,
     ) -> Result<(), CaptureFault>
-        ensures name { IsSame self.old self.new }
+        ensures name { HasSameSource self.old self.new }
         ensures live { OnOk result (self.new.live.fault ≡ self.old.live.fault) }
-        ensures rest { IsLive self.old → OnOk result (Stays
+        ensures rest { IsStreamLive self.old → OnOk result (KnownStays
             (stream_holds self.old first.old) (stream_holds self.new first.new)) }
-        ensures fault { IsLive self.old → IfErr result (λ fault. StopsBy fault
+        ensures fault { IsStreamLive self.old → IfErr result (λ fault. IsReadFault fault
             (IfSome (stream_holds self.old first.old)
             (λ held. held ≡ record { records = []; end = Err fault }))) }
         ensures told { OnOk result (first.new ≡ None → IsSome self.new.cut) }
-        ensures kept { IsLive self.old → OnErr result (KeepsLeft
+        ensures kept { IsStreamLive self.old → OnErr result (HandsOutNothing
             self.old.records (R.remaining self.old.live.source.now)
             self.new.records (R.remaining self.new.live.source.now)) }
         ensures unchanged { OnErr result ((self.new.cut ≡ self.old.cut)
             × (first.new ≡ first.old)) }
         ensures writable { OnOk result (All IsWritable (option_to_list first.old) →
             All IsWritable (option_to_list first.new)) }
-        ensures count { IsLive self.old → Counts self.old (failed_reads result) self.new }
+        ensures count { IsStreamLive self.old → CountsFailures self.old (failed_reads result) self.new }
         // The source is read only if the next record isn't known without it.
         ensures asks { (¬ AsksSource self.old first.old) →
             self.new.live.source.now ≡ self.old.live.source.now }
@@ -124,8 +128,8 @@ impl<'a, R: Source> Stream<'a, R> {
         }
         let vector = mem::replace(spare, Vec::new(alloc));
         match self.live.next(&mut self.records, vector)? {
-            Next::Whole(record) => *first = Some(record),
-            Next::End(cut) => self.cut = Some(cut),
+            NextRead::Whole(record) => *first = Some(record),
+            NextRead::End(cut) => self.cut = Some(cut),
         }
         Ok(())
     }
@@ -150,12 +154,12 @@ impl<'a, R: Source> Stream<'a, R> {
         ensures name { result.ghost_name ≡ self.entry.live.source.ghost_name }
         ensures value { result.now ≡ self.entry.live.source.now }
     {
-        let Stream {
+        let RecordStream {
             live,
             records: _,
             cut: _,
         } = self;
-        let Live { source, fault: _ } = live;
+        let OpenCapture { source, fault: _ } = live;
         source
     }
 }

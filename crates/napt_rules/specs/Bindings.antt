@@ -5,7 +5,7 @@
 -- has the same external address, that of its pairing.
 use Rattle.std.specs.Prelude.{ℕ, ◌==◌, Bool, true, false, ◌&&◌, List, filter}
 use Rattle.napt_wire.specs.declared.{Protocol.{Protocol, TheVariants.{Icmp, Tcp, Udp}}, Endpoint.Endpoint}
-use Rattle.napt_rules.specs.declared.{Flow.Flow, Row.Row, Binding.Binding as BindingOf}
+use Rattle.napt_rules.specs.declared.{Flow.Flow, Row.Row, StoredBinding.StoredBinding as BindingOf}
 
 -- with its flows as a list, in the order in which they began
 abbrev pub Binding : Type 0
@@ -32,8 +32,8 @@ abbrev pub is_at : ℕ → Row → Bool
 is_at address row = row.external.address == address
 
 -- the bindings of one external address
-abbrev pub of : ℕ → List Binding → List Binding
-of address list = filter (λ b. is_at address b.row) list
+abbrev pub bindings_at : ℕ → List Binding → List Binding
+bindings_at address list = filter (λ b. is_at address b.row) list
 
 -- at the address, under the protocol, of this inside endpoint
 abbrev pub is_of_inside : ℕ → Protocol → Endpoint → Row → Bool

@@ -11,7 +11,7 @@
 use Rattle.std.specs.Prelude.{ℕ, ◌+◌, ◌*◌, ◌/◌, ◌%◌, ◌==◌, nat_lt, nat_le, Bool, true, false, not, ◌&&◌, ◌||◌, List, ◌∷◌, ◌++◌, map, filter, length, Option, Some, None}
 use Rattle.std.specs.{Bool.beq, List.{range_with_len, slice_index_or}, Int.{w16, w32, to_be_bytes}}
 use Rattle.std.specs.Hash.DefaultHasher as sip
-use Rattle.napt_config.specs.declared.settings.{Block.Block, Choosing.Choosing, Seed.Seed}
+use Rattle.napt_config.specs.declared.settings.{PortBlock.PortBlock, NumberAssignment.NumberAssignment, Seed.Seed}
 use Rattle.napt_wire.specs.declared.{Endpoint.Endpoint, Protocol.{Protocol, TheVariants.{Icmp, Tcp, Udp}}}
 
 -- a port that may stand for a port: it is not 0, on the same side of 1024 and, where that is kept, of the same parity
@@ -54,17 +54,17 @@ start_of (Some seed) numbers protocol inside =
     slice_index_or numbers (mixed seed protocol inside % length numbers) inside.number
 
 -- the numbers that may stand for that of an inside endpoint, from the first on
-abbrev pub candidates_in_class : Choosing → Protocol → Endpoint → List ℕ
+abbrev pub candidates_in_class : NumberAssignment → Protocol → Endpoint → List ℕ
 candidates_in_class choosing protocol inside =
     let numbers : List ℕ = numbers_for choosing.keeps_parity protocol inside.number in
     upwards (start_of choosing.seed numbers protocol inside) numbers
 
 -- every other number of a block, once, from a place of it on and wrapping inside it
-abbrev pub every_other : Block → ℕ → List ℕ
+abbrev pub every_other : PortBlock → ℕ → List ℕ
 every_other block place = map (λ k. block.first + (place + 2 * k) % block.size) (numbers_below (block.size / 2))
 
 -- every number of a block, likewise
-abbrev pub each_one : Block → ℕ → List ℕ
+abbrev pub each_one : PortBlock → ℕ → List ℕ
 each_one block place = map (λ k. block.first + (place + k) % block.size) (numbers_below block.size)
 
 -- the place in a block of the number that is tried first; where parity is kept it has the number's
@@ -75,15 +75,15 @@ place_in (Some seed) false size protocol inside = mixed seed protocol inside % s
 
 -- the numbers of a block, first and size even, from a place on: where parity is kept those of the place's parity, then
 -- the others from the next place on
-abbrev pub block_from : Bool → Block → ℕ → List ℕ
+abbrev pub block_from : Bool → PortBlock → ℕ → List ℕ
 block_from true block place = every_other block place ++ every_other block (place + 1)
 block_from false block place = each_one block place
 
-abbrev pub candidates_in_block : Choosing → Block → Protocol → Endpoint → List ℕ
+abbrev pub candidates_in_block : NumberAssignment → PortBlock → Protocol → Endpoint → List ℕ
 candidates_in_block choosing block protocol inside =
     block_from choosing.keeps_parity block (place_in choosing.seed choosing.keeps_parity block.size protocol inside)
 
 -- those of a host without a block, and of one with it
-abbrev pub candidates : Choosing → Option Block → Protocol → Endpoint → List ℕ
+abbrev pub candidates : NumberAssignment → Option PortBlock → Protocol → Endpoint → List ℕ
 candidates choosing None protocol inside = candidates_in_class choosing protocol inside
 candidates choosing (Some block) protocol inside = candidates_in_block choosing block protocol inside

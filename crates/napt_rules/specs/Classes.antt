@@ -3,7 +3,7 @@
 -- and the one at the place comes first.
 use Rattle.std.specs.Prelude.{◌≡◌, ◌≢◌, ℕ, ◌+◌, ◌<◌, ◌≤◌, ◌%◌, nat_lt, Bool, true, List, ◌∷◌, filter, length, Option, Some, None, ◌↔◌}
 use Rattle.std.specs.List.{AllPairs, Contains}
-use Rattle.napt_config.specs.{Rules.IsBlock, declared.settings.{Block.Block, Choosing.Choosing, Seed.Seed}}
+use Rattle.napt_config.specs.{Rules.IsPortBlock, declared.settings.{PortBlock.PortBlock, NumberAssignment.NumberAssignment, Seed.Seed}}
 use Rattle.napt_wire.specs.declared.{Endpoint.Endpoint, Protocol.{Protocol, TheVariants.Icmp}}
 use Rattle.napt_rules.specs.Candidates.{numbers_for, mixed, place_in, candidates}
 
@@ -22,53 +22,53 @@ IsNumberFor keeps_parity _ port number = IsPortFor keeps_parity port number
 
 -- the first candidate: the number itself, which is preserved where it is free; or the one below which there are as
 -- many that may stand for it as the hash says
-abbrev pub IsFirst : Option Seed → Bool → Protocol → Endpoint → ℕ → Type 0
-IsFirst None keeps_parity protocol inside first = first ≡ inside.number
-IsFirst (Some seed) keeps_parity protocol inside first =
+abbrev pub IsFirstCandidate : Option Seed → Bool → Protocol → Endpoint → ℕ → Type 0
+IsFirstCandidate None keeps_parity protocol inside first = first ≡ inside.number
+IsFirstCandidate (Some seed) keeps_parity protocol inside first =
     let numbers : List ℕ = numbers_for keeps_parity protocol inside.number in
     length (filter (λ other. nat_lt other first) numbers) ≡ mixed seed protocol inside % length numbers
 
-abbrev pub CandidatesBegin : Type 0
-CandidatesBegin = (choosing : Choosing) (protocol : Protocol) (inside : Endpoint) →
+abbrev pub CandidatesBeginWithTheirFirst : Type 0
+CandidatesBeginWithTheirFirst = (choosing : NumberAssignment) (protocol : Protocol) (inside : Endpoint) →
     IsNumberFor choosing.keeps_parity protocol inside.number inside.number →
     (first : ℕ) × (others : List ℕ) × (candidates choosing None protocol inside ≡ first ∷ others)
-    × IsFirst choosing.seed choosing.keeps_parity protocol inside first
+    × IsFirstCandidate choosing.seed choosing.keeps_parity protocol inside first
 
 -- they are exactly the numbers that may stand for it
-abbrev pub CandidatesAreThose : Type 0
-CandidatesAreThose = (choosing : Choosing) (protocol : Protocol) (inside : Endpoint) (n : ℕ) →
+abbrev pub CandidatesAreTheirClass : Type 0
+CandidatesAreTheirClass = (choosing : NumberAssignment) (protocol : Protocol) (inside : Endpoint) (n : ℕ) →
     Contains (candidates choosing None protocol inside) n ↔ IsNumberFor choosing.keeps_parity protocol inside.number n
 
 -- each once
 abbrev pub CandidatesDiffer : Type 0
-CandidatesDiffer = (choosing : Choosing) (protocol : Protocol) (inside : Endpoint) →
+CandidatesDiffer = (choosing : NumberAssignment) (protocol : Protocol) (inside : Endpoint) →
     AllPairs (λ m n. m ≢ n) (candidates choosing None protocol inside)
 
 -- IN A BLOCK
 
-pub record IsOfBlock (block : Block) (number : ℕ) : Type 0 where
+pub record IsBlockNumber (block : PortBlock) (number : ℕ) : Type 0 where
   pub first : block.first ≤ number
   pub last : number < block.first + block.size
 
 -- the candidates begin with the number of the block that is at the place: where numbers are preserved, as far from the
 -- block's first as the number is past a multiple of its size
-abbrev pub BlockBegins : Type 0
-BlockBegins = (choosing : Choosing) (block : Block) → IsBlock block → (protocol : Protocol) (inside : Endpoint) →
+abbrev pub BlockCandidatesBegin : Type 0
+BlockCandidatesBegin = (choosing : NumberAssignment) (block : PortBlock) → IsPortBlock block → (protocol : Protocol) (inside : Endpoint) →
     let place : ℕ = place_in choosing.seed choosing.keeps_parity block.size protocol inside in
     (place < block.size)
     × ((others : List ℕ) × (candidates choosing (Some block) protocol inside ≡ (block.first + place) ∷ others))
 
 -- they are exactly the numbers of the block
-abbrev pub BlockIsThose : Type 0
-BlockIsThose = (choosing : Choosing) (block : Block) → IsBlock block → (protocol : Protocol) (inside : Endpoint)
-    (n : ℕ) → Contains (candidates choosing (Some block) protocol inside) n ↔ IsOfBlock block n
+abbrev pub BlockCandidatesAreTheBlock : Type 0
+BlockCandidatesAreTheBlock = (choosing : NumberAssignment) (block : PortBlock) → IsPortBlock block → (protocol : Protocol) (inside : Endpoint)
+    (n : ℕ) → Contains (candidates choosing (Some block) protocol inside) n ↔ IsBlockNumber block n
 
 -- each once
-abbrev pub BlockDiffers : Type 0
-BlockDiffers = (choosing : Choosing) (block : Block) → IsBlock block → (protocol : Protocol) (inside : Endpoint) →
+abbrev pub BlockCandidatesDiffer : Type 0
+BlockCandidatesDiffer = (choosing : NumberAssignment) (block : PortBlock) → IsPortBlock block → (protocol : Protocol) (inside : Endpoint) →
     AllPairs (λ m n. m ≢ n) (candidates choosing (Some block) protocol inside)
 
 -- where parity is kept, the place has that of the number
-abbrev pub BlockKeepsParity : Type 0
-BlockKeepsParity = (seed : Option Seed) (block : Block) → IsBlock block → (protocol : Protocol) (inside : Endpoint) →
+abbrev pub BlockCandidatesKeepParity : Type 0
+BlockCandidatesKeepParity = (seed : Option Seed) (block : PortBlock) → IsPortBlock block → (protocol : Protocol) (inside : Endpoint) →
     place_in seed true block.size protocol inside % 2 ≡ inside.number % 2

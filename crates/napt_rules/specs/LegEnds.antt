@@ -1,23 +1,23 @@
 -- What every leg keeps to, whatever the bindings.
 use Rattle.std.specs.Prelude.{◌≡◌, ℕ, Bool, true, false, List, Option, Some, None}
 use Rattle.napt_wire.specs.{declared.Way.TheVariants.{Incoming, Outgoing}, Fields.{destination, kind, is_error}}
-use Rattle.napt_config.specs.Rules.{Rules, place_of}
-use Rattle.napt_rules.specs.{OwnTime.{Kept, kept_answer, kept_after}, declared.{Leg.Leg, End.{End, TheVariants.{ToOutside, ToInside, Onward, Dropped}}}}
+use Rattle.napt_config.specs.Rules.{Rules, pool_place}
+use Rattle.napt_rules.specs.{LocalTime.{LocalState, local_answer, local_after}, declared.{Leg.Leg, End.{End, TheVariants.{ToOutside, ToInside, Onward, Dropped}}}}
 
 -- an ICMP error changes no binding and no time (RFC 4787, REQ-12; RFC 5508, REQ-6)
 abbrev pub ErrorsChangeNothing : Type 0
-ErrorsChangeNothing = (rules : Rules) (address : ℕ) (leg : Leg) (kept : Kept) → is_error (kind leg.packet) ≡ true →
-    kept_after rules address leg kept ≡ kept
+ErrorsChangeNothing = (rules : Rules) (address : ℕ) (leg : Leg) (kept : LocalState) → is_error (kind leg.packet) ≡ true →
+    local_after rules address leg kept ≡ kept
 
 -- what leaves goes to no external address of the pool, and what goes onward to the one at that place (RFC 4787, REQ-9)
 abbrev pub IsToItsSide : Rules → End → Type 0
-IsToItsSide rules (ToOutside packet) = place_of rules (destination packet).address ≡ None
-IsToItsSide rules (Onward place packet) = place_of rules (destination packet).address ≡ Some place
+IsToItsSide rules (ToOutside packet) = pool_place rules (destination packet).address ≡ None
+IsToItsSide rules (Onward place packet) = pool_place rules (destination packet).address ≡ Some place
 IsToItsSide rules _ = Unit {0}
 
 abbrev pub LegsEndAtTheirSide : Type 0
-LegsEndAtTheirSide = (rules : Rules) (address : ℕ) (leg : Leg) (kept : Kept) →
-    IsToItsSide rules (kept_answer rules address leg kept).end
+LegsEndAtTheirSide = (rules : Rules) (address : ℕ) (leg : Leg) (kept : LocalState) →
+    IsToItsSide rules (local_answer rules address leg kept).end
 
 -- to the inside, or dropped
 abbrev pub is_in_or_dropped : End → Bool
@@ -25,9 +25,9 @@ is_in_or_dropped (ToInside packet) = true
 is_in_or_dropped (Dropped cause) = true
 is_in_or_dropped _ = false
 
-abbrev pub InStaysIn : Type 0
-InStaysIn = (rules : Rules) (address : ℕ) (leg : Leg) (kept : Kept) → leg.way ≡ Incoming →
-    is_in_or_dropped (kept_answer rules address leg kept).end ≡ true
+abbrev pub InboundStaysInside : Type 0
+InboundStaysInside = (rules : Rules) (address : ℕ) (leg : Leg) (kept : LocalState) → leg.way ≡ Incoming →
+    is_in_or_dropped (local_answer rules address leg kept).end ≡ true
 
 -- HAIRPINS (RFC 4787, REQ-9)
 
@@ -41,7 +41,7 @@ IsForeseen None (Onward to packet) = ⊥
 IsForeseen None _ = Unit {0}
 
 -- however a packet goes out, whatever the bindings
-abbrev pub Foresees : Rules → List ℕ → Option ℕ → Type 0
-Foresees rules packet found =
-    (address : ℕ) (leg : Leg) (kept : Kept) → leg.way ≡ Outgoing → leg.packet ≡ packet →
-    IsForeseen found (kept_answer rules address leg kept).end
+abbrev pub RulesForeseeEnd : Rules → List ℕ → Option ℕ → Type 0
+RulesForeseeEnd rules packet found =
+    (address : ℕ) (leg : Leg) (kept : LocalState) → leg.way ≡ Outgoing → leg.packet ≡ packet →
+    IsForeseen found (local_answer rules address leg kept).end

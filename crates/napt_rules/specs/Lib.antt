@@ -31,7 +31,7 @@ pub mod Bindings
 pub mod Marks
 pub mod Life
 pub mod Filtering
-pub mod Traffic
+pub mod FlowUpdates
 -- ITS NUMBER
 
 pub mod Candidates
@@ -52,14 +52,14 @@ pub mod Inputs
 pub mod Admission
 pub mod Rows
 pub mod Sequential
-pub mod Taking
+pub mod Misfits
 -- LAWS of steps, of legs and of runs
 
 pub mod Endpoints
 pub mod StepLaws
-pub mod OwnTime
+pub mod LocalTime
 pub mod LegEnds
-pub mod GoingOn
+pub mod ResumedRuns
 pub mod RunLaws
 pub mod LocalRuns
 pub mod Prelude

@@ -5,30 +5,30 @@
 use Rattle.std.specs.Prelude.{ℕ, Bool, false, not, ◌&&◌, ◌||◌, cond}
 use Rattle.napt_wire.specs.declared.{Way.{Way, TheVariants.{Outgoing, Incoming}}, Flags.Flags}
 use Rattle.napt_config.specs.declared.settings.Timers.{Timers}
-use Rattle.napt_rules.specs.declared.Marks.{Marks}
+use Rattle.napt_rules.specs.declared.SessionMarks.{SessionMarks}
 
 -- a flow begins without marks
-abbrev pub no_marks : Marks
+abbrev pub no_marks : SessionMarks
 no_marks = record { syn_out = false; syn_in = false; fin_out = false; fin_in = false; reset = false }
 
 -- closing: reset, or finished both ways
-abbrev pub is_closing : Marks → Bool
+abbrev pub is_closing : SessionMarks → Bool
 is_closing marks = marks.reset || (marks.fin_out && marks.fin_in)
 
 -- a SYN without ACK on a closing flow begins a new session: all marks are cleared
-abbrev pub cleared : Marks → Flags → Marks
-cleared marks flags = cond (flags.syn && (not flags.ack && is_closing marks)) no_marks marks
+abbrev pub cleared_marks : SessionMarks → Flags → SessionMarks
+cleared_marks marks flags = cond (flags.syn && (not flags.ack && is_closing marks)) no_marks marks
 
 -- the marks that a segment sets. A SYN with ACK answers the other side's SYN, so it marks both
-abbrev pub noted : Marks → Way → Flags → Marks
-noted marks Outgoing flags = record {
+abbrev pub marks_of_segment : SessionMarks → Way → Flags → SessionMarks
+marks_of_segment marks Outgoing flags = record {
   syn_out = marks.syn_out || flags.syn;
   syn_in = marks.syn_in || (flags.syn && flags.ack);
   fin_out = marks.fin_out || flags.fin;
   fin_in = marks.fin_in;
   reset = marks.reset || flags.rst;
 }
-noted marks Incoming flags = record {
+marks_of_segment marks Incoming flags = record {
   syn_out = marks.syn_out || (flags.syn && flags.ack);
   syn_in = marks.syn_in || flags.syn;
   fin_out = marks.fin_out;
@@ -37,13 +37,13 @@ noted marks Incoming flags = record {
 }
 
 -- the marks after a segment
-abbrev pub marked : Marks → Way → Flags → Marks
-marked marks way flags = noted (cleared marks flags) way flags
+abbrev pub marked : SessionMarks → Way → Flags → SessionMarks
+marked marks way flags = marks_of_segment (cleared_marks marks flags) way flags
 
 -- an established session: a SYN each way, and not closing
-abbrev pub is_established : Marks → Bool
+abbrev pub is_established : SessionMarks → Bool
 is_established marks = (marks.syn_out && marks.syn_in) && not (is_closing marks)
 
 -- how long a flow may be idle, in seconds
-abbrev pub idle : Timers → Marks → ℕ
+abbrev pub idle : Timers → SessionMarks → ℕ
 idle timers marks = cond (is_established marks) timers.established timers.transitory

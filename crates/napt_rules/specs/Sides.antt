@@ -6,11 +6,11 @@ use Rattle.std.specs.Prelude.{ℕ, Bool, true, false, not, ◌&&◌, ◌||◌, c
 use Rattle.napt_wire.specs.declared.{Protocol.TheVariants.Icmp, Side.{Side, TheVariants.{Inside, Outside}}, Way.{Way, TheVariants.{Outgoing, Incoming}}}
 use Rattle.napt_wire.specs.declared.{Cause.{Cause, TheVariants.{Spoofed, NotOurs, Unsupported}}, Kind.{Kind, TheVariants.{Echo, ErrorOf}}}
 use Rattle.napt_wire.specs.Fields.{source, destination, kind, local_end}
-use Rattle.napt_config.specs.Rules.{Rules, pair_of, is_inside, place_of}
+use Rattle.napt_config.specs.Rules.{Rules, pair_of, is_inside, pool_place}
 use Rattle.napt_rules.specs.Bindings.{same_protocol}
 
 abbrev pub is_in_pool : Rules → ℕ → Bool
-is_in_pool rules address = is_some (place_of rules address)
+is_in_pool rules address = is_some (pool_place rules address)
 
 -- an echo, or an error about one
 abbrev pub is_about_echo : Kind → Bool
@@ -34,8 +34,8 @@ is_unsupported rules Inside packet = is_about_echo (kind packet) && is_in_pool r
 is_unsupported rules Outside packet = false
 
 -- the first cause that stands, if one does
-abbrev pub refusal : Rules → Side → List ℕ → Option Cause
-refusal rules side packet =
+abbrev pub side_refusal : Rules → Side → List ℕ → Option Cause
+side_refusal rules side packet =
     cond (is_spoofed rules side packet) (Some Spoofed)
     (cond (is_not_ours rules side packet) (Some NotOurs)
     (cond (is_unsupported rules side packet) (Some Unsupported) None))
@@ -50,9 +50,9 @@ served_at rules Outgoing packet = pair_of rules (local_end Outgoing packet).addr
 served_at rules Incoming packet = (destination packet).address
 
 -- the refusal, or the place in the pool of the address at which the packet is served
-abbrev pub routed : Rules → ℕ → Option Cause → Result ℕ Cause
-routed rules address (Some cause) = Err cause
-routed rules address None = ok_or (place_of rules address) NotOurs
+abbrev pub routed_by_refusal : Rules → ℕ → Option Cause → Result ℕ Cause
+routed_by_refusal rules address (Some cause) = Err cause
+routed_by_refusal rules address None = ok_or (pool_place rules address) NotOurs
 
 unfoldable pub route : Rules → Side → List ℕ → Result ℕ Cause
-route rules side packet = routed rules (served_at rules (way_from side) packet) (refusal rules side packet)
+route rules side packet = routed_by_refusal rules (served_at rules (way_from side) packet) (side_refusal rules side packet)

@@ -4,13 +4,13 @@
 //! The sources are RFC 3022, RFC 4787, RFC 5382, RFC 5508 and RFC 6888; each file names its sections.
 #![tactic(auto)]
 
-use napt_config::{Block, Choosing, Filter, Refresh};
+use napt_config::{Filter, MappingRefresh, NumberAssignment, PortBlock};
 use napt_wire::{Cause, Endpoint, Flags, Packet, Protocol, Way};
 use std::marker::Model;
 
 /// What a TCP flow was seen to do: a SYN and a FIN of each side, and a reset (RFC 5382, REQ-2 and REQ-5).
 #[derive(Clone, Copy, Debug, PartialEq, Eq)]
-pub struct Marks {
+pub struct SessionMarks {
     pub syn_out: bool,
     pub syn_in: bool,
     pub fin_out: bool,
@@ -23,7 +23,7 @@ pub struct Marks {
 pub struct Flow {
     pub remote: Endpoint,
     /// Outside TCP there are none.
-    pub marks: Marks,
+    pub marks: SessionMarks,
     /// The time at which it was last used, in ns.
     pub last: u64,
 }
@@ -41,7 +41,7 @@ pub struct Row {
 
 /// A row, kept in an `R`, and what packets did last, with its flows kept in an `F`; contracts see a `Row` and a list.
 #[derive(Drop)]
-pub struct Binding<R, F> {
+pub struct StoredBinding<R, F> {
     pub row: R,
     /// The time of the last outgoing packet (of UDP under `refresh = "both"`, of the last that went through it), in ns;
     /// 0 for a redirect.
@@ -54,7 +54,7 @@ pub struct Binding<R, F> {
 #[derive(Drop)]
 pub struct StateBinding {
     pub row: Row,
-    /// As that of a `Binding`, in ns.
+    /// As that of a `StoredBinding`, in ns.
     pub last: u64,
     /// In the order in which they began.
     pub flows: Vec<Flow>,
@@ -87,22 +87,22 @@ impl Model for State {
 
 /// How many bindings an inside host may have (RFC 6888, REQ-4), and how the number of a new one is chosen.
 #[derive(Clone, Copy)]
-pub struct Granting {
+pub struct AssignmentRules {
     /// Over all protocols, without redirects; `None` if there is no limit.
     pub quota: Option<u16>,
-    pub choosing: Choosing,
+    pub choosing: NumberAssignment,
 }
 
 /// Whom a binding lets in, and which of those packets keep it alive (RFC 4787, REQ-8 and REQ-6).
 #[derive(Clone, Copy, Debug, PartialEq, Eq)]
-pub struct Inbound {
+pub struct InboundRules {
     pub filter: Filter,
-    pub refresh: Refresh,
+    pub refresh: MappingRefresh,
 }
 
 /// A packet that goes out, and when.
 #[derive(Clone, Copy)]
-pub struct Sent {
+pub struct OutboundPacket {
     pub protocol: Protocol,
     /// Its source.
     pub inside: Endpoint,
@@ -113,12 +113,12 @@ pub struct Sent {
     /// The time, in ns.
     pub now: u64,
     /// The external numbers that are for its host alone, where the configuration gives each host some (RFC 7422, section 2).
-    pub block: Option<Block>,
+    pub block: Option<PortBlock>,
 }
 
 /// A packet that comes in, and when.
 #[derive(Clone, Copy)]
-pub struct Received {
+pub struct InboundPacket {
     pub protocol: Protocol,
     /// The external number to which it goes.
     pub number: u16,

@@ -4,14 +4,14 @@ use Rattle.std.{proofs.lemmas.{Grind.common_steps, Bool.Decides.nat_tests}, spec
 use Rattle.std.proofs.Common.{◌≡◌, ◌≢◌, ◌⊎◌, ℕ, ◌+◌, Bool, true, false, append-nil, List, Option, Result, Ok, Err, IfErr, IfOk, OnOk, refl, ◌∙◌, ap, subst}
 use Rattle.napt_wire.specs.declared.Side.TheVariants as sides
 use Rattle.napt_capture.specs.declared.device.Sink.{Ghosts}
-use Rattle.napt_dispatch.specs.declared.workers.Passed.{Passed}
-use Rattle.napt_run.specs.Origins.{Origin, ran_by}
+use Rattle.napt_dispatch.specs.declared.workers.RunSummary.{RunSummary}
+use Rattle.napt_run.specs.Origins.{OriginModel, ran_by}
 use Rattle.napt_records.specs.{Counts.AreCountsOf, Report.{report_of, report_text}, declared.{Fault.{Fault, TheVariants.{Run, Write}}, Which.Which}}
 use Rattle.napt_records.specs.{declared.Which.TheVariants.{Outside, Inside, Report}, Faults.tells_shut_gate}
 use Rattle.napt_rules.specs.{Prelude.{Arrival}, declared.Outcome.Outcome}
 use Rattle.napt_run.specs.{Captures.{failed_readings, failed_writings}, Runs.{IfHeld, IsToldOf, passed_if}}
-use Rattle.napt_run.specs.Streams.{DeviceGetsFrom, Explains, GetsReport, HasAll, HasPart, HasRead, HasText, IsOfRun, IsReading, IsReportFault, IsSettledBy, IsStopFault, LeavesInTheEnd, ReportGetsFrom, Reports, ReportsAll, Streams, ended}
-use Rattle.napt_run.{specs.declared.passing.Totals.Totals, proofs.Streamed.{IfHeld-all, IfHeld-map}}
+use Rattle.napt_run.specs.Streams.{DeviceGetsFrom, Explains, GetsReport, HasAll, HasPart, HasRead, HasText, IsOfRun, IsReading, IsReportFault, IsSettledBy, IsStopFault, LeavesInTheEnd, ReportGetsFrom, Reports, ReportsAll, Streams, stream_ended}
+use Rattle.napt_run.{specs.declared.capture_run.Totals.Totals, proofs.Streamed.{IfHeld-all, IfHeld-map}}
 use Rattle.napt_sequential.specs.declared.fault.RunFault.TheVariants as faults
 
 -- a fault that was told stays, and after a good run only its report fails
@@ -35,25 +35,25 @@ module _ (P : Result Totals Fault → Result (Unit {0}) Fault → Type 0) (well 
   at_end told result ends = grind (arith, common_steps, nat_tests, at_report)
 
 -- all of the text, where no report could be made of it
-pub all_left : (origin : Origin) (which : Which) (inside outside : Option (List ℕ)) (old new : Option (List ℕ)) →
+pub all_left : (origin : OriginModel) (which : Which) (inside outside : Option (List ℕ)) (old new : Option (List ℕ)) →
     IfHeld inside outside (λ all. HasAll origin which all old new) →
     IfHeld inside outside (λ all. HasText origin which all old new ⊎ HasPart origin which all old new)
 all_left origin which inside outside old new p = grind (arith, common_steps, nat_tests, IfHeld-map, append-nil)
 
-module _ (origin : Origin) (inside outside : Option (List ℕ)) (old new : Option
+module _ (origin : OriginModel) (inside outside : Option (List ℕ)) (old new : Option
     (List ℕ)) where
   outside_ends : (told : Result Totals Fault) (result : Result (Unit {0}) Fault) → Ends told result →
-      Streams origin Outside (ended told) inside outside old new →
-      Streams origin Outside (ended result) inside outside old new
-  outside_ends = at_end (λ told result. Streams origin Outside (ended told) inside outside old new →
-      Streams origin Outside (ended result) inside outside old new) (λ totals p. p) (λ totals fault p. p)
+      Streams origin Outside (stream_ended told) inside outside old new →
+      Streams origin Outside (stream_ended result) inside outside old new
+  outside_ends = at_end (λ told result. Streams origin Outside (stream_ended told) inside outside old new →
+      Streams origin Outside (stream_ended result) inside outside old new) (λ totals p. p) (λ totals fault p. p)
       (λ totals p. all_left origin Outside inside outside old new p) (λ fault p. p)
 
   inside_ends : (told : Result Totals Fault) (result : Result (Unit {0}) Fault) → Ends told result →
-      Streams origin Inside (ended told) inside outside old new →
-      Streams origin Inside (ended result) inside outside old new
-  inside_ends = at_end (λ told result. Streams origin Inside (ended told) inside outside old new →
-      Streams origin Inside (ended result) inside outside old new) (λ totals p. p) (λ totals fault p. p)
+      Streams origin Inside (stream_ended told) inside outside old new →
+      Streams origin Inside (stream_ended result) inside outside old new
+  inside_ends = at_end (λ told result. Streams origin Inside (stream_ended told) inside outside old new →
+      Streams origin Inside (stream_ended result) inside outside old new) (λ totals p. p) (λ totals fault p. p)
       (λ totals p. all_left origin Inside inside outside old new p) (λ fault p. p)
 
 pub explains_ends : (inside outside : Option (List ℕ)) (told : Result Totals Fault)
@@ -85,15 +85,15 @@ not_run : (told : Result Totals Fault) (result : Result (Unit {0}) Fault) → En
 not_run told result ends none = grind (arith, common_steps, nat_tests, at_end, not_stopped)
 
 outside_written : (told : Result Totals Fault) (result : Result (Unit {0}) Fault) → Ends told result →
-    (¬ IsOfRun result) → failed_writings Outside (ended told) ≡ failed_writings Outside (ended result)
+    (¬ IsOfRun result) → failed_writings Outside (stream_ended told) ≡ failed_writings Outside (stream_ended result)
 outside_written told result ends none = grind (arith, common_steps, nat_tests, at_end)
 
 inside_written : (told : Result Totals Fault) (result : Result (Unit {0}) Fault) → Ends told result →
-    (¬ IsOfRun result) → failed_writings Inside (ended told) ≡ failed_writings Inside (ended result)
+    (¬ IsOfRun result) → failed_writings Inside (stream_ended told) ≡ failed_writings Inside (stream_ended result)
 inside_written told result ends none = grind (arith, common_steps, nat_tests, at_end)
 
 settled_ends : (told : Result Totals Fault) (result : Result (Unit {0}) Fault) → Ends told result →
-    IsSettledBy (ended result) → IsSettledBy (ended told)
+    IsSettledBy (stream_ended result) → IsSettledBy (stream_ended told)
 settled_ends told result ends settled = grind (arith, common_steps, nat_tests, at_end)
 
 -- what reading came to is the same, and so many of its reads failed
@@ -139,13 +139,13 @@ module _ (told : Result Totals Fault) (result : Result (Unit {0}) Fault) (ends :
         theirs ∙ ap (λ (n : ℕ). if other + n) same.outside_same,
       )
 
-  pub settled_by : {P : Type 0} → (IsSettledBy (ended told) → P) → IsSettledBy (ended result) → P
+  pub settled_by : {P : Type 0} → (IsSettledBy (stream_ended told) → P) → IsSettledBy (stream_ended result) → P
   settled_by holds settled = holds (settled_ends told result ends settled)
 
-  module _ {D : Type 0} (S : Ghosts D) (origin : Origin) (inside outside : Option (List ℕ)) (old new : D) where
-    device_by : (which : Which) → (Streams origin which (ended told) inside outside (S.contents old) (S.contents new) →
-        Streams origin which (ended result) inside outside (S.contents old) (S.contents new)) →
-        ((¬ IsOfRun result) → failed_writings which (ended told) ≡ failed_writings which (ended result)) →
+  module _ {D : Type 0} (S : Ghosts D) (origin : OriginModel) (inside outside : Option (List ℕ)) (old new : D) where
+    device_by : (which : Which) → (Streams origin which (stream_ended told) inside outside (S.contents old) (S.contents new) →
+        Streams origin which (stream_ended result) inside outside (S.contents old) (S.contents new)) →
+        ((¬ IsOfRun result) → failed_writings which (stream_ended told) ≡ failed_writings which (stream_ended result)) →
         DeviceGetsFrom S origin which inside outside told old new →
         DeviceGetsFrom S origin which inside outside result old new
     device_by which gets writings p = grind (arith, common_steps, nat_tests, not_run, settled_by)
@@ -164,14 +164,14 @@ abbrev Written : Totals → Result (Unit {0}) Fault → Option (List ℕ) → Op
 Written totals result old new = (outcomes : List Outcome) → AreCountsOf outcomes totals.counts →
     GetsReport (report_of totals.cuts.inside totals.cuts.outside outcomes totals.passed.bindings.items) result old new
 
-text_told : (origin : Origin) (totals : Totals) (inputs : List Arrival) →
+text_told : (origin : OriginModel) (totals : Totals) (inputs : List Arrival) →
     totals.passed.bindings.items ≡ (ran_by origin inputs).bindings →
     report_of totals.cuts.inside totals.cuts.outside (ran_by origin inputs).outcomes totals.passed.bindings.items
     ≡ report_text totals.cuts.inside totals.cuts.outside (ran_by origin inputs)
 unfolding report_text
 text_told origin totals inputs is = grind (arith, common_steps, nat_tests)
 
-all_reported : (origin : Origin) (inside outside : Option (List ℕ)) (old new : Option (List ℕ))
+all_reported : (origin : OriginModel) (inside outside : Option (List ℕ)) (old new : Option (List ℕ))
     (totals : Totals) (result : Result (Unit {0}) Fault) → IsToldOf origin inside outside totals →
     Written totals result old new → IfHeld inside outside (λ all. ReportsAll origin result all old new)
 all_reported origin inside outside old new totals result told written =
@@ -188,12 +188,12 @@ abbrev pub IsBeforeReport : Fault → Type 0
 IsBeforeReport (Write Report fault) = ⊥
 IsBeforeReport other = Unit {0}
 
-nothing_reported : (origin : Origin) (inside outside : Option (List ℕ))
+nothing_reported : (origin : OriginModel) (inside outside : Option (List ℕ))
     (old new : Option (List ℕ)) (fault : Fault) → IsBeforeReport fault → new ≡ old →
     Reports origin (Err fault) inside outside old new
 nothing_reported origin inside outside old new fault stop same = grind (arith, common_steps, nat_tests, IfHeld-all)
 
-report_ends : (origin : Origin) (inside outside : Option (List ℕ))
+report_ends : (origin : OriginModel) (inside outside : Option (List ℕ))
     (old new : Option (List ℕ)) (told : Result Totals Fault) (result : Result (Unit {0}) Fault) → Ends told result →
     IfOk told (IsToldOf origin inside outside) → IfErr told IsBeforeReport → IfErr told (λ _. new ≡ old) →
     IfOk told (λ totals. Written totals result old new) → Reports origin result inside outside old new
@@ -237,7 +237,7 @@ written_flushed : (P : Type 0) (told : Result Totals Fault) (written result : Re
     result ≡ result_and told written → OnOk told (OnOk written P) → OnOk result P
 written_flushed P told written result is flushed = grind (arith, common_steps, nat_tests)
 
-pub report_by : {U : Type 0} (S : Ghosts U) (origin : Origin) (inside outside : Option (List ℕ)) (old new : U)
+pub report_by : {U : Type 0} (S : Ghosts U) (origin : OriginModel) (inside outside : Option (List ℕ)) (old new : U)
     (told : Result Totals Fault) (written result : Result (Unit {0}) Fault) → result ≡ result_and told written →
     IfErr written IsReportFault → IfOk told (IsToldOf origin inside outside) → IfErr told IsBeforeReport →
     IfErr told (λ _. new ≡ old) → IfErr told (λ _. written ≡ Ok tt) →
@@ -255,14 +255,14 @@ report_by S origin inside outside old new told written result is fault says stop
 
 -- WHAT IS RETURNED, which gives the state that is left
 
-pub ended_passed : (told : Result Totals Fault) (written : Result (Unit {0}) Fault) (result : Result Passed Fault) →
-    result ≡ passed_if told written → ended result ≡ result_and told written
+pub ended_passed : (told : Result Totals Fault) (written : Result (Unit {0}) Fault) (result : Result RunSummary Fault) →
+    result ≡ passed_if told written → stream_ended result ≡ result_and told written
 ended_passed told written result is = grind (arith, common_steps, nat_tests)
 
-pub err_ended : {T : Type 0} (result : Result T Fault) (P : Fault → Type 0) → IfErr (ended result) P → IfErr result P
+pub err_ended : {T : Type 0} (result : Result T Fault) (P : Fault → Type 0) → IfErr (stream_ended result) P → IfErr result P
 err_ended result P p = grind (arith, common_steps, nat_tests)
 
-pub left_if : (origin : Origin) (inside outside : Option (List ℕ)) (told : Result Totals Fault)
+pub left_if : (origin : OriginModel) (inside outside : Option (List ℕ)) (told : Result Totals Fault)
     (written : Result (Unit {0}) Fault) → IfOk told (IsToldOf origin inside outside) →
     IfOk (passed_if told written) (LeavesInTheEnd origin inside outside)
 left_if origin inside outside told written p = grind (arith, common_steps, nat_tests, IfHeld-map)

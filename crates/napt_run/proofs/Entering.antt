@@ -5,11 +5,11 @@ use Rattle.napt_capture.specs.declared.device.Sink.{Ghosts}
 use Rattle.napt_account.specs.TraceLogs.{IsOfTraces}
 use Rattle.napt_records.specs.declared.Fault.TheVariants as faults
 use Rattle.napt_sequential.specs.declared.passage.Trace.{Trace}
-use Rattle.napt_run.specs.{LeavingLaws.grows_none, Outputs.Grows, LogOrigins.{LoggedOrigin, begun_at}, RunningLogs.{EntersNot, EntersWith, FailsBy, GoesOn, IsAt, rows_in}}
-use Rattle.napt_run.specs.declared.{logged_fault.LoggedFault.{LoggedFault, TheVariants.{Run, Log}}, output.Output.Output, running_log.RunningLog.RunningLog}
+use Rattle.napt_run.specs.{OutputSinkLaws.grows_none, Outputs.OutputGrows, LogOrigins.{LoggedOrigin, begun_at}, RunningLogs.{EntersNot, EntersWith, FailsBy, LogGoesOnFrom, LogIsAt, rows_in}}
+use Rattle.napt_run.specs.declared.{logged_fault.LogRunFault.{LogRunFault, TheVariants.{Run, Log}}, output.Output.Output, running_log.RunningLog.RunningLog}
 
 module _ {L : Type 0} {S : Ghosts L} (from : LoggedOrigin) (before : List Trace) (old : RunningLog L S) where
-  pub enter_failed : (trace : Trace) (fault : LoggedFault) (new : RunningLog L S) →
+  pub enter_failed : (trace : Trace) (fault : LogRunFault) (new : RunningLog L S) →
       EntersNot from before trace old fault new → FailsBy from before (trace ∷ []) fault old new
   enter_failed trace (Log fault) new p = absurd p
   enter_failed trace (Run (faults.Run fault)) new p = record {
@@ -17,7 +17,7 @@ module _ {L : Type 0} {S : Ghosts L} (from : LoggedOrigin) (before : List Trace)
     next = trace;
     others = [];
     all = refl;
-    wrote = subst (λ (o : Output L S). Grows old.output [] o) (sym p.0) (grows_none old.output);
+    wrote = subst (λ (o : Output L S). OutputGrows old.output [] o) (sym p.0) (grows_none old.output);
     of_traces = subst (λ (l : List Trace). IsOfTraces (begun_at from.origin from.log) l trace fault)
         (sym (append-nil before)) p.1;
   }
@@ -25,8 +25,8 @@ module _ {L : Type 0} {S : Ghosts L} (from : LoggedOrigin) (before : List Trace)
   enter_failed trace (Run (faults.Write which fault)) new p = absurd p
 
   pub enter_written : (trace : Trace) (mid : RunningLog L S) (output : Output L S) (text bytes : List ℕ) →
-      IsAt from before old → EntersWith from before trace old mid text → bytes ≡ text →
-      Grows mid.output bytes output →
-      GoesOn from (before ++ trace ∷ []) (rows_in from before (trace ∷ [])) old.output (record mid { output = output })
+      LogIsAt from before old → EntersWith from before trace old mid text → bytes ≡ text →
+      OutputGrows mid.output bytes output →
+      LogGoesOnFrom from (before ++ trace ∷ []) (rows_in from before (trace ∷ [])) old.output (record mid { output = output })
   enter_written trace mid output text bytes at s same p =
       grind (arith, common_steps, nat_tests, ℕ, length-append, append-nil)

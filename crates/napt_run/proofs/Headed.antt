@@ -4,21 +4,21 @@ use Rattle.std.proofs.Common.{◌≡◌, ◌⊎◌, inl, inr, ℕ, ◌≤◌, Bo
 use Rattle.napt_wire.specs.declared.Side.{Side}
 use Rattle.napt_wire.specs.declared.Side.TheVariants as sides
 use Rattle.napt_capture.specs.{Text.file_header, declared.{device.Sink.Ghosts, fault.WriteFault.WriteFault}}
-use Rattle.napt_run.specs.Origins.{Origin}
-use Rattle.napt_laws.specs.Dispatching.{IsFront}
+use Rattle.napt_run.specs.Origins.{OriginModel}
+use Rattle.napt_laws.specs.Dispatching.{IsFrontOf}
 use Rattle.napt_records.specs.declared.{Fault.{Fault, TheVariants.{Capture, Run, Write}}, Which.TheVariants.{Outside, Inside, Report}}
 use Rattle.napt_rules.specs.Prelude.{Arrival}
-use Rattle.napt_run.specs.{Leaving.{Begins, FailsToBegin}, LeavingLaws.{breaks_more, grows_more}, Outputs.{Breaks, Grows}}
-use Rattle.napt_run.specs.{Runs.{FailsInside, FailsOutside, Halts, IfHeld, IsLeft, RunsTo, Writes, text_behind}, Streams.IsReading}
-use Rattle.napt_run.{specs.declared.{leaving.Leaving.Leaving, output.Output.Output, passing.Totals.Totals}, proofs.{Behind.IfHeld-by, Breaks.first_within}}
+use Rattle.napt_run.specs.{OutputSinks.{SinkBegins, FailsToBegin}, OutputSinkLaws.{breaks_more, grows_more}, Outputs.{Breaks, OutputGrows}}
+use Rattle.napt_run.specs.{Runs.{FailsInside, FailsOutside, RunHalts, IfHeld, IsLeft, RunsTo, Writes, text_behind}, Streams.IsReading}
+use Rattle.napt_run.{specs.declared.{output_sinks.Leaving.Leaving, output.Output.Output, capture_run.Totals.Totals}, proofs.{Behind.IfHeld-by, Breaks.first_within}}
 
-none_held : (inside outside : Option (List ℕ)) → IfHeld inside outside (λ all. IsFront [] all.arrivals)
+none_held : (inside outside : Option (List ℕ)) → IfHeld inside outside (λ all. IsFrontOf [] all.arrivals)
 none_held inside outside = grind (arith, common_steps, nat_tests, IfHeld-by)
 
 -- an output whose header was written before
-left_behind : {D : Type 0} {S : Ghosts D} (origin : Origin) (inside outside : Option (List ℕ)) (side : Side)
-    (old mid new : Output D S) → Grows old file_header mid → (inputs : List Arrival) →
-    IfHeld inside outside (λ all. IsFront inputs all.arrivals) → Grows mid (text_behind [] origin side inputs) new
+left_behind : {D : Type 0} {S : Ghosts D} (origin : OriginModel) (inside outside : Option (List ℕ)) (side : Side)
+    (old mid new : Output D S) → OutputGrows old file_header mid → (inputs : List Arrival) →
+    IfHeld inside outside (λ all. IsFrontOf inputs all.arrivals) → OutputGrows mid (text_behind [] origin side inputs) new
     ⊎ ((fault : WriteFault) × (broke : Breaks mid (text_behind [] origin side inputs) fault new) × (0 ≤ broke.count)) →
     IsLeft origin inside outside file_header side old new
 left_behind origin inside outside side old mid new begun inputs front (inl grown) = record {
@@ -32,12 +32,12 @@ left_behind origin inside outside side old mid new begun inputs front (inr (faul
   left = inr (fault, breaks_more old mid new _ _ fault begun broke, first_within old mid new _ _ fault begun broke);
 }
 
-module _ {W V : Type 0} {S : Ghosts W} {T : Ghosts V} (open_gate : Bool) (origin : Origin)
+module _ {W V : Type 0} {S : Ghosts W} {T : Ghosts V} (open_gate : Bool) (origin : OriginModel)
     (inside outside : Option (List ℕ)) where
   abbrev To : List ℕ → Leaving W V S T → Leaving W V S T → Result Totals Fault → Type 0
   To front old new result = RunsTo open_gate origin inside outside front old new result
 
-  module _ (old mid new : Leaving W V S T) (begins : Begins old mid) where
+  module _ (old mid new : Leaving W V S T) (begins : SinkBegins old mid) where
     wrote : (inputs : List Arrival) → Writes open_gate origin inside outside [] mid new inputs →
         Writes open_gate origin inside outside file_header old new inputs
     wrote inputs p = record {
@@ -52,7 +52,7 @@ module _ {W V : Type 0} {S : Ghosts W} {T : Ghosts V} (open_gate : Bool) (origin
     broke inputs fault p = breaks_more old.to_outside mid.to_outside new.to_outside _ _ fault begins.to_outside p
 
     fails_outside : (fault : WriteFault) → (p : FailsOutside open_gate origin inside outside [] mid new fault) →
-        Grows mid.to_inside (text_behind [] origin sides.Inside p.before) new.to_inside
+        OutputGrows mid.to_inside (text_behind [] origin sides.Inside p.before) new.to_inside
         ⊎ ((fault.written ≤ 0) × (new.to_inside ≡ mid.to_inside)) →
         FailsOutside open_gate origin inside outside file_header old new fault
     fails_outside fault p (inl kept) = record {
@@ -69,8 +69,8 @@ module _ {W V : Type 0} {S : Ghosts W} {T : Ghosts V} (open_gate : Bool) (origin
       broke = broke p.inputs fault p.broke;
       before = [];
       front_before = none_held inside outside;
-      kept = inl (subst (λ (l : List ℕ). Grows old.to_inside l new.to_inside) (sym (append-nil file_header))
-          (subst (λ o. Grows old.to_inside file_header o) (sym same) begins.to_inside));
+      kept = inl (subst (λ (l : List ℕ). OutputGrows old.to_inside l new.to_inside) (sym (append-nil file_header))
+          (subst (λ o. OutputGrows old.to_inside file_header o) (sym same) begins.to_inside));
     }
 
     fails_inside : (fault : WriteFault) → FailsInside open_gate origin inside outside [] mid new fault →
@@ -82,7 +82,7 @@ module _ {W V : Type 0} {S : Ghosts W} {T : Ghosts V} (open_gate : Bool) (origin
       broke = breaks_more old.to_inside mid.to_inside new.to_inside _ _ fault begins.to_inside p.broke;
     }
 
-    halts : Halts open_gate origin inside outside [] mid new → Halts open_gate origin inside outside file_header old new
+    halts : RunHalts open_gate origin inside outside [] mid new → RunHalts open_gate origin inside outside file_header old new
     halts p = record {
       to_outside = left_behind origin inside outside sides.Outside old.to_outside mid.to_outside new.to_outside
           begins.to_outside p.to_outside.inputs p.to_outside.front_of_all p.to_outside.left;
@@ -127,7 +127,7 @@ module _ {W V : Type 0} {S : Ghosts W} {T : Ghosts V} (open_gate : Bool) (origin
   unheaded old new none (Write Inside fault) (wrote, broke) = record {
     inputs = [];
     front_of_all = none_held inside outside;
-    wrote = subst (λ (l : List ℕ). Grows old.to_outside l new.to_outside) (sym (append-nil file_header)) wrote;
+    wrote = subst (λ (l : List ℕ). OutputGrows old.to_outside l new.to_outside) (sym (append-nil file_header)) wrote;
     broke = subst (λ (l : List ℕ). Breaks old.to_inside l fault new.to_inside) (sym (append-nil file_header)) broke;
   }
   unheaded old new none (Write Report fault) p = absurd p

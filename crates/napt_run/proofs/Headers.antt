@@ -2,44 +2,44 @@
 use Rattle.std.proofs.Common.{◌≡◌, ◌∙◌, ℕ, ◌+◌, Bool, List, [], take, drop, Option, Some, Result, Ok, Err, refl, sym, ap, subst, arith}
 use Rattle.napt_wire.specs.declared.Side.{Side}
 use Rattle.napt_wire.specs.declared.Side.TheVariants as sides
-use Rattle.napt_capture.specs.declared.{device.Sink.Ghosts, fault.CaptureFault.CaptureFault, spelling.Spelling.Spelling, records.Records.Records}
-use Rattle.napt_capture.specs.{Capture.{captured, spelling_in}, Reading.{Gives, Says, StopsBy}}
-use Rattle.napt_run.specs.Origins.{Origin}
-use Rattle.napt_records.{specs.{Taking.{Inputs, at_fault, inputs_until}, declared.Fault.{Fault, TheVariants.{Capture, Run, Write}}}, proofs.Left.StopsBy-says}
-use Rattle.napt_run.specs.{Files.{files_until, unless_bad, unless_refused}, Leaving.IsSettled, LeavingLaws.grows_none, Runs.{IfHeld, RunsTo, RunsToFault}}
-use Rattle.napt_run.{specs.{Streams.{AreTaken, IsFaultOf, IsHeaderFault}, declared.leaving.Leaving.Leaving}, proofs.Behind.{IfHeld-by, refuses}}
+use Rattle.napt_capture.specs.declared.{device.Sink.Ghosts, fault.CaptureFault.CaptureFault, capture_format.CaptureFormat.CaptureFormat, record_reader.RecordReader.RecordReader}
+use Rattle.napt_capture.specs.{Capture.{capture_of_bytes, format_in}, Reading.{LeavesBytes, IsReadResult, IsReadFault}}
+use Rattle.napt_run.specs.Origins.{OriginModel}
+use Rattle.napt_records.{specs.{RecordMerging.{MergedInputs, at_fault, inputs_until}, declared.Fault.{Fault, TheVariants.{Capture, Run, Write}}}, proofs.ReaderRests.StopsBy-says}
+use Rattle.napt_run.specs.{Files.{files_until, unless_bad, unless_refused}, OutputSinks.IsSettled, OutputSinkLaws.grows_none, Runs.{IfHeld, RunsTo, RunsToFault}}
+use Rattle.napt_run.{specs.{Streams.{AreTaken, IsStreamFaultOf, IsHeaderFault}, declared.output_sinks.Leaving.Leaving}, proofs.Behind.{IfHeld-by, refuses}}
 use Rattle.napt_run.proofs.Files.{spelled}
 
 -- a header of these bytes was read to this answer
-abbrev pub Heads : Option (List ℕ) → Option (List ℕ) → Result Spelling CaptureFault → Type 0
-Heads known left r = Gives known left (λ bytes left. (spelling_in (take 24 bytes) ≡ r) × (left ≡ drop 24 bytes))
+abbrev pub Heads : Option (List ℕ) → Option (List ℕ) → Result CaptureFormat CaptureFault → Type 0
+Heads known left r = LeavesBytes known left (λ bytes left. (format_in (take 24 bytes) ≡ r) × (left ≡ drop 24 bytes))
 
 -- and has this fault, unless the device or memory failed
 abbrev pub HeadsBadly : Option (List ℕ) → Option (List ℕ) → CaptureFault → Type 0
-HeadsBadly known left fault = let answer : Result Records CaptureFault = Err fault in
-    Says answer (Heads known left (Err fault))
+HeadsBadly known left fault = let answer : Result RecordReader CaptureFault = Err fault in
+    IsReadResult answer (Heads known left (Err fault))
 
 -- nothing is handed out of the files, where both are known
 abbrev pub EndsAtHeader : Side → CaptureFault → Option (List ℕ) → Option (List ℕ) → Type 0
 EndsAtHeader side fault inside outside = (b o : List ℕ) → inside ≡ Some b → outside ≡ Some o →
-    StopsBy fault (files_until b o ≡ at_fault side fault)
+    IsReadFault fault (files_until b o ≡ at_fault side fault)
 
-abbrev pub all_of : List ℕ → List ℕ → Inputs
-all_of bytes others = inputs_until (captured bytes) (captured others)
+abbrev pub all_of : List ℕ → List ℕ → MergedInputs
+all_of bytes others = inputs_until (capture_of_bytes bytes) (capture_of_bytes others)
 
 pub inside_refused : (inside left outside : Option (List ℕ)) (fault : CaptureFault) →
     HeadsBadly inside left fault → EndsAtHeader sides.Inside fault inside outside
 inside_refused inside left outside fault heads b o is same =
-    StopsBy-says Records fault (λ (p : Heads (Some b) left (Err fault)).
+    StopsBy-says RecordReader fault (λ (p : Heads (Some b) left (Err fault)).
     ap (λ r. unless_bad sides.Inside r (unless_refused sides.Outside o (all_of b o))) (spelled b left (Err fault) p))
     (subst (λ (k : Option (List ℕ)). HeadsBadly k left fault) is heads)
 
 -- the header of the inside capture is good then
-pub outside_refused : (inside left known other : Option (List ℕ)) (spelling : Spelling) (fault : CaptureFault) →
+pub outside_refused : (inside left known other : Option (List ℕ)) (spelling : CaptureFormat) (fault : CaptureFault) →
     Heads inside left (Ok spelling) → HeadsBadly known other fault → EndsAtHeader sides.Outside fault inside known
 outside_refused inside left known other spelling fault good bad b o is same =
     let first = spelled b left (Ok spelling) (subst (λ (k : Option (List ℕ)). Heads k left (Ok spelling)) is good) in
-    StopsBy-says Records fault (λ (p : Heads (Some o) other (Err fault)).
+    StopsBy-says RecordReader fault (λ (p : Heads (Some o) other (Err fault)).
     ap (λ r. unless_bad sides.Inside r (unless_refused sides.Outside o (all_of b o))) first
     ∙ ap (λ r. unless_bad sides.Outside r (all_of b o)) (spelled o other (Err fault) p))
     (subst (λ (k : Option (List ℕ)). HeadsBadly k other fault) same bad)
@@ -50,7 +50,7 @@ none_taken inside outside side fault ends =
     IfHeld-by (λ all. AreTaken side fault all []) inside outside (λ b o is same.
     (refuses side fault b o [] ((files_until b o).arrivals, refl) (ends b o is same)).taken)
 
-module _ {W V : Type 0} {S : Ghosts W} {T : Ghosts V} (open_gate : Bool) (origin : Origin)
+module _ {W V : Type 0} {S : Ghosts W} {T : Ghosts V} (open_gate : Bool) (origin : OriginModel)
     (inside outside : Option (List ℕ)) (old : Leaving W V S T) (settled : IsSettled old) where
   header_fails : (side : Side) (fault : CaptureFault) → EndsAtHeader side fault inside outside →
       RunsToFault open_gate origin inside outside [] old old side fault
@@ -58,7 +58,7 @@ module _ {W V : Type 0} {S : Ghosts W} {T : Ghosts V} (open_gate : Bool) (origin
     inputs = [];
     wrote = record { to_outside = grows_none old.to_outside; to_inside = grows_none old.to_inside; settled = settled };
     taken = none_taken inside outside side fault ends;
-    is_fault = IfHeld-by (IsFaultOf side fault) inside outside (λ b o is same.
+    is_fault = IfHeld-by (IsStreamFaultOf side fault) inside outside (λ b o is same.
         (refuses side fault b o [] ((files_until b o).arrivals, refl) (ends b o is same)).is_fault);
   }
 

@@ -3,14 +3,14 @@ use Rattle.std.{proofs.lemmas.{Grind.common_steps, Bool.Decides.nat_tests, List.
 use Rattle.std.proofs.Common.{◌≡◌, ℕ, ◌-◌, ◌^◌, ◌<◌, List, [], ◌∷◌, ◌++◌, length, Result, IfErr, OnOk, false, sym, subst, arith, append-nil, length-append}
 use Rattle.napt_capture.specs.{Text.{entry_of_packet, record_text}, declared.{device.Sink.Ghosts, fault.WriteFault.WriteFault}}
 use Rattle.napt_rules.specs.declared.Outcome.{Outcome, TheVariants.{ToOutside, ToInside}}
-use Rattle.napt_records.specs.{Counts.AreCountsOf, Output.IsTime, declared.{report.Counts.Counts, Which.TheVariants.{Outside, Inside}}}
-use Rattle.napt_run.specs.{Outputs.{Grows, Breaks}, Leaving.{AreTimes, Takes, Fails, named}, declared.{output.Output.Output, leaving.Leaving.Leaving}}
+use Rattle.napt_records.specs.{Counts.AreCountsOf, Output.IsTime, declared.{report.OutcomeCounts.OutcomeCounts, Which.TheVariants.{Outside, Inside}}}
+use Rattle.napt_run.specs.{Outputs.{OutputGrows, Breaks}, OutputSinks.{AreTimes, SinkTakes, SinkFails, named}, declared.{output.Output.Output, output_sinks.Leaving.Leaving}}
 
 time_of_one : (time : ℕ) (outcome : Outcome) → AreTimes ((time, outcome) ∷ []) → IsTime time
 time_of_one time outcome all = All-head (λ timed. IsTime timed.0) (time, outcome) [] all
 
 -- one outcome more was counted
-abbrev Counted : Counts → Outcome → Counts → Type 0
+abbrev Counted : OutcomeCounts → Outcome → OutcomeCounts → Type 0
 Counted old outcome new = (outcomes : List Outcome) → length outcomes < 2 ^ 64 - 1 → AreCountsOf outcomes old →
     AreCountsOf (outcomes ++ outcome ∷ []) new
 
@@ -20,33 +20,33 @@ fewer outcomes outcome few = omega (arith, few, length-append outcomes (outcome 
 
 -- of a record that is the only one, or of a front of it
 module _ {W : Type 0} {S : Ghosts W} (old new : Output W S) where
-  grows_one : (text : List ℕ) → Grows old text new → Grows old (text ++ []) new
-  grows_one text p = subst (λ (l : List ℕ). Grows old l new) (sym (append-nil text)) p
+  grows_one : (text : List ℕ) → OutputGrows old text new → OutputGrows old (text ++ []) new
+  grows_one text p = subst (λ (l : List ℕ). OutputGrows old l new) (sym (append-nil text)) p
 
   breaks_one : (text : List ℕ) (fault : WriteFault) → Breaks old text fault new → Breaks old (text ++ []) fault new
   breaks_one text fault p = subst (λ (l : List ℕ). Breaks old l fault new) (sym (append-nil text)) p
 
 module _ {W V : Type 0} {S : Ghosts W} {T : Ghosts V} (time : ℕ) (packet : List ℕ) (old : Leaving W V S T) where
   -- a packet to the outside
-  pub leaves_outside : (output : Output W S) (counts : Counts) (r : Result (Unit {0}) WriteFault) →
-      (IsTime time → OnOk r (Grows old.to_outside (record_text (entry_of_packet time packet)) output)) →
+  pub leaves_outside : (output : Output W S) (counts : OutcomeCounts) (r : Result (Unit {0}) WriteFault) →
+      (IsTime time → OnOk r (OutputGrows old.to_outside (record_text (entry_of_packet time packet)) output)) →
       (IsTime time → IfErr r (λ fault. old.to_outside.is_broken ≡ false →
       Breaks old.to_outside (record_text (entry_of_packet time packet)) fault output)) →
       Counted old.counts (ToOutside packet) counts →
-      MatchResult (named Outside r) (λ _. Takes old ((time, ToOutside packet) ∷ [])
-      (record old { to_outside = output; counts = counts })) (λ fault. Fails old ((time, ToOutside packet) ∷ []) fault
+      MatchResult (named Outside r) (λ _. SinkTakes old ((time, ToOutside packet) ∷ [])
+      (record old { to_outside = output; counts = counts })) (λ fault. SinkFails old ((time, ToOutside packet) ∷ []) fault
       (record old { to_outside = output; counts = counts }))
   leaves_outside output counts r ok err counted =
       grind (arith, common_steps, nat_tests, grows_one, time_of_one, fewer, breaks_one)
 
   -- a packet to the inside
-  pub leaves_inside : (output : Output V T) (counts : Counts) (r : Result (Unit {0}) WriteFault) →
-      (IsTime time → OnOk r (Grows old.to_inside (record_text (entry_of_packet time packet)) output)) →
+  pub leaves_inside : (output : Output V T) (counts : OutcomeCounts) (r : Result (Unit {0}) WriteFault) →
+      (IsTime time → OnOk r (OutputGrows old.to_inside (record_text (entry_of_packet time packet)) output)) →
       (IsTime time → IfErr r (λ fault. old.to_inside.is_broken ≡ false →
       Breaks old.to_inside (record_text (entry_of_packet time packet)) fault output)) →
       Counted old.counts (ToInside packet) counts →
-      MatchResult (named Inside r) (λ _. Takes old ((time, ToInside packet) ∷ [])
-      (record old { to_inside = output; counts = counts })) (λ fault. Fails old ((time, ToInside packet) ∷ []) fault
+      MatchResult (named Inside r) (λ _. SinkTakes old ((time, ToInside packet) ∷ [])
+      (record old { to_inside = output; counts = counts })) (λ fault. SinkFails old ((time, ToInside packet) ∷ []) fault
       (record old { to_inside = output; counts = counts }))
   leaves_inside output counts r ok err counted =
       grind (arith, common_steps, nat_tests, grows_one, time_of_one, fewer, breaks_one)

@@ -5,27 +5,27 @@ use Rattle.std.proofs.Common.{◌≡◌, ◌⊎◌, inl, inr, ℕ, ◌+◌, ◌^
 use Rattle.std.{proofs.{lemmas.List.take-append-le, Math.Seq.take-append_seam, KnownBytes.Appends-trans}, specs.Io.KnownBytes.Appends}
 use Rattle.napt_wire.specs.declared.Side.{Side}
 use Rattle.napt_capture.specs.declared.{device.Sink.Ghosts, fault.{CaptureFault.CaptureFault, WriteFault.WriteFault}}
-use Rattle.napt_laws.specs.Dispatching.{IsFront}
-use Rattle.napt_account.specs.{GoingOn.{LogState, log_left}, Telling.in_order_of_end, TraceLogs.IsNext}
-use Rattle.napt_log_text.specs.{Logs.{living_rows, rows_from}, Times.Text}
-use Rattle.napt_records.specs.{Taking.Inputs, declared.{Fault.Fault, Which.Which}}
+use Rattle.napt_laws.specs.Dispatching.{IsFrontOf}
+use Rattle.napt_account.specs.{ResumedLogRuns.{LogStateModel, log_left}, LogParts.in_order_of_end, TraceLogs.IsNext}
+use Rattle.napt_log_text.specs.{Logs.{living_rows, rows_from}, Times.TimeText}
+use Rattle.napt_records.specs.{RecordMerging.MergedInputs, declared.{Fault.Fault, Which.Which}}
 use Rattle.napt_records.specs.declared.Fault.TheVariants as faults
 use Rattle.napt_records.specs.declared.Which.TheVariants as outputs
 use Rattle.napt_rules.specs.Prelude.{Arrival}
-use Rattle.napt_sequential.{specs.declared.{fault.RunFault.RunFault, passage.{Passage.Passage, Trace.Trace}}, proofs.Joined.traces_long}
+use Rattle.napt_sequential.{specs.declared.{fault.RunFault.RunFault, passage.{Passage.Passage, Trace.Trace}}, proofs.JoinedSteps.traces_long}
 use Rattle.napt_sequential.specs.declared.fault.RunFault.TheVariants as reasons
-use Rattle.napt_run.specs.LeavingLaws.{breaks_more, grows_more}
-use Rattle.napt_run.specs.LoggedStreams.{FailsAtMostOnce, HasBytes, HasLog, HasPart, HasRows, HasWritten, IsKept, LogIsLeft, LoggedSays, besides_log, fault_of}
-use Rattle.napt_run.specs.{Logging.{EntersAll, EntersFront, FailsOver, Legs, LogsTo, as_run, legs_told, traces_by}, LogOrigins.{LoggedOrigin, begun_at, ending, text_so_far, texts_of, whole_text}, Outputs.{Breaks, Grows}, Origins.Origin, Runs.{IfHeld, ResultSays}}
-use Rattle.napt_run.specs.RunningLogs.{Adds, AreLaws, Enters, Fails, FailsBy, FailsMore, GoesOn, Halts, IsAt, IsFlushedAt, ending_with, left_with, rows_in, traces_of}
-use Rattle.napt_run.specs.{Streams.{AreTaken, DeviceGetsFrom, HasRead, IsOfRun}, declared.logged_fault.LoggedFault.{LoggedFault, TheVariants.{Run, Log}}}
-use Rattle.napt_run.specs.declared.{logging.LoggingFault.LoggingFault, output.Output.Output, passing.Totals.Totals, running_log.RunningLog.RunningLog}
+use Rattle.napt_run.specs.OutputSinkLaws.{breaks_more, grows_more}
+use Rattle.napt_run.specs.LoggedStreams.{FailsAtMostOnce, HasBytes, HasLog, HasPart, HasRows, HasWritten, LogIsKept, LogIsLeft, LoggedSays, besides_log, logged_fault_of}
+use Rattle.napt_run.specs.{LogRuns.{EntersAll, EntersFront, LogFailsOver, Legs, LogsTo, as_run, legs_told, traces_by}, LogOrigins.{LoggedOrigin, begun_at, ending, text_so_far, texts_of, whole_text}, Outputs.{Breaks, OutputGrows}, Origins.OriginModel, Runs.{IfHeld, ResultSays}}
+use Rattle.napt_run.specs.RunningLogs.{Adds, AreLaws, Enters, LogFails, FailsBy, FailsMore, LogGoesOnFrom, LogHalts, LogIsAt, IsFlushedAt, ending_with, left_with, rows_in, running_log_traces}
+use Rattle.napt_run.specs.{Streams.{AreTaken, DeviceGetsFrom, HasRead, IsOfRun}, declared.logged_fault.LogRunFault.{LogRunFault, TheVariants.{Run, Log}}}
+use Rattle.napt_run.specs.declared.{logging.LoggingFault.LoggingFault, output.Output.Output, capture_run.Totals.Totals, running_log.RunningLog.RunningLog}
 use Rattle.napt_run.proofs.{Endings.{IsBeforeReport, all_left}, Streamed.{IfHeld-all, IfHeld-map}, TraceFronts.{NextInput, next_input}}
 use Rattle.napt_run.specs.declared.logging.LoggingFault.TheVariants as log_faults
 
 -- TEXTS
 
-abbrev rows_on : LoggedOrigin → List Arrival → Text
+abbrev rows_on : LoggedOrigin → List Arrival → TimeText
 rows_on from inputs = rows_from from.origin.rules from.origin.state from.each from.log inputs
 
 so_far_is : (from : LoggedOrigin) (inputs : List Arrival) →
@@ -47,16 +47,16 @@ cut_is : (from : LoggedOrigin) (inputs : List Arrival) (count : ℕ) → count �
     take count (text_so_far from inputs) ≡ take count (whole_text from inputs)
 cut_is from inputs count within =
     sym (take-append-le count (text_so_far from inputs) (ending from inputs) within)
-    ∙ ap (λ (l : Text). take count l) (text_is from inputs)
+    ∙ ap (λ (l : TimeText). take count l) (text_is from inputs)
 
 cut_within : (from : LoggedOrigin) (inputs : List Arrival) (count : ℕ) → count ≤ length (text_so_far from inputs) →
     count ≤ length (whole_text from inputs)
 cut_within from inputs count within =
-    subst (λ (l : Text). count ≤ length l) (text_is from inputs)
+    subst (λ (l : TimeText). count ≤ length l) (text_is from inputs)
     (omega (arith, within, length-append (text_so_far from inputs) (ending from inputs)))
 
-pub take_whole : (l : Text) → take (length l) l ≡ l
-take_whole l = ap (λ (k : Text). take (length l) k) (sym (append-nil l)) ∙ take-append_seam l []
+pub take_whole : (l : TimeText) → take (length l) l ≡ l
+take_whole l = ap (λ (k : TimeText). take (length l) k) (sym (append-nil l)) ∙ take-append_seam l []
 
 -- ONE OUTPUT
 
@@ -68,19 +68,19 @@ module _ {L : Type 0} {S : Ghosts L} (from : LoggedOrigin) (inside outside : Opt
   abbrev After : Option (List ℕ)
   After = S.contents new.device.now
 
-  abbrev Held : (Inputs → Type 0) → Type 0
+  abbrev Held : (MergedInputs → Type 0) → Type 0
   Held Holds = IfHeld inside outside Holds
 
   bytes_of : (inputs : List Arrival) (count : ℕ) → count ≤ length (text_so_far from inputs) →
-      Appends Before After (take count (text_so_far from inputs)) → (all : Inputs) → IsFront inputs all.arrivals →
+      Appends Before After (take count (text_so_far from inputs)) → (all : MergedInputs) → IsFrontOf inputs all.arrivals →
       HasBytes (texts_of from) count all Before After
   bytes_of inputs count within appended all front = grind (arith, common_steps, nat_tests, cut_within, cut_is)
 
   -- writing the rows failed
   pub broken : (inputs : List Arrival) (fault : WriteFault) → Breaks old (text_so_far from inputs) fault new →
-      Held (λ all. IsFront inputs all.arrivals) →
+      Held (λ all. IsFrontOf inputs all.arrivals) →
       Held (λ all. HasWritten (texts_of from) fault.written all Before After)
-  broken inputs fault p = IfHeld-map (λ all. IsFront inputs all.arrivals)
+  broken inputs fault p = IfHeld-map (λ all. IsFrontOf inputs all.arrivals)
       (λ all. HasWritten (texts_of from) fault.written all Before After) inside outside
       (λ all front. (
         p.count,
@@ -90,9 +90,9 @@ module _ {L : Type 0} {S : Ghosts L} (from : LoggedOrigin) (inside outside : Opt
 
   -- or writing those of what lives
   broken_end : (inputs : List Arrival) (fault : WriteFault) → Breaks old (whole_text from inputs) fault new →
-      Held (λ all. IsFront inputs all.arrivals) →
+      Held (λ all. IsFrontOf inputs all.arrivals) →
       Held (λ all. HasWritten (texts_of from) fault.written all Before After)
-  broken_end inputs fault p = IfHeld-map (λ all. IsFront inputs all.arrivals)
+  broken_end inputs fault p = IfHeld-map (λ all. IsFrontOf inputs all.arrivals)
       (λ all. HasWritten (texts_of from) fault.written all Before After) inside outside
       (λ all front. (
         p.count,
@@ -101,29 +101,29 @@ module _ {L : Type 0} {S : Ghosts L} (from : LoggedOrigin) (inside outside : Opt
       ))
 
   pub part_of : (inputs : List Arrival) (count : ℕ) → count ≤ length (text_so_far from inputs) →
-      Appends Before After (take count (text_so_far from inputs)) → Held (λ all. IsFront inputs all.arrivals) →
+      Appends Before After (take count (text_so_far from inputs)) → Held (λ all. IsFrontOf inputs all.arrivals) →
       Held (λ all. HasPart (texts_of from) all Before After)
-  part_of inputs count within appended = IfHeld-map (λ all. IsFront inputs all.arrivals)
+  part_of inputs count within appended = IfHeld-map (λ all. IsFrontOf inputs all.arrivals)
       (λ all. HasPart (texts_of from) all Before After) inside outside
       (λ all front. (count, bytes_of inputs count within appended all front))
 
   pub whole_part : (inputs : List Arrival) → Appends Before After (text_so_far from inputs) →
-      Held (λ all. IsFront inputs all.arrivals) → Held (λ all. HasPart (texts_of from) all Before After)
+      Held (λ all. IsFrontOf inputs all.arrivals) → Held (λ all. HasPart (texts_of from) all Before After)
   whole_part inputs appended =
       part_of inputs (length (text_so_far from inputs)) (omega arith)
-      (subst (λ (l : Text). Appends Before After l) (sym (take_whole (text_so_far from inputs))) appended)
+      (subst (λ (l : TimeText). Appends Before After l) (sym (take_whole (text_so_far from inputs))) appended)
 
   pub rows_of : (side : Side) (fault : CaptureFault) (inputs : List Arrival) →
       Appends Before After (text_so_far from inputs) → Held (λ all. AreTaken side fault all inputs) →
       Held (λ all. HasRows (texts_of from) side fault all Before After)
   rows_of side fault inputs appended taken = grind (arith, common_steps, nat_tests, IfHeld-map)
 
-none_held : (inside outside : Option (List ℕ)) → IfHeld inside outside (λ all. IsFront [] all.arrivals)
-none_held inside outside = IfHeld-all (λ all. IsFront [] all.arrivals) inside outside (λ all. (all.arrivals, refl))
+none_held : (inside outside : Option (List ℕ)) → IfHeld inside outside (λ all. IsFrontOf [] all.arrivals)
+none_held inside outside = IfHeld-all (λ all. IsFrontOf [] all.arrivals) inside outside (λ all. (all.arrivals, refl))
 
 front_first : (inside outside : Option (List ℕ)) (inputs first others : List Arrival) → first ++ others ≡ inputs →
-    IfHeld inside outside (λ all. IsFront inputs all.arrivals) →
-    IfHeld inside outside (λ all. IsFront first all.arrivals)
+    IfHeld inside outside (λ all. IsFrontOf inputs all.arrivals) →
+    IfHeld inside outside (λ all. IsFrontOf first all.arrivals)
 front_first inside outside inputs first others both front =
     grind (arith, common_steps, nat_tests, IfHeld-map, append_assoc)
 
@@ -159,15 +159,15 @@ record EndsPart {L : Type 0} {S : Ghosts L} (from : LoggedOrigin) (inside outsid
 
 -- TRACES
 
-traces_back : (all : List Trace) → traces_of (map (λ trace. (trace.now, trace.first, trace.second)) all) ≡ all
+traces_back : (all : List Trace) → running_log_traces (map (λ trace. (trace.now, trace.first, trace.second)) all) ≡ all
 traces_back [] = refl
 traces_back (trace ∷ all) = ap (λ (l : List Trace). trace ∷ l) (traces_back all)
 
 -- the traces of the legs of these inputs
-abbrev pub told_traces : Origin → List Arrival → List Trace
-told_traces origin inputs = traces_of (legs_told (λ (p : Passage). p) origin inputs)
+abbrev pub told_traces : OriginModel → List Arrival → List Trace
+told_traces origin inputs = running_log_traces (legs_told (λ (p : Passage). p) origin inputs)
 
-pub traces_told : (origin : Origin) (inputs : List Arrival) → told_traces origin inputs ≡ traces_by origin inputs
+pub traces_told : (origin : OriginModel) (inputs : List Arrival) → told_traces origin inputs ≡ traces_by origin inputs
 traces_told origin inputs = traces_back (traces_by origin inputs)
 
 -- THE LOG WHILE THE RUN GOES
@@ -175,58 +175,58 @@ traces_told origin inputs = traces_back (traces_by origin inputs)
 module _ {L : Type 0} {S : Ghosts L} (from : LoggedOrigin) (laws : AreLaws from.origin from.log)
     (inside outside : Option (List ℕ))
     (old mid after : RunningLog L S) (none : old.output.written ≡ 0)
-    (begun : GoesOn from [] from.opening old.output mid) where
+    (begun : LogGoesOnFrom from [] from.opening old.output mid) where
   abbrev EntersLegs : RunningLog L S → List (Legs Passage) → RunningLog L S → Type 0
-  EntersLegs x all y = Enters x (traces_of all) y
+  EntersLegs x all y = Enters x (running_log_traces all) y
 
-  abbrev FailsLegs : RunningLog L S → List (Legs Passage) → LoggedFault → RunningLog L S → Type 0
-  FailsLegs x all fault y = Fails x (traces_of all) fault y
+  abbrev FailsLegs : RunningLog L S → List (Legs Passage) → LogRunFault → RunningLog L S → Type 0
+  FailsLegs x all fault y = LogFails x (running_log_traces all) fault y
 
   abbrev Settled : RunningLog L S → Type 0
   Settled log = S.is_flushed log.output.device.now
 
-  abbrev pub Watched : Result Totals (LoggingFault LoggedFault) → Type 0
+  abbrev pub Watched : Result Totals (LoggingFault LogRunFault) → Type 0
   Watched result = LogsTo (λ (p : Passage). p) (from.origin) EntersLegs FailsLegs Settled inside outside mid after
       result
 
   abbrev Front : Type 0
   Front = EntersFront (λ (p : Passage). p) (from.origin) EntersLegs FailsLegs Settled inside outside mid after
 
-  abbrev Failed : LoggedFault → Type 0
-  Failed fault = FailsOver (λ (p : Passage). p) (from.origin) EntersLegs FailsLegs Settled inside outside mid after
+  abbrev Failed : LogRunFault → Type 0
+  Failed fault = LogFailsOver (λ (p : Passage). p) (from.origin) EntersLegs FailsLegs Settled inside outside mid after
       fault
 
-  grew : (inputs : List Arrival) → Grows mid.output (rows_on from inputs) after.output →
-      Grows old.output (text_so_far from inputs) after.output
-  grew inputs p = subst (λ (l : Text). Grows old.output l after.output) (so_far_is from inputs)
+  grew : (inputs : List Arrival) → OutputGrows mid.output (rows_on from inputs) after.output →
+      OutputGrows old.output (text_so_far from inputs) after.output
+  grew inputs p = subst (λ (l : TimeText). OutputGrows old.output l after.output) (so_far_is from inputs)
       (grows_more old.output mid.output after.output _ _ begun.wrote p)
 
   broke : (inputs : List Arrival) (fault : WriteFault) →
       Breaks mid.output (rows_on from inputs) fault after.output →
       Breaks old.output (text_so_far from inputs) fault after.output
-  broke inputs fault p = subst (λ (l : Text). Breaks old.output l fault after.output) (so_far_is from inputs)
+  broke inputs fault p = subst (λ (l : TimeText). Breaks old.output l fault after.output) (so_far_is from inputs)
       (breaks_more old.output mid.output after.output _ _ fault begun.wrote p)
 
   -- it was entered what these inputs tell
   entered : (inputs : List Arrival) → Enters mid (told_traces from.origin inputs) after →
-      GoesOn from (traces_by from.origin inputs) (rows_on from inputs) mid.output after
+      LogGoesOnFrom from (traces_by from.origin inputs) (rows_on from inputs) mid.output after
   entered inputs enters =
       let told = traces_told from.origin inputs in
-      subst (λ (ts : List Trace). GoesOn from ts (rows_on from inputs) mid.output after) told
-      (subst (λ (l : Text). GoesOn from (told_traces from.origin inputs) l mid.output after)
+      subst (λ (ts : List Trace). LogGoesOnFrom from ts (rows_on from inputs) mid.output after) told
+      (subst (λ (l : TimeText). LogGoesOnFrom from (told_traces from.origin inputs) l mid.output after)
       (ap (λ (ts : List Trace). rows_in from [] ts) told ∙ laws.rows from.each inputs) (enters from [] begun.at))
 
   wrote : (inputs : List Arrival) → Enters mid (told_traces from.origin inputs) after →
-      Grows old.output (text_so_far from inputs) after.output
+      OutputGrows old.output (text_so_far from inputs) after.output
   wrote inputs enters = grew inputs (entered inputs enters).wrote
 
-  failed_over : (inputs : List Arrival) (fault : LoggedFault) → Fails mid (told_traces from.origin inputs) fault after →
+  failed_over : (inputs : List Arrival) (fault : LogRunFault) → LogFails mid (told_traces from.origin inputs) fault after →
       FailsBy from [] (traces_by from.origin inputs) fault mid after
   failed_over inputs fault fails = subst (λ (ts : List Trace). FailsBy from [] ts fault mid after)
       (traces_told from.origin inputs) (fails from [] begun.at)
 
-  grown_part : (inputs : List Arrival) → Grows old.output (text_so_far from inputs) after.output →
-      IfHeld inside outside (λ all. IsFront inputs all.arrivals) →
+  grown_part : (inputs : List Arrival) → OutputGrows old.output (text_so_far from inputs) after.output →
+      IfHeld inside outside (λ all. IsFrontOf inputs all.arrivals) →
       LeavesPart from inside outside old.output after.output
   grown_part inputs grown front = record {
     same = grown.same;
@@ -241,23 +241,23 @@ module _ {L : Type 0} {S : Ghosts L} (from : LoggedOrigin) (laws : AreLaws from.
 
   -- the input whose trace was not taken
   next_of : (inputs : List Arrival) (fault : RunFault)
-      (p : Halts from [] (traces_by from.origin inputs) fault mid after) →
+      (p : LogHalts from [] (traces_by from.origin inputs) fault mid after) →
       NextInput (from.origin) inputs p.first p.next
   next_of inputs fault p = next_input (from.origin) inputs p.first p.next p.others p.all
 
   halted_part : (inputs : List Arrival) (fault : RunFault) →
-      IfHeld inside outside (λ all. IsFront inputs all.arrivals) →
-      Halts from [] (traces_by from.origin inputs) fault mid after →
+      IfHeld inside outside (λ all. IsFrontOf inputs all.arrivals) →
+      LogHalts from [] (traces_by from.origin inputs) fault mid after →
       LeavesPart from inside outside old.output after.output
   halted_part inputs fault front p =
       let n : NextInput (from.origin) inputs p.first p.next = next_of inputs fault p in
-      grown_part n.before (grew n.before (subst (λ (l : Text). Grows mid.output l after.output)
+      grown_part n.before (grew n.before (subst (λ (l : TimeText). OutputGrows mid.output l after.output)
       (ap (λ (ts : List Trace). rows_in from [] ts) n.first_is ∙ laws.rows from.each n.before) p.wrote))
       (front_first inside outside inputs n.before (n.input ∷ n.later)
       (sym (append_assoc n.before (n.input ∷ []) n.later) ∙ n.whole) front)
 
-  failed_part : (fault : LoggedFault) (inputs : List Arrival) →
-      IfHeld inside outside (λ all. IsFront inputs all.arrivals) →
+  failed_part : (fault : LogRunFault) (inputs : List Arrival) →
+      IfHeld inside outside (λ all. IsFrontOf inputs all.arrivals) →
       FailsBy from [] (traces_by from.origin inputs) fault mid after →
       LeavesPart from inside outside old.output after.output
   failed_part (Log fault) inputs front p =
@@ -274,15 +274,15 @@ module _ {L : Type 0} {S : Ghosts L} (from : LoggedOrigin) (laws : AreLaws from.
   front_part : Front → LeavesPart from inside outside old.output after.output
   front_part s = grown_part s.inputs (wrote s.inputs s.entered) s.front
 
-  part : Front ⊎ ((fault : LoggedFault) × Failed fault) → LeavesPart from inside outside old.output after.output
+  part : Front ⊎ ((fault : LogRunFault) × Failed fault) → LeavesPart from inside outside old.output after.output
   part (inl s) = front_part s
   part (inr (fault, f)) = failed_part fault f.inputs f.front (failed_over f.inputs fault f.failed)
 
-  abbrev Gets : LoggingFault LoggedFault → Output L S → Type 0
-  Gets halt new = LogIsLeft (texts_of from) inside outside (Err (fault_of halt)) old.output new
+  abbrev Gets : LoggingFault LogRunFault → Output L S → Type 0
+  Gets halt new = LogIsLeft (texts_of from) inside outside (Err (logged_fault_of halt)) old.output new
 
-  failed_at : (fault : LoggedFault) (inputs : List Arrival) →
-      IfHeld inside outside (λ all. IsFront inputs all.arrivals) →
+  failed_at : (fault : LogRunFault) (inputs : List Arrival) →
+      IfHeld inside outside (λ all. IsFrontOf inputs all.arrivals) →
       FailsBy from [] (traces_by from.origin inputs) fault mid after → Gets (log_faults.Log fault) after.output
   failed_at (Log fault) inputs front p =
       let all = broken_over inputs fault p in
@@ -321,14 +321,14 @@ module _ {L : Type 0} {S : Ghosts L} (from : LoggedOrigin) (laws : AreLaws from.
               inputs = has.1.inputs;
               front = has.1.front;
               within = has.1.within;
-              appended = subst (λ (l : Text). Appends (S.contents old.output.device.now)
+              appended = subst (λ (l : TimeText). Appends (S.contents old.output.device.now)
                   (S.contents last.device.now) l) (append-nil (take has.0 (whole_text from has.1.inputs)))
                   (Appends-trans _ _ _ _ [] has.1.appended kept);
             },
           )) p.part;
     }
 
-    pub halted : (halt : LoggingFault LoggedFault) → Watched (Err halt) →
+    pub halted : (halt : LoggingFault LogRunFault) → Watched (Err halt) →
         IfErr (as_run {T = Totals} (Err halt)) IsBeforeReport → (IsFlushedAt halt → last ≡ after.output) →
         Gets halt last
     halted (log_faults.Run (faults.Capture side fault)) s stop flushed =
@@ -359,39 +359,39 @@ module _ {L : Type 0} {S : Ghosts L} (from : LoggedOrigin) (laws : AreLaws from.
   module _ (last : RunningLog L S) (totals : Totals)
       (s : EntersAll (λ (p : Passage). p) (from.origin) EntersLegs FailsLegs Settled inside outside mid after
       totals.cuts) where
-    front_all : IfHeld inside outside (λ all. IsFront s.inputs all.arrivals)
+    front_all : IfHeld inside outside (λ all. IsFrontOf s.inputs all.arrivals)
     front_all = grind (arith, common_steps, nat_tests, IfHeld-map, append-nil)
 
-    wrote_all : Grows old.output (text_so_far from s.inputs) after.output
+    wrote_all : OutputGrows old.output (text_so_far from s.inputs) after.output
     wrote_all = wrote s.inputs s.entered
 
-    pub at_end : IsAt from (traces_by from.origin s.inputs) after
+    pub at_end : LogIsAt from (traces_by from.origin s.inputs) after
     at_end = (entered s.inputs s.entered).at
 
     ending_at : ending_with from (traces_by from.origin s.inputs) ≡ ending from s.inputs
     unfolding ending
-    ending_at = ap (λ (kept : LogState). if from.goes_on then [] else living_rows from.origin.rules
+    ending_at = ap (λ (kept : LogStateModel). if from.goes_on then [] else living_rows from.origin.rules
         (in_order_of_end kept.living)) (laws.tell.left s.inputs)
 
-    abbrev pub Closed : Result (Unit {0}) LoggedFault → Type 0
+    abbrev pub Closed : Result (Unit {0}) LogRunFault → Type 0
     Closed closed = Adds from (traces_by from.origin s.inputs) (ending from s.inputs) after.output closed last
 
-    pub closed_at : (closed : Result (Unit {0}) LoggedFault) → Adds from (traces_by from.origin s.inputs)
+    pub closed_at : (closed : Result (Unit {0}) LogRunFault) → Adds from (traces_by from.origin s.inputs)
         (ending_with from (traces_by from.origin s.inputs)) after.output closed last → Closed closed
     closed_at closed p =
-        subst (λ (l : Text). Adds from (traces_by from.origin s.inputs) l after.output closed last) ending_at p
+        subst (λ (l : TimeText). Adds from (traces_by from.origin s.inputs) l after.output closed last) ending_at p
 
     -- and what is kept is at hand
     pub kept_at_end : last.left ≡ left_with from (traces_by from.origin s.inputs) →
-        IsKept from.origin from.log inside outside last.left
+        LogIsKept from.origin from.log inside outside last.left
     kept_at_end is = IfHeld-map (λ all. all ≡ record { arrivals = s.inputs; end = Ok totals.cuts })
         (λ all. last.left ≡ log_left from.origin.rules from.origin.state from.log all.arrivals) inside outside
         (λ all whole. rw whole (is ∙ laws.tell.left s.inputs)) s.all
 
     pub ended_well : Closed (Ok tt) → LogIsLeft (texts_of from) inside outside (Ok totals) old.output last.output
     ended_well p =
-        let grown : Grows old.output (whole_text from s.inputs) last.output =
-        subst (λ (l : Text). Grows old.output l last.output) (text_is from s.inputs)
+        let grown : OutputGrows old.output (whole_text from s.inputs) last.output =
+        subst (λ (l : TimeText). OutputGrows old.output l last.output) (text_is from s.inputs)
         (grows_more old.output after.output last.output _ _ wrote_all p.on.wrote) in
         let few : length s.inputs < 2 ^ 62 =
         subst (λ (n : ℕ). n < 2 ^ 62) (traces_long from.origin.rules 0 from.origin.state.clock s.inputs
@@ -408,11 +408,11 @@ module _ {L : Type 0} {S : Ghosts L} (from : LoggedOrigin) (laws : AreLaws from.
           };
         }
 
-    pub ended_badly : (fault : LoggedFault) → Closed (Err fault) →
+    pub ended_badly : (fault : LogRunFault) → Closed (Err fault) →
         LogIsLeft (texts_of from) inside outside (Err fault) old.output last.output
     ended_badly (Log fault) p =
         let all : Breaks old.output (whole_text from s.inputs) fault last.output =
-        subst (λ (l : Text). Breaks old.output l fault last.output) (text_is from s.inputs)
+        subst (λ (l : TimeText). Breaks old.output l fault last.output) (text_is from s.inputs)
         (breaks_more old.output after.output last.output _ _ fault wrote_all p) in
         record {
           same = all.same;
@@ -423,8 +423,8 @@ module _ {L : Type 0} {S : Ghosts L} (from : LoggedOrigin) (laws : AreLaws from.
           };
         }
     ended_badly (Run (faults.Run reasons.Memory)) p =
-        let grown : Grows old.output (text_so_far from s.inputs) last.output =
-        subst (λ (l : Text). Grows old.output l last.output) (append-nil (text_so_far from s.inputs))
+        let grown : OutputGrows old.output (text_so_far from s.inputs) last.output =
+        subst (λ (l : TimeText). OutputGrows old.output l last.output) (append-nil (text_so_far from s.inputs))
         (grows_more old.output after.output last.output _ _ wrote_all p) in
         record {
           same = grown.same;
@@ -442,11 +442,11 @@ module _ {L : Type 0} {S : Ghosts L} (from : LoggedOrigin) (laws : AreLaws from.
 -- or it could not be opened
 module _ {L : Type 0} {S : Ghosts L} (from : LoggedOrigin) (inside outside : Option (List ℕ))
     (old last : RunningLog L S) (none : old.output.written ≡ 0) where
-  pub unopened : (fault : LoggedFault) → Adds from [] from.opening old.output (Err fault) last →
+  pub unopened : (fault : LogRunFault) → Adds from [] from.opening old.output (Err fault) last →
       LogIsLeft {S = S} (texts_of from) inside outside (Err fault) old.output last.output
   unopened (Log fault) p =
       let all : Breaks old.output (text_so_far from []) fault last.output =
-      subst (λ (l : Text). Breaks old.output l fault last.output) (none_so_far from) p in
+      subst (λ (l : TimeText). Breaks old.output l fault last.output) (none_so_far from) p in
       record {
         same = all.same;
         gets = record {
@@ -472,26 +472,26 @@ module _ {L : Type 0} {S : Ghosts L} (from : LoggedOrigin) (inside outside : Opt
 -- A FAULT OF THE LOG
 
 -- a text of the log could not be made or written
-abbrev pub IsOfText : LoggedFault → Type 0
+abbrev pub IsOfText : LogRunFault → Type 0
 IsOfText (Log fault) = Unit {0}
 IsOfText (Run (faults.Run reasons.Memory)) = Unit {0}
 IsOfText other = ⊥
 
-pub adds_fault : {L : Type 0} {S : Ghosts L} (from : LoggedOrigin) (all : List Trace) (text : Text)
-    (old : Output L S) (new : RunningLog L S) (fault : LoggedFault) → Adds from all text old (Err fault) new →
+pub adds_fault : {L : Type 0} {S : Ghosts L} (from : LoggedOrigin) (all : List Trace) (text : TimeText)
+    (old : Output L S) (new : RunningLog L S) (fault : LogRunFault) → Adds from all text old (Err fault) new →
     IsOfText fault
 adds_fault from all text old new fault p = grind (arith, common_steps, nat_tests)
 
-pub text_stops : (fault : LoggedFault) → IsOfText fault → IsOfRun (besides_log {T = Totals} (Err fault))
+pub text_stops : (fault : LogRunFault) → IsOfText fault → IsOfRun (besides_log {T = Totals} (Err fault))
 text_stops fault p = grind (arith, common_steps, nat_tests)
 
-pub text_says : (open_gate : Bool) (origin : Origin) (inside outside : Option (List ℕ)) (fault : LoggedFault) →
+pub text_says : (open_gate : Bool) (origin : OriginModel) (inside outside : Option (List ℕ)) (fault : LogRunFault) →
     IsOfText fault → LoggedSays open_gate origin inside outside (Err fault)
 text_says open_gate origin inside outside fault p = grind (arith, common_steps, nat_tests, IfHeld-all)
 
 -- OUTPUTS
 
-module _ {D : Type 0} (S : Ghosts D) (origin : Origin) (inside outside : Option (List ℕ)) (old new : D) where
+module _ {D : Type 0} (S : Ghosts D) (origin : OriginModel) (inside outside : Option (List ℕ)) (old new : D) where
   abbrev Device : Which → Result Totals Fault → Type 0
   Device which result = DeviceGetsFrom S origin which inside outside result old new
 
@@ -501,7 +501,7 @@ module _ {D : Type 0} (S : Ghosts D) (origin : Origin) (inside outside : Option 
   of_run which result run p = grind (arith, common_steps, nat_tests)
 
   -- where the run came to its end, and what lives could not be written
-  pub device_after : (which : Which) (totals : Totals) (fault : LoggedFault) → IsOfText fault →
+  pub device_after : (which : Which) (totals : Totals) (fault : LogRunFault) → IsOfText fault →
       Device which (Ok totals) → Device which (besides_log (Err fault))
   device_after which totals fault text p =
       of_run which (besides_log (Err fault)) (text_stops fault text) (record {
@@ -510,24 +510,24 @@ module _ {D : Type 0} (S : Ghosts D) (origin : Origin) (inside outside : Option 
         settled = λ settled. absurd settled;
       })
 
-  pub device_halted : (which : Which) (halt : LoggingFault LoggedFault) →
-      IsOfRun (besides_log {T = Totals} (Err (fault_of halt))) ⊎ (as_run {T = Totals} (Err halt)
-      ≡ besides_log (Err (fault_of halt))) →
-      Device which (as_run (Err halt)) → Device which (besides_log (Err (fault_of halt)))
+  pub device_halted : (which : Which) (halt : LoggingFault LogRunFault) →
+      IsOfRun (besides_log {T = Totals} (Err (logged_fault_of halt))) ⊎ (as_run {T = Totals} (Err halt)
+      ≡ besides_log (Err (logged_fault_of halt))) →
+      Device which (as_run (Err halt)) → Device which (besides_log (Err (logged_fault_of halt)))
   device_halted which halt is p = grind (arith, common_steps, nat_tests, of_run)
 
 -- WHAT A HALT SAYS
 
 module _ {L : Type 0} {S : Ghosts L} (open_gate : Bool) (from : LoggedOrigin) (laws : AreLaws from.origin from.log)
     (inside outside : Option (List ℕ)) (old mid after : RunningLog L S) (none : old.output.written ≡ 0)
-    (begun : GoesOn from [] from.opening old.output mid) where
-  abbrev Halted : LoggingFault LoggedFault → Type 0
+    (begun : LogGoesOnFrom from [] from.opening old.output mid) where
+  abbrev Halted : LoggingFault LogRunFault → Type 0
   Halted halt = Watched from laws inside outside old mid after none begun (Err halt)
 
   -- it is one of the run or of the log, or as it was told
-  pub halt_is : (halt : LoggingFault LoggedFault) → Halted halt →
-      IsOfRun (besides_log {T = Totals} (Err (fault_of halt))) ⊎ (as_run {T = Totals} (Err halt)
-      ≡ besides_log (Err (fault_of halt)))
+  pub halt_is : (halt : LoggingFault LogRunFault) → Halted halt →
+      IsOfRun (besides_log {T = Totals} (Err (logged_fault_of halt))) ⊎ (as_run {T = Totals} (Err halt)
+      ≡ besides_log (Err (logged_fault_of halt)))
   halt_is (log_faults.Run fault) p = inr refl
   halt_is (log_faults.Log (Log fault)) p = inr refl
   halt_is (log_faults.Log (Run (faults.Run fault))) p = inl tt
@@ -535,19 +535,19 @@ module _ {L : Type 0} {S : Ghosts L} (open_gate : Bool) (from : LoggedOrigin) (l
   halt_is (log_faults.Log (Run (faults.Write which fault))) p = absurd (p.failed from [] begun.at)
 
   too_many : (inputs : List Arrival) → 2 ^ 62 ≤ length inputs →
-      IfHeld inside outside (λ all. IsFront inputs all.arrivals) →
+      IfHeld inside outside (λ all. IsFrontOf inputs all.arrivals) →
       IfHeld inside outside (λ all. 2 ^ 62 ≤ length all.arrivals)
   too_many inputs many front = grind (arith, common_steps, nat_tests, IfHeld-map, length-append)
 
   -- the fault of the log that a halt tells of
   halt_at : (inputs : List Arrival) (fault : RunFault) →
-      Fails mid (told_traces from.origin inputs) (Run (faults.Run fault)) after →
-      Halts from [] (traces_by from.origin inputs) fault mid after
+      LogFails mid (told_traces from.origin inputs) (Run (faults.Run fault)) after →
+      LogHalts from [] (traces_by from.origin inputs) fault mid after
   halt_at inputs fault fails = failed_over from laws inside outside old mid after none begun inputs
       (Run (faults.Run fault)) fails
 
   -- there were too many
-  too_many_at : (inputs : List Arrival) → Halts from [] (traces_by from.origin inputs) reasons.TooMany mid after →
+  too_many_at : (inputs : List Arrival) → LogHalts from [] (traces_by from.origin inputs) reasons.TooMany mid after →
       2 ^ 62 ≤ length inputs
   too_many_at inputs p = grind (arith, common_steps, nat_tests, traces_long, length-append)
 
@@ -558,9 +558,9 @@ module _ {L : Type 0} {S : Ghosts L} (open_gate : Bool) (from : LoggedOrigin) (l
       never (subst (λ (ts : List Trace). IsNext (begun_at from.origin from.log) ts next) (sym n.first_is)
       (laws.tell.tell n.before n.input next n.grown).1)
 
-  pub halt_says : (halt : LoggingFault LoggedFault) → Halted halt →
+  pub halt_says : (halt : LoggingFault LogRunFault) → Halted halt →
       ResultSays open_gate (from.origin) inside outside (as_run (Err halt)) →
-      LoggedSays open_gate from.origin inside outside (Err (fault_of halt))
+      LoggedSays open_gate from.origin inside outside (Err (logged_fault_of halt))
   halt_says (log_faults.Run (faults.Capture side fault)) p says = grind (arith, common_steps, nat_tests)
   halt_says (log_faults.Run (faults.Write which fault)) p says = grind (arith, common_steps, nat_tests)
   halt_says (log_faults.Run (faults.Run reasons.TooMany)) p says = absurd says.stop
@@ -575,17 +575,17 @@ module _ {L : Type 0} {S : Ghosts L} (open_gate : Bool) (from : LoggedOrigin) (l
   halt_says (log_faults.Log (Run (faults.Run reasons.Memory))) p says = grind
       (arith, common_steps, nat_tests, IfHeld-all)
   halt_says (log_faults.Log (Run (faults.Run (reasons.Pool fault)))) p says =
-      let h : Halts from [] (traces_by from.origin p.inputs) (reasons.Pool fault) mid after =
+      let h : LogHalts from [] (traces_by from.origin p.inputs) (reasons.Pool fault) mid after =
       halt_at p.inputs (reasons.Pool fault) p.failed in
       absurd (never_refused p.inputs h.first h.next (next_input (from.origin) p.inputs h.first h.next h.others h.all)
       h.of_traces.1)
   halt_says (log_faults.Log (Run (faults.Capture side fault))) p says = absurd (p.failed from [] begun.at)
   halt_says (log_faults.Log (Run (faults.Write which fault))) p says = absurd (p.failed from [] begun.at)
 
-  pub halt_reads : (halt : LoggingFault LoggedFault) → Halted halt →
+  pub halt_reads : (halt : LoggingFault LogRunFault) → Halted halt →
       {X Y : Type 0} (of : X → ℕ) (also : Y → ℕ) (start last : X)
       (other end : Y) → ((¬ IsOfRun (as_run {T = Totals} (Err halt))) →
-      HasRead of also start last other end (as_run {T = Totals} (Err halt))) → (fault : LoggedFault) →
-      fault ≡ fault_of halt → (¬ IsOfRun (besides_log {T = Totals} (Err fault))) →
+      HasRead of also start last other end (as_run {T = Totals} (Err halt))) → (fault : LogRunFault) →
+      fault ≡ logged_fault_of halt → (¬ IsOfRun (besides_log {T = Totals} (Err fault))) →
       HasRead of also start last other end (besides_log {T = Totals} (Err fault))
   halt_reads halt p of also start last other end reads fault is none = grind (arith, common_steps, nat_tests, halt_is)

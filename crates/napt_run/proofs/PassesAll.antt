@@ -5,26 +5,26 @@ use Rattle.std.{proofs.Common.{◌≡◌, ℕ, Bool, List, [], ◌++◌, All, No
 use Rattle.napt_wire.specs.declared.Side.{Side}
 use Rattle.napt_wire.specs.declared.Side.TheVariants as sides
 use Rattle.napt_capture.specs.{Text.file_header, declared.device.Sink.Ghosts}
-use Rattle.napt_run.specs.Origins.{Origin, ran_by}
-use Rattle.napt_dispatch.specs.declared.workers.Passed.{Passed}
-use Rattle.napt_records.specs.{Counts.AreCountsOf, Output.IsTimely, Report.{report_of, report_text}, declared.report.Counts.Counts}
+use Rattle.napt_run.specs.Origins.{OriginModel, ran_by}
+use Rattle.napt_dispatch.specs.declared.workers.RunSummary.{RunSummary}
+use Rattle.napt_records.specs.{Counts.AreCountsOf, Output.IsTimely, Report.{report_of, report_text}, declared.report.OutcomeCounts.OutcomeCounts}
 use Rattle.napt_rules.specs.{Prelude.{Arrival}, declared.{Outcome.Outcome, Row.Row}}
 use Rattle.napt_sequential.{proofs.Inputs.came_whole, specs.declared.fault.RunFault.RunFault}
-use Rattle.napt_run.specs.{Leaving.Begins, LeavingLaws.grows_more, Outputs.Grows, Passed.PassesWell, Runs.text_behind}
-use Rattle.napt_run.specs.{Streams.capture_text, Whole.{IsTallyOf, WritesAll}, declared.{leaving.Leaving.Leaving, output.Output.Output, whole.Tally.Tally}}
+use Rattle.napt_run.specs.{OutputSinks.SinkBegins, OutputSinkLaws.grows_more, Outputs.OutputGrows, CaptureRuns.RunPassesWell, Runs.text_behind}
+use Rattle.napt_run.specs.{Streams.capture_text, WholeCaptures.{IsTallyOf, WritesAll}, declared.{output_sinks.Leaving.Leaving, output.Output.Output, whole_captures.RunTally.RunTally}}
 use Rattle.napt_run.proofs.{Counted.all_counted, Fronts.{capture_is, times_of}}
 
 -- the run over all inputs
-pub passes_all : {F W V : Type 0} {S : Ghosts W} {T : Ghosts V} (origin : Origin) (from left : List Arrival)
-    (old new : Leaving W V S T) (passed : Passed) → AreCountsOf [] old.counts → All IsTimely from →
-    PassesWell {F = F} origin (λ x xs y. x ≡ xs ++ y) (λ x end y. x ≡ []) from old left new passed →
+pub passes_all : {F W V : Type 0} {S : Ghosts W} {T : Ghosts V} (origin : OriginModel) (from left : List Arrival)
+    (old new : Leaving W V S T) (passed : RunSummary) → AreCountsOf [] old.counts → All IsTimely from →
+    RunPassesWell {F = F} origin (λ x xs y. x ≡ xs ++ y) (λ x end y. x ≡ []) from old left new passed →
     WritesAll [] origin from old new (record { counts = new.counts; passed = passed })
 passes_all origin from left old new passed none timely p =
     let inputs : List Arrival = p.whole.inputs in
     let whole : from ≡ inputs = came_whole (λ x. x) from left inputs None p.whole.came in
     let times = times_of inputs (ran_by origin inputs).outcomes (subst (λ (l : List Arrival). All IsTimely l) whole
     timely) in
-    let tally : Tally = record { counts = new.counts; passed = passed } in
+    let tally : RunTally = record { counts = new.counts; passed = passed } in
     subst (λ (l : List Arrival). WritesAll [] origin l old new tally) (sym whole) (record {
       to_outside = p.whole.took.to_outside times;
       to_inside = p.whole.took.to_inside times;
@@ -36,8 +36,8 @@ passes_all origin from left old new passed none timely p =
     })
 
 -- behind the headers
-pub headed_all : {W V : Type 0} {S : Ghosts W} {T : Ghosts V} (origin : Origin) (inputs : List Arrival)
-    (old mid new : Leaving W V S T) → Begins old mid → (r : Result Tally RunFault) →
+pub headed_all : {W V : Type 0} {S : Ghosts W} {T : Ghosts V} (origin : OriginModel) (inputs : List Arrival)
+    (old mid new : Leaving W V S T) → SinkBegins old mid → (r : Result RunTally RunFault) →
     IfOk r (WritesAll [] origin inputs mid new) → IfOk r (WritesAll file_header origin inputs old new)
 headed_all origin inputs old mid new begins (Err fault) p = tt
 headed_all origin inputs old mid new begins (Ok tally) p = record {
@@ -47,41 +47,41 @@ headed_all origin inputs old mid new begins (Ok tally) p = record {
 }
 
 -- the device of an output, which is left as the output leaves it
-capture_appended : {D : Type 0} {S : Ghosts D} (origin : Origin) (side : Side) (inputs : List Arrival)
-    (old new : Output D S) → Grows old (text_behind file_header origin side inputs) new → (start last : D) →
+capture_appended : {D : Type 0} {S : Ghosts D} (origin : OriginModel) (side : Side) (inputs : List Arrival)
+    (old new : Output D S) → OutputGrows old (text_behind file_header origin side inputs) new → (start last : D) →
     old.device.now ≡ start → (new.device.ghost_name ≡ old.device.ghost_name → last ≡ new.device.now) →
     Appends (S.contents start) (S.contents last) (capture_text origin side inputs)
 capture_appended origin side inputs old new grown start last from at =
     grind (arith, common_steps, nat_tests, ℕ, capture_is)
 
-module _ {W V : Type 0} {S : Ghosts W} {T : Ghosts V} (origin : Origin) (inputs : List Arrival)
+module _ {W V : Type 0} {S : Ghosts W} {T : Ghosts V} (origin : OriginModel) (inputs : List Arrival)
     (old new : Leaving W V S T) where
-  pub told_outside : (r : Result Tally RunFault) → IfOk r (WritesAll file_header origin inputs old new) →
+  pub told_outside : (r : Result RunTally RunFault) → IfOk r (WritesAll file_header origin inputs old new) →
       (start last : W) → old.to_outside.device.now ≡ start →
       (new.to_outside.device.ghost_name ≡ old.to_outside.device.ghost_name → last ≡ new.to_outside.device.now) →
       OnOk r (Appends (S.contents start) (S.contents last) (capture_text origin sides.Outside inputs))
   told_outside r p start last from at = grind (arith, common_steps, nat_tests, capture_appended)
 
-  pub told_inside : (r : Result Tally RunFault) → IfOk r (WritesAll file_header origin inputs old new) →
+  pub told_inside : (r : Result RunTally RunFault) → IfOk r (WritesAll file_header origin inputs old new) →
       (start last : V) → old.to_inside.device.now ≡ start →
       (new.to_inside.device.ghost_name ≡ old.to_inside.device.ghost_name → last ≡ new.to_inside.device.now) →
       OnOk r (Appends (T.contents start) (T.contents last) (capture_text origin sides.Inside inputs))
   told_inside r p start last from at = grind (arith, common_steps, nat_tests, capture_appended)
 
-  pub told_tally : (r : Result Tally RunFault) → IfOk r (WritesAll file_header origin inputs old new) →
+  pub told_tally : (r : Result RunTally RunFault) → IfOk r (WritesAll file_header origin inputs old new) →
       IfOk r (IsTallyOf origin inputs)
   told_tally r p = grind (arith, common_steps, nat_tests)
 
 -- WHAT IS MADE OF IT
 
 -- a capture that was kept in memory, once it is taken out of its device
-pub kept_text : (origin : Origin) (side : Side) (inputs arrivals : List Arrival) (none last kept : List ℕ) → none ≡ [] →
+pub kept_text : (origin : OriginModel) (side : Side) (inputs arrivals : List Arrival) (none last kept : List ℕ) → none ≡ [] →
     inputs ≡ arrivals → kept ≡ last → last ≡ none ++ capture_text origin side inputs →
     kept ≡ capture_text origin side arrivals
 kept_text origin side inputs arrivals none last kept empty are taken appended =
     grind (arith, common_steps, nat_tests, ℕ)
 
-pub told_report : (origin : Origin) (inputs arrivals : List Arrival) (tally : Tally) (counts : Counts) (rows : List Row)
+pub told_report : (origin : OriginModel) (inputs arrivals : List Arrival) (tally : RunTally) (counts : OutcomeCounts) (rows : List Row)
     (cut_inside cut_outside : Bool) (told : List ℕ) → inputs ≡ arrivals → IsTallyOf origin inputs tally →
     counts ≡ tally.counts → rows ≡ tally.passed.bindings.items → ((outcomes : List Outcome) →
     AreCountsOf outcomes counts →

@@ -2,8 +2,8 @@
 use Rattle.std.proofs.lemmas.{Grind.common_steps, Bool.Decides.nat_tests}
 use Rattle.std.proofs.Common.{◌≡◌, ℕ, ◌+◌, ◌^◌, ◌<◌, ◌≤◌, List, ◌++◌, length, flat_map, take, drop, get_or, Option, sym, ap, ◌∙◌, arith, length-append, append-nil, take_all, take-append-drop}
 use Rattle.std.{proofs.lemmas.List.{take_more, Concat.flat_map-append, Folds.length-flat_map-take}, specs.Io.KnownBytes.Appends}
-use Rattle.napt_capture.specs.{Writing.{PutsAll, PutsFront}, declared.fault.WriteFault.WriteFault}
-use Rattle.napt_capture.proofs.Puts.{PutsAll-same, PutsFront-append, PutsFront-fault, PutsFront-longer, PutsFront-same}
+use Rattle.napt_capture.specs.{Writing.{PutOk, PutErr}, declared.fault.WriteFault.WriteFault}
+use Rattle.napt_capture.proofs.PutSteps.{PutsAll-same, PutsFront-append, PutsFront-fault, PutsFront-longer, PutsFront-same}
 
 module _ {X : Type 0} (xs : List X) (f : X → List ℕ) (last : List ℕ) (i : ℕ) where
   -- so many pieces are written
@@ -22,7 +22,7 @@ module _ {X : Type 0} (xs : List X) (f : X → List ℕ) (last : List ℕ) (i : 
 
   -- a front of it was written, and of all
   pub more_fails : (old now new : Option (List ℕ)) (x : X) (written : ℕ) (fault : WriteFault) → i < length xs →
-      x ≡ get_or xs i x → PutsAll 0 old now so_far written → PutsFront written now new (f x) fault →
+      x ≡ get_or xs i x → PutOk 0 old now so_far written → PutErr written now new (f x) fault →
       (fault.written ≤ length (flat_map f xs ++ last)) × Appends old new (take fault.written (flat_map f xs ++ last))
   more_fails old now new x written fault within is before front =
       let more = PutsFront-same (so_far_more x within is) (PutsFront-append so_far (f x) before front) in
@@ -42,7 +42,7 @@ module _ {X : Type 0} (xs : List X) (f : X → List ℕ) (last : List ℕ) (i : 
 
   -- and a front of the last
   pub last_fails : (old now new : Option (List ℕ)) (written : ℕ) (fault : WriteFault) → length xs ≤ i →
-      PutsAll 0 old now so_far written → PutsFront written now new last fault →
+      PutOk 0 old now so_far written → PutErr written now new last fault →
       (fault.written ≤ length (flat_map f xs ++ last)) × Appends old new (take fault.written (flat_map f xs ++ last))
   last_fails old now new written fault past before front =
       grind (arith, common_steps, nat_tests, PutsFront-fault, flat_map, PutsFront-append, PutsAll-same, all_full)

@@ -4,33 +4,33 @@ use Rattle.std.proofs.Common.{◌≡◌, ◌⊎◌, inl, inr, ℕ, ◌+◌, ◌-
 use Rattle.napt_wire.specs.declared.Side.{Side}
 use Rattle.napt_wire.specs.declared.Side.TheVariants as sides
 use Rattle.napt_capture.specs.{Text.file_header, declared.{device.Sink.Ghosts, fault.{CaptureFault.CaptureFault, WriteFault.WriteFault}}}
-use Rattle.napt_run.specs.Origins.{Origin}
-use Rattle.napt_laws.specs.Dispatching.{IsFront}
-use Rattle.napt_records.specs.{Taking.Inputs, declared.{Fault.{Fault, TheVariants.{Capture, Run, Write}}, Which.{Which, TheVariants.{Outside, Inside, Report}}}}
+use Rattle.napt_run.specs.Origins.{OriginModel}
+use Rattle.napt_laws.specs.Dispatching.{IsFrontOf}
+use Rattle.napt_records.specs.{RecordMerging.MergedInputs, declared.{Fault.{Fault, TheVariants.{Capture, Run, Write}}, Which.{Which, TheVariants.{Outside, Inside, Report}}}}
 use Rattle.napt_rules.specs.Prelude.{Arrival}
-use Rattle.napt_run.specs.{Captures.failed_writings, Outputs.{Breaks, Grows}, Runs.{FailsOutside, IfHeld, IsLeft, IsToldOf, ResultSays, RunsTo, text_behind}}
+use Rattle.napt_run.specs.{Captures.failed_writings, Outputs.{Breaks, OutputGrows}, Runs.{FailsOutside, IfHeld, IsLeft, IsToldOf, ResultSays, RunsTo, text_behind}}
 use Rattle.napt_run.specs.Files.{files_until}
-use Rattle.napt_run.specs.Streams.{DeviceGetsFrom, AreTaken, Explains, HasFront, HasPart, HasText, HasWritten, IsOfRun, IsSettledBy, IsStopFault, Streams, capture_text, ended, side_of}
-use Rattle.napt_run.{specs.declared.{leaving.Leaving.Leaving, output.Output.Output, passing.Totals.Totals}, proofs.{Behind.IfHeld-by, Fronts.capture_is}}
+use Rattle.napt_run.specs.Streams.{DeviceGetsFrom, AreTaken, Explains, HasFront, HasPart, HasText, HasWritten, IsOfRun, IsSettledBy, IsStopFault, Streams, capture_text, stream_ended, side_of}
+use Rattle.napt_run.{specs.declared.{output_sinks.Leaving.Leaving, output.Output.Output, capture_run.Totals.Totals}, proofs.{Behind.IfHeld-by, Fronts.capture_is}}
 use Rattle.napt_sequential.specs.declared.fault.RunFault.{RunFault}
 
-pub IfHeld-map : (P Q : Inputs → Type 0) (inside outside : Option (List ℕ)) →
-    ((all : Inputs) → P all → Q all) → IfHeld inside outside P → IfHeld inside outside Q
+pub IfHeld-map : (P Q : MergedInputs → Type 0) (inside outside : Option (List ℕ)) →
+    ((all : MergedInputs) → P all → Q all) → IfHeld inside outside P → IfHeld inside outside Q
 IfHeld-map P Q inside outside more p = grind (arith, common_steps, nat_tests)
 
-pub IfHeld-all : (P : Inputs → Type 0) (inside outside : Option (List ℕ)) →
-    ((all : Inputs) → P all) → IfHeld inside outside P
+pub IfHeld-all : (P : MergedInputs → Type 0) (inside outside : Option (List ℕ)) →
+    ((all : MergedInputs) → P all) → IfHeld inside outside P
 IfHeld-all P inside outside all = IfHeld-by P inside outside (λ b o is same. all (files_until b o))
 
 -- OF ONE OUTPUT
 
 -- its text
-grown_text : (origin : Origin) (side : Side) (inputs : List Arrival) (old new : Option (List ℕ)) →
+grown_text : (origin : OriginModel) (side : Side) (inputs : List Arrival) (old new : Option (List ℕ)) →
     Appends old new (text_behind file_header origin side inputs) → Appends old new (capture_text origin side inputs)
 grown_text origin side inputs old new grown = grind (arith, common_steps, nat_tests, ℕ, capture_is)
 
 -- or a front of it
-broken_text : {W : Type 0} {S : Ghosts W} (origin : Origin) (side : Side) (inputs : List Arrival)
+broken_text : {W : Type 0} {S : Ghosts W} (origin : OriginModel) (side : Side) (inputs : List Arrival)
     (old new : Output W S) (fault : WriteFault) → old.written ≡ 0 →
     Breaks old (text_behind file_header origin side inputs) fault new →
     (count : ℕ) × (fault.written ≡ min count (2 ^ 64 - 1)) × (count ≤ length (capture_text origin side inputs))
@@ -48,7 +48,7 @@ pub record Counted {W : Type 0} {S : Ghosts W} (old new : Output W S) (more : �
   pub same : new.device.ghost_name ≡ old.device.ghost_name
   pub count : S.failed new.device.now ≡ S.failed old.device.now + more
 
-none_counted : {W : Type 0} {S : Ghosts W} (old new : Output W S) (text : List ℕ) → Grows old text new →
+none_counted : {W : Type 0} {S : Ghosts W} (old new : Output W S) (text : List ℕ) → OutputGrows old text new →
     Counted old new 0
 none_counted old new text p = grind (arith, common_steps, nat_tests, add-zero)
 
@@ -56,7 +56,7 @@ one_counted : {W : Type 0} {S : Ghosts W} (old new : Output W S) (text : List �
     Breaks old text fault new → Counted old new 1
 one_counted old new text fault p = record { same = p.same; count = p.failed_once }
 
-module _ {W V : Type 0} {S : Ghosts W} {T : Ghosts V} (open_gate : Bool) (origin : Origin)
+module _ {W V : Type 0} {S : Ghosts W} {T : Ghosts V} (open_gate : Bool) (origin : OriginModel)
     (inside outside : Option (List ℕ))
     (old new : Leaving W V S T) where
   abbrev To : Result Totals Fault → Type 0
@@ -79,17 +79,17 @@ module _ {W V : Type 0} {S : Ghosts W} {T : Ghosts V} (open_gate : Bool) (origin
 -- WHAT AN OUTPUT GOT
 
 -- by what it was before and after
-record At {D : Type 0} {S : Ghosts D} (origin : Origin) (which : Which) (inside outside : Option (List ℕ))
+record At {D : Type 0} {S : Ghosts D} (origin : OriginModel) (which : Which) (inside outside : Option (List ℕ))
     (result : Result Totals Fault) (old new : Output D S) : Type 0 where
-  gets : Streams origin which (ended result) inside outside (S.contents old.device.now) (S.contents new.device.now)
+  gets : Streams origin which (stream_ended result) inside outside (S.contents old.device.now) (S.contents new.device.now)
   same : new.device.ghost_name ≡ old.device.ghost_name
-  counted : (¬ IsOfRun result) → Counted old new (failed_writings which (ended result))
-  settled : IsSettledBy (ended result) → S.is_flushed new.device.now
+  counted : (¬ IsOfRun result) → Counted old new (failed_writings which (stream_ended result))
+  settled : IsSettledBy (stream_ended result) → S.is_flushed new.device.now
 
-module _ {D : Type 0} {S : Ghosts D} (origin : Origin) (which : Which) (inside outside : Option (List ℕ))
+module _ {D : Type 0} {S : Ghosts D} (origin : OriginModel) (which : Which) (inside outside : Option (List ℕ))
     (old new : Output D S) where
   abbrev Grew : List Arrival → Type 0
-  Grew inputs = Grows old (text_behind file_header origin (side_of which) inputs) new
+  Grew inputs = OutputGrows old (text_behind file_header origin (side_of which) inputs) new
 
   abbrev Was : Result Totals Fault → Type 0
   Was result = At origin which inside outside result old new
@@ -110,25 +110,25 @@ module _ {D : Type 0} {S : Ghosts D} (origin : Origin) (which : Which) (inside o
   at_fault side fault inputs none taken grown settled =
       grind (arith, common_steps, nat_tests, IfHeld-map, grown_text, none_counted)
 
-  has_text : (inputs : List Arrival) → IfHeld inside outside (λ all. IsFront inputs all.arrivals) → Grew inputs →
+  has_text : (inputs : List Arrival) → IfHeld inside outside (λ all. IsFrontOf inputs all.arrivals) → Grew inputs →
       IfHeld inside outside (λ all. HasText origin which all (S.contents old.device.now) (S.contents new.device.now))
   has_text inputs front grown = grind (arith, common_steps, nat_tests, IfHeld-map, grown_text)
 
   has_front : (inputs : List Arrival) (fault : WriteFault) → old.written ≡ 0 →
-      IfHeld inside outside (λ all. IsFront inputs all.arrivals) →
+      IfHeld inside outside (λ all. IsFrontOf inputs all.arrivals) →
       Breaks old (text_behind file_header origin (side_of which) inputs) fault new →
       IfHeld inside outside (λ all. HasFront origin which fault.written all (S.contents old.device.now)
       (S.contents new.device.now))
   has_front inputs fault none front broke = grind (arith, common_steps, nat_tests, IfHeld-map, broken_text)
 
   -- the run itself failed
-  has_part : (inputs : List Arrival) (fault : WriteFault) → IfHeld inside outside (λ all. IsFront inputs all.arrivals) →
+  has_part : (inputs : List Arrival) (fault : WriteFault) → IfHeld inside outside (λ all. IsFrontOf inputs all.arrivals) →
       (broke : Breaks old (text_behind file_header origin (side_of which) inputs) fault new) →
       length file_header ≤ broke.count →
       IfHeld inside outside (λ all. HasPart origin which all (S.contents old.device.now) (S.contents new.device.now))
   has_part inputs fault front broke headed = grind (arith, common_steps, nat_tests, IfHeld-map, ℕ, capture_is)
 
-  abbrev Halted : Inputs → Type 0
+  abbrev Halted : MergedInputs → Type 0
   Halted all = HasText origin which all (S.contents old.device.now) (S.contents new.device.now)
       ⊎ HasPart origin which all (S.contents old.device.now) (S.contents new.device.now)
 
@@ -151,7 +151,7 @@ module _ {D : Type 0} {S : Ghosts D} (origin : Origin) (which : Which) (inside o
     }
   ]
 
-module _ {W V : Type 0} {S : Ghosts W} {T : Ghosts V} (open_gate : Bool) (origin : Origin)
+module _ {W V : Type 0} {S : Ghosts W} {T : Ghosts V} (open_gate : Bool) (origin : OriginModel)
     (inside outside : Option (List ℕ))
     (old new : Leaving W V S T) where
   abbrev IsAtOutside : Result Totals Fault → Type 0
@@ -185,7 +185,7 @@ module _ {W V : Type 0} {S : Ghosts W} {T : Ghosts V} (open_gate : Bool) (origin
 
   -- where the output to the outside failed, the one to the inside may not be begun
   kept : (fault : WriteFault) (p : FailsOutside open_gate origin inside outside file_header old new fault) →
-      Grows old.to_inside (text_behind file_header origin sides.Inside p.before) new.to_inside
+      OutputGrows old.to_inside (text_behind file_header origin sides.Inside p.before) new.to_inside
       ⊎ ((fault.written ≤ length file_header) × (new.to_inside ≡ old.to_inside)) →
       IsAtInside (Err (Write Outside fault))
   kept fault p (inl grown) = record {
@@ -217,14 +217,14 @@ module _ {W V : Type 0} {S : Ghosts W} {T : Ghosts V} (open_gate : Bool) (origin
 -- WHERE THE DEVICES ARE LEFT
 
 -- the device of an output, which is left as the output leaves it
-done : {D : Type 0} {S : Ghosts D} (origin : Origin) (which : Which) (inside outside : Option (List ℕ))
+done : {D : Type 0} {S : Ghosts D} (origin : OriginModel) (which : Which) (inside outside : Option (List ℕ))
     (result : Result Totals Fault) (old new : Output D S) →
     At origin which inside outside result old new → (start last : D) → old.device.now ≡ start →
     (new.device.ghost_name ≡ old.device.ghost_name → last ≡ new.device.now) →
     DeviceGetsFrom S origin which inside outside result start last
 done origin which inside outside result old new is start last from at = grind (arith, common_steps, nat_tests)
 
-module _ {W V : Type 0} {S : Ghosts W} {T : Ghosts V} (open_gate : Bool) (origin : Origin)
+module _ {W V : Type 0} {S : Ghosts W} {T : Ghosts V} (open_gate : Bool) (origin : OriginModel)
     (inside outside : Option (List ℕ))
     (old new : Leaving W V S T) (result : Result Totals Fault)
     (runs : RunsTo open_gate origin inside outside file_header old new

@@ -1,12 +1,12 @@
 -- A front of what the legs of a run did is what those of a front of the inputs did.
 use Rattle.std.proofs.Common.{◌≡◌, ℕ, ◌+◌, max, List, [], ◌∷◌, ◌++◌, length, map, take, drop, refl, sym, ◌∙◌, ap, arith, append_assoc, length-append}
 use Rattle.std.proofs.lemmas.List.{length-map, length-take-le, map-append, take-append-drop}
-use Rattle.napt_run.specs.Origins.{Origin}
-use Rattle.napt_rules.specs.Prelude.{Arrival, course_from, last_clock, step}
-use Rattle.napt_sequential.{specs.{Traces.trace_of, declared.passage.Trace.Trace}, proofs.{Joined.{traces_begin, traces_long}, Passed.traces_grow}}
-use Rattle.napt_run.{specs.Logging.traces_by, proofs.Fronts.same_front}
+use Rattle.napt_run.specs.Origins.{OriginModel}
+use Rattle.napt_rules.specs.Prelude.{Arrival, effect_from, last_clock, step}
+use Rattle.napt_sequential.{specs.{Traces.trace_of, declared.passage.Trace.Trace}, proofs.{JoinedSteps.{traces_begin, traces_long}, StepTraceSteps.traces_grow}}
+use Rattle.napt_run.{specs.LogRuns.traces_by, proofs.Fronts.same_front}
 
-module _ {X : Type 0} (of : Trace → X) (origin : Origin) where
+module _ {X : Type 0} (of : Trace → X) (origin : OriginModel) where
   pub long : (inputs : List Arrival) → length (map of (traces_by origin inputs)) ≡ length inputs
   long inputs = length-map (traces_by origin inputs) of ∙ traces_long origin.rules 0 origin.state.clock inputs
       origin.state.list
@@ -58,7 +58,7 @@ same_last (z ∷ xs) [] x y long e = absurd (omega (arith, long))
 same_last (z ∷ xs) (w ∷ ys) x y long e = same_last xs ys x y (omega (arith, long)) (cc (e))
 
 -- the inputs before the one whose legs did this next
-pub record NextInput (origin : Origin) (inputs : List Arrival) (first : List Trace) (next : Trace) : Type 0 where
+pub record NextInput (origin : OriginModel) (inputs : List Arrival) (first : List Trace) (next : Trace) : Type 0 where
   pub before : List Arrival
   pub input : Arrival
   pub later : List Arrival
@@ -66,7 +66,7 @@ pub record NextInput (origin : Origin) (inputs : List Arrival) (first : List Tra
   pub first_is : first ≡ traces_by origin before
   pub grown : traces_by origin (before ++ input ∷ []) ≡ traces_by origin before ++ next ∷ []
 
-pub next_input : (origin : Origin) (inputs : List Arrival) (first : List Trace) (next : Trace) (others : List Trace) →
+pub next_input : (origin : OriginModel) (inputs : List Arrival) (first : List Trace) (next : Trace) (others : List Trace) →
     traces_by origin inputs ≡ first ++ (next ∷ others) → NextInput origin inputs first next
 next_input origin inputs first next others is =
     let came : (first ++ next ∷ []) ++ others ≡ map (λ t. t) (traces_by origin inputs) =
@@ -81,7 +81,7 @@ next_input origin inputs first next others is =
     let (before, input, split) = last_of f.first (length first) many in
     let now : ℕ = max (last_clock origin.state.clock before) input.clock in
     let t : Trace = trace_of origin.rules.timers now
-    (step origin.rules (length before) now input (course_from origin.rules origin.state before).list) in
+    (step origin.rules (length before) now input (effect_from origin.rules origin.state before).list) in
     let grown : traces_by origin (before ++ input ∷ []) ≡ traces_by origin before ++ t ∷ [] =
     traces_grow origin.rules 0 origin.state.clock before input origin.state.list (length before) (omega arith) in
     let both : first ++ next ∷ [] ≡ traces_by origin before ++ t ∷ [] =

@@ -4,38 +4,38 @@ use Rattle.std.specs.Prelude.{◌≡◌, ⊤, ℕ, ◌+◌, ◌≤◌, ◌^◌, 
 use Rattle.std.specs.Io.KnownBytes.{Appends}
 use Rattle.napt_wire.specs.declared.Side.{Side}
 use Rattle.napt_wire.specs.declared.Side.TheVariants as sides
-use Rattle.napt_capture.specs.{Contents.Contents, Capture.{failed_reads, read_whole}, Reading.{IsForRecords, StopsBy}, Text.text}
+use Rattle.napt_capture.specs.{Contents.CaptureModel, Capture.{failed_reads, read_whole}, Reading.{IsForRecords, IsReadFault}, Text.text}
 use Rattle.napt_capture.specs.declared.fault.CaptureFault.{CaptureFault}
 use Rattle.napt_config.specs.Rules.{Rules}
-use Rattle.napt_dispatch.specs.declared.workers.Passed.{Passed}
+use Rattle.napt_dispatch.specs.declared.workers.RunSummary.{RunSummary}
 use Rattle.napt_records.specs.declared.{Fault.{Fault, TheVariants.{Capture, Run, Write}}, Which.{Which, TheVariants.{Outside, Inside, Report}}}
-use Rattle.napt_records.specs.{Output.records_to, Report.report_text, Taking.merged}
+use Rattle.napt_records.specs.{Output.records_to, Report.report_text, RecordMerging.merged_inputs}
 use Rattle.napt_sequential.specs.declared.fault.RunFault.TheVariants.{Memory, TooMany, Pool}
-use Rattle.napt_run.specs.{Origins.{GivesState, Origin, opened, ran_by}, declared.captures.{Captures.Captures, Outputs.Outputs}}
+use Rattle.napt_run.specs.{Origins.{GivesState, OriginModel, initial_origin, ran_by}, declared.captures.{CaptureFiles.CaptureFiles, CaptureOutputs.CaptureOutputs}}
 use Rattle.napt_rules.specs.Prelude.{Arrival}
 
 -- WHAT IS READ: the inside capture first
 
-abbrev pub both_by : Result Contents CaptureFault → Result Contents CaptureFault → Result Captures Fault
+abbrev pub both_by : Result CaptureModel CaptureFault → Result CaptureModel CaptureFault → Result CaptureFiles Fault
 both_by (Ok inside) (Ok outside) = Ok (record { inside = inside; outside = outside })
 both_by (Ok inside) (Err fault) = Err (Capture sides.Outside fault)
 both_by (Err fault) other = Err (Capture sides.Inside fault)
 
-abbrev pub read_both : List ℕ → List ℕ → Result Captures Fault
+abbrev pub read_both : List ℕ → List ℕ → Result CaptureFiles Fault
 read_both inside outside = both_by (read_whole inside) (read_whole outside)
 
 -- FROM BYTES TO BYTES
 
 -- what a run writes: the captures to both sides, and the report
-pub record Texts : Type 0 where
+pub record RunTexts : Type 0 where
   pub outside : List ℕ
   pub inside : List ℕ
   pub report : List ℕ
 
-abbrev pub arrivals_of : Captures → List Arrival
-arrivals_of captures = merged captures.inside.records captures.outside.records
+abbrev pub arrivals_of : CaptureFiles → List Arrival
+arrivals_of captures = merged_inputs captures.inside.records captures.outside.records
 
-abbrev pub texts_made : Origin → Captures → Texts
+abbrev pub texts_made : OriginModel → CaptureFiles → RunTexts
 texts_made origin captures =
     let arrivals : List Arrival = arrivals_of captures in
     record {
@@ -45,37 +45,37 @@ texts_made origin captures =
     }
 
 -- more than a run can count
-abbrev pub AreTooMany : Captures → Type 0
+abbrev pub AreTooMany : CaptureFiles → Type 0
 AreTooMany captures = 2 ^ 32 ≤ length captures.inside.records + length captures.outside.records
 
-abbrev pub texts_by : Origin → Result Captures Fault → Result Texts Fault
+abbrev pub texts_by : OriginModel → Result CaptureFiles Fault → Result RunTexts Fault
 texts_by origin (Err fault) = Err fault
 texts_by origin (Ok captures) =
     if nat_le (2 ^ 32) (length captures.inside.records + length captures.outside.records) then Err (Run TooMany)
     else Ok (texts_made origin captures)
 
-abbrev pub texts_from : Origin → List ℕ → List ℕ → Result Texts Fault
+abbrev pub texts_from : OriginModel → List ℕ → List ℕ → Result RunTexts Fault
 texts_from origin inside outside = texts_by origin (read_both inside outside)
 
 -- from the bindings that a configuration opens with
-abbrev pub texts : Rules → List ℕ → List ℕ → Result Texts Fault
-texts rules inside outside = texts_from (opened rules) inside outside
+abbrev pub texts : Rules → List ℕ → List ℕ → Result RunTexts Fault
+texts rules inside outside = texts_from (initial_origin rules) inside outside
 
 -- WHAT A DEVICE GETS
 
-abbrev pub text_to : Which → Texts → List ℕ
+abbrev pub text_to : Which → RunTexts → List ℕ
 text_to Outside all = all.outside
 text_to Inside all = all.inside
 text_to Report all = all.report
 
 -- how much of its text an output gets
-pub data Share : Type 0 where
-  whole : Share
-  front : ℕ → Share
-  nothing : Share
+pub data OutputShare : Type 0 where
+  whole : OutputShare
+  front : ℕ → OutputShare
+  nothing : OutputShare
 
 -- to the outside first, then to the inside, then the report; nothing after a fault of a capture or of the run
-abbrev pub share_of : Which → Result (Unit {0}) Fault → Share
+abbrev pub share_of : Which → Result (Unit {0}) Fault → OutputShare
 share_of which (Ok done) = whole
 share_of which (Err (Capture side fault)) = nothing
 share_of which (Err (Run fault)) = nothing
@@ -88,42 +88,42 @@ share_of Report (Err (Write Report fault)) = front fault.written
 share_of Report (Err (Write other fault)) = nothing
 
 -- a writer with these bytes before and after got this share of a text
-abbrev pub Receives : Share → List ℕ → Option (List ℕ) → Option (List ℕ) → Type 0
-Receives whole text old new = Appends old new text
-Receives (front written) text old new = (written ≤ length text) × Appends old new (take written text)
-Receives nothing text old new = new ≡ old
+abbrev pub OutputReceives : OutputShare → List ℕ → Option (List ℕ) → Option (List ℕ) → Type 0
+OutputReceives whole text old new = Appends old new text
+OutputReceives (front written) text old new = (written ≤ length text) × Appends old new (take written text)
+OutputReceives nothing text old new = new ≡ old
 
 -- if the bytes of both captures are known
 abbrev pub IfKnown : Option (List ℕ) → Option (List ℕ) → (List ℕ → List ℕ → Type 0) → Type 0
 IfKnown inside outside Holds = IfSome inside (λ bytes. IfSome outside (λ others. Holds bytes others))
 
 -- it got this share of its text
-abbrev pub GetsFrom : Origin → Which → Share → Option (List ℕ) → Option (List ℕ) → Option (List ℕ) → Option (List ℕ) →
+abbrev pub GetsFrom : OriginModel → Which → OutputShare → Option (List ℕ) → Option (List ℕ) → Option (List ℕ) → Option (List ℕ) →
     Type 0
 GetsFrom origin which nothing inside outside old new = new ≡ old
 GetsFrom origin which share inside outside old new = IfKnown inside outside (λ bytes others.
-    IsOkAnd (texts_from origin bytes others) (λ all. Receives share (text_to which all) old new))
+    IsOkAnd (texts_from origin bytes others) (λ all. OutputReceives share (text_to which all) old new))
 
-abbrev pub Gets : Rules → Which → Share → Option (List ℕ) → Option (List ℕ) → Option (List ℕ) → Option (List ℕ) → Type 0
-Gets rules which share inside outside old new = GetsFrom (opened rules) which share inside outside old new
+abbrev pub Gets : Rules → Which → OutputShare → Option (List ℕ) → Option (List ℕ) → Option (List ℕ) → Option (List ℕ) → Type 0
+Gets rules which share inside outside old new = GetsFrom (initial_origin rules) which share inside outside old new
 
 -- what is returned gives the state that the run leaves
-abbrev pub Leaves : Origin → Option (List ℕ) → Option (List ℕ) → Passed → Type 0
-Leaves origin inside outside passed = IfKnown inside outside (λ bytes others.
+abbrev pub OutputIsLeft : OriginModel → Option (List ℕ) → Option (List ℕ) → RunSummary → Type 0
+OutputIsLeft origin inside outside passed = IfKnown inside outside (λ bytes others.
     IsOkAnd (read_both bytes others) (λ captures. GivesState origin (arrivals_of captures) passed))
 
 -- THE RESULT
 
-abbrev pub IsPastInside : Result Texts Fault → Type 0
+abbrev pub IsPastInside : Result RunTexts Fault → Type 0
 IsPastInside (Err (Capture sides.Inside fault)) = ⊥
 IsPastInside other = ⊤
 
 -- the result is that of the texts, unless a device, memory or a worker failed
-abbrev pub Answers : Result Texts Fault → Result (Unit {0}) Fault → Type 0
+abbrev pub Answers : Result RunTexts Fault → Result (Unit {0}) Fault → Type 0
 Answers all (Ok done) = IsOk all
-Answers all (Err (Capture sides.Inside fault)) = StopsBy fault (all ≡ Err (Capture sides.Inside fault))
+Answers all (Err (Capture sides.Inside fault)) = IsReadFault fault (all ≡ Err (Capture sides.Inside fault))
 Answers all (Err (Capture sides.Outside fault)) =
-    IsPastInside all × StopsBy fault (all ≡ Err (Capture sides.Outside fault))
+    IsPastInside all × IsReadFault fault (all ≡ Err (Capture sides.Outside fault))
 Answers all (Err (Run TooMany)) = all ≡ Err (Run TooMany)
 Answers all (Err (Run Memory)) = IsOk all
 Answers all (Err (Run (Pool fault))) = IsOk all
@@ -136,7 +136,7 @@ IsReadable known = IfSome known (λ bytes. IsOk (read_whole bytes))
 
 -- it reads as its fault, unless the device failed, or memory, which is taken for records alone
 abbrev pub IsFaultIn : Option (List ℕ) → CaptureFault → Type 0
-IsFaultIn known fault = StopsBy fault (IfSome known (λ bytes. read_whole bytes ≡ Err fault)) × IsForRecords known fault
+IsFaultIn known fault = IsReadFault fault (IfSome known (λ bytes. read_whole bytes ≡ Err fault)) × IsForRecords known fault
 
 abbrev pub Explains : Option (List ℕ) → Option (List ℕ) → Fault → Type 0
 Explains inside outside (Capture sides.Inside fault) = IsFaultIn inside fault
@@ -147,9 +147,9 @@ Explains inside outside (Write which fault) = IsReadable inside × IsReadable ou
 -- how many reads of a side's capture failed, and how many writes of an output
 abbrev pub failed_readings : {T : Type 0} → Side → Result T Fault → ℕ
 failed_readings side (Ok done) = 0
-failed_readings sides.Inside (Err (Capture sides.Inside fault)) = let answer : Result Contents CaptureFault =
+failed_readings sides.Inside (Err (Capture sides.Inside fault)) = let answer : Result CaptureModel CaptureFault =
     Err fault in failed_reads answer
-failed_readings sides.Outside (Err (Capture sides.Outside fault)) = let answer : Result Contents CaptureFault =
+failed_readings sides.Outside (Err (Capture sides.Outside fault)) = let answer : Result CaptureModel CaptureFault =
     Err fault in failed_reads answer
 failed_readings side other = 0
 
@@ -163,17 +163,17 @@ failed_writings which other = 0
 -- BETWEEN READING AND WRITING
 
 -- these contents were read from a capture, if its bytes are known
-abbrev pub IsReadFrom : Option (List ℕ) → Contents → Type 0
+abbrev pub IsReadFrom : Option (List ℕ) → CaptureModel → Type 0
 IsReadFrom known contents = IfSome known (λ bytes. read_whole bytes ≡ Ok contents)
 
 -- the capture of a side was not read
-abbrev pub IsUnread : Side → Option (List ℕ) → Fault → Type 0
-IsUnread sides.Inside known (Capture sides.Inside fault) = IsFaultIn known fault
-IsUnread sides.Outside known (Capture sides.Outside fault) = IsFaultIn known fault
-IsUnread side known other = ⊥
+abbrev pub CaptureIsUnread : Side → Option (List ℕ) → Fault → Type 0
+CaptureIsUnread sides.Inside known (Capture sides.Inside fault) = IsFaultIn known fault
+CaptureIsUnread sides.Outside known (Capture sides.Outside fault) = IsFaultIn known fault
+CaptureIsUnread side known other = ⊥
 
 -- the outputs made for these captures
-pub record AreOutputs (origin : Origin) (captures : Captures) (outputs : Outputs) : Type 0 where
+pub record AreOutputs (origin : OriginModel) (captures : CaptureFiles) (outputs : CaptureOutputs) : Type 0 where
   pub to_outside : outputs.to_outside ≡ (texts_made origin captures).outside
   pub to_inside : outputs.to_inside ≡ (texts_made origin captures).inside
   pub report : string_bytes outputs.report ≡ (texts_made origin captures).report

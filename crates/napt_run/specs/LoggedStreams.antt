@@ -4,71 +4,71 @@ use Rattle.std.specs.Io.KnownBytes.{Appends}
 use Rattle.napt_wire.specs.declared.Side.{Side}
 use Rattle.napt_capture.specs.declared.{device.Sink.Ghosts, fault.CaptureFault.CaptureFault}
 use Rattle.napt_config.specs.Rules.{Rules}
-use Rattle.napt_laws.specs.Dispatching.{IsFront}
-use Rattle.napt_account.specs.GoingOn.{LogState, log_left}
-use Rattle.napt_records.specs.{Taking.Inputs, declared.{Fault.Fault, Which.Which}, Faults.tells_shut_gate}
+use Rattle.napt_laws.specs.Dispatching.{IsFrontOf}
+use Rattle.napt_account.specs.ResumedLogRuns.{LogStateModel, log_left}
+use Rattle.napt_records.specs.{RecordMerging.MergedInputs, declared.{Fault.Fault, Which.Which}, Faults.tells_shut_gate}
 use Rattle.napt_records.specs.declared.Fault.TheVariants as faults
 use Rattle.napt_records.specs.declared.Which.TheVariants as outputs
 use Rattle.napt_rules.specs.Prelude.{Arrival}
 use Rattle.napt_sequential.specs.declared.fault.RunFault.TheVariants as reasons
-use Rattle.napt_run.specs.{Captures.IfKnown, Files.files_until, LogOrigins.{LogTexts, texts_anew}, Origins.{Origin, opened}, Runs.IsToldOf}
-use Rattle.napt_run.specs.{Streams.{AreTaken, DeviceGetsFrom, Explains, IsOfRun, IsSettledBy, IsStopFault, ended}, declared.logging.LoggingFault.LoggingFault}
-use Rattle.napt_run.specs.declared.{output.Output.Output, log_start.LoggedPassed.LoggedPassed, logged_fault.LoggedFault.{LoggedFault, TheVariants.{Run, Log}}, passing.Totals.Totals}
+use Rattle.napt_run.specs.{Captures.IfKnown, Files.files_until, LogOrigins.{LogTexts, texts_anew}, Origins.{OriginModel, initial_origin}, Runs.IsToldOf}
+use Rattle.napt_run.specs.{Streams.{AreTaken, DeviceGetsFrom, Explains, IsOfRun, IsSettledBy, IsStopFault, stream_ended}, declared.logging.LoggingFault.LoggingFault}
+use Rattle.napt_run.specs.declared.{output.Output.Output, log_start.LoggedRunSummary.LoggedRunSummary, logged_fault.LogRunFault.{LogRunFault, TheVariants.{Run, Log}}, capture_run.Totals.Totals}
 use Rattle.napt_run.specs.declared.logging.LoggingFault.TheVariants as log_faults
 
 -- a fault of the log leaves the captures and the report as one of the run does
-abbrev pub besides_log : {T : Type 0} → Result T LoggedFault → Result T Fault
+abbrev pub besides_log : {T : Type 0} → Result T LogRunFault → Result T Fault
 besides_log (Ok given) = Ok given
 besides_log (Err (Run fault)) = Err fault
 besides_log (Err (Log fault)) = Err (faults.Run reasons.Memory)
 
 -- what a run leaves on the device of a capture: what it leaves without a log; nothing, if the log could not be begun
-abbrev pub DeviceGetsOrFrom : {D T : Type 0} → Ghosts D → Origin → Which → Option (List ℕ) → Option (List ℕ) →
-    Result T LoggedFault → D → D → Type 0
+abbrev pub DeviceGetsOrFrom : {D T : Type 0} → Ghosts D → OriginModel → Which → Option (List ℕ) → Option (List ℕ) →
+    Result T LogRunFault → D → D → Type 0
 DeviceGetsOrFrom S origin which inside outside result old new =
     DeviceGetsFrom S origin which inside outside (besides_log result) old new
     ⊎ (IsOfRun (besides_log result) × (new ≡ old))
 
 abbrev pub DeviceGetsOr : {D T : Type 0} → Ghosts D → Rules → Which → Option (List ℕ) → Option (List ℕ) →
-    Result T LoggedFault → D → D → Type 0
+    Result T LogRunFault → D → D → Type 0
 DeviceGetsOr S rules which inside outside result old new =
-    DeviceGetsOrFrom S (opened rules) which inside outside result old new
+    DeviceGetsOrFrom S (initial_origin rules) which inside outside result old new
 
 -- THE LOG
 
 -- all of it, and there are no more inputs than a log can count
-abbrev pub HasLog : LogTexts → Inputs → Option (List ℕ) → Option (List ℕ) → Type 0
+abbrev pub HasLog : LogTexts → MergedInputs → Option (List ℕ) → Option (List ℕ) → Type 0
 HasLog texts all old new = IsOk all.end × (length all.arrivals < 2 ^ 62) × Appends old new (texts.whole all.arrivals)
 
 -- the rows of the inputs before a fault of a capture, without those of what lives at the end
-abbrev pub HasRows : LogTexts → Side → CaptureFault → Inputs → Option (List ℕ) → Option (List ℕ) → Type 0
+abbrev pub HasRows : LogTexts → Side → CaptureFault → MergedInputs → Option (List ℕ) → Option (List ℕ) → Type 0
 HasRows texts side fault all old new =
     (inputs : List Arrival) × AreTaken side fault all inputs × Appends old new (texts.so_far inputs)
 
 -- so many bytes of the log of a front of the inputs
-pub record HasBytes (texts : LogTexts) (count : ℕ) (all : Inputs) (old new : Option (List ℕ)) : Type 0 where
+pub record HasBytes (texts : LogTexts) (count : ℕ) (all : MergedInputs) (old new : Option (List ℕ)) : Type 0 where
   pub inputs : List Arrival
-  pub front : IsFront inputs all.arrivals
+  pub front : IsFrontOf inputs all.arrivals
   pub within : count ≤ length (texts.whole inputs)
   pub appended : Appends old new (take count (texts.whole inputs))
 
 -- as many as the fault says, whose number saturates
-abbrev pub HasWritten : LogTexts → ℕ → Inputs → Option (List ℕ) → Option (List ℕ) → Type 0
+abbrev pub HasWritten : LogTexts → ℕ → MergedInputs → Option (List ℕ) → Option (List ℕ) → Type 0
 HasWritten texts written all old new =
     (count : ℕ) × (written ≡ min count (2 ^ 64 - 1)) × HasBytes texts count all old new
 
-abbrev pub HasPart : LogTexts → Inputs → Option (List ℕ) → Option (List ℕ) → Type 0
+abbrev pub HasPart : LogTexts → MergedInputs → Option (List ℕ) → Option (List ℕ) → Type 0
 HasPart texts all old new = (count : ℕ) × HasBytes texts count all old new
 
 -- by the result of the run
-abbrev pub LogsOf : {T : Type 0} → LogTexts → Result T LoggedFault → Inputs → Option (List ℕ) → Option (List ℕ) → Type 0
+abbrev pub LogsOf : {T : Type 0} → LogTexts → Result T LogRunFault → MergedInputs → Option (List ℕ) → Option (List ℕ) → Type 0
 LogsOf texts (Ok done) all old new = HasLog texts all old new
 LogsOf texts (Err (Log fault)) all old new = HasWritten texts fault.written all old new
 LogsOf texts (Err (Run (faults.Capture side fault))) all old new = HasRows texts side fault all old new
 LogsOf texts (Err (Run (faults.Write outputs.Report fault))) all old new = HasLog texts all old new
 LogsOf texts (Err (Run other)) all old new = HasPart texts all old new
 
-abbrev pub Logs : {T : Type 0} → LogTexts → Result T LoggedFault → Option (List ℕ) → Option (List ℕ) → Option (List ℕ) →
+abbrev pub Logs : {T : Type 0} → LogTexts → Result T LogRunFault → Option (List ℕ) → Option (List ℕ) → Option (List ℕ) →
     Option (List ℕ) → Type 0
 Logs texts result inside outside old new =
     IfKnown inside outside (λ bytes others. LogsOf texts result (files_until bytes others) old new)
@@ -78,76 +78,76 @@ abbrev pub FailsAtMostOnce : ℕ → ℕ → Type 0
 FailsAtMostOnce old new = (new ≡ old) ⊎ (new ≡ old + 1)
 
 -- how many writes and flushes of the log failed: a fault of the run or of an output may hide one
-abbrev pub Counts : {T : Type 0} → Result T LoggedFault → ℕ → ℕ → Type 0
-Counts (Err (Log fault)) old new = new ≡ old + 1
-Counts (Err (Run (faults.Run fault))) old new = FailsAtMostOnce old new
-Counts (Err (Run (faults.Write outputs.Outside fault))) old new = FailsAtMostOnce old new
-Counts (Err (Run (faults.Write outputs.Inside fault))) old new = FailsAtMostOnce old new
-Counts other old new = new ≡ old
+abbrev pub StreamsCountFailures : {T : Type 0} → Result T LogRunFault → ℕ → ℕ → Type 0
+StreamsCountFailures (Err (Log fault)) old new = new ≡ old + 1
+StreamsCountFailures (Err (Run (faults.Run fault))) old new = FailsAtMostOnce old new
+StreamsCountFailures (Err (Run (faults.Write outputs.Outside fault))) old new = FailsAtMostOnce old new
+StreamsCountFailures (Err (Run (faults.Write outputs.Inside fault))) old new = FailsAtMostOnce old new
+StreamsCountFailures other old new = new ≡ old
 
 -- what a run leaves on the device of the log
 pub record LogGetsText {L T : Type 0} (S : Ghosts L) (texts : LogTexts) (inside outside : Option (List ℕ))
-    (result : Result T LoggedFault) (old new : L) : Type 0 where
+    (result : Result T LogRunFault) (old new : L) : Type 0 where
   pub gets : Logs texts result inside outside (S.contents old) (S.contents new)
-  pub counts : Counts result (S.failed old) (S.failed new)
-  pub settled : IsSettledBy (ended (besides_log result)) → S.is_flushed new
+  pub counts : StreamsCountFailures result (S.failed old) (S.failed new)
+  pub settled : IsSettledBy (stream_ended (besides_log result)) → S.is_flushed new
 
-abbrev pub LogGets : {L T : Type 0} → Ghosts L → Rules → Option (List ℕ) → Option (List ℕ) → Result T LoggedFault →
+abbrev pub LogGets : {L T : Type 0} → Ghosts L → Rules → Option (List ℕ) → Option (List ℕ) → Result T LogRunFault →
     L → L → Type 0
 LogGets S rules inside outside result old new = LogGetsText S (texts_anew rules) inside outside result old new
 
 -- this is kept of the log beside the state that the run leaves
-abbrev pub IsKept : Origin → LogState → Option (List ℕ) → Option (List ℕ) → LogState → Type 0
-IsKept origin log inside outside left = IfKnown inside outside (λ bytes others.
+abbrev pub LogIsKept : OriginModel → LogStateModel → Option (List ℕ) → Option (List ℕ) → LogStateModel → Type 0
+LogIsKept origin log inside outside left = IfKnown inside outside (λ bytes others.
     left ≡ log_left origin.rules origin.state log (files_until bytes others).arrivals)
 
 -- a result, without its value
-abbrev pub logged_end : {T : Type 0} → Result T LoggedFault → Result (Unit {0}) LoggedFault
+abbrev pub logged_end : {T : Type 0} → Result T LogRunFault → Result (Unit {0}) LogRunFault
 logged_end (Ok given) = Ok tt
 logged_end (Err fault) = Err fault
 
 -- THE FAULT
 
-abbrev pub LoggedExplains : Option (List ℕ) → Option (List ℕ) → LoggedFault → Type 0
+abbrev pub LoggedExplains : Option (List ℕ) → Option (List ℕ) → LogRunFault → Type 0
 LoggedExplains inside outside (Log fault) = Unit {0}
 LoggedExplains inside outside (Run (faults.Run reasons.TooMany)) =
     IfKnown inside outside (λ bytes others. 2 ^ 62 ≤ length (files_until bytes others).arrivals)
 LoggedExplains inside outside (Run fault) = Explains inside outside fault
 
 -- a gate that is open is not told to be shut
-abbrev pub IsUnderOpenGate : LoggedFault → Type 0
-IsUnderOpenGate (Run fault) = tells_shut_gate fault ≡ false
-IsUnderOpenGate (Log fault) = Unit {0}
+abbrev pub IsRunUnderOpenGate : LogRunFault → Type 0
+IsRunUnderOpenGate (Run fault) = tells_shut_gate fault ≡ false
+IsRunUnderOpenGate (Log fault) = Unit {0}
 
 -- STEPS
 
 -- why a run whose log is kept failed
-abbrev pub fault_of : LoggingFault LoggedFault → LoggedFault
-fault_of (log_faults.Run fault) = Run fault
-fault_of (log_faults.Log fault) = fault
+abbrev pub logged_fault_of : LoggingFault LogRunFault → LogRunFault
+logged_fault_of (log_faults.Run fault) = Run fault
+logged_fault_of (log_faults.Log fault) = fault
 
 -- a fault before the report, under a gate that promises yes or one that does not
-abbrev pub IsLoggedStop : Bool → LoggedFault → Type 0
+abbrev pub IsLoggedStop : Bool → LogRunFault → Type 0
 IsLoggedStop open_gate (Log fault) = Unit {0}
 IsLoggedStop open_gate (Run (faults.Run reasons.TooMany)) = Unit {0}
 IsLoggedStop open_gate (Run fault) = IsStopFault open_gate fault
 
 -- what the result of a run says of the captures
-pub record LoggedSays (open_gate : Bool) (origin : Origin) (inside outside : Option (List ℕ))
-    (result : Result Totals LoggedFault) : Type 0 where
+pub record LoggedSays (open_gate : Bool) (origin : OriginModel) (inside outside : Option (List ℕ))
+    (result : Result Totals LogRunFault) : Type 0 where
   pub told : IfOk result (IsToldOf origin inside outside)
   pub fault : IfErr result (LoggedExplains inside outside)
   pub stop : IfErr result (IsLoggedStop open_gate)
 
 -- what a run leaves in the log
 pub record LogIsLeft {L : Type 0} {S : Ghosts L} (texts : LogTexts) (inside outside : Option (List ℕ))
-    (result : Result Totals LoggedFault) (old new : Output L S) : Type 0 where
+    (result : Result Totals LogRunFault) (old new : Output L S) : Type 0 where
   pub same : new.device.ghost_name ≡ old.device.ghost_name
   pub gets : LogGetsText S texts inside outside result old.device.now new.device.now
 
 -- and then its report was written, if that was to be
-abbrev pub reported_of : Result Totals LoggedFault → Result (Unit {0}) Fault → LogState →
-    Result LoggedPassed LoggedFault
+abbrev pub reported_of : Result Totals LogRunFault → Result (Unit {0}) Fault → LogStateModel →
+    Result LoggedRunSummary LogRunFault
 reported_of (Ok totals) (Ok done) log = Ok (record { passed = totals.passed; log = log })
 reported_of (Ok totals) (Err fault) log = Err (Run fault)
 reported_of (Err fault) written log = Err fault

@@ -1,29 +1,29 @@
 -- What a run goes on from: a configuration, and a state.
 use Rattle.std.specs.Prelude.{List}
 use Rattle.napt_config.specs.Rules.{Rules}
-use Rattle.napt_rules.specs.Prelude.{Arrival, Ran, State, anew, left_by, ran_from, under}
-use Rattle.napt_dispatch.specs.{Passing.LeavesState, declared.workers.Passed.Passed}
-use Rattle.napt_run.specs.declared.start.Start.{Start}
+use Rattle.napt_rules.specs.Prelude.{Arrival, RunResult, State, initial_state, next_state, run_result_from, with_redirects}
+use Rattle.napt_dispatch.specs.{RunsThrough.LeavesState, declared.workers.RunSummary.RunSummary}
+use Rattle.napt_run.specs.declared.start.RunOrigin.{RunOrigin}
 
-pub record Origin : Type 0 where
+pub record OriginModel : Type 0 where
   pub rules : Rules
   pub state : State
 
 -- a configuration before any input
-abbrev pub opened : Rules → Origin
-opened rules = record { rules = rules; state = anew rules }
+abbrev pub initial_origin : Rules → OriginModel
+initial_origin rules = record { rules = rules; state = initial_state rules }
 
 -- a state as it goes on under a configuration
-abbrev pub resumed : Rules → State → Origin
-resumed rules state = record { rules = rules; state = under rules state }
+abbrev pub resumed_origin : Rules → State → OriginModel
+resumed_origin rules state = record { rules = rules; state = with_redirects rules state }
 
-abbrev pub origin_of : Start → Origin
-origin_of start = resumed start.config.now start.state.now
+abbrev pub origin_of : RunOrigin → OriginModel
+origin_of start = resumed_origin start.config.now start.state.now
 
 -- what a run over these inputs gives
-unfoldable pub ran_by : Origin → List Arrival → Ran
-ran_by origin inputs = ran_from origin.rules origin.state inputs
+unfoldable pub ran_by : OriginModel → List Arrival → RunResult
+ran_by origin inputs = run_result_from origin.rules origin.state inputs
 
 -- what is returned gives the state that the run leaves
-abbrev pub GivesState : Origin → List Arrival → Passed → Type 0
-GivesState origin inputs passed = LeavesState origin.rules (left_by origin.rules origin.state inputs) passed
+abbrev pub GivesState : OriginModel → List Arrival → RunSummary → Type 0
+GivesState origin inputs passed = LeavesState origin.rules (next_state origin.rules origin.state inputs) passed

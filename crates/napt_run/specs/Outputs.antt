@@ -4,7 +4,7 @@ use Rattle.napt_capture.specs.declared.{device.Sink.Ghosts, fault.WriteFault.Wri
 use Rattle.napt_run.specs.declared.output.Output.{Output}
 
 -- this text was written, and no call failed
-pub record Grows {W : Type 0} {S : Ghosts W} (old : Output W S) (text : List ℕ) (new : Output W S) : Type 0 where
+pub record OutputGrows {W : Type 0} {S : Ghosts W} (old : Output W S) (text : List ℕ) (new : Output W S) : Type 0 where
   pub same : new.device.ghost_name ≡ old.device.ghost_name
   pub sound : old.is_broken ≡ false → new.is_broken ≡ false
   pub counted : (a : ℕ) → old.written ≡ min a (2 ^ 64 - 1) → new.written ≡ min (a + length text) (2 ^ 64 - 1)

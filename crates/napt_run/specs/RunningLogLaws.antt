@@ -2,14 +2,14 @@
 use Rattle.std.{specs.Prelude.{◌≡◌, List, [], ◌∷◌, ◌++◌}, proofs.{Common.{sym, ◌∙◌, ap, subst, append-nil, append_assoc}, lemmas.List.map-append}}
 use Rattle.napt_capture.specs.declared.device.Sink.{Ghosts}
 use Rattle.napt_account.specs.TraceLogs.{IsOfTraces}
-use Rattle.napt_log_text.{specs.{Logs.text_by, Times.Text}, proofs.Logs.added-append}
+use Rattle.napt_log_text.{specs.{Logs.text_by, Times.TimeText}, proofs.Logs.added-append}
 use Rattle.napt_records.specs.declared.fault.Fault.TheVariants as faults
 use Rattle.napt_sequential.specs.declared.passage.{Passage.Passage, Trace.Trace}
-use Rattle.napt_run.specs.{LeavingLaws.{breaks_more, grows_more, grows_none}, Logging.Legs, Outputs.{Breaks, Grows}}
-use Rattle.napt_run.specs.{LogOrigins.{LoggedOrigin, begun_at}, RunningLogs.{Enters, Fails, FailsBy, IsAt, rows_in, traces_of}, declared.logged_fault.LoggedFault.LoggedFault}
-use Rattle.napt_run.specs.declared.{logged_fault.LoggedFault.TheVariants.{Run, Log}, running_log.RunningLog.RunningLog}
+use Rattle.napt_run.specs.{OutputSinkLaws.{breaks_more, grows_more, grows_none}, LogRuns.Legs, Outputs.{Breaks, OutputGrows}}
+use Rattle.napt_run.specs.{LogOrigins.{LoggedOrigin, begun_at}, RunningLogs.{Enters, LogFails, FailsBy, LogIsAt, rows_in, running_log_traces}, declared.logged_fault.LogRunFault.LogRunFault}
+use Rattle.napt_run.specs.declared.{logged_fault.LogRunFault.TheVariants.{Run, Log}, running_log.RunningLog.RunningLog}
 
-traces_join : (xs ys : List (Legs Passage)) → traces_of (xs ++ ys) ≡ traces_of xs ++ traces_of ys
+traces_join : (xs ys : List (Legs Passage)) → running_log_traces (xs ++ ys) ≡ running_log_traces xs ++ running_log_traces ys
 traces_join xs ys =
     map-append (λ legs. let t : Trace = record { now = legs.0; first = legs.1; second = legs.2 } in t) xs ys
 
@@ -21,35 +21,35 @@ rows_in-append from before xs ys =
 module _ {L : Type 0} {S : Ghosts L} where
   pub enters_none : (x : RunningLog L S) → Enters x [] x
   enters_none x = λ from before at. record {
-    at = subst (λ (l : List Trace). IsAt from l x) (sym (append-nil before)) at;
+    at = subst (λ (l : List Trace). LogIsAt from l x) (sym (append-nil before)) at;
     wrote = grows_none x.output;
   }
 
-  pub enters_more : (x y z : RunningLog L S) (xs ys : List (Legs Passage)) → Enters x (traces_of xs) y →
-      Enters y (traces_of ys) z → Enters x (traces_of (xs ++ ys)) z
+  pub enters_more : (x y z : RunningLog L S) (xs ys : List (Legs Passage)) → Enters x (running_log_traces xs) y →
+      Enters y (running_log_traces ys) z → Enters x (running_log_traces (xs ++ ys)) z
   enters_more x y z xs ys one two = subst (λ (ts : List Trace). Enters x ts z) (sym (traces_join xs ys))
       (λ from before at.
       let first = one from before at in
-      let second = two from (before ++ traces_of xs) first.at in
+      let second = two from (before ++ running_log_traces xs) first.at in
       record {
-        at = subst (λ (l : List Trace). IsAt from l z) (append_assoc before (traces_of xs) (traces_of ys)) second.at;
-        wrote = subst (λ (l : Text). Grows x.output l z.output)
-            (sym (rows_in-append from before (traces_of xs) (traces_of ys)))
+        at = subst (λ (l : List Trace). LogIsAt from l z) (append_assoc before (running_log_traces xs) (running_log_traces ys)) second.at;
+        wrote = subst (λ (l : TimeText). OutputGrows x.output l z.output)
+            (sym (rows_in-append from before (running_log_traces xs) (running_log_traces ys)))
             (grows_more x.output y.output z.output _ _ first.wrote second.wrote);
       })
 
-  fails_by : (from : LoggedOrigin) (before xs ys : List Trace) (x y z : RunningLog L S) (fault : LoggedFault) →
-      Grows x.output (rows_in from before xs) y.output → FailsBy from (before ++ xs) ys fault y z →
+  fails_by : (from : LoggedOrigin) (before xs ys : List Trace) (x y z : RunningLog L S) (fault : LogRunFault) →
+      OutputGrows x.output (rows_in from before xs) y.output → FailsBy from (before ++ xs) ys fault y z →
       FailsBy from before (xs ++ ys) fault x z
   fails_by from before xs ys x y z (Log fault) one two =
-      subst (λ (l : Text). Breaks x.output l fault z.output) (sym (rows_in-append from before xs ys))
+      subst (λ (l : TimeText). Breaks x.output l fault z.output) (sym (rows_in-append from before xs ys))
       (breaks_more x.output y.output z.output _ _ fault one two)
   fails_by from before xs ys x y z (Run (faults.Run fault)) one two = record {
     first = xs ++ two.first;
     next = two.next;
     others = two.others;
     all = ap (λ (l : List Trace). xs ++ l) two.all ∙ sym (append_assoc xs two.first (two.next ∷ two.others));
-    wrote = subst (λ (l : Text). Grows x.output l z.output) (sym (rows_in-append from before xs two.first))
+    wrote = subst (λ (l : TimeText). OutputGrows x.output l z.output) (sym (rows_in-append from before xs two.first))
         (grows_more x.output y.output z.output _ _ one two.wrote);
     of_traces = subst (λ (l : List Trace). IsOfTraces (begun_at from.origin from.log) l two.next fault)
         (append_assoc before xs two.first) two.of_traces;
@@ -57,10 +57,10 @@ module _ {L : Type 0} {S : Ghosts L} where
   fails_by from before xs ys x y z (Run (faults.Capture side fault)) one two = absurd two
   fails_by from before xs ys x y z (Run (faults.Write which fault)) one two = absurd two
 
-  pub fails_more : (x y z : RunningLog L S) (xs ys : List (Legs Passage)) (fault : LoggedFault) →
-      Enters x (traces_of xs) y → Fails y (traces_of ys) fault z → Fails x (traces_of (xs ++ ys)) fault z
-  fails_more x y z xs ys fault one two = subst (λ (ts : List Trace). Fails x ts fault z) (sym (traces_join xs ys))
+  pub fails_more : (x y z : RunningLog L S) (xs ys : List (Legs Passage)) (fault : LogRunFault) →
+      Enters x (running_log_traces xs) y → LogFails y (running_log_traces ys) fault z → LogFails x (running_log_traces (xs ++ ys)) fault z
+  fails_more x y z xs ys fault one two = subst (λ (ts : List Trace). LogFails x ts fault z) (sym (traces_join xs ys))
       (λ from before at.
       let first = one from before at in
-      fails_by from before (traces_of xs) (traces_of ys) x y z fault first.wrote
-      (two from (before ++ traces_of xs) first.at))
+      fails_by from before (running_log_traces xs) (running_log_traces ys) x y z fault first.wrote
+      (two from (before ++ running_log_traces xs) first.at))

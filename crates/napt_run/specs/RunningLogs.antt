@@ -2,25 +2,25 @@
 use Rattle.std.specs.Int.NonZero.{non_zero_u32_get}
 use Rattle.std.specs.Prelude.{◌≡◌, ◌⊎◌, ℕ, ◌+◌, ◌<◌, ◌^◌, Bool, List, [], ◌∷◌, ◌++◌, length, map, false, if◌then◌else◌, Option, option_map, string_bytes, Result, Ok, Err}
 use Rattle.napt_capture.specs.declared.device.Sink.{Ghosts}
-use Rattle.napt_account.specs.{GoingOn.{IsLogOf, LogState, kept_at}, KnownLogs.KnownTraces, TraceLogs.{Begun, IsOfTraces, TracesTellFrom, entries_after, last_time, living_with, time_after}}
-use Rattle.napt_log_text.specs.{Logs.{living_rows, piece_opening, rows_from, rows_with, text_by}, Times.Text}
+use Rattle.napt_account.specs.{ResumedLogRuns.{IsLogOf, LogStateModel, kept_at}, TrackedLogs.KnownTraces, TraceLogs.{LogBeginning, IsOfTraces, TracesTellFrom, entries_after, last_time, living_with, trace_time_after}}
+use Rattle.napt_log_text.specs.{Logs.{living_rows, piece_opening, rows_from, rows_with, text_by}, Times.TimeText}
 use Rattle.napt_records.specs.declared.fault.Fault.TheVariants as faults
 use Rattle.napt_sequential.specs.declared.fault.RunFault.TheVariants as reasons
 use Rattle.napt_sequential.specs.declared.{fault.RunFault.RunFault, passage.{Passage.Passage, Trace.Trace}}
 use Rattle.napt_rules.specs.Prelude.{Arrival}
-use Rattle.napt_run.specs.{LogOrigins.{LoggedOrigin, begun_at}, Logging.{Legs, traces_by}, Origins.Origin, Outputs.{Breaks, Grows}, declared.{logged_fault.LoggedFault.{LoggedFault, TheVariants.{Run, Log}}, logging.LoggingFault.LoggingFault, output.Output.Output}}
+use Rattle.napt_run.specs.{LogOrigins.{LoggedOrigin, begun_at}, LogRuns.{Legs, traces_by}, Origins.OriginModel, Outputs.{Breaks, OutputGrows}, declared.{logged_fault.LogRunFault.{LogRunFault, TheVariants.{Run, Log}}, logging.LoggingFault.LoggingFault, output.Output.Output}}
 use Rattle.napt_run.specs.declared.running_log.RunningLog.{RunningLog}
 use Rattle.napt_run.specs.declared.logging.LoggingFault.TheVariants as log_faults
 
 -- what holds of a log by traces
-pub record AreLaws (origin : Origin) (log : LogState) : Type 0 where
+pub record AreLaws (origin : OriginModel) (log : LogStateModel) : Type 0 where
   pub rows : (each : Option ℕ) (inputs : List Arrival) →
       rows_with origin.rules each (begun_at origin log) [] (traces_by origin inputs)
       ≡ rows_from origin.rules origin.state each log inputs
   pub tell : TracesTellFrom origin.rules origin.state (begun_at origin log)
 
 -- where a run fails so, its log is flushed already, or cannot be
-abbrev pub IsFlushedAt : LoggingFault LoggedFault → Type 0
+abbrev pub IsFlushedAt : LoggingFault LogRunFault → Type 0
 IsFlushedAt (log_faults.Run (faults.Capture side fault)) = Unit {0}
 IsFlushedAt (log_faults.Log fault) = Unit {0}
 IsFlushedAt other = ⊥
@@ -30,48 +30,48 @@ abbrev pub FailsMore : Bool → ℕ → ℕ → Type 0
 FailsMore is_broken old new = (new ≡ old) ⊎ ((is_broken ≡ false) × (new ≡ old + 1))
 
 -- the traces of inputs whose legs tell their passages
-abbrev pub traces_of : List (Legs Passage) → List Trace
-traces_of all = map (λ legs. record { now = legs.0; first = legs.1; second = legs.2 }) all
+abbrev pub running_log_traces : List (Legs Passage) → List Trace
+running_log_traces all = map (λ legs. record { now = legs.0; first = legs.1; second = legs.2 }) all
 
 -- the log after these traces, and the rows of those that come then
-abbrev pub known : LoggedOrigin → List Trace → KnownTraces
-known from traces = record {
+abbrev pub known_logs : LoggedOrigin → List Trace → KnownTraces
+known_logs from traces = record {
   rules = from.origin.rules;
   begun = begun_at from.origin from.log;
   traces = traces;
   is_stopped = false;
 }
 
-abbrev pub rows_in : LoggedOrigin → List Trace → List Trace → Text
+abbrev pub rows_in : LoggedOrigin → List Trace → List Trace → TimeText
 rows_in from before traces = rows_with from.origin.rules from.each (begun_at from.origin from.log) before traces
 
 -- the rows of what lives at the end, and what is kept then
-abbrev pub ending_with : LoggedOrigin → List Trace → Text
+abbrev pub ending_with : LoggedOrigin → List Trace → TimeText
 ending_with from traces = if from.goes_on then []
     else living_rows from.origin.rules (living_with (begun_at from.origin from.log) traces)
 
-abbrev pub left_with : LoggedOrigin → List Trace → LogState
+abbrev pub left_with : LoggedOrigin → List Trace → LogStateModel
 left_with from traces =
-    let start : Begun = begun_at from.origin from.log in
-    kept_at (time_after start.clock traces) (entries_after start traces)
+    let start : LogBeginning = begun_at from.origin from.log in
+    kept_at (trace_time_after start.clock traces) (entries_after start traces)
 
 -- how a piece begins with an input behind these, if one does
-abbrev pub opening_before : LoggedOrigin → List Trace → ℕ → Text
+abbrev pub opening_before : LoggedOrigin → List Trace → ℕ → TimeText
 opening_before from before now =
     piece_opening from.origin.rules from.each (last_time before) now (left_with from before)
 
 module _ {L : Type 0} {S : Ghosts L} where
   -- it took these traces, no more than it can count, and goes on
-  pub record IsAt (from : LoggedOrigin) (traces : List Trace) (it : RunningLog L S) : Type 0 where
-    pub log : it.log ≡ known from traces
+  pub record LogIsAt (from : LoggedOrigin) (traces : List Trace) (it : RunningLog L S) : Type 0 where
+    pub log : it.log ≡ known_logs from traces
     pub few : length traces < 2 ^ 62
     pub sound : it.output.is_broken ≡ false
     pub each : option_map non_zero_u32_get it.each ≡ from.each
     pub goes_on : it.goes_on ≡ from.goes_on
 
   -- a log as it is taken up, over a state
-  abbrev pub logged_by : Origin → RunningLog L S → LoggedOrigin
-  logged_by origin it = record {
+  abbrev pub running_log_of : OriginModel → RunningLog L S → LoggedOrigin
+  running_log_of origin it = record {
     origin = origin;
     opening = string_bytes it.opening;
     log = it.log.begun.log;
@@ -80,59 +80,59 @@ module _ {L : Type 0} {S : Ghosts L} where
   }
 
   -- nothing was entered, and nothing written
-  pub record IsReady (origin : Origin) (it : RunningLog L S) : Type 0 where
-    pub at : IsAt (logged_by origin it) [] it
+  pub record IsReady (origin : OriginModel) (it : RunningLog L S) : Type 0 where
+    pub at : LogIsAt (running_log_of origin it) [] it
     pub of : IsLogOf origin.rules origin.state it.log.begun.log
     pub written : it.output.written ≡ 0
 
   -- it goes on after these traces, and this text was written
-  pub record GoesOn (from : LoggedOrigin) (traces : List Trace) (text : Text) (old : Output L S)
+  pub record LogGoesOnFrom (from : LoggedOrigin) (traces : List Trace) (text : TimeText) (old : Output L S)
       (new : RunningLog L S) : Type 0 where
-    pub at : IsAt from traces new
-    pub wrote : Grows old text new.output
+    pub at : LogIsAt from traces new
+    pub wrote : OutputGrows old text new.output
 
   -- the rows of these traces were written
   abbrev pub Enters : RunningLog L S → List Trace → RunningLog L S → Type 0
-  Enters old traces new = (from : LoggedOrigin) (before : List Trace) → IsAt from before old →
-      GoesOn from (before ++ traces) (rows_in from before traces) old.output new
+  Enters old traces new = (from : LoggedOrigin) (before : List Trace) → LogIsAt from before old →
+      LogGoesOnFrom from (before ++ traces) (rows_in from before traces) old.output new
 
   -- the log failed behind the first of these traces
-  pub record Halts (from : LoggedOrigin) (before traces : List Trace) (fault : RunFault) (old new : RunningLog L S) :
+  pub record LogHalts (from : LoggedOrigin) (before traces : List Trace) (fault : RunFault) (old new : RunningLog L S) :
       Type 0 where
     pub first : List Trace
     pub next : Trace
     pub others : List Trace
     pub all : traces ≡ first ++ (next ∷ others)
-    pub wrote : Grows old.output (rows_in from before first) new.output
+    pub wrote : OutputGrows old.output (rows_in from before first) new.output
     pub of_traces : IsOfTraces (begun_at from.origin from.log) (before ++ first) next fault
 
-  abbrev pub FailsBy : LoggedOrigin → List Trace → List Trace → LoggedFault → RunningLog L S → RunningLog L S → Type 0
+  abbrev pub FailsBy : LoggedOrigin → List Trace → List Trace → LogRunFault → RunningLog L S → RunningLog L S → Type 0
   FailsBy from before traces (Log fault) old new = Breaks old.output (rows_in from before traces) fault new.output
-  FailsBy from before traces (Run (faults.Run fault)) old new = Halts from before traces fault old new
+  FailsBy from before traces (Run (faults.Run fault)) old new = LogHalts from before traces fault old new
   FailsBy from before traces (Run other) old new = ⊥
 
   -- entering these traces failed
-  abbrev pub Fails : RunningLog L S → List Trace → LoggedFault → RunningLog L S → Type 0
-  Fails old traces fault new = (from : LoggedOrigin) (before : List Trace) → IsAt from before old →
+  abbrev pub LogFails : RunningLog L S → List Trace → LogRunFault → RunningLog L S → Type 0
+  LogFails old traces fault new = (from : LoggedOrigin) (before : List Trace) → LogIsAt from before old →
       FailsBy from before traces fault old new
 
   -- a text was written and flushed, or could not be
-  pub record Flushes (from : LoggedOrigin) (traces : List Trace) (text : Text) (old : Output L S)
+  pub record LogFlushes (from : LoggedOrigin) (traces : List Trace) (text : TimeText) (old : Output L S)
       (new : RunningLog L S) : Type 0 where
-    pub on : GoesOn from traces text old new
+    pub on : LogGoesOnFrom from traces text old new
     pub flushed : S.is_flushed new.output.device.now
 
-  abbrev pub Adds : LoggedOrigin → List Trace → Text → Output L S → Result (Unit {0}) LoggedFault →
+  abbrev pub Adds : LoggedOrigin → List Trace → TimeText → Output L S → Result (Unit {0}) LogRunFault →
       RunningLog L S → Type 0
-  Adds from traces text old (Ok done) new = Flushes from traces text old new
+  Adds from traces text old (Ok done) new = LogFlushes from traces text old new
   Adds from traces text old (Err (Log fault)) new = Breaks old text fault new.output
-  Adds from traces text old (Err (Run (faults.Run reasons.Memory))) new = Grows old [] new.output
+  Adds from traces text old (Err (Run (faults.Run reasons.Memory))) new = OutputGrows old [] new.output
   Adds from traces text old (Err other) new = ⊥
 
   -- the log took the next trace, and these are its rows
   pub record EntersWith (from : LoggedOrigin) (before : List Trace) (trace : Trace) (old new : RunningLog L S)
-      (text : Text) : Type 0 where
-    pub log : new.log ≡ known from (before ++ trace ∷ [])
+      (text : TimeText) : Type 0 where
+    pub log : new.log ≡ known_logs from (before ++ trace ∷ [])
     pub few : length before + 1 < 2 ^ 62
     pub output : new.output ≡ old.output
     pub each : new.each ≡ old.each
@@ -140,7 +140,7 @@ module _ {L : Type 0} {S : Ghosts L} where
     pub rows : text ≡ text_by from.origin.rules from.each (begun_at from.origin from.log) before trace
 
   -- or failed
-  abbrev pub EntersNot : LoggedOrigin → List Trace → Trace → RunningLog L S → LoggedFault → RunningLog L S → Type 0
+  abbrev pub EntersNot : LoggedOrigin → List Trace → Trace → RunningLog L S → LogRunFault → RunningLog L S → Type 0
   EntersNot from before trace old (Run (faults.Run fault)) new =
       (new.output ≡ old.output) × IsOfTraces (begun_at from.origin from.log) before trace fault
   EntersNot from before trace old other new = ⊥

@@ -1,12 +1,12 @@
 -- A run that succeeds writes the same, whether its captures are read as they arrive or whole.
 use Rattle.std.specs.Prelude.{◌≡◌, ℕ, List, Option, Some, Ok}
-use Rattle.napt_run.specs.Origins.{Origin}
+use Rattle.napt_run.specs.Origins.{OriginModel}
 use Rattle.napt_records.specs.declared.Which.TheVariants.{Outside, Inside, Report}
 use Rattle.napt_run.specs.{Captures.{GetsFrom, whole}, Streams.{Streams, Reports}}
 
 -- what `run_captures` promises of an output, and what `run_streams` does, over the same bytes
 abbrev pub OutputsAreTheSame : Type 0
-OutputsAreTheSame = (origin : Origin) (inside outside : List ℕ) (done : Unit {0}) (old : List ℕ)
+OutputsAreTheSame = (origin : OriginModel) (inside outside : List ℕ) (done : Unit {0}) (old : List ℕ)
     (new other : Option (List ℕ)) →
     (GetsFrom origin Outside whole (Some inside) (Some outside) (Some old) new →
     Streams origin Outside (Ok done) (Some inside) (Some outside) (Some old) other → other ≡ new)
@@ -15,7 +15,7 @@ OutputsAreTheSame = (origin : Origin) (inside outside : List ℕ) (done : Unit {
 
 -- and of the report
 abbrev pub ReportsAreTheSame : Type 0
-ReportsAreTheSame = (origin : Origin) (inside outside : List ℕ) (done : Unit {0}) (old : List ℕ)
+ReportsAreTheSame = (origin : OriginModel) (inside outside : List ℕ) (done : Unit {0}) (old : List ℕ)
     (new other : Option (List ℕ)) →
     GetsFrom origin Report whole (Some inside) (Some outside) (Some old) new →
     Reports origin (Ok done) (Some inside) (Some outside) (Some old) other → other ≡ new

@@ -4,22 +4,22 @@ use Rattle.std.specs.Prelude.{◌≡◌, ◌⊎◌, ℕ, ◌+◌, ◌≤◌, ◌
 use Rattle.std.specs.Io.KnownBytes.{Appends}
 use Rattle.napt_wire.specs.declared.Side.{Side}
 use Rattle.napt_wire.specs.declared.Side.TheVariants as sides
-use Rattle.napt_capture.specs.{Capture.spelling_in, Reading.{Gives, Says, StopsBy}, Text.{file_header, text}, declared.device.Source.Ghosts}
-use Rattle.napt_capture.specs.declared.{records.Records.Records, fault.CaptureFault.{CaptureFault, TheVariants.{TooLarge, Read, Memory}}}
+use Rattle.napt_capture.specs.{Capture.format_in, Reading.{LeavesBytes, IsReadResult, IsReadFault}, Text.{file_header, text}, declared.device.Source.Ghosts}
+use Rattle.napt_capture.specs.declared.{record_reader.RecordReader.RecordReader, fault.CaptureFault.{CaptureFault, TheVariants.{TooLarge, Read, Memory}}}
 use Rattle.napt_capture.specs.declared.device.Sink as sink
 use Rattle.napt_config.specs.Rules.{Rules}
-use Rattle.napt_dispatch.specs.{Dispatch.IsFaultUnder, declared.workers.Passed.Passed}
-use Rattle.napt_records.specs.{Output.records_to, Report.report_text, Taking.Inputs, declared.{merged_streams.Cuts.Cuts, Fault.Fault}}
+use Rattle.napt_dispatch.specs.{Dispatch.IsFaultUnder, declared.workers.RunSummary.RunSummary}
+use Rattle.napt_records.specs.{Output.records_to, Report.report_text, RecordMerging.MergedInputs, declared.{stream_merger.CutFlags.CutFlags, Fault.Fault}}
 use Rattle.napt_records.specs.declared.{Fault.TheVariants.{Capture, Run, Write}, Which.{Which, TheVariants.{Outside, Inside, Report}}}
-use Rattle.napt_laws.specs.Dispatching.{IsFront}
-use Rattle.napt_run.specs.{Captures.{IfKnown, failed_readings, failed_writings}, Files.files_until, Origins.{GivesState, Origin, opened, ran_by}}
+use Rattle.napt_laws.specs.Dispatching.{IsFrontOf}
+use Rattle.napt_run.specs.{Captures.{IfKnown, failed_readings, failed_writings}, Files.files_until, Origins.{GivesState, OriginModel, initial_origin, ran_by}}
 use Rattle.napt_rules.specs.Prelude.{Arrival}
 use Rattle.napt_sequential.specs.declared.fault.RunFault.TheVariants as faults
 
 -- WHAT IS WRITTEN
 
 -- the text of a capture that a run over these inputs writes
-abbrev pub capture_text : Origin → Side → List Arrival → List ℕ
+abbrev pub capture_text : OriginModel → Side → List Arrival → List ℕ
 capture_text origin side inputs = text (records_to side inputs (ran_by origin inputs).outcomes)
 
 abbrev pub side_of : Which → Side
@@ -28,34 +28,34 @@ side_of Inside = sides.Inside
 side_of Report = sides.Inside
 
 -- all of the text
-abbrev pub HasAll : Origin → Which → Inputs → Option (List ℕ) → Option (List ℕ) → Type 0
+abbrev pub HasAll : OriginModel → Which → MergedInputs → Option (List ℕ) → Option (List ℕ) → Type 0
 HasAll origin which all old new = IsOk all.end × Appends old new (capture_text origin (side_of which) all.arrivals)
 
 -- all of the text of a front of the inputs
-abbrev pub HasText : Origin → Which → Inputs → Option (List ℕ) → Option (List ℕ) → Type 0
+abbrev pub HasText : OriginModel → Which → MergedInputs → Option (List ℕ) → Option (List ℕ) → Type 0
 HasText origin which all old new =
-    (inputs : List Arrival) × IsFront inputs all.arrivals
+    (inputs : List Arrival) × IsFrontOf inputs all.arrivals
     × Appends old new (capture_text origin (side_of which) inputs)
 
 -- as much of it as the fault says, whose number saturates
-abbrev pub HasFront : Origin → Which → ℕ → Inputs → Option (List ℕ) → Option (List ℕ) → Type 0
+abbrev pub HasFront : OriginModel → Which → ℕ → MergedInputs → Option (List ℕ) → Option (List ℕ) → Type 0
 HasFront origin which written all old new =
-    (inputs : List Arrival) × IsFront inputs all.arrivals × ((count : ℕ) × (written ≡ min count (2 ^ 64 - 1))
+    (inputs : List Arrival) × IsFrontOf inputs all.arrivals × ((count : ℕ) × (written ≡ min count (2 ^ 64 - 1))
     × (count ≤ length (capture_text origin (side_of which) inputs))
     × Appends old new (take count (capture_text origin (side_of which) inputs)))
 
 -- the inputs before a fault of a side; a front of them, if its device or memory failed
-abbrev pub AreTaken : Side → CaptureFault → Inputs → List Arrival → Type 0
+abbrev pub AreTaken : Side → CaptureFault → MergedInputs → List Arrival → Type 0
 AreTaken side fault all inputs =
-    IsFront inputs all.arrivals
-    × StopsBy fault (all ≡ record { arrivals = inputs; end = Err (record { side = side; fault = fault }) })
+    IsFrontOf inputs all.arrivals
+    × IsReadFault fault (all ≡ record { arrivals = inputs; end = Err (record { side = side; fault = fault }) })
 
 -- if the header to the outside could not be written, the one to the inside was not begun
 abbrev pub IsUnbegun : ℕ → Option (List ℕ) → Option (List ℕ) → Type 0
 IsUnbegun written old new = (written ≤ length file_header) × (new ≡ old)
 
 -- writing an output failed after so many bytes
-abbrev pub HasWritten : Origin → Which → Which → ℕ → Inputs → Option (List ℕ) → Option (List ℕ) → Type 0
+abbrev pub HasWritten : OriginModel → Which → Which → ℕ → MergedInputs → Option (List ℕ) → Option (List ℕ) → Type 0
 HasWritten origin which Report written all old new = HasAll origin which all old new
 HasWritten origin Outside Outside written all old new = HasFront origin Outside written all old new
 HasWritten origin Inside Inside written all old new = HasFront origin Inside written all old new
@@ -64,14 +64,14 @@ HasWritten origin other Outside written all old new = HasText origin other all o
 HasWritten origin Report Inside written all old new = HasText origin Report all old new
 
 -- at least the header, and as much of it as a failed write left
-abbrev pub HasPart : Origin → Which → Inputs → Option (List ℕ) → Option (List ℕ) → Type 0
+abbrev pub HasPart : OriginModel → Which → MergedInputs → Option (List ℕ) → Option (List ℕ) → Type 0
 HasPart origin which all old new =
-    (inputs : List Arrival) × IsFront inputs all.arrivals × ((count : ℕ) × (length file_header ≤ count)
+    (inputs : List Arrival) × IsFrontOf inputs all.arrivals × ((count : ℕ) × (length file_header ≤ count)
     × (count ≤ length (capture_text origin (side_of which) inputs))
     × Appends old new (take count (capture_text origin (side_of which) inputs)))
 
 -- by the result of the run
-abbrev pub GetsOf : Origin → Which → Result (Unit {0}) Fault → Inputs → Option (List ℕ) → Option (List ℕ) → Type 0
+abbrev pub GetsOf : OriginModel → Which → Result (Unit {0}) Fault → MergedInputs → Option (List ℕ) → Option (List ℕ) → Type 0
 GetsOf origin which (Ok done) all old new = HasAll origin which all old new
 GetsOf origin which (Err (Capture side fault)) all old new =
     (inputs : List Arrival) × AreTaken side fault all inputs
@@ -79,7 +79,7 @@ GetsOf origin which (Err (Capture side fault)) all old new =
 GetsOf origin which (Err (Write other fault)) all old new = HasWritten origin which other fault.written all old new
 GetsOf origin which (Err (Run fault)) all old new = HasText origin which all old new ⊎ HasPart origin which all old new
 
-abbrev pub Streams : Origin → Which → Result (Unit {0}) Fault → Option (List ℕ) → Option (List ℕ) → Option (List ℕ) →
+abbrev pub Streams : OriginModel → Which → Result (Unit {0}) Fault → Option (List ℕ) → Option (List ℕ) → Option (List ℕ) →
     Option (List ℕ) → Type 0
 Streams origin which result inside outside old new =
     IfKnown inside outside (λ bytes others. GetsOf origin which result (files_until bytes others) old new)
@@ -93,17 +93,17 @@ GetsReport report (Err (Write Report fault)) old new =
     (fault.written ≤ length report) × Appends old new (take fault.written report)
 GetsReport report (Err other) old new = new ≡ old
 
-abbrev pub ReportsAll : Origin → Result (Unit {0}) Fault → Inputs → Option (List ℕ) → Option (List ℕ) → Type 0
+abbrev pub ReportsAll : OriginModel → Result (Unit {0}) Fault → MergedInputs → Option (List ℕ) → Option (List ℕ) → Type 0
 ReportsAll origin result all old new =
-    (cuts : Cuts) × (all.end ≡ Ok cuts)
+    (cuts : CutFlags) × (all.end ≡ Ok cuts)
     × GetsReport (report_text cuts.inside cuts.outside (ran_by origin all.arrivals)) result old new
 
-abbrev pub ReportsOf : Origin → Result (Unit {0}) Fault → Inputs → Option (List ℕ) → Option (List ℕ) → Type 0
+abbrev pub ReportsOf : OriginModel → Result (Unit {0}) Fault → MergedInputs → Option (List ℕ) → Option (List ℕ) → Type 0
 ReportsOf origin (Ok done) all old new = ReportsAll origin (Ok done) all old new
 ReportsOf origin (Err (Write Report fault)) all old new = ReportsAll origin (Err (Write Report fault)) all old new
 ReportsOf origin (Err other) all old new = new ≡ old
 
-abbrev pub Reports : Origin → Result (Unit {0}) Fault → Option (List ℕ) → Option (List ℕ) → Option (List ℕ) →
+abbrev pub Reports : OriginModel → Result (Unit {0}) Fault → Option (List ℕ) → Option (List ℕ) → Option (List ℕ) →
     Option (List ℕ) → Type 0
 Reports origin result inside outside old new =
     IfKnown inside outside (λ bytes others. ReportsOf origin result (files_until bytes others) old new)
@@ -111,14 +111,14 @@ Reports origin result inside outside old new =
 -- THE FAULT
 
 -- a fault in a capture is one of its bytes, and no capture is too large
-abbrev pub IsFaultOf : Side → CaptureFault → Inputs → Type 0
-IsFaultOf side Read all = Unit {0}
-IsFaultOf side Memory all = Unit {0}
-IsFaultOf side TooLarge all = ⊥
-IsFaultOf side fault all = all.end ≡ Err (record { side = side; fault = fault })
+abbrev pub IsStreamFaultOf : Side → CaptureFault → MergedInputs → Type 0
+IsStreamFaultOf side Read all = Unit {0}
+IsStreamFaultOf side Memory all = Unit {0}
+IsStreamFaultOf side TooLarge all = ⊥
+IsStreamFaultOf side fault all = all.end ≡ Err (record { side = side; fault = fault })
 
-abbrev pub ExplainsOf : Inputs → Fault → Type 0
-ExplainsOf all (Capture side fault) = IsFaultOf side fault all
+abbrev pub ExplainsOf : MergedInputs → Fault → Type 0
+ExplainsOf all (Capture side fault) = IsStreamFaultOf side fault all
 ExplainsOf all (Run faults.TooMany) = ⊥
 ExplainsOf all (Run other) = Unit {0}
 ExplainsOf all (Write which fault) = Unit {0}
@@ -139,9 +139,9 @@ IsSettledBy (Err (Write Report fault)) = Unit {0}
 IsSettledBy other = ⊥
 
 -- a result, without its value
-abbrev pub ended : {T : Type 0} → Result T Fault → Result (Unit {0}) Fault
-ended (Ok given) = Ok tt
-ended (Err fault) = Err fault
+abbrev pub stream_ended : {T : Type 0} → Result T Fault → Result (Unit {0}) Fault
+stream_ended (Ok given) = Ok tt
+stream_ended (Err fault) = Err fault
 
 -- FAILED READS
 
@@ -168,14 +168,14 @@ HasRead inside_failed outside_failed old new other_old other_new result =
 -- THE DEVICES
 
 -- what a run leaves on the device of a capture; its fault may hide failed calls
-pub record DeviceGetsFrom {D T : Type 0} (S : sink.Ghosts D) (origin : Origin) (which : Which)
+pub record DeviceGetsFrom {D T : Type 0} (S : sink.Ghosts D) (origin : OriginModel) (which : Which)
     (inside outside : Option (List ℕ)) (result : Result T Fault) (old new : D) : Type 0 where
-  pub gets : Streams origin which (ended result) inside outside (S.contents old) (S.contents new)
-  pub count : (¬ IsOfRun result) → S.failed new ≡ S.failed old + failed_writings which (ended result)
-  pub settled : IsSettledBy (ended result) → S.is_flushed new
+  pub gets : Streams origin which (stream_ended result) inside outside (S.contents old) (S.contents new)
+  pub count : (¬ IsOfRun result) → S.failed new ≡ S.failed old + failed_writings which (stream_ended result)
+  pub settled : IsSettledBy (stream_ended result) → S.is_flushed new
 
 -- and on that of the report
-pub record ReportGetsFrom {D : Type 0} (S : sink.Ghosts D) (origin : Origin) (inside outside : Option (List ℕ))
+pub record ReportGetsFrom {D : Type 0} (S : sink.Ghosts D) (origin : OriginModel) (inside outside : Option (List ℕ))
     (result : Result (Unit {0}) Fault) (old new : D) : Type 0 where
   pub gets : Reports origin result inside outside (S.contents old) (S.contents new)
   pub count : S.failed new ≡ S.failed old + failed_writings Report result
@@ -185,32 +185,32 @@ pub record ReportGetsFrom {D : Type 0} (S : sink.Ghosts D) (origin : Origin) (in
 abbrev pub DeviceGets : {D T : Type 0} → sink.Ghosts D → Rules → Which → Option (List ℕ) → Option (List ℕ) →
     Result T Fault → D → D → Type 0
 DeviceGets S rules which inside outside result old new =
-    DeviceGetsFrom S (opened rules) which inside outside result old new
+    DeviceGetsFrom S (initial_origin rules) which inside outside result old new
 
 abbrev pub ReportGets : {D : Type 0} → sink.Ghosts D → Rules → Option (List ℕ) → Option (List ℕ) →
     Result (Unit {0}) Fault → D → D → Type 0
-ReportGets S rules inside outside result old new = ReportGetsFrom S (opened rules) inside outside result old new
+ReportGets S rules inside outside result old new = ReportGetsFrom S (initial_origin rules) inside outside result old new
 
 -- what is returned gives the state that the run leaves
-abbrev pub LeavesInTheEnd : Origin → Option (List ℕ) → Option (List ℕ) → Passed → Type 0
+abbrev pub LeavesInTheEnd : OriginModel → Option (List ℕ) → Option (List ℕ) → RunSummary → Type 0
 LeavesInTheEnd origin inside outside passed =
     IfKnown inside outside (λ bytes others. GivesState origin (files_until bytes others).arrivals passed)
 
 -- STEPS
 
 -- the header of a capture of these bytes was read, and nothing else
-pub record IsBehindHeader {R : Type 0} (G : Ghosts R) (records : Records) (bytes : Option (List ℕ)) (source : R) : Type
+pub record IsBehindHeader {R : Type 0} (G : Ghosts R) (records : RecordReader) (bytes : Option (List ℕ)) (source : R) : Type
     0 where
-  pub header : Gives bytes (G.remaining source)
-      (λ bytes left. (spelling_in (take 24 bytes) ≡ Ok records.spelling) × (left ≡ drop 24 bytes))
+  pub header : LeavesBytes bytes (G.remaining source)
+      (λ bytes left. (format_in (take 24 bytes) ≡ Ok records.spelling) × (left ≡ drop 24 bytes))
   pub ahead : records.ahead ≡ []
   pub number : records.number ≡ 1
 
 -- a fault of a side's capture, by its header
 abbrev pub IsHeaderFault : Side → Option (List ℕ) → Option (List ℕ) → Fault → Type 0
 IsHeaderFault side old new (Capture other fault) =
-    (other ≡ side) × (let answer : Result Records CaptureFault = Err fault in Says answer (Gives old new
-    (λ bytes left. (spelling_in (take 24 bytes) ≡ Err fault) × (left ≡ drop 24 bytes))))
+    (other ≡ side) × (let answer : Result RecordReader CaptureFault = Err fault in IsReadResult answer (LeavesBytes old new
+    (λ bytes left. (format_in (take 24 bytes) ≡ Err fault) × (left ≡ drop 24 bytes))))
 IsHeaderFault side old new other = ⊥
 
 -- a fault before the report, under a gate that promises yes or one that does not

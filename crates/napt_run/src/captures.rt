@@ -1,20 +1,20 @@
 //! A run over captures: reads both, runs in memory, and only then writes.
 ghost use Rattle.std.specs.Prelude.{◌≡◌, ◌↔◌, ◌+◌, ◌-◌, ◌^◌, ◌<◌, length, All, OnOk, IfOk, IfErr, Err, true, false};
 ghost use Rattle.napt_capture.specs.Text.{IsWritable};
-ghost use Rattle.napt_rules.specs.Prelude.{Takes};
-ghost use Rattle.napt_run.specs.Captures.{Answers, AreOutputs, AreTooMany, Explains, Gets, GetsFrom, IfKnown, IsReadFrom, IsUnread, IsWriteFaultOf, Leaves, Receives, failed_readings, failed_writings, output_to, share_of, texts, texts_from};
-ghost use Rattle.napt_run.specs.{Origins.origin_of, Streams.ended};
-ghost use Rattle.napt_sequential.specs.Faults.{is_gate_fault};
+ghost use Rattle.napt_rules.specs.Prelude.{TakesState};
+ghost use Rattle.napt_run.specs.Captures.{Answers, AreOutputs, AreTooMany, Explains, Gets, GetsFrom, IfKnown, IsReadFrom, CaptureIsUnread, IsWriteFaultOf, OutputIsLeft, OutputReceives, failed_readings, failed_writings, output_to, share_of, texts, texts_from};
+ghost use Rattle.napt_run.specs.{Origins.origin_of, Streams.stream_ended};
+ghost use Rattle.napt_sequential.specs.Faults.{is_run_gate_fault};
 ghost use Rattle.napt_records.specs.Faults.{tells_shut_gate};
 
-use crate::kept::Kept;
-use crate::start::{Setting, Start, unbegun, without_state};
-use crate::whole::Tally;
+use crate::kept_texts::KeptTexts;
+use crate::start::{OriginSetting, RunOrigin, unbegun, without_state};
+use crate::whole_captures::RunTally;
 use napt_capture::{Capture, Sink, Source, Watched, read_capture, write_text};
 use napt_config::Config;
-use napt_dispatch::Passed;
+use napt_dispatch::RunSummary;
 use napt_pool::Gate;
-use napt_records::{Fault, Merged, Which, report_of};
+use napt_records::{Fault, RecordMerger, Which, report_of};
 use napt_sequential::{MOST_INPUTS, RunFault};
 use napt_wire::Side;
 use std::alloc::Global;
@@ -23,18 +23,18 @@ use std::thread::Threads;
 
 /// The captures of both sides.
 #[derive(Drop)]
-struct Captures {
+struct CaptureFiles {
     inside: Capture,
     outside: Capture,
 }
 
 /// What a run writes, and what gives the state that it leaves.
 #[derive(Drop)]
-struct Outputs {
-    to_outside: Kept,
-    to_inside: Kept,
+struct CaptureOutputs {
+    to_outside: KeptTexts,
+    to_inside: KeptTexts,
     report: String,
-    passed: Passed,
+    passed: RunSummary,
 }
 
 /// Reads the capture of a side.
@@ -42,7 +42,7 @@ struct Outputs {
 fn read_side<R: Source>(alloc: Global, side: Side, source: &mut R) -> Result<Capture, Fault>
     requires { R.failed source.old < 2 ^ 64 - 1 }
     ensures ok { IfOk result (IsReadFrom (R.remaining source.old)) }
-    ensures err { IfErr result (IsUnread side (R.remaining source.old)) }
+    ensures err { IfErr result (CaptureIsUnread side (R.remaining source.old)) }
     ensures writable { IfOk result (λ capture. All IsWritable capture.records) }
     ensures count { R.failed source.new ≡ R.failed source.old + failed_readings side result }
 {
@@ -52,7 +52,7 @@ fn read_side<R: Source>(alloc: Global, side: Side, source: &mut R) -> Result<Cap
     }
 }
 
-impl Captures {
+impl CaptureFiles {
     /// How many records there are in both.
     fn count(&self) -> usize
         ensures { result ≡ length self.now.inside.records + length self.now.outside.records }
@@ -70,26 +70,26 @@ impl Captures {
 
 /// Runs over the captures, and makes everything to be written.
 fn make_outputs<T: Threads + Wait + Copy + Send + 'static, G: Gate + Send + Sync + Drop + 'static>(
-    setting: Setting<'_, '_, T, G>,
-    captures: Captures,
-) -> Result<Outputs, RunFault>
+    setting: OriginSetting<'_, '_, T, G>,
+    captures: CaptureFiles,
+) -> Result<CaptureOutputs, RunFault>
     requires inside { All IsWritable captures.inside.records }
     requires outside { All IsWritable captures.outside.records }
     ensures ok { IfOk result (AreOutputs (origin_of setting.entry.start) captures) }
     ensures too_many { (result ≡ Err RunFault.TooMany) ↔ AreTooMany captures }
-    ensures gate { G.is_open ≡ true → IfErr result (λ fault. is_gate_fault fault ≡ false) }
+    ensures gate { G.is_open ≡ true → IfErr result (λ fault. is_run_gate_fault fault ≡ false) }
 {
     if captures.are_too_many() {
         return Err(RunFault::TooMany);
     }
     let alloc = setting.alloc;
-    let Captures { inside, outside } = captures;
-    let inputs = Merged::new(inside.records, outside.records);
-    let mut to_outside = Watched::new(Kept::new(alloc)?);
-    let mut to_inside = Watched::new(Kept::new(alloc)?);
-    let Tally { counts, passed } = setting.run_into(inputs, &mut to_outside, &mut to_inside)?;
+    let CaptureFiles { inside, outside } = captures;
+    let inputs = RecordMerger::new(inside.records, outside.records);
+    let mut to_outside = Watched::new(KeptTexts::new(alloc)?);
+    let mut to_inside = Watched::new(KeptTexts::new(alloc)?);
+    let RunTally { counts, passed } = setting.run_into(inputs, &mut to_outside, &mut to_inside)?;
     let report = report_of(alloc, &counts, &passed.bindings, inside.cut, outside.cut)?;
-    Ok(Outputs {
+    Ok(CaptureOutputs {
         to_outside: to_outside.into_inner(),
         to_inside: to_inside.into_inner(),
         report,
@@ -108,9 +108,9 @@ fn output_to(side: Side) -> Which
 }
 
 /// Writes the capture that goes to a side, and flushes it.
-fn write_side<W: Sink>(side: Side, kept: &Kept, output: &mut W) -> Result<(), Fault>
+fn write_side<W: Sink>(side: Side, kept: &KeptTexts, output: &mut W) -> Result<(), Fault>
     requires { W.failed output.old < 2 ^ 64 - 1 }
-    ensures bytes { Receives (share_of (output_to side) result) kept.now
+    ensures bytes { OutputReceives (share_of (output_to side) result) kept.now
         (W.contents output.old) (W.contents output.new) }
     ensures flushed { OnOk result (W.is_flushed output.new) }
     ensures fault { IfErr result (IsWriteFaultOf (output_to side)) }
@@ -126,7 +126,7 @@ fn write_side<W: Sink>(side: Side, kept: &Kept, output: &mut W) -> Result<(), Fa
 /// Writes the report, and flushes it.
 fn write_report<W: Sink>(output: &mut W, report: &str) -> Result<(), Fault>
     requires { W.failed output.old < 2 ^ 64 - 1 }
-    ensures bytes { Receives (share_of Which.Report result) report.now
+    ensures bytes { OutputReceives (share_of Which.Report result) report.now
         (W.contents output.old) (W.contents output.new) }
     ensures flushed { OnOk result (W.is_flushed output.new) }
     ensures fault { IfErr result (IsWriteFaultOf Which.Report) }
@@ -140,7 +140,7 @@ fn write_report<W: Sink>(output: &mut W, report: &str) -> Result<(), Fault>
 }
 
 /// Translates both captures, and writes what leaves to each side, and a report: exactly what the run on one thread gives,
-/// whatever the gate, the ring size or the schedule. `NoPackets` stands for a capture that there is not, `Nowhere` for an
+/// whatever the gate, the ring size or the schedule. `EmptySource` stands for a capture that there is not, `NullSink` for an
 /// output that nobody wants.
 ///
 /// Reads everything first. Then runs in memory, with one worker thread for each external address; each worker asks the gate
@@ -205,7 +205,7 @@ pub fn run_captures<
     ensures report_flushed { OnOk result (U.is_flushed report.new) }
 {
     let state = unbegun(alloc);
-    let start = Start {
+    let start = RunOrigin {
         config,
         state: &state,
     };
@@ -231,33 +231,33 @@ pub fn resume_captures<
 >(
     rt: &T,
     alloc: Global,
-    start: Start<'_>,
+    start: RunOrigin<'_>,
     inside: &mut R,
     outside: &mut Q,
     to_outside: &mut W,
     to_inside: &mut V,
     report: &mut U,
     gate: Arc<G>,
-) -> Result<Passed, Fault>
-    requires taken { Takes start.config.now start.state.now }
+) -> Result<RunSummary, Fault>
+    requires taken { TakesState start.config.now start.state.now }
     requires inside { R.failed inside.old < 2 ^ 64 - 1 }
     requires outside { Q.failed outside.old < 2 ^ 64 - 1 }
     requires to_outside { W.failed to_outside.old < 2 ^ 64 - 1 }
     requires to_inside { V.failed to_inside.old < 2 ^ 64 - 1 }
     requires report { U.failed report.old < 2 ^ 64 - 1 }
     ensures to_outside { GetsFrom (origin_of start.entry) Which.Outside
-        (share_of Which.Outside (ended result)) (R.remaining inside.old) (Q.remaining outside.old)
+        (share_of Which.Outside (stream_ended result)) (R.remaining inside.old) (Q.remaining outside.old)
         (W.contents to_outside.old) (W.contents to_outside.new) }
     ensures to_inside { GetsFrom (origin_of start.entry) Which.Inside
-        (share_of Which.Inside (ended result)) (R.remaining inside.old) (Q.remaining outside.old)
+        (share_of Which.Inside (stream_ended result)) (R.remaining inside.old) (Q.remaining outside.old)
         (V.contents to_inside.old) (V.contents to_inside.new) }
     ensures report { GetsFrom (origin_of start.entry) Which.Report
-        (share_of Which.Report (ended result)) (R.remaining inside.old) (Q.remaining outside.old)
+        (share_of Which.Report (stream_ended result)) (R.remaining inside.old) (Q.remaining outside.old)
         (U.contents report.old) (U.contents report.new) }
     ensures left { IfOk result
-        (Leaves (origin_of start.entry) (R.remaining inside.old) (Q.remaining outside.old)) }
+        (OutputIsLeft (origin_of start.entry) (R.remaining inside.old) (Q.remaining outside.old)) }
     ensures answer { IfKnown (R.remaining inside.old) (Q.remaining outside.old)
-        (λ bytes others. Answers (texts_from (origin_of start.entry) bytes others) (ended result)) }
+        (λ bytes others. Answers (texts_from (origin_of start.entry) bytes others) (stream_ended result)) }
     ensures fault { IfErr result
         (Explains (R.remaining inside.old) (Q.remaining outside.old)) }
     ensures gate { G.is_open ≡ true → IfErr result (λ fault. tells_shut_gate fault ≡ false) }
@@ -266,19 +266,19 @@ pub fn resume_captures<
     ensures outside_readings { Q.failed outside.new
         ≡ Q.failed outside.old + failed_readings Side.Outside result }
     ensures outside_writings { W.failed to_outside.new
-        ≡ W.failed to_outside.old + failed_writings Which.Outside (ended result) }
+        ≡ W.failed to_outside.old + failed_writings Which.Outside (stream_ended result) }
     ensures inside_writings { V.failed to_inside.new
-        ≡ V.failed to_inside.old + failed_writings Which.Inside (ended result) }
+        ≡ V.failed to_inside.old + failed_writings Which.Inside (stream_ended result) }
     ensures report_writings { U.failed report.new
-        ≡ U.failed report.old + failed_writings Which.Report (ended result) }
+        ≡ U.failed report.old + failed_writings Which.Report (stream_ended result) }
     ensures outside_flushed { OnOk result (W.is_flushed to_outside.new) }
     ensures inside_flushed { OnOk result (V.is_flushed to_inside.new) }
     ensures report_flushed { OnOk result (U.is_flushed report.new) }
 {
     let inside = read_side(alloc, Side::Inside, inside)?;
     let outside = read_side(alloc, Side::Outside, outside)?;
-    let captures = Captures { inside, outside };
-    let setting = Setting {
+    let captures = CaptureFiles { inside, outside };
+    let setting = OriginSetting {
         rt,
         alloc,
         start,

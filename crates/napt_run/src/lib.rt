@@ -8,38 +8,38 @@
 //! and both return the same run.
 #![tactic(auto)]
 
+mod capture_run;
 mod captures;
-mod kept;
+mod kept_texts;
 mod laws;
-mod leaving;
-mod leaving_with_log;
 mod log_start;
 mod logged_fault;
+mod logged_output_sinks;
 mod logged_streams;
 mod logging;
 mod output;
-mod passing;
-mod reporting;
+mod output_sinks;
+mod report_output;
 mod running_log;
 mod sources;
 mod start;
-mod streaming;
+mod stream_run;
 mod streams;
-mod whole;
+mod whole_captures;
 
 pub use captures::{resume_captures, run_captures};
 pub use laws::streams_write_the_same;
-pub use log_start::{LogStart, LoggedPassed};
-pub use logged_fault::LoggedFault;
+pub use log_start::{LogOriginStart, LoggedRunSummary};
+pub use logged_fault::LogRunFault;
 pub use logged_streams::{resume_streams_with_log, run_streams_with_log};
-pub use napt_dispatch::{Passed, Worker, dispatch, run_workers};
+pub use napt_dispatch::{RunSummary, Worker, dispatch, run_workers};
 pub use napt_records::{
     EndpointText, Fault, Which, cause_name, merge, merge_is_in_order, protocol_name, report_text,
 };
 pub use napt_rules::State;
 pub use napt_sequential::{
-    Input, Outcome, Run, RunFault, Untold, legs_are_local, places_stand_for_legs, right_answers,
+    Input, NoTrace, Outcome, Run, RunFault, legs_are_local, places_stand_for_legs, right_answers,
     run_plain, runs_are_sound, runs_keep_the_quota, translators_are_local,
 };
-pub use start::Start;
+pub use start::RunOrigin;
 pub use streams::{resume_streams, run_streams};

@@ -1,23 +1,23 @@
 //! What the log of a run goes on from, and what a run with a log leaves.
 
 ghost use Rattle.std.specs.Prelude.{◌≡◌, [], false, IfOk, string_bytes};
-ghost use Rattle.napt_rules.specs.Prelude.{Takes};
-ghost use Rattle.napt_account.specs.{GoingOn.{IsFew, filled, kept_at}, ResumedLogs.told_first};
+ghost use Rattle.napt_rules.specs.Prelude.{TakesState};
+ghost use Rattle.napt_account.specs.{ResumedLogRuns.{IsFew, filled, kept_at}, ResumedLogs.told_first};
 ghost use Rattle.napt_log_text.specs.Logs.{first_text};
 ghost use Rattle.napt_run.specs.LogOrigins.{IsTakenAs};
 
-use crate::start::Start;
-use napt_account::{KnownLog, LogState, ResumedLog, logs_go_on};
-use napt_dispatch::Passed;
+use crate::start::RunOrigin;
+use napt_account::{LogFromState, SavedLogState, TrackedLog, logs_go_on};
+use napt_dispatch::RunSummary;
 use napt_log_text::{add_first, add_opening};
 use std::alloc::{AllocError, Global};
 use std::num::NonZeroU32;
 
 /// What the log of a run goes on from.
 #[derive(Clone, Copy)]
-pub struct LogStart<'a> {
+pub struct LogOriginStart<'a> {
     /// What was kept of it beside the state; without entries if the state was left without a log.
-    pub kept: &'a LogState,
+    pub kept: &'a SavedLogState,
     /// Whether its device has no text yet: then it begins with the header and a row for each binding that lives.
     pub is_new: bool,
     /// How many seconds of the run's clock each of its pieces has, if it has pieces. Where the clock passes a multiple of them
@@ -29,22 +29,22 @@ pub struct LogStart<'a> {
 
 /// What a run with a log leaves.
 #[derive(Drop)]
-pub struct LoggedPassed {
-    pub passed: Passed,
+pub struct LoggedRunSummary {
+    pub passed: RunSummary,
     /// What is kept of the log beside the state.
-    pub log: LogState,
+    pub log: SavedLogState,
 }
 
 /// A log before the first input of a run, and how the run's part of its text begins.
 #[derive(Drop)]
 pub(crate) struct TakenLog<'a> {
-    pub(crate) log: KnownLog<'a>,
+    pub(crate) log: TrackedLog<'a>,
     pub(crate) opening: String,
 }
 
 /// How the text of a log begins: with the header and a row for each binding that lives, or behind a text that is there with
 /// what the log tells before the first packet.
-fn first_text(alloc: Global, resumed: &ResumedLog<'_>, is_new: bool) -> Result<String, AllocError>
+fn first_text(alloc: Global, resumed: &LogFromState<'_>, is_new: bool) -> Result<String, AllocError>
     requires traces { resumed.now.log.traces ≡ [] }
     requires goes { resumed.now.log.is_stopped ≡ false }
     ensures { let begun = resumed.now.log.begun in IfOk result (λ text. string_bytes text
@@ -68,17 +68,17 @@ fn first_text(alloc: Global, resumed: &ResumedLog<'_>, is_new: bool) -> Result<S
 /// Takes up the log of a run where its state is taken up. Fails only if memory is refused.
 pub(crate) fn take_up<'a>(
     alloc: Global,
-    start: Start<'a>,
-    log_start: LogStart<'_>,
+    start: RunOrigin<'a>,
+    log_start: LogOriginStart<'_>,
 ) -> Result<TakenLog<'a>, AllocError>
     requires few { IsFew log_start.kept.now }
-    requires taken { Takes start.config.now start.state.now }
+    requires taken { TakesState start.config.now start.state.now }
     ensures { IfOk result (IsTakenAs start.entry log_start.entry) }
 {
     logs_go_on();
     // called for its clause alone: a configuration keeps its rules
     let _pool = start.config.pool();
-    let resumed = KnownLog::resume(alloc, start.config, start.state, log_start.kept)?;
+    let resumed = TrackedLog::resume(alloc, start.config, start.state, log_start.kept)?;
     let opening = first_text(alloc, &resumed, log_start.is_new)?;
     Ok(TakenLog {
         log: resumed.log,

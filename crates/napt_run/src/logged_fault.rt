@@ -3,7 +3,7 @@
 ghost use Rattle.std.specs.Prelude.{◌≡◌};
 ghost use Rattle.napt_records.specs.declared.fault.Fault.TheVariants as faults;
 ghost use Rattle.napt_sequential.specs.declared.fault.RunFault.TheVariants as reasons;
-ghost use Rattle.napt_run.specs.declared.logged_fault.LoggedFault.TheVariants as logged;
+ghost use Rattle.napt_run.specs.declared.logged_fault.LogRunFault.TheVariants as logged;
 
 use napt_capture::WriteFault;
 use napt_records::Fault;
@@ -12,41 +12,41 @@ use std::alloc::AllocError;
 
 /// Why a run with a log failed.
 #[derive(Clone, Copy, Debug, PartialEq, Eq)]
-pub enum LoggedFault {
+pub enum LogRunFault {
     /// The run failed, a capture or an output other than the log, or memory ran out.
     Run(Fault),
     /// The log could not be written.
     Log(WriteFault),
 }
 
-impl From<Fault> for LoggedFault {
+impl From<Fault> for LogRunFault {
     ghost from_gives = { λ fault made. made ≡ logged.Run fault };
 
-    fn from(fault: Fault) -> LoggedFault {
-        LoggedFault::Run(fault)
+    fn from(fault: Fault) -> LogRunFault {
+        LogRunFault::Run(fault)
     }
 }
 
-impl From<RunFault> for LoggedFault {
+impl From<RunFault> for LogRunFault {
     ghost from_gives = { λ fault made. made ≡ logged.Run (faults.Run fault) };
 
-    fn from(fault: RunFault) -> LoggedFault {
-        LoggedFault::Run(Fault::Run(fault))
+    fn from(fault: RunFault) -> LogRunFault {
+        LogRunFault::Run(Fault::Run(fault))
     }
 }
 
-impl From<AllocError> for LoggedFault {
+impl From<AllocError> for LogRunFault {
     ghost from_gives = { λ _ made. made ≡ logged.Run (faults.Run reasons.Memory) };
 
-    fn from(_error: AllocError) -> LoggedFault {
-        LoggedFault::Run(Fault::Run(RunFault::Memory))
+    fn from(_error: AllocError) -> LogRunFault {
+        LogRunFault::Run(Fault::Run(RunFault::Memory))
     }
 }
 
-impl From<WriteFault> for LoggedFault {
+impl From<WriteFault> for LogRunFault {
     ghost from_gives = { λ fault made. made ≡ logged.Log fault };
 
-    fn from(fault: WriteFault) -> LoggedFault {
-        LoggedFault::Log(fault)
+    fn from(fault: WriteFault) -> LogRunFault {
+        LogRunFault::Log(fault)
     }
 }

@@ -1,20 +1,20 @@
 //! A run over captures as they arrive, with its log.
 ghost use Rattle.std.specs.Prelude.{◌≡◌, ◌-◌, ◌^◌, ◌<◌, IfErr, IfOk, OnOk, true};
-ghost use Rattle.napt_rules.specs.Prelude.{Takes};
-ghost use Rattle.napt_account.specs.GoingOn.{LogState as Kept, IsFew, IsLogOf};
-ghost use Rattle.napt_run.specs.LoggedStreams.{DeviceGetsOr, DeviceGetsOrFrom, IsKept, IsUnderOpenGate, LogGets, LogGetsText, LogIsLeft, LoggedExplains, LoggedSays, besides_log, fault_of, logged_end, reported_of};
-ghost use Rattle.napt_run.specs.{LogOrigins.{IfTakenUp, texts_from, texts_of}, Origins.origin_of, RunningLogs.{AreLaws, IsReady, logged_by}};
+ghost use Rattle.napt_rules.specs.Prelude.{TakesState};
+ghost use Rattle.napt_account.specs.ResumedLogRuns.{LogStateModel as Kept, IsFew, IsLogOf};
+ghost use Rattle.napt_run.specs.LoggedStreams.{DeviceGetsOr, DeviceGetsOrFrom, LogIsKept, IsRunUnderOpenGate, LogGets, LogGetsText, LogIsLeft, LoggedExplains, LoggedSays, besides_log, logged_fault_of, logged_end, reported_of};
+ghost use Rattle.napt_run.specs.{LogOrigins.{IfTakenUp, texts_from, texts_of}, Origins.origin_of, RunningLogs.{AreLaws, IsReady, running_log_of}};
 ghost use Rattle.napt_run.specs.Streams.{HasRead, IsOfRun, LeavesInTheEnd, ReportGets, ReportGetsFrom};
 
-use crate::log_start::{LogStart, LoggedPassed, take_up};
-use crate::logged_fault::LoggedFault;
+use crate::capture_run::Totals;
+use crate::log_start::{LogOriginStart, LoggedRunSummary, take_up};
+use crate::logged_fault::LogRunFault;
 use crate::logging::LoggingFault;
 use crate::output::Output;
-use crate::passing::Totals;
-use crate::reporting::reported;
+use crate::report_output::reported;
 use crate::running_log::RunningLog;
-use crate::start::{Setting, Start, unbegun};
-use napt_account::{LogState, traces_tell_the_log};
+use crate::start::{OriginSetting, RunOrigin, unbegun};
+use napt_account::{SavedLogState, traces_tell_the_log};
 use napt_capture::{Sink, Source};
 use napt_config::Config;
 use napt_log_text::{logs_join, traces_have_the_rows};
@@ -25,18 +25,18 @@ use std::sync::{Arc, Wait};
 use std::thread::Threads;
 
 /// Why a run whose log is kept failed.
-fn fault_of(halt: LoggingFault<LoggedFault>) -> LoggedFault
-    ensures { result ≡ fault_of halt }
+fn fault_of(halt: LoggingFault<LogRunFault>) -> LogRunFault
+    ensures { result ≡ logged_fault_of halt }
 {
     match halt {
-        LoggingFault::Run(fault) => LoggedFault::Run(fault),
+        LoggingFault::Run(fault) => LogRunFault::Run(fault),
         LoggingFault::Log(fault) => fault,
     }
 }
 
 /// By the traces of its inputs a log of a state has their rows.
-fn log_laws(start: Start<'_>)
-    requires { Takes start.config.now start.state.now }
+fn log_laws(start: RunOrigin<'_>)
+    requires { TakesState start.config.now start.state.now }
     ensures { (log : Kept) → IsLogOf start.entry.config.now (origin_of start.entry).state log →
         AreLaws (origin_of start.entry) log }
 {
@@ -46,12 +46,10 @@ fn log_laws(start: Start<'_>)
     let _pool = start.config.pool();
 }
 
-impl<T: Threads + Wait + Copy + Send + 'static, G: Gate + Send + Sync + Drop + 'static> Setting<
-    '_,
-    '_,
-    T,
-    G,
-> {
+impl<
+    T: Threads + Wait + Copy + Send + 'static,
+    G: Gate + Send + Sync + Drop + 'static,
+> OriginSetting<'_, '_, T, G> {
     /// Runs over the captures into both outputs and the log.
     fn stream_logged<R: Source, Q: Source, W: Sink, V: Sink, L: Sink>(
         self,
@@ -60,7 +58,7 @@ impl<T: Threads + Wait + Copy + Send + 'static, G: Gate + Send + Sync + Drop + '
         to_outside: &mut W,
         to_inside: &mut V,
         log: &mut RunningLog<'_, '_, L>,
-    ) -> Result<Totals, LoggedFault>
+    ) -> Result<Totals, LogRunFault>
         requires inside { R.failed inside.old < 2 ^ 64 - 1 }
         requires outside { Q.failed outside.old < 2 ^ 64 - 1 }
         requires to_outside { W.failed to_outside.old < 2 ^ 64 - 1 }
@@ -71,9 +69,9 @@ impl<T: Threads + Wait + Copy + Send + 'static, G: Gate + Send + Sync + Drop + '
             to_outside.old to_outside.new }
         ensures to_inside { DeviceGetsOrFrom V.Sink (origin_of self.entry.start) Which.Inside
             (R.remaining inside.old) (Q.remaining outside.old) result to_inside.old to_inside.new }
-        ensures log { LogIsLeft (texts_of (logged_by (origin_of self.entry.start) log.old))
+        ensures log { LogIsLeft (texts_of (running_log_of (origin_of self.entry.start) log.old))
             (R.remaining inside.old) (Q.remaining outside.old) result log.old.output log.new.output }
-        ensures left { OnOk result (IsKept (origin_of self.entry.start) log.old.log.begun.log
+        ensures left { OnOk result (LogIsKept (origin_of self.entry.start) log.old.log.begun.log
             (R.remaining inside.old) (Q.remaining outside.old) log.new.left) }
         ensures says { LoggedSays G.is_open (origin_of self.entry.start) (R.remaining inside.old)
             (Q.remaining outside.old) result }
@@ -97,19 +95,19 @@ impl<T: Threads + Wait + Copy + Send + 'static, G: Gate + Send + Sync + Drop + '
 
 /// The result of a run whose report was written, if that was to be.
 fn with_report(
-    told: Result<Totals, LoggedFault>,
+    told: Result<Totals, LogRunFault>,
     written: Result<(), Fault>,
-    log: LogState,
-) -> Result<LoggedPassed, LoggedFault>
+    log: SavedLogState,
+) -> Result<LoggedRunSummary, LogRunFault>
     ensures { result ≡ reported_of told written log }
 {
     let Totals { passed, .. } = told?;
     written?;
-    Ok(LoggedPassed { passed, log })
+    Ok(LoggedRunSummary { passed, log })
 }
 
 /// The result of a run, for those who want nothing of what it leaves.
-fn without_left(run: Result<LoggedPassed, LoggedFault>) -> Result<(), LoggedFault>
+fn without_left(run: Result<LoggedRunSummary, LogRunFault>) -> Result<(), LogRunFault>
     ensures { result ≡ logged_end run }
 {
     match run {
@@ -127,8 +125,8 @@ fn without_left(run: Result<LoggedPassed, LoggedFault>) -> Result<(), LoggedFaul
 /// The header of the log and the rows of the redirects are written and flushed first, before the headers of the captures;
 /// the rows of the bindings that live at the end come last, before the report.
 ///
-/// Fails with `LoggedFault::Run` as `run_streams` does. In addition it stops at input 4,611,686,018,427,387,904, with
-/// `TooMany`, and `Memory` may come before anything is written. Fails with `LoggedFault::Log` if the log could not be written: it has the
+/// Fails with `LogRunFault::Run` as `run_streams` does. In addition it stops at input 4,611,686,018,427,387,904, with
+/// `TooMany`, and `Memory` may come before anything is written. Fails with `LogRunFault::Log` if the log could not be written: it has the
 /// first `written` bytes of its text, a number that saturates. The captures are then as after a fault of the run, or
 /// untouched if the log could not be begun, and there is no report. After a fault of a capture the log has all rows of the
 /// packets before it, and after one of the report all of its text; no call of it failed, and it is flushed.
@@ -153,7 +151,7 @@ pub fn run_streams_with_log<
     report: &mut U,
     log: &mut L,
     gate: Arc<G>,
-) -> Result<(), LoggedFault>
+) -> Result<(), LogRunFault>
     requires inside { R.failed inside.old < 2 ^ 64 - 1 }
     requires outside { Q.failed outside.old < 2 ^ 64 - 1 }
     requires to_outside { W.failed to_outside.old < 2 ^ 64 - 1 }
@@ -170,18 +168,18 @@ pub fn run_streams_with_log<
         (Q.remaining outside.old) result log.old log.new }
     ensures fault { IfErr result
         (LoggedExplains (R.remaining inside.old) (Q.remaining outside.old)) }
-    ensures gate { G.is_open ≡ true → IfErr result IsUnderOpenGate }
+    ensures gate { G.is_open ≡ true → IfErr result IsRunUnderOpenGate }
     // Unless the run itself or the log failed, the failed read is the reported one; a failed write may hide it.
     ensures readings { (¬ IsOfRun (besides_log result)) → HasRead R.failed Q.failed
         inside.old inside.new outside.old outside.new (besides_log result) }
 {
     let state = unbegun(alloc);
-    let kept = LogState::none(alloc);
-    let start = Start {
+    let kept = SavedLogState::none(alloc);
+    let start = RunOrigin {
         config,
         state: &state,
     };
-    let log_start = LogStart {
+    let log_start = LogOriginStart {
         kept: &kept,
         is_new: true,
         each: None,
@@ -195,7 +193,7 @@ pub fn run_streams_with_log<
 }
 
 /// Translates both captures and writes the log of the run as `run_streams_with_log` does, but goes on from a state, as
-/// `resume_streams` does, with what was kept of its log. If that is the log of the state (`LogState::is_of`), its entries go
+/// `resume_streams` does, with what was kept of its log. If that is the log of the state (`SavedLogState::is_of`), its entries go
 /// on, and nothing is told of them; if not, all of them end at the clock of the state, and each binding that lives has a new
 /// one. A log that `is_new` begins with the header and a row for each of its entries; one that is not goes on behind the
 /// text that its device has, with the rows of what is told. Returns, once the report is written, what gives the state that
@@ -217,8 +215,8 @@ pub fn resume_streams_with_log<
 >(
     rt: &T,
     alloc: Global,
-    start: Start<'_>,
-    log_start: LogStart<'_>,
+    start: RunOrigin<'_>,
+    log_start: LogOriginStart<'_>,
     inside: &mut R,
     outside: &mut Q,
     to_outside: &mut W,
@@ -226,9 +224,9 @@ pub fn resume_streams_with_log<
     report: &mut U,
     log: &mut L,
     gate: Arc<G>,
-) -> Result<LoggedPassed, LoggedFault>
+) -> Result<LoggedRunSummary, LogRunFault>
     requires few { IsFew log_start.kept.now }
-    requires taken { Takes start.config.now start.state.now }
+    requires taken { TakesState start.config.now start.state.now }
     requires inside { R.failed inside.old < 2 ^ 64 - 1 }
     requires outside { Q.failed outside.old < 2 ^ 64 - 1 }
     requires to_outside { W.failed to_outside.old < 2 ^ 64 - 1 }
@@ -249,23 +247,23 @@ pub fn resume_streams_with_log<
     ensures left { IfOk result (λ left. LeavesInTheEnd (origin_of start.entry)
         (R.remaining inside.old) (Q.remaining outside.old) left.passed) }
     ensures kept { IfTakenUp start.entry log_start.entry (λ origin. IfOk result (λ left.
-        IsKept (origin_of start.entry) origin.log (R.remaining inside.old)
+        LogIsKept (origin_of start.entry) origin.log (R.remaining inside.old)
         (Q.remaining outside.old) left.log)) }
     ensures fault { IfErr result
         (LoggedExplains (R.remaining inside.old) (Q.remaining outside.old)) }
-    ensures gate { G.is_open ≡ true → IfErr result IsUnderOpenGate }
+    ensures gate { G.is_open ≡ true → IfErr result IsRunUnderOpenGate }
     // Unless the run itself or the log failed, the failed read is the reported one; a failed write may hide it.
     ensures readings { (¬ IsOfRun (besides_log (logged_end result))) → HasRead R.failed Q.failed
         inside.old inside.new outside.old outside.new (besides_log (logged_end result)) }
 {
     let taken = take_up(alloc, start, log_start)?;
-    let setting = Setting {
+    let setting = OriginSetting {
         rt,
         alloc,
         start,
         gate,
     };
-    let LogStart { each, goes_on, .. } = log_start;
+    let LogOriginStart { each, goes_on, .. } = log_start;
     let mut running = RunningLog::over(alloc, taken, each, goes_on, Output::over(log));
     let told = setting.stream_logged(inside, outside, to_outside, to_inside, &mut running);
     let left = running.take_left();

@@ -3,12 +3,12 @@
 ghost use Rattle.std.specs.Prelude.{◌++◌, [], ◌∷◌, ℕ, List, MatchResult};
 
 use napt_records::Fault;
-use napt_sequential::{NoFault, Telling, Untold};
+use napt_sequential::{LegTrace, NoFault, NoTrace};
 
 /// Keeps the log of a run, by what is told of the legs of each input as it leaves.
 pub(crate) trait Logging {
     /// What has to be told of each leg.
-    type Told: Telling;
+    type Told: LegTrace;
 
     /// Why the log cannot be kept.
     type Fault: Drop;
@@ -49,7 +49,7 @@ pub(crate) struct Unlogged;
 impl Logging for Unlogged {
     ghost use Rattle.std.specs.Prelude.{⊤};
 
-    type Told = Untold;
+    type Told = NoTrace;
 
     type Fault = NoFault;
 
@@ -66,7 +66,7 @@ impl Logging for Unlogged {
     ghost fails_more = { λ x y z xs ys fault one two. tt };
 
     #[inline(always)]
-    fn enter(&mut self, _now: u64, _first: Untold, _second: Untold) -> Result<(), NoFault>
+    fn enter(&mut self, _now: u64, _first: NoTrace, _second: NoTrace) -> Result<(), NoFault>
         ensures { MatchResult result (λ _. ⊤) (λ fault. ⊤) }
     {
         Ok(())

@@ -2,7 +2,7 @@
 ghost use Rattle.std.specs.{Prelude.{◌≡◌, ◌+◌, ◌-◌, min, ◌^◌, ◌≤◌, ◌<◌, [], length, take, OnOk, IfErr, false}, Io.KnownBytes.Appends};
 ghost use Rattle.napt_capture.specs.{Device.failed_calls, Text.{entry_of_packet, file_header, record_text}};
 
-use napt_capture::{Sink, WriteFault, Written};
+use napt_capture::{CaptureWriter, Sink, WriteFault};
 
 /// The latest time, in ns, that a record can hold.
 const LATEST: u64 = 4_294_967_295_999_999_999;
@@ -20,7 +20,7 @@ pub(crate) struct Output<'a, W: Sink> {
 
 impl<'a, W: Sink> Output<'a, W> {
     ghost use Rattle.napt_records.specs.Output.{IsTime};
-    ghost use Rattle.napt_run.specs.Outputs.{Grows, Breaks};
+    ghost use Rattle.napt_run.specs.Outputs.{OutputGrows, Breaks};
 
     /// An output over a device, with nothing written yet.
     pub(crate) fn over(device: &'a mut W) -> Output<'a, W>
@@ -39,7 +39,7 @@ impl<'a, W: Sink> Output<'a, W> {
 
     /// Writes the header of the capture.
     fn begin(&mut self) -> Result<(), WriteFault>
-        ensures ok { OnOk result (Grows self.old file_header self.new) }
+        ensures ok { OnOk result (OutputGrows self.old file_header self.new) }
         ensures err { IfErr result (λ fault. self.old.is_broken ≡ false →
             Breaks self.old file_header fault self.new) }
     {
@@ -47,7 +47,7 @@ impl<'a, W: Sink> Output<'a, W> {
         if self.is_broken {
             return Err(WriteFault { written: before });
         }
-        match Written::begin(self.device) {
+        match CaptureWriter::begin(self.device) {
             Ok(written) => {
                 self.written = before.saturating_add(written.bytes());
                 Ok(())
@@ -61,7 +61,7 @@ impl<'a, W: Sink> Output<'a, W> {
 
     /// Writes the header, and flushes it.
     pub(crate) fn start(&mut self) -> Result<(), WriteFault>
-        ensures ok { OnOk result (Grows self.old file_header self.new) }
+        ensures ok { OnOk result (OutputGrows self.old file_header self.new) }
         ensures flushed { OnOk result (W.is_flushed self.new.device.now) }
         ensures err { IfErr result (λ fault. self.old.is_broken ≡ false →
             Breaks self.old file_header fault self.new) }
@@ -74,7 +74,7 @@ impl<'a, W: Sink> Output<'a, W> {
     #[inline(always)]
     pub(crate) fn put(&mut self, time: u64, bytes: &[u8]) -> Result<(), WriteFault>
         requires { length bytes.now < 2 ^ 16 }
-        ensures ok { IsTime time → OnOk result (Grows self.old
+        ensures ok { IsTime time → OnOk result (OutputGrows self.old
             (record_text (entry_of_packet time bytes.now)) self.new) }
         ensures err { IsTime time → IfErr result (λ fault. self.old.is_broken ≡ false →
             Breaks self.old (record_text (entry_of_packet time bytes.now))
@@ -84,7 +84,7 @@ impl<'a, W: Sink> Output<'a, W> {
         if self.is_broken {
             return Err(WriteFault { written: before });
         }
-        match Written::nothing().record(self.device, time.min(LATEST), bytes) {
+        match CaptureWriter::nothing().record(self.device, time.min(LATEST), bytes) {
             Ok(written) => {
                 self.written = before.saturating_add(written.bytes());
                 Ok(())
@@ -98,7 +98,7 @@ impl<'a, W: Sink> Output<'a, W> {
 
     /// Writes a text.
     pub(crate) fn put_text(&mut self, text: &[u8]) -> Result<(), WriteFault>
-        ensures ok { OnOk result (Grows self.old text.now self.new) }
+        ensures ok { OnOk result (OutputGrows self.old text.now self.new) }
         ensures err { IfErr result (λ fault. self.old.is_broken ≡ false →
             Breaks self.old text.now fault self.new) }
     {
@@ -121,7 +121,7 @@ impl<'a, W: Sink> Output<'a, W> {
     /// Flushes what was written.
     #[tactic(auto, using(crate::proofs::Outputs::keeps_as_none))]
     pub(crate) fn flush(&mut self) -> Result<(), WriteFault>
-        ensures ok { OnOk result (Grows self.old [] self.new) }
+        ensures ok { OnOk result (OutputGrows self.old [] self.new) }
         ensures flushed { OnOk result (W.is_flushed self.new.device.now) }
         ensures err { IfErr result (λ fault. self.old.is_broken ≡ false →
             Breaks self.old [] fault self.new) }

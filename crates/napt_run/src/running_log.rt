@@ -6,10 +6,10 @@ ghost use Rattle.napt_sequential.specs.declared.passage.Trace.{Trace as Did};
 ghost use Rattle.napt_run.specs.LogOrigins.{LoggedOrigin};
 
 use crate::log_start::TakenLog;
-use crate::logged_fault::LoggedFault;
+use crate::logged_fault::LogRunFault;
 use crate::logging::{Logging, LoggingFault};
 use crate::output::Output;
-use napt_account::{KnownLog, LogState, LoggedTrace};
+use napt_account::{LogTrace, SavedLogState, TrackedLog};
 use napt_capture::Sink;
 use napt_log_text::{add_entered, add_living, add_opening, begins_piece};
 use napt_records::Fault;
@@ -22,7 +22,7 @@ use std::num::NonZeroU32;
 #[derive(Drop)]
 pub(crate) struct RunningLog<'a, 'b, L: Sink> {
     alloc: Global,
-    log: KnownLog<'a>,
+    log: TrackedLog<'a>,
     /// How its text begins, until that is written.
     opening: String,
     /// How many seconds each of its pieces has, if it has pieces.
@@ -30,12 +30,12 @@ pub(crate) struct RunningLog<'a, 'b, L: Sink> {
     /// Whether another run goes on with it.
     goes_on: bool,
     /// What is kept of it, once it is closed.
-    left: LogState,
+    left: SavedLogState,
     pub(crate) output: Output<'b, L>,
 }
 
 impl<'a, 'b, L: Sink> RunningLog<'a, 'b, L> {
-    ghost use Rattle.napt_run.specs.RunningLogs.{Adds, EntersNot, EntersWith, FailsMore, IsAt, IsFlushedAt, ending_with, left_with, opening_before};
+    ghost use Rattle.napt_run.specs.RunningLogs.{Adds, EntersNot, EntersWith, FailsMore, LogIsAt, IsFlushedAt, ending_with, left_with, opening_before};
 
     /// A log before its first input, with nothing written yet.
     pub(crate) fn over(
@@ -58,17 +58,17 @@ impl<'a, 'b, L: Sink> RunningLog<'a, 'b, L> {
             opening,
             each,
             goes_on,
-            left: LogState::none(alloc),
+            left: SavedLogState::none(alloc),
             output,
         }
     }
 
     /// Takes out what is kept of it.
-    pub(crate) fn take_left(&mut self) -> LogState
+    pub(crate) fn take_left(&mut self) -> SavedLogState
         ensures left { result ≡ self.old.left }
         ensures output { self.new.output ≡ self.old.output }
     {
-        mem::replace(&mut self.left, LogState::none(self.alloc))
+        mem::replace(&mut self.left, SavedLogState::none(self.alloc))
     }
 
     /// Gives its device back.
@@ -86,8 +86,8 @@ impl<'a, 'b, L: Sink> RunningLog<'a, 'b, L> {
     }
 
     /// Writes how its text begins, and flushes it.
-    pub(crate) fn open(&mut self) -> Result<(), LoggedFault>
-        ensures { (from : LoggedOrigin) → IsAt from [] self.old →
+    pub(crate) fn open(&mut self) -> Result<(), LogRunFault>
+        ensures { (from : LoggedOrigin) → LogIsAt from [] self.old →
             Adds from [] (string_bytes self.old.opening) self.old.output result self.new }
     {
         let opening = mem::replace(&mut self.opening, String::new(self.alloc));
@@ -96,10 +96,10 @@ impl<'a, 'b, L: Sink> RunningLog<'a, 'b, L> {
 
     /// Writes the rows of what lives at the end, unless another run goes on with it, and flushes them. Then what is kept of
     /// it is at hand.
-    pub(crate) fn close(&mut self) -> Result<(), LoggedFault>
-        ensures text { (from : LoggedOrigin) (all : List Did) → IsAt from all self.old →
+    pub(crate) fn close(&mut self) -> Result<(), LogRunFault>
+        ensures text { (from : LoggedOrigin) (all : List Did) → LogIsAt from all self.old →
             Adds from all (ending_with from all) self.old.output result self.new }
-        ensures left { (from : LoggedOrigin) (all : List Did) → IsAt from all self.old →
+        ensures left { (from : LoggedOrigin) (all : List Did) → LogIsAt from all self.old →
             OnOk result (self.new.left ≡ left_with from all) }
     {
         self.left = self.log.left(self.alloc)?;
@@ -108,7 +108,7 @@ impl<'a, 'b, L: Sink> RunningLog<'a, 'b, L> {
     }
 
     /// Flushes what was written before a run failed, if that still goes. If a capture failed, it is flushed already.
-    pub(crate) fn flush_after(&mut self, halt: &LoggingFault<LoggedFault>)
+    pub(crate) fn flush_after(&mut self, halt: &LoggingFault<LogRunFault>)
         ensures same { self.new.output.device.ghost_name ≡ self.old.output.device.ghost_name }
         ensures kept { Appends (L.contents self.old.output.device.now)
             (L.contents self.new.output.device.now) [] }
@@ -124,7 +124,7 @@ impl<'a, 'b, L: Sink> RunningLog<'a, 'b, L> {
     }
 
     fn ending(&self) -> Result<String, AllocError>
-        ensures { (from : LoggedOrigin) (all : List Did) → IsAt from all self.now →
+        ensures { (from : LoggedOrigin) (all : List Did) → LogIsAt from all self.now →
             IfOk result (λ text. string_bytes text ≡ ending_with from all) }
     {
         let mut text = String::new(self.alloc);
@@ -137,8 +137,8 @@ impl<'a, 'b, L: Sink> RunningLog<'a, 'b, L> {
     }
 
     /// Writes a text, and flushes it.
-    fn put(&mut self, text: &str) -> Result<(), LoggedFault>
-        ensures text { (from : LoggedOrigin) (before : List Did) → IsAt from before self.old →
+    fn put(&mut self, text: &str) -> Result<(), LogRunFault>
+        ensures text { (from : LoggedOrigin) (before : List Did) → LogIsAt from before self.old →
             Adds from before text.now self.old.output result self.new }
         ensures left { self.new.left ≡ self.old.left }
     {
@@ -148,8 +148,8 @@ impl<'a, 'b, L: Sink> RunningLog<'a, 'b, L> {
 
     /// Takes the trace of the next input, and returns its rows.
     #[inline(always)]
-    fn rows(&mut self, trace: Trace) -> Result<String, LoggedFault>
-        ensures { (from : LoggedOrigin) (before : List Did) → IsAt from before self.old →
+    fn rows(&mut self, trace: Trace) -> Result<String, LogRunFault>
+        ensures { (from : LoggedOrigin) (before : List Did) → LogIsAt from before self.old →
             MatchResult result
             (λ text. EntersWith from before trace self.old self.new (string_bytes text))
             (λ fault. EntersNot from before trace self.old fault self.new) }
@@ -167,7 +167,7 @@ impl<'a, 'b, L: Sink> RunningLog<'a, 'b, L> {
     /// How a piece begins, if one does with the next input, at this time; else no text.
     #[inline(always)]
     fn piece_opening(&self, now: u64) -> Result<String, AllocError>
-        ensures { (from : LoggedOrigin) (before : List Did) → IsAt from before self.now →
+        ensures { (from : LoggedOrigin) (before : List Did) → LogIsAt from before self.now →
             IfOk result (λ text. string_bytes text ≡ opening_before from before now) }
     {
         let mut text = String::new(self.alloc);
@@ -181,23 +181,23 @@ impl<'a, 'b, L: Sink> RunningLog<'a, 'b, L> {
 
 /// Whether the log has no row with an input.
 #[inline(always)]
-fn is_quiet(told: &LoggedTrace) -> bool
+fn is_quiet(told: &LogTrace) -> bool
     ensures { result ≡ true → told_in told.now ≡ record { ended = []; made = []; refused = [] } }
 {
     told.ended.is_empty() && told.made.is_empty() && told.refused.is_empty()
 }
 
 impl<L: Sink> Logging for RunningLog<'_, '_, L> {
-    ghost use Rattle.napt_run.specs.RunningLogs.{Enters, Fails, traces_of};
+    ghost use Rattle.napt_run.specs.RunningLogs.{Enters, LogFails, running_log_traces};
     ghost use Rattle.napt_run.specs.RunningLogLaws.{enters_more, enters_none, fails_more};
 
     type Told = Passage;
 
-    type Fault = LoggedFault;
+    type Fault = LogRunFault;
 
-    ghost enters = { λ old all new. Enters old (traces_of all) new };
+    ghost enters = { λ old all new. Enters old (running_log_traces all) new };
 
-    ghost fails = { λ old all fault new. Fails old (traces_of all) fault new };
+    ghost fails = { λ old all fault new. LogFails old (running_log_traces all) fault new };
 
     ghost is_settled = { λ log. L.is_flushed log.output.device.now };
 
@@ -208,10 +208,10 @@ impl<L: Sink> Logging for RunningLog<'_, '_, L> {
     ghost fails_more = { λ x y z xs ys fault one two. fails_more x y z xs ys fault one two };
 
     #[inline(always)]
-    fn enter(&mut self, now: u64, first: Passage, second: Passage) -> Result<(), LoggedFault>
+    fn enter(&mut self, now: u64, first: Passage, second: Passage) -> Result<(), LogRunFault>
         ensures { MatchResult result
-            (λ _. Enters self.old (traces_of ((now, first, second) ∷ [])) self.new)
-            (λ fault. Fails self.old (traces_of ((now, first, second) ∷ [])) fault self.new) }
+            (λ _. Enters self.old (running_log_traces ((now, first, second) ∷ [])) self.new)
+            (λ fault. LogFails self.old (running_log_traces ((now, first, second) ∷ [])) fault self.new) }
     {
         let text = self.rows(Trace { now, first, second })?;
         let rows = text.as_bytes();
@@ -222,7 +222,7 @@ impl<L: Sink> Logging for RunningLog<'_, '_, L> {
         Ok(())
     }
 
-    fn settle(&mut self) -> Result<(), LoggedFault> {
+    fn settle(&mut self) -> Result<(), LogRunFault> {
         self.output.flush()?;
         Ok(())
     }

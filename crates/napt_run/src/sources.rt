@@ -1,16 +1,16 @@
 //! The captures that a run reads.
 ghost use Rattle.std.specs.Prelude.{◌≡◌, ◌+◌, ◌-◌, ◌^◌, ◌<◌, [], List, Option, ℕ, IfErr, IfOk};
 ghost use Rattle.napt_records.specs.Counts.{AreCountsOf};
-ghost use Rattle.napt_run.specs.{Captures.failed_readings, Leaving.{AreSound, IsSettled}, Origins.origin_of, Runs.RunsTo, LeavingWithLogs.IsSamePlace, Logging.{LogsTo, as_run}};
+ghost use Rattle.napt_run.specs.{Captures.failed_readings, OutputSinks.{AreTimesSound, IsSettled}, Origins.origin_of, Runs.RunsTo, LoggedOutputSinks.IsSameSinkPlace, LogRuns.{LogsTo, as_run}};
 ghost use Rattle.napt_run.specs.Streams.{HasRead, IsBehindHeader, IsHeaderFault, IsOfRun};
 
-use crate::leaving_with_log::LeavingWithLog;
+use crate::capture_run::Totals;
+use crate::logged_output_sinks::LeavingWithLog;
 use crate::logging::{Logging, LoggingFault};
-use crate::passing::Totals;
-use crate::start::Setting;
-use napt_capture::{Records, Sink, Source};
+use crate::start::OriginSetting;
+use napt_capture::{RecordReader, Sink, Source};
 use napt_pool::Gate;
-use napt_records::{Fault, MergedStreams, Stream};
+use napt_records::{Fault, RecordStream, StreamMerger};
 use napt_wire::Side;
 use std::alloc::Global;
 use std::sync::Wait;
@@ -19,16 +19,14 @@ use std::thread::Threads;
 /// Both captures, past their headers.
 #[derive(Drop)]
 struct BothRecords {
-    inside: Records,
-    outside: Records,
+    inside: RecordReader,
+    outside: RecordReader,
 }
 
-impl<T: Threads + Wait + Copy + Send + 'static, G: Gate + Send + Sync + Drop + 'static> Setting<
-    '_,
-    '_,
-    T,
-    G,
-> {
+impl<
+    T: Threads + Wait + Copy + Send + 'static,
+    G: Gate + Send + Sync + Drop + 'static,
+> OriginSetting<'_, '_, T, G> {
     /// Reads the headers of the captures, and runs over them.
     pub(crate) fn run_over<R: Source, Q: Source, W: Sink, V: Sink, K: Logging>(
         self,
@@ -38,7 +36,7 @@ impl<T: Threads + Wait + Copy + Send + 'static, G: Gate + Send + Sync + Drop + '
     ) -> Result<Totals, LoggingFault<K::Fault>>
         requires inside { R.failed inside.old < 2 ^ 64 - 1 }
         requires outside { Q.failed outside.old < 2 ^ 64 - 1 }
-        requires sound { AreSound both.old.leaving }
+        requires sound { AreTimesSound both.old.leaving }
         requires counts { AreCountsOf [] both.old.leaving.counts }
         requires settled { IsSettled both.old.leaving }
         requires log { K.is_settled both.old.log.now }
@@ -49,7 +47,7 @@ impl<T: Threads + Wait + Copy + Send + 'static, G: Gate + Send + Sync + Drop + '
         ensures logs { LogsTo K.Told.tells (origin_of self.entry.start) K.enters K.fails
             K.is_settled (R.remaining inside.old) (Q.remaining outside.old) both.old.log.now
             both.new.log.now result }
-        ensures same { IsSamePlace both.old both.new }
+        ensures same { IsSameSinkPlace both.old both.new }
     {
         let ours = read_header(self.alloc, Side::Inside, inside)?;
         let theirs = read_header(self.alloc, Side::Outside, outside)?;
@@ -70,7 +68,7 @@ impl<T: Threads + Wait + Copy + Send + 'static, G: Gate + Send + Sync + Drop + '
     ) -> Result<Totals, LoggingFault<K::Fault>>
         requires inside { R.failed inside.old < 2 ^ 64 - 1 }
         requires outside { Q.failed outside.old < 2 ^ 64 - 1 }
-        requires sound { AreSound both.old.leaving }
+        requires sound { AreTimesSound both.old.leaving }
         requires counts { AreCountsOf [] both.old.leaving.counts }
         ensures runs { (bytes others : Option (List ℕ)) →
             IsBehindHeader R.Source records.inside bytes inside.old →
@@ -84,11 +82,11 @@ impl<T: Threads + Wait + Copy + Send + 'static, G: Gate + Send + Sync + Drop + '
             IsBehindHeader Q.Source records.outside others outside.old →
             LogsTo K.Told.tells (origin_of self.entry.start) K.enters K.fails K.is_settled bytes
             others both.old.log.now both.new.log.now result }
-        ensures same { IsSamePlace both.old both.new }
+        ensures same { IsSameSinkPlace both.old both.new }
     {
-        let ours = Stream::new(inside, records.inside);
-        let theirs = Stream::new(outside, records.outside);
-        let mut inputs = MergedStreams::new(self.alloc, ours, theirs);
+        let ours = RecordStream::new(inside, records.inside);
+        let theirs = RecordStream::new(outside, records.outside);
+        let mut inputs = StreamMerger::new(self.alloc, ours, theirs);
         let passed = self.pass(&mut inputs, both);
         let (ours, theirs) = inputs.into_streams();
         let _outside = theirs.into_source();
@@ -98,7 +96,7 @@ impl<T: Threads + Wait + Copy + Send + 'static, G: Gate + Send + Sync + Drop + '
 }
 
 /// Reads the header of a side's capture.
-fn read_header<R: Source>(alloc: Global, side: Side, source: &mut R) -> Result<Records, Fault>
+fn read_header<R: Source>(alloc: Global, side: Side, source: &mut R) -> Result<RecordReader, Fault>
     requires { R.failed source.old < 2 ^ 64 - 1 }
     ensures header { IfOk result (λ records.
         IsBehindHeader R.Source records (R.remaining source.old) source.new) }
@@ -106,7 +104,7 @@ fn read_header<R: Source>(alloc: Global, side: Side, source: &mut R) -> Result<R
         (R.remaining source.new)) }
     ensures count { R.failed source.new ≡ R.failed source.old + failed_readings side result }
 {
-    match Records::open(alloc, source) {
+    match RecordReader::open(alloc, source) {
         Ok(records) => Ok(records),
         Err(fault) => Err(Fault::Capture(side, fault)),
     }

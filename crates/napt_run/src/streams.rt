@@ -1,17 +1,17 @@
 //! A run over captures as they arrive.
 ghost use Rattle.std.specs.Prelude.{◌≡◌, ◌≢◌, ◌-◌, ◌^◌, ◌<◌, IfErr, IfOk, Err, true, false};
-ghost use Rattle.napt_rules.specs.Prelude.{Takes};
+ghost use Rattle.napt_rules.specs.Prelude.{TakesState};
 ghost use Rattle.napt_records.specs.Faults.{tells_shut_gate};
-ghost use Rattle.napt_run.specs.{Logging.as_run, Origins.origin_of, Runs.passed_if};
-ghost use Rattle.napt_run.specs.Streams.{DeviceGets, DeviceGetsFrom, Explains, HasRead, IsOfRun, LeavesInTheEnd, ReportGets, ReportGetsFrom, ended};
+ghost use Rattle.napt_run.specs.{LogRuns.as_run, Origins.origin_of, Runs.passed_if};
+ghost use Rattle.napt_run.specs.Streams.{DeviceGets, DeviceGetsFrom, Explains, HasRead, IsOfRun, LeavesInTheEnd, ReportGets, ReportGetsFrom, stream_ended};
 
+use crate::capture_run::Totals;
 use crate::logging::{LoggingFault, Unlogged};
-use crate::passing::Totals;
-use crate::reporting::reported;
-use crate::start::{Setting, Start, unbegun, without_state};
+use crate::report_output::reported;
+use crate::start::{OriginSetting, RunOrigin, unbegun, without_state};
 use napt_capture::{Sink, Source};
 use napt_config::Config;
-use napt_dispatch::Passed;
+use napt_dispatch::RunSummary;
 use napt_pool::Gate;
 use napt_records::{Fault, Which};
 use napt_sequential::{NoFault, RunFault};
@@ -31,7 +31,7 @@ fn unlogged(streamed: Result<Totals, LoggingFault<NoFault>>) -> Result<Totals, F
 }
 
 /// What a run came to, once its report is written, if that was to be.
-fn passed_if(told: Result<Totals, Fault>, written: Result<(), Fault>) -> Result<Passed, Fault>
+fn passed_if(told: Result<Totals, Fault>, written: Result<(), Fault>) -> Result<RunSummary, Fault>
     ensures { result ≡ passed_if told written }
 {
     let Totals { passed, .. } = told?;
@@ -95,7 +95,7 @@ pub fn run_streams<
         inside.old inside.new outside.old outside.new result }
 {
     let state = unbegun(alloc);
-    let start = Start {
+    let start = RunOrigin {
         config,
         state: &state,
     };
@@ -120,28 +120,28 @@ pub fn resume_streams<
 >(
     rt: &T,
     alloc: Global,
-    start: Start<'_>,
+    start: RunOrigin<'_>,
     inside: &mut R,
     outside: &mut Q,
     to_outside: &mut W,
     to_inside: &mut V,
     report: &mut U,
     gate: Arc<G>,
-) -> Result<Passed, Fault>
-    requires taken { Takes start.config.now start.state.now }
+) -> Result<RunSummary, Fault>
+    requires taken { TakesState start.config.now start.state.now }
     requires inside { R.failed inside.old < 2 ^ 64 - 1 }
     requires outside { Q.failed outside.old < 2 ^ 64 - 1 }
     requires to_outside { W.failed to_outside.old < 2 ^ 64 - 1 }
     requires to_inside { V.failed to_inside.old < 2 ^ 64 - 1 }
     requires report { U.failed report.old < 2 ^ 64 - 1 }
     ensures to_outside { DeviceGetsFrom W.Sink (origin_of start.entry) Which.Outside
-        (R.remaining inside.old) (Q.remaining outside.old) (ended result)
+        (R.remaining inside.old) (Q.remaining outside.old) (stream_ended result)
         to_outside.old to_outside.new }
     ensures to_inside { DeviceGetsFrom V.Sink (origin_of start.entry) Which.Inside
-        (R.remaining inside.old) (Q.remaining outside.old) (ended result)
+        (R.remaining inside.old) (Q.remaining outside.old) (stream_ended result)
         to_inside.old to_inside.new }
     ensures report { ReportGetsFrom U.Sink (origin_of start.entry) (R.remaining inside.old)
-        (Q.remaining outside.old) (ended result) report.old report.new }
+        (Q.remaining outside.old) (stream_ended result) report.old report.new }
     ensures left { IfOk result (LeavesInTheEnd (origin_of start.entry)
         (R.remaining inside.old) (Q.remaining outside.old)) }
     ensures fault { IfErr result
@@ -149,10 +149,10 @@ pub fn resume_streams<
     ensures too_many { result ≢ Err (Fault.Run RunFault.TooMany) }
     ensures gate { G.is_open ≡ true → IfErr result (λ fault. tells_shut_gate fault ≡ false) }
     // Unless the run itself failed, the failed read is the reported one; a failed write may hide it.
-    ensures readings { (¬ IsOfRun (ended result)) → HasRead R.failed Q.failed
-        inside.old inside.new outside.old outside.new (ended result) }
+    ensures readings { (¬ IsOfRun (stream_ended result)) → HasRead R.failed Q.failed
+        inside.old inside.new outside.old outside.new (stream_ended result) }
 {
-    let setting = Setting {
+    let setting = OriginSetting {
         rt,
         alloc,
         start,

@@ -2,12 +2,12 @@
 //! one that waits holds up no other, and each asks the gate that the call is given.
 
 use crate::calls::TestRuntime;
-use crate::captures::{Call, Given, HEADER, Written, captured, push_packet};
-use crate::gates::{Hold, MOST_ASKS, Way};
+use crate::captures::{Call, HEADER, RunInput, RunOutput, captured, push_packet};
+use crate::gates::{GateMode, Hold, MOST_ASKS};
 use crate::packets::udp;
 use crate::sample_inputs::THREE_ADDRESSES;
 use napt_pool::PoolFault;
-use napt_run::{Fault, LoggedFault, RunFault};
+use napt_run::{Fault, LogRunFault, RunFault};
 use napt_samples::hosts::{CLIENT, RESOLVER, SECOND_CLIENT, external, host};
 use napt_samples::settings::TWO_ADDRESSES;
 use napt_wire::Endpoint;
@@ -20,14 +20,14 @@ fn under_gate(
     call: Call,
     settings: &str,
     packets: &[(Endpoint, Endpoint)],
-    way: Way,
-) -> Result<(Written, u64), Fail> {
+    way: GateMode,
+) -> Result<(RunOutput, u64), Fail> {
     let alloc = rt.alloc();
     let mut inside = Vec::from_slice(alloc, &HEADER)?;
     for (from, to) in packets {
         push_packet(&mut inside, 0, &udp(alloc, *from, *to)?)?;
     }
-    let given = Given {
+    let given = RunInput {
         call,
         settings: Some(settings),
         inside: &inside,
@@ -44,7 +44,7 @@ fn assert_ends(
     rt: &impl TestRuntime,
     settings: &str,
     packets: &[(Endpoint, Endpoint)],
-    way: Way,
+    way: GateMode,
     (report, count): (&str, u64),
 ) -> Result<(), Fail> {
     for call in [Call::Captures, Call::Streams] {
@@ -61,7 +61,7 @@ fn assert_ends(
 fn workers_of_a_call_meet(rt: HostRuntime) -> Result<(), Fail> {
     let packets = [(CLIENT, RESOLVER), (SECOND_CLIENT, RESOLVER)];
     let end = ("packets 2\nto outside 2\n", 2);
-    assert_ends(&rt, TWO_ADDRESSES, &packets, Way::Meeting, end)
+    assert_ends(&rt, TWO_ADDRESSES, &packets, GateMode::Meeting, end)
 }
 
 /// While a hairpin waits for its first worker, what goes to others is offered to them.
@@ -69,7 +69,7 @@ fn workers_of_a_call_meet(rt: HostRuntime) -> Result<(), Fail> {
 fn others_of_a_call_go_on(rt: HostRuntime) -> Result<(), Fail> {
     let packets = [(CLIENT, external(2, 7000)), (host(4, 5000), RESOLVER)];
     let end = ("packets 2\nto outside 1\nto inside 0\n", 0);
-    assert_ends(&rt, THREE_ADDRESSES, &packets, Way::AfterThird, end)
+    assert_ends(&rt, THREE_ADDRESSES, &packets, GateMode::AfterThird, end)
 }
 
 /// The fourth of five packets of 10.0.0.3, whose worker is the second, is asked for a million times. `napt` has then written nothing, and
@@ -77,12 +77,12 @@ fn others_of_a_call_go_on(rt: HostRuntime) -> Result<(), Fail> {
 #[test]
 fn gate_of_a_call_stays_shut(rt: HostRuntime) -> Result<(), Fail> {
     let packets = [(host(3, 5000), RESOLVER); 5];
-    let (open, _) = under_gate(&rt, Call::Streams, TWO_ADDRESSES, &packets, Way::Open)?;
+    let (open, _) = under_gate(&rt, Call::Streams, TWO_ADDRESSES, &packets, GateMode::Open)?;
     assert_eq!(rt; open.answer, Ok(()));
     for (call, most) in [(Call::Captures, 0), (Call::Streams, 24 + 3 * 44)] {
-        let (shut, asks) = under_gate(&rt, call, TWO_ADDRESSES, &packets, Way::Shut(1, 3))?;
+        let (shut, asks) = under_gate(&rt, call, TWO_ADDRESSES, &packets, GateMode::Shut(1, 3))?;
         let fault = Fault::Run(RunFault::Pool(PoolFault::GateShut(1)));
-        assert_eq!(rt; shut.answer, Err(LoggedFault::Run(fault)), "{call:?}");
+        assert_eq!(rt; shut.answer, Err(LogRunFault::Run(fault)), "{call:?}");
         assert_eq!(rt; asks, MOST_ASKS, "{call:?}");
         assert!(rt; shut.to_outside.len() <= most, "{call:?}");
         assert!(rt; open.to_outside.starts_with(&shut.to_outside), "{call:?}");

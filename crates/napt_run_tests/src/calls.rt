@@ -44,10 +44,10 @@ pub(crate) fn workers_run(
 }
 
 /// The side that a packet comes from, its source and its destination.
-pub(crate) type Sent = (Side, Endpoint, Endpoint);
+pub(crate) type PacketEnds = (Side, Endpoint, Endpoint);
 
 /// These packets, a second apart.
-pub(crate) fn inputs_of(alloc: Global, sent: &[Sent]) -> Result<Vec<Input>, AllocError> {
+pub(crate) fn inputs_of(alloc: Global, sent: &[PacketEnds]) -> Result<Vec<Input>, AllocError> {
     let mut inputs = Vec::new(alloc);
     for (second, (side, source, destination)) in sent.iter().enumerate() {
         let time = (second as u64).saturating_mul(SECOND);

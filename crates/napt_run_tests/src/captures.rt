@@ -4,12 +4,12 @@
 ghost use Rattle.std.specs.Prelude.{◌<◌};
 
 use crate::calls::TestRuntime;
-use crate::gates::{Hold, Way};
+use crate::gates::{GateMode, Hold};
 use crate::packets::udp;
 use crate::sample_inputs::{THREE_ADDRESSES, thousand_inputs};
-use napt_capture::{Faulty, Plan, Trouble, Watched};
+use napt_capture::{FaultPlan, Faulty, InjectedFault, Watched};
 use napt_config::Config;
-use napt_run::{Fault, LoggedFault, run_captures, run_streams, run_streams_with_log};
+use napt_run::{Fault, LogRunFault, run_captures, run_streams, run_streams_with_log};
 use napt_samples::hosts::{RESOLVER, external};
 use std::alloc::{AllocError, Global};
 use std::ops::Range;
@@ -28,16 +28,16 @@ pub(crate) enum Device {
 }
 
 /// Moves all that is asked, and fails at a call, counted from 1, or at none.
-pub(crate) fn failing(call: u64) -> Plan {
-    Plan {
+pub(crate) fn failing(call: u64) -> FaultPlan {
+    FaultPlan {
         most: usize::MAX,
         call,
-        trouble: Trouble::Fails,
+        trouble: InjectedFault::Fails,
     }
 }
 
 /// What a device does: the last that is planned for it, or no call of it goes wrong.
-fn plan_of(plans: &[(Device, Plan)], device: Device) -> Plan
+fn plan_of(plans: &[(Device, FaultPlan)], device: Device) -> FaultPlan
     ensures { 0 < result.most }
 {
     let mut found = failing(0);
@@ -46,7 +46,7 @@ fn plan_of(plans: &[(Device, Plan)], device: Device) -> Plan
             found = *plan;
         }
     }
-    Plan {
+    FaultPlan {
         most: found.most.max(1),
         ..found
     }
@@ -63,18 +63,18 @@ pub(crate) enum Call {
 /// What a run is given: the call, both captures, and what devices do that go wrong or move little at once. Without settings it is in the
 /// built-in configuration.
 #[derive(Clone, Copy)]
-pub(crate) struct Given<'a> {
+pub(crate) struct RunInput<'a> {
     pub(crate) call: Call,
     pub(crate) settings: Option<&'a str>,
     pub(crate) inside: &'a [u8],
     pub(crate) outside: &'a [u8],
-    pub(crate) plans: &'a [(Device, Plan)],
+    pub(crate) plans: &'a [(Device, FaultPlan)],
 }
 
 /// What a run answers and writes.
 #[derive(Drop, PartialEq)]
-pub(crate) struct Written {
-    pub(crate) answer: Result<(), LoggedFault>,
+pub(crate) struct RunOutput {
+    pub(crate) answer: Result<(), LogRunFault>,
     pub(crate) to_outside: Vec<u8>,
     pub(crate) to_inside: Vec<u8>,
     pub(crate) report: Vec<u8>,
@@ -82,7 +82,7 @@ pub(crate) struct Written {
 }
 
 /// The answer of a run without a log.
-pub(crate) fn told(answer: Result<(), Fault>) -> Result<(), LoggedFault> {
+pub(crate) fn told(answer: Result<(), Fault>) -> Result<(), LogRunFault> {
     Ok(answer?)
 }
 
@@ -96,9 +96,9 @@ fn config_of(alloc: Global, settings: Option<&str>) -> Result<Config, Fail> {
 /// What a run over captures answers and writes under a gate.
 pub(crate) fn captured(
     rt: &impl TestRuntime,
-    given: &Given<'_>,
+    given: &RunInput<'_>,
     gate: Arc<Hold>,
-) -> Result<Written, Fail> {
+) -> Result<RunOutput, Fail> {
     let alloc = rt.alloc();
     let config = config_of(alloc, given.settings)?;
     macro_rules! on {
@@ -124,7 +124,7 @@ pub(crate) fn captured(
         Call::Streams => told(answer_of!(run_streams)),
         Call::StreamsWithLog => answer_of!(run_streams_with_log &mut log),
     };
-    Ok(Written {
+    Ok(RunOutput {
         answer,
         to_outside: to_outside.into_inner().into_inner(),
         to_inside: to_inside.into_inner().into_inner(),
@@ -182,11 +182,11 @@ pub(crate) fn replies_in(alloc: Global, times: &Range<u32>) -> Result<Vec<u8>, A
 }
 
 /// What a run over both captures writes under a gate, with rings of so many slots.
-fn large_run(rt: &impl TestRuntime, ring: &str, gate: Arc<Hold>) -> Result<Written, Fail> {
+fn large_run(rt: &impl TestRuntime, ring: &str, gate: Arc<Hold>) -> Result<RunOutput, Fail> {
     let alloc = rt.alloc();
     let settings = format!(in alloc; "{THREE_ADDRESSES}ring = {ring}\n")?;
     let (inside, outside) = (sent_in(alloc, &ALL_TIMES)?, replies_in(alloc, &ALL_TIMES)?);
-    let given = Given {
+    let given = RunInput {
         call: Call::Captures,
         settings: Some(&settings),
         inside: &inside,
@@ -199,15 +199,15 @@ fn large_run(rt: &impl TestRuntime, ring: &str, gate: Arc<Hold>) -> Result<Writt
 #[test]
 fn same_bytes_of_a_slow_worker(rt: HostRuntime) -> Result<(), Fail> {
     let alloc = rt.alloc();
-    let wanted = large_run(&rt, "1", Hold::new(alloc, Way::Open)?)?;
+    let wanted = large_run(&rt, "1", Hold::new(alloc, GateMode::Open)?)?;
     // A fifth of the thousand are hairpins, and each reply finds its binding.
     let counts = b"packets 1100\nto outside 800\nto inside 300\n";
     assert_eq!(rt; wanted.answer, Ok(()));
     assert!(rt; wanted.report.starts_with(counts));
     for ring in ["1", "64"] {
-        let open = large_run(&rt, ring, Hold::new(alloc, Way::Open)?)?;
+        let open = large_run(&rt, ring, Hold::new(alloc, GateMode::Open)?)?;
         assert!(rt; open == wanted, "ring {ring}");
-        let gate = Hold::new(alloc, Way::Slow)?;
+        let gate = Hold::new(alloc, GateMode::Slow)?;
         let slow = large_run(&rt, ring, Arc::try_clone(&gate)?)?;
         assert!(rt; slow == wanted, "ring {ring}, a slow worker");
         assert!(rt; gate.count() > 1000);

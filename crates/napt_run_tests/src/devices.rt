@@ -1,9 +1,9 @@
 //! Devices of a run that move a byte at a time, and go wrong at each of their calls in turn.
 
 use crate::calls::TestRuntime;
-use crate::captures::{Call, Device, Given, HEADER, captured, failing, told};
-use crate::gates::{Hold, Way};
-use napt_capture::{CaptureFault, Plan, Trouble, WriteFault};
+use crate::captures::{Call, Device, HEADER, RunInput, captured, failing, told};
+use crate::gates::{GateMode, Hold};
+use napt_capture::{CaptureFault, FaultPlan, InjectedFault, WriteFault};
 use napt_pool::PoolFault;
 use napt_run::{Fault, RunFault, Which};
 use napt_samples::captures::{ONE_PACKET, WRITTEN};
@@ -17,8 +17,8 @@ drop bad-checksum 0\ndrop fragment 0\ndrop unsupported 0\ndrop bad-inner 0\ndrop
 drop no-binding 0\ndrop filtered 0\ndrop over-quota 0\ndrop no-port 0\nudp 10.0.0.2:5000 203.0.113.1:5000\n";
 
 /// Moves a byte at a time, and goes wrong once it has moved so many.
-fn slow(moved: u16, trouble: Trouble) -> Plan {
-    Plan {
+fn slow(moved: u16, trouble: InjectedFault) -> FaultPlan {
+    FaultPlan {
         most: 1,
         call: u64::from(moved) + 1,
         trouble,
@@ -26,25 +26,25 @@ fn slow(moved: u16, trouble: Trouble) -> Plan {
 }
 
 /// What a run answers, and how many bytes of each of its texts it leaves: to the outside, to the inside and of the report.
-type End = (Result<(), Fault>, [u16; 3]);
+type DeviceRunEnd = (Result<(), Fault>, [u16; 3]);
 
 /// A run that ends so before anything is written.
-fn silent(fault: Fault) -> End {
+fn silent(fault: Fault) -> DeviceRunEnd {
     (Err(fault), [0; 3])
 }
 
 /// A run that writes all.
-const WHOLE: End = (Ok(()), [70, 24, 307]);
+const WHOLE: DeviceRunEnd = (Ok(()), [70, 24, 307]);
 
 /// A run over the capture of one packet on the inside and of none on the outside comes to that end. What goes to the inside is a header
 /// alone: the 24 bytes with which what goes to the outside begins.
 fn assert_ends(
     rt: &impl TestRuntime,
-    plans: &[(Device, Plan)],
-    way: Way,
-    end: End,
+    plans: &[(Device, FaultPlan)],
+    way: GateMode,
+    end: DeviceRunEnd,
 ) -> Result<(), Fail> {
-    let given = Given {
+    let given = RunInput {
         call: Call::Captures,
         settings: None,
         inside: &ONE_PACKET,
@@ -72,24 +72,24 @@ fn each_read_of_a_run_fails(rt: HostRuntime) -> Result<(), Fail> {
     for (device, side, reads) in [(inside, Side::Inside, 4), (outside, Side::Outside, 2)] {
         for call in 1..=reads {
             let end = silent(Fault::Capture(side, CaptureFault::Read));
-            assert_ends(&rt, &[(device, failing(call))], Way::Open, end)?;
+            assert_ends(&rt, &[(device, failing(call))], GateMode::Open, end)?;
         }
     }
     let behind = [(inside, failing(5)), (outside, failing(3))];
-    assert_ends(&rt, &behind, Way::Open, WHOLE)
+    assert_ends(&rt, &behind, GateMode::Open, WHOLE)
 }
 
 #[test]
 fn shut_gate_lets_nothing_out(rt: HostRuntime) -> Result<(), Fail> {
     let end = silent(Fault::Run(RunFault::Pool(PoolFault::GateShut(0))));
-    assert_ends(&rt, &[], Way::Shut(0, 0), end)
+    assert_ends(&rt, &[], GateMode::Shut(0, 0), end)
 }
 
 /// Each output goes wrong once it has taken so many bytes: those before it are whole, and those after it have nothing. The call behind the
 /// writes is the flush.
 #[test]
 fn each_write_of_a_run_goes_wrong(rt: HostRuntime) -> Result<(), Fail> {
-    let fails = Trouble::Fails;
+    let fails = InjectedFault::Fails;
     let rows = [
         (Device::ToOutside, Which::Outside, 70u16),
         (Device::ToInside, Which::Inside, 24),
@@ -97,7 +97,7 @@ fn each_write_of_a_run_goes_wrong(rt: HostRuntime) -> Result<(), Fail> {
     ];
     for (device, which, length) in rows {
         for (trouble, calls) in [
-            (Trouble::TakesNone, length),
+            (InjectedFault::TakesNone, length),
             (fails, length.saturating_add(1)),
         ] {
             for taken in 0..calls {
@@ -108,7 +108,7 @@ fn each_write_of_a_run_goes_wrong(rt: HostRuntime) -> Result<(), Fail> {
                     Which::Report => [70, 24, taken],
                 };
                 let end = (Err(Fault::Write(which, WriteFault { written })), lengths);
-                assert_ends(&rt, &[(device, slow(taken, trouble))], Way::Open, end)?;
+                assert_ends(&rt, &[(device, slow(taken, trouble))], GateMode::Open, end)?;
             }
         }
     }
@@ -117,5 +117,5 @@ fn each_write_of_a_run_goes_wrong(rt: HostRuntime) -> Result<(), Fail> {
         (Device::ToInside, slow(25, fails)),
         (Device::Report, slow(308, fails)),
     ];
-    assert_ends(&rt, &behind, Way::Open, WHOLE)
+    assert_ends(&rt, &behind, GateMode::Open, WHOLE)
 }

@@ -1,16 +1,16 @@
 //! Dispatching to a pool, and what its workers are left with.
 
 ghost use Rattle.std.specs.Prelude.{◌≡◌, length, vec_len, IfOk};
-ghost use Rattle.napt_config.specs.Rules.{KeepsRules};
-ghost use Rattle.napt_dispatch.specs.Dispatch.{started};
+ghost use Rattle.napt_config.specs.Rules.{RulesInvariant};
+ghost use Rattle.napt_dispatch.specs.Dispatch.{started_translators};
 
 use crate::calls::{TestRuntime, plain_run, with_rings};
-use crate::gates::{Hold, Way};
+use crate::gates::{GateMode, Hold};
 use crate::large::assert_same;
 use crate::sample_inputs::{THREE_ADDRESSES, thousand_inputs};
 use napt_config::Config;
 use napt_pool::{Ended, Pool};
-use napt_run::{Input, Run, Untold, Worker, dispatch};
+use napt_run::{Input, NoTrace, Run, Worker, dispatch};
 use napt_samples::hosts::{SECOND, external};
 use napt_table::Row;
 use napt_translate::Translator;
@@ -19,9 +19,9 @@ use std::marker::PhantomData;
 use std::test::Fail;
 
 /// The workers of all external addresses before any leg, in the order of the pool.
-fn workers(alloc: Global, config: &Config) -> Result<Vec<Worker<Untold>>, AllocError>
-    ensures kept { KeepsRules config.now }
-    ensures made { IfOk result (λ made. made.items ≡ started config.now (length config.now.pool)) }
+fn workers(alloc: Global, config: &Config) -> Result<Vec<Worker<NoTrace>>, AllocError>
+    ensures kept { RulesInvariant config.now }
+    ensures made { IfOk result (λ made. made.items ≡ started_translators config.now (length config.now.pool)) }
     ensures many { IfOk result (λ made. vec_len made ≡ length config.now.pool) }
 {
     let many = config.pool().len() as u32;
@@ -39,7 +39,7 @@ fn workers(alloc: Global, config: &Config) -> Result<Vec<Worker<Untold>>, AllocE
 /// Each of three workers is left with four bindings, those of its own external address, and owes no answer. Together these are all.
 fn assert_left(
     rt: &impl TestRuntime,
-    ended: &[Ended<Worker<Untold>>],
+    ended: &[Ended<Worker<NoTrace>>],
     rows: &[Row],
 ) -> Result<(), Fail> {
     let mut left = Vec::new(rt.alloc());
@@ -68,7 +68,7 @@ fn assert_dispatched(
     }
     let alloc = rt.alloc();
     let machines = workers(alloc, config)?;
-    let gate = Hold::new(alloc, Way::Open)?;
+    let gate = Hold::new(alloc, GateMode::Open)?;
     let mut pool = Pool::start(rt, alloc, machines, config.ring(), gate)?;
     let told = dispatch(rt, alloc, &mut pool, config, inputs);
     let closed = pool.close(rt, alloc);

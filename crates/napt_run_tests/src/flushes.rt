@@ -1,7 +1,7 @@
 //! What no contract says of the cost of a run over captures as they come: packets that come together are flushed together.
 
 use crate::captures::{ALL_TIMES, HEADER, sent_in};
-use crate::gates::{Hold, Way};
+use crate::gates::{GateMode, Hold};
 use crate::sample_inputs::THREE_ADDRESSES;
 use napt_capture::Watched;
 use napt_config::Config;
@@ -50,7 +50,7 @@ fn packets_that_come_together_are_flushed_together(rt: HostRuntime) -> Result<()
         &mut to_outside,
         &mut Watched::new(NOTHING),
         &mut Watched::new(NOTHING),
-        Hold::new(alloc, Way::Open)?,
+        Hold::new(alloc, GateMode::Open)?,
     )?;
     let Counter { bytes, flushes } = to_outside.into_inner();
     assert_eq!(rt; bytes, 24 + 800 * 44);

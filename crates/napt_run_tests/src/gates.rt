@@ -11,7 +11,7 @@ pub(crate) const MOST_ASKS: u64 = 1_000_000;
 
 /// Which workers a gate holds back, and what it counts.
 #[derive(Clone, Copy)]
-pub(crate) enum Way {
+pub(crate) enum GateMode {
     /// No worker.
     Open,
     /// Worker 0 at its first thousand asks; these are counted, and all others of it.
@@ -30,14 +30,14 @@ pub(crate) enum Way {
 
 #[derive(Drop)]
 pub(crate) struct Hold {
-    way: Way,
+    way: GateMode,
     count: AtomicU64,
     first: AtomicU64,
     second: AtomicU64,
 }
 
 impl Hold {
-    pub(crate) fn new(alloc: Global, way: Way) -> Result<Arc<Hold>, AllocError> {
+    pub(crate) fn new(alloc: Global, way: GateMode) -> Result<Arc<Hold>, AllocError> {
         let [count, first, second] = [AtomicU64::new(0), AtomicU64::new(0), AtomicU64::new(0)];
         let hold = Hold {
             way,
@@ -107,29 +107,29 @@ impl Gate for Hold {
 
     fn enter(&self, worker: u32, turn: u64) -> bool {
         match self.way {
-            Way::Open => true,
-            Way::Slow => worker != 0 || self.counted() >= 1000,
-            Way::Meeting => {
+            GateMode::Open => true,
+            GateMode::Slow => worker != 0 || self.counted() >= 1000,
+            GateMode::Meeting => {
                 if turn == 0 {
                     self.meet(worker);
                 }
                 true
             }
-            Way::AfterThird => self.is_after_third(worker, turn),
-            Way::Shown => {
+            GateMode::AfterThird => self.is_after_third(worker, turn),
+            GateMode::Shown => {
                 if worker == 0 {
                     self.first.store(turn, Ordering::SeqCst);
                 }
                 true
             }
-            Way::Shut(shut, at) => {
+            GateMode::Shut(shut, at) => {
                 let is_shut = worker == shut && turn == at;
                 if is_shut {
                     self.counted();
                 }
                 !is_shut
             }
-            Way::SecondFirst => {
+            GateMode::SecondFirst => {
                 if worker == 1 {
                     self.counted();
                 } else {

@@ -1,9 +1,9 @@
 //! A log that goes on from what was kept of it beside a state.
 
 ghost use Rattle.std.specs.Prelude.{IfOk};
-ghost use Rattle.napt_account.specs.GoingOn.{IsFew};
+ghost use Rattle.napt_account.specs.ResumedLogRuns.{IsFew};
 
-use napt_account::{Entry, KnownLog, Listed, LogState};
+use napt_account::{Entry, LogEntry, SavedLogState, TrackedLog};
 use napt_config::Config;
 use napt_rules::{Row, State, StateBinding};
 use napt_state::take_up;
@@ -48,10 +48,10 @@ fn state(alloc: Global) -> Result<State, AllocError> {
 }
 
 /// What is kept where there was no log.
-pub(crate) fn no_log(alloc: Global) -> LogState
+pub(crate) fn no_log(alloc: Global) -> SavedLogState
     ensures { IsFew result }
 {
-    LogState {
+    SavedLogState {
         made: 0,
         living: Vec::new(alloc),
     }
@@ -64,7 +64,7 @@ pub(crate) fn kept(
     number: u8,
     packets: u8,
     end: u128,
-) -> Result<LogState, AllocError>
+) -> Result<SavedLogState, AllocError>
     ensures { IfOk result IsFew }
 {
     let redirect = Entry {
@@ -88,22 +88,22 @@ pub(crate) fn kept(
     };
     let number = u64::from(number);
     let living = vec![in alloc;
-        Listed {
+        LogEntry {
             number: 1,
             entry: redirect
         },
-        Listed {
+        LogEntry {
             number,
             entry: sent
         },
     ]?;
-    Ok(LogState {
+    Ok(SavedLogState {
         made: number,
         living,
     })
 }
 
-fn numbers(alloc: Global, listed: &[Listed]) -> Result<Vec<u64>, AllocError> {
+fn numbers(alloc: Global, listed: &[LogEntry]) -> Result<Vec<u64>, AllocError> {
     listed.iter().map(|one| one.number).collect(alloc)
 }
 
@@ -118,7 +118,7 @@ fn a_log_goes_on_with_the_bindings_of_its_state(rt: HostRuntime) -> Result<(), F
     }
     let kept = kept(alloc, 3, 2, END)?;
     assert!(rt; kept.is_of(alloc, &config, &state)?);
-    let resumed = KnownLog::resume(alloc, &config, &state, &kept)?;
+    let resumed = TrackedLog::resume(alloc, &config, &state, &kept)?;
     assert!(rt; resumed.ended.is_empty() && resumed.made.is_empty());
     let left = resumed.log.left(alloc)?;
     assert_eq!(rt; left.made, 3);
@@ -137,7 +137,7 @@ fn a_log_of_another_state_ends_and_begins_anew(rt: HostRuntime) -> Result<(), Fa
     }
     let kept = kept(alloc, 3, 2, END + 1)?;
     assert!(rt; !kept.is_of(alloc, &config, &state)?);
-    let resumed = KnownLog::resume(alloc, &config, &state, &kept)?;
+    let resumed = TrackedLog::resume(alloc, &config, &state, &kept)?;
     assert!(rt; numbers(alloc, &resumed.ended)?.as_slice() == [1, 3].as_slice());
     assert!(rt;
         resumed

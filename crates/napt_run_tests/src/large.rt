@@ -1,7 +1,7 @@
 //! Large runs on one thread and over workers.
 
 use crate::calls::{TestRuntime, plain_run, workers_run};
-use crate::gates::{Hold, Way};
+use crate::gates::{GateMode, Hold};
 use crate::sample_inputs::{SIXTEEN_ADDRESSES, THREE_ADDRESSES, all_to_all, thousand_inputs};
 use napt_run::{Input, Outcome};
 use std::process::Abort;
@@ -45,7 +45,7 @@ pub(crate) fn compared(
     ring: &str,
     inputs: &[Input],
     legs: &[u64],
-    way: Way,
+    way: GateMode,
 ) -> Result<u64, Fail> {
     let alloc = rt.alloc();
     let gate = Hold::new(alloc, way)?;
@@ -70,7 +70,7 @@ fn assert_large(
     assert_eq!(rt; counts(&plain.outcomes), (to_outside, to_inside, 0));
     assert_eq!(rt; plain.bindings.len(), bindings);
     for ring in ["1", "2", "3", "64", "4096"] {
-        compared(rt, settings, ring, inputs, legs, Way::Open)?;
+        compared(rt, settings, ring, inputs, legs, GateMode::Open)?;
     }
     Ok(())
 }

@@ -18,7 +18,7 @@ mod flushes;
 #[cfg(test)]
 mod gates;
 #[cfg(test)]
-mod held;
+mod hairpins;
 #[cfg(test)]
 mod kept_logs;
 #[cfg(test)]
@@ -31,9 +31,9 @@ mod pool;
 #[cfg(test)]
 mod program;
 #[cfg(test)]
-mod resumed;
+mod resumed_runs;
 #[cfg(test)]
 mod running_logs;
 pub mod sample_inputs;
 #[cfg(test)]
-mod taking;
+mod taken_answers;

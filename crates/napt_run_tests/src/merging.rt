@@ -1,6 +1,6 @@
 //! A stream gives its source back. What inputs come of two captures is told in `tests/calls`.
-use napt_capture::{NoPackets, Records, Source, Watched};
-use napt_records::{MergedStreams, Stream};
+use napt_capture::{EmptySource, RecordReader, Source, Watched};
+use napt_records::{RecordStream, StreamMerger};
 use napt_samples::captures::ONE_PACKET;
 use std::test::Fail;
 
@@ -9,12 +9,12 @@ use std::test::Fail;
 fn streams_give_their_sources_back(rt: HostRuntime) -> Result<(), Fail> {
     let alloc = rt.alloc();
     let mut source = Watched::new(ONE_PACKET.as_slice());
-    let mut none = NoPackets::new();
-    let records = Records::open(alloc, &mut source)?;
-    let first = Stream::new(&mut source, records);
-    let records = Records::open(alloc, &mut none)?;
-    let second = Stream::new(&mut none, records);
-    let (inside, _) = MergedStreams::new(alloc, first, second).into_streams();
+    let mut none = EmptySource::new();
+    let records = RecordReader::open(alloc, &mut source)?;
+    let first = RecordStream::new(&mut source, records);
+    let records = RecordReader::open(alloc, &mut none)?;
+    let second = RecordStream::new(&mut none, records);
+    let (inside, _) = StreamMerger::new(alloc, first, second).into_streams();
     let mut buffer = [0; 4];
     let count = inside.into_source().read(&mut buffer)?;
     assert_eq!(rt; (count, buffer), (4, [1, 0, 0, 0]));

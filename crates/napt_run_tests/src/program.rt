@@ -5,8 +5,8 @@ use napt_capture::CaptureFault;
 use napt_config::ConfigFault;
 use napt_pool::PoolFault;
 use napt_program::{
-    Node, Options, Place, Role, Stop, StopLine, is_same, line_at_end, parse_words, status_at_end,
-    stop_status,
+    FileId, FileLocation, FileRole, RunOptions, Stop, StopLine, is_same, line_at_end, parse_words,
+    status_at_end, stop_status,
 };
 use napt_records::Fault;
 use napt_sequential::RunFault;
@@ -58,8 +58,8 @@ fn stops_have_their_status_and_line(rt: HostRuntime) -> Result<(), Fail> {
 
 #[test]
 fn ends_with_status_and_line(rt: HostRuntime) -> Result<(), Fail> {
-    let stopped = Err(Stop::File(Role::Report));
-    let (name, stop) = ("napt-stream", Stop::File(Role::Report));
+    let stopped = Err(Stop::File(FileRole::Report));
+    let (name, stop) = ("napt-stream", Stop::File(FileRole::Report));
     let line = StopLine { name, stop }.to_string(rt.alloc())?;
     assert_eq!(rt; line.as_str(), "napt-stream: file report");
     assert_eq!(rt; (status_at_end(&Ok(())), status_at_end(&stopped)), (0, 6));
@@ -71,7 +71,7 @@ fn ends_with_status_and_line(rt: HostRuntime) -> Result<(), Fail> {
 
 #[test]
 fn takes_a_line_without_a_name(rt: HostRuntime) -> Result<(), Fail> {
-    let wanted = Options {
+    let wanted = RunOptions {
         config: None,
         inside: None,
         outside: None,
@@ -87,11 +87,17 @@ fn takes_a_line_without_a_name(rt: HostRuntime) -> Result<(), Fail> {
 
 #[test]
 fn tells_one_file(rt: HostRuntime) {
-    let node = |device, number| Node { device, number };
-    let (file, other) = (Place::There(node(7, 3)), Place::There(node(8, 3)));
+    let node = |device, number| FileId { device, number };
+    let (file, other) = (
+        FileLocation::There(node(7, 3)),
+        FileLocation::There(node(8, 3)),
+    );
     let folder = node(7, 2);
-    let (new, second_new) = (Place::New(folder, "a"), Place::New(folder, "b"));
-    let words = Place::Words("a");
+    let (new, second_new) = (
+        FileLocation::New(folder, "a"),
+        FileLocation::New(folder, "b"),
+    );
+    let words = FileLocation::Words("a");
     let rows = [
         (file, file, true),
         (file, other, false),
@@ -99,7 +105,7 @@ fn tells_one_file(rt: HostRuntime) {
         (new, second_new, false),
         (words, words, true),
         (new, words, false),
-        (Place::Aside, Place::Aside, false),
+        (FileLocation::Aside, FileLocation::Aside, false),
     ];
     for (i, (a, b, is_one)) in rows.iter().enumerate() {
         assert!(rt; is_same(*a, *b) == *is_one, "row {i}");

@@ -2,18 +2,18 @@
 //! fails leaves.
 
 ghost use Rattle.std.specs.Prelude.{◌≡◌};
-ghost use Rattle.napt_account.specs.GoingOn.{IsFew};
+ghost use Rattle.napt_account.specs.ResumedLogRuns.{IsFew};
 
 use crate::calls::TestRuntime;
-use crate::captures::{Call, Device, Given, HEADER, Written, captured, failing, push_packet};
-use crate::gates::{Hold, Way};
+use crate::captures::{Call, Device, HEADER, RunInput, RunOutput, captured, failing, push_packet};
+use crate::gates::{GateMode, Hold};
 use crate::kept_logs::{SETTINGS, kept, no_log};
 use crate::packets::udp;
-use crate::resumed::nothing;
-use napt_account::LogState;
+use crate::resumed_runs::nothing;
+use napt_account::SavedLogState;
 use napt_capture::{Watched, WriteFault};
 use napt_config::Config;
-use napt_run::{LogStart, LoggedFault, Start, State, resume_streams_with_log};
+use napt_run::{LogOriginStart, LogRunFault, RunOrigin, State, resume_streams_with_log};
 use napt_samples::hosts::{CLIENT, RESOLVER};
 use napt_state::take_up;
 use std::alloc::{AllocError, Global};
@@ -45,16 +45,16 @@ fn sent_at(alloc: Global, times: &[u32]) -> Result<Vec<u8>, AllocError> {
 }
 
 /// The run over two packets under these settings, with a log that fails at a call, counted from 1, or at none.
-fn run_with(rt: &impl TestRuntime, settings: &str, call: u64) -> Result<Written, Fail> {
+fn run_with(rt: &impl TestRuntime, settings: &str, call: u64) -> Result<RunOutput, Fail> {
     let inside = sent_at(rt.alloc(), &[10, 20])?;
-    let given = Given {
+    let given = RunInput {
         call: Call::StreamsWithLog,
         settings: Some(settings),
         inside: &inside,
         outside: &HEADER,
         plans: &[(Device::Log, failing(call))],
     };
-    captured(rt, &given, Hold::new(rt.alloc(), Way::Open)?)
+    captured(rt, &given, Hold::new(rt.alloc(), GateMode::Open)?)
 }
 
 #[test]
@@ -73,14 +73,14 @@ fn log_of_a_run_as_it_runs(rt: HostRuntime) -> Result<(), Fail> {
 struct Part {
     text: Vec<u8>,
     state: State,
-    kept: LogState,
+    kept: SavedLogState,
 }
 
 /// A new log of what was kept, in one piece, with which another run goes on.
-fn new_log(kept: &LogState) -> LogStart<'_>
+fn new_log(kept: &SavedLogState) -> LogOriginStart<'_>
     ensures { result.kept ≡ kept.entry }
 {
-    LogStart {
+    LogOriginStart {
         kept,
         is_new: true,
         each: None,
@@ -92,7 +92,7 @@ fn new_log(kept: &LogState) -> LogStart<'_>
 fn run_on(
     rt: &impl TestRuntime,
     mut state: State,
-    log_start: LogStart<'_>,
+    log_start: LogOriginStart<'_>,
     times: &[u32],
 ) -> Result<Part, Fail>
     requires { IsFew log_start.kept.now }
@@ -102,7 +102,7 @@ fn run_on(
     if take_up(alloc, &config, &mut state)?.is_some() {
         return Err(Fail::new("the state is not taken"));
     }
-    let start = Start {
+    let start = RunOrigin {
         config: &config,
         state: &state,
     };
@@ -113,7 +113,7 @@ fn run_on(
     let mut to_inside = Watched::new(Vec::new(alloc));
     let mut report = Watched::new(Vec::new(alloc));
     let mut log = Watched::new(Vec::new(alloc));
-    let gate = Hold::new(alloc, Way::Open)?;
+    let gate = Hold::new(alloc, GateMode::Open)?;
     let left = resume_streams_with_log(
         rt,
         alloc,
@@ -143,7 +143,7 @@ fn log_of_a_run_in_two_parts(rt: HostRuntime) -> Result<(), Fail> {
     let kept = kept(alloc, 2, 1, 300_000_010_000)?;
     assert_eq!(rt; first.kept.made, kept.made);
     assert!(rt; first.kept.living == kept.living);
-    let behind = LogStart {
+    let behind = LogOriginStart {
         is_new: false,
         goes_on: false,
         ..new_log(&kept)
@@ -164,7 +164,7 @@ fn log_of_a_run_in_pieces(rt: HostRuntime) -> Result<(), Fail> {
     let alloc = rt.alloc();
     let none = no_log(alloc);
     let kept = kept(alloc, 2, 1, 300_000_010_000)?;
-    let pieces = LogStart {
+    let pieces = LogOriginStart {
         each: NonZeroU32::new(1),
         ..new_log(&none)
     };
@@ -187,7 +187,7 @@ fn a_log_that_fails(rt: HostRuntime) -> Result<(), Fail> {
     for (call, length, header) in [(1, 0, 0), (2, opening, 0), (3, opening, 24)] {
         let left = run_with(&rt, SETTINGS, call)?;
         let written = length as u64;
-        assert_eq!(rt; left.answer, Err(LoggedFault::Log(WriteFault { written })));
+        assert_eq!(rt; left.answer, Err(LogRunFault::Log(WriteFault { written })));
         assert_eq!(rt; Some(left.log.as_slice()), OPENING.as_bytes().get(..length));
         assert_eq!(rt;
             (left.to_outside.len(), left.to_inside.len()),

@@ -4,36 +4,36 @@ use Rattle.napt_wire.specs.declared.{Protocol.Protocol, Way.{Way, TheVariants.{O
 use Rattle.napt_wire.specs.{declared.Kind.TheVariants.{Udp, Tcp, Echo, ErrorOf}, Fields.{source, destination, kind}}
 use Rattle.napt_wire.specs.declared.Protocol.TheVariants as protocols
 use Rattle.napt_config.specs.Rules.{Rules, AreTimers}
-use Rattle.napt_rules.specs.declared.{Sent.Sent, Received.Received, Leg.Leg, Answer.Answer, End.{End, TheVariants.{ToOutside, Onward, Dropped}}}
-use Rattle.napt_rules.specs.Prelude.{Through, Binding, Out, step_out, In, step_in, by_inside, by_number, granting_of, inbound_of, no_flags, onward_by, end_out, end_in, sent_of, received_of, Acted, act_out, act_in, act_by, Kept, time_after, kept_act, kept_answer}
-use Rattle.napt_table.specs.TimedRows.{timed}
-use Rattle.napt_translate.specs.{Carried.carried_by, Translators.{TranslatorState, kept_of, left_by}}
-use Rattle.napt_laws.{specs.Through.IsSaid, proofs.Through.{out_says_its_binding, in_says_its_binding}}
-use Rattle.napt_sequential.specs.declared.{passage.{Passage.Passage, Seen.Seen}, telling.Told.Told}
-use Rattle.napt_sequential.specs.{CountedTranslators.{seen_of, gone_by, found_by, passage_seen, told_at}, Traces.passage_by}
+use Rattle.napt_rules.specs.declared.{OutboundPacket.OutboundPacket, InboundPacket.InboundPacket, Leg.Leg, Answer.Answer, End.{End, TheVariants.{ToOutside, Onward, Dropped}}}
+use Rattle.napt_rules.specs.Prelude.{BindingUse, Binding, OutboundEffect, step_out, InboundEffect, step_in, by_inside, by_number, assignment_rules, inbound_rules, no_flags, onward_end, end_out, end_in, outbound_packet, inbound_packet, LegEffect, act_out, act_in, act_by, LocalState, time_after, local_act, local_answer}
+use Rattle.napt_table.specs.TimedRows.{timed_row}
+use Rattle.napt_translate.specs.{CarriedPackets.packet_carried, Translators.{TranslatorModel, local_state, translator_after}}
+use Rattle.napt_laws.{specs.BindingUses.BindingUseIsSaid, proofs.BindingUseLaws.{out_says_its_binding, in_says_its_binding}}
+use Rattle.napt_sequential.specs.declared.{passage.{Passage.Passage, PacketTuple.PacketTuple}, leg_trace.TracedAnswer.TracedAnswer}
+use Rattle.napt_sequential.specs.{CountedTranslators.{seen_of, gone_by, found_by, passage_seen, traced_answer}, Traces.passage_by}
 
 module _ (rules : Rules) (t : AreTimers rules.timers) (address : ℕ) (leg : Leg) (list : List Binding) where
   abbrev found : Option Protocol → List Binding → End → Passage
   found carried left end = found_by rules.timers leg.now left address (seen_of leg.packet) carried end
 
-  abbrev said : Way → Option Protocol → End → Option Through → Passage
+  abbrev said : Way → Option Protocol → End → Option BindingUse → Passage
   said way carried end through = passage_by rules.timers way carried (source leg.packet).address end through
 
-  module _ (protocol : Protocol) (before : Option Binding) (left : List Binding) (through : Option Through) where
+  module _ (protocol : Protocol) (before : Option Binding) (left : List Binding) (through : Option BindingUse) where
     abbrev after_out : Option Binding
     after_out = by_inside rules.timers address leg.now protocol (source leg.packet) left
 
     gone : (place : Option ℕ) (packet : List ℕ) → (number : ℕ) →
-        IsSaid (let r : Result ℕ Cause = Ok number in r) before after_out through →
-        found (Some protocol) left (onward_by place packet) ≡ said Outgoing (Some protocol) (onward_by place packet)
+        BindingUseIsSaid (let r : Result ℕ Cause = Ok number in r) before after_out through →
+        found (Some protocol) left (onward_end place packet) ≡ said Outgoing (Some protocol) (onward_end place packet)
         through
-    gone None packet number says = ap (λ (o : Option Binding). gone_by Outgoing (option_map (timed rules.timers) o))
+    gone None packet number says = ap (λ (o : Option Binding). gone_by Outgoing (option_map (timed_row rules.timers) o))
         says.binding ∙ sym (ap (said Outgoing (Some protocol) (ToOutside packet)) says.is)
     gone (Some place) packet number says =
-        ap (λ (o : Option Binding). gone_by Outgoing (option_map (timed rules.timers) o)) says.binding
+        ap (λ (o : Option Binding). gone_by Outgoing (option_map (timed_row rules.timers) o)) says.binding
         ∙ sym (ap (said Outgoing (Some protocol) (Onward place packet)) says.is)
 
-    found_out : (number : Result ℕ Cause) → IsSaid number before after_out through →
+    found_out : (number : Result ℕ Cause) → BindingUseIsSaid number before after_out through →
         found (Some protocol) left (end_out rules address leg.packet number)
         ≡ said Outgoing (Some protocol) (end_out rules address leg.packet number) through
     found_out (Ok number) says = gone _ _ number says
@@ -42,34 +42,34 @@ module _ (rules : Rules) (t : AreTimers rules.timers) (address : ℕ) (leg : Leg
     abbrev after_in : Option Binding
     after_in = by_number rules.timers address leg.now protocol (destination leg.packet).number left
 
-    found_in : (inside : Result Endpoint Cause) → IsSaid inside before after_in through →
+    found_in : (inside : Result Endpoint Cause) → BindingUseIsSaid inside before after_in through →
         found (Some protocol) left (end_in leg.packet inside)
         ≡ said Incoming (Some protocol) (end_in leg.packet inside) through
     found_in (Ok inside) says =
-        ap (λ (o : Option Binding). gone_by Incoming (option_map (timed rules.timers) o)) says.binding
+        ap (λ (o : Option Binding). gone_by Incoming (option_map (timed_row rules.timers) o)) says.binding
         ∙ sym (ap (said Incoming (Some protocol) (end_in leg.packet (Ok inside))) says.is)
     found_in (Err cause) says = sym (ap (said Incoming (Some protocol) (Dropped cause)) says)
 
   abbrev IsFound : Way → Kind → Type 0
   IsFound way k =
-      let acted : Acted = act_by rules address leg list way k in
-      found (carried_by k) acted.list acted.end ≡ said way (carried_by k) acted.end acted.through
+      let acted : LegEffect = act_by rules address leg list way k in
+      found (packet_carried k) acted.list acted.end ≡ said way (packet_carried k) acted.end acted.through
 
-  goes : (protocol : Protocol) (flags : Flags) → (let acted : Acted = act_out rules address leg list protocol flags in
+  goes : (protocol : Protocol) (flags : Flags) → (let acted : LegEffect = act_out rules address leg list protocol flags in
       found (Some protocol) acted.list acted.end ≡ said Outgoing (Some protocol) acted.end acted.through)
   goes protocol flags =
-      let packet : Sent = sent_of rules protocol flags leg.now leg.packet in
-      let out : Out = step_out rules.timers (granting_of rules) address packet list in
+      let packet : OutboundPacket = outbound_packet rules protocol flags leg.now leg.packet in
+      let out : OutboundEffect = step_out rules.timers (assignment_rules rules) address packet list in
       found_out protocol (by_inside rules.timers address leg.now protocol packet.inside list) out.list out.through
-      out.number (out_says_its_binding rules.timers t (granting_of rules) address packet list)
+      out.number (out_says_its_binding rules.timers t (assignment_rules rules) address packet list)
 
-  comes : (protocol : Protocol) (flags : Flags) → (let acted : Acted = act_in rules address leg list protocol flags in
+  comes : (protocol : Protocol) (flags : Flags) → (let acted : LegEffect = act_in rules address leg list protocol flags in
       found (Some protocol) acted.list acted.end ≡ said Incoming (Some protocol) acted.end acted.through)
   comes protocol flags =
-      let packet : Received = received_of protocol flags leg.now leg.packet in
-      let came : In = step_in rules.timers (inbound_of rules) address packet list in
+      let packet : InboundPacket = inbound_packet protocol flags leg.now leg.packet in
+      let came : InboundEffect = step_in rules.timers (inbound_rules rules) address packet list in
       found_in protocol (by_number rules.timers address leg.now protocol packet.number list) came.list came.through
-      came.inside (in_says_its_binding rules.timers t (inbound_of rules) address packet list)
+      came.inside (in_says_its_binding rules.timers t (inbound_rules rules) address packet list)
 
   pub found_act : (way : Way) (k : Kind) → IsFound way k
   found_act Outgoing Udp = goes protocols.Udp no_flags
@@ -85,7 +85,7 @@ module _ (rules : Rules) (t : AreTimers rules.timers) (address : ℕ) (leg : Leg
 
 module _ (rules : Rules) (address : ℕ) (leg : Leg) (at : ℕ) (left : List Binding) (end : End) where
   abbrev found_at : Kind → ℕ → Passage
-  found_at k now = found_by rules.timers now left address (seen_of leg.packet) (carried_by k) end
+  found_at k now = found_by rules.timers now left address (seen_of leg.packet) (packet_carried k) end
 
   in_time : (k : Kind) → (let now : ℕ = max leg.now at in
       found_at k (max leg.now (time_after k at now)) ≡ found_at k now)
@@ -94,17 +94,17 @@ module _ (rules : Rules) (address : ℕ) (leg : Leg) (at : ℕ) (left : List Bin
   in_time Echo = ap (found_at Echo) (omega arith)
   in_time (ErrorOf inner) = refl
 
-pub told_there : (leg : Leg) (state : TranslatorState) → AreTimers state.rules.timers → (answer : Answer) →
-    answer ≡ kept_answer state.rules state.table.address leg (kept_of state.table) → (seen : Seen) →
-    seen ≡ seen_of leg.packet → (left : TranslatorState) → left ≡ left_by leg state → (passage : Passage) →
+pub told_there : (leg : Leg) (state : TranslatorModel) → AreTimers state.rules.timers → (answer : Answer) →
+    answer ≡ local_answer state.rules state.table.address leg (local_state state.table) → (seen : PacketTuple) →
+    seen ≡ seen_of leg.packet → (left : TranslatorModel) → left ≡ translator_after leg state → (passage : Passage) →
     passage ≡ passage_seen leg.now seen answer.end left →
-    (let told : Told Passage = record { answer = answer; passage = passage } in
-    told ≡ told_at (λ passage. passage) leg state)
+    (let told : TracedAnswer Passage = record { answer = answer; passage = passage } in
+    told ≡ traced_answer (λ passage. passage) leg state)
 told_there leg state t answer answer_is seen seen_is left left_is passage passage_is =
-    let own : Kept = kept_of state.table in
-    let acted : Acted = kept_act state.rules state.table.address leg own in
-    rw (passage_is, answer_is, seen_is, left_is) (ap (λ (x : Passage). let told : Told Passage =
-    record { answer = kept_answer state.rules state.table.address leg own; passage = x } in told)
+    let own : LocalState = local_state state.table in
+    let acted : LegEffect = local_act state.rules state.table.address leg own in
+    rw (passage_is, answer_is, seen_is, left_is) (ap (λ (x : Passage). let told : TracedAnswer Passage =
+    record { answer = local_answer state.rules state.table.address leg own; passage = x } in told)
     (in_time state.rules state.table.address leg own.at acted.list acted.end (kind leg.packet)
     ∙ found_act state.rules t state.table.address (record leg { now = max leg.now own.at }) own.list leg.way
     (kind leg.packet)))

@@ -4,38 +4,38 @@ use Rattle.std.proofs.lemmas.{Grind.common_steps, Bool.Decides.nat_tests}
 use Rattle.std.proofs.Common.{◌≡◌, ℕ, ◌≤◌, List, length, Result, refl, sym, ap, subst, append-nil, append_assoc}
 use Rattle.napt_wire.specs.{declared.{Way.TheVariants.Incoming, Cause.Cause}, Fields.destination, Reading.reading}
 use Rattle.napt_config.specs.Rules.{Rules}
-use Rattle.napt_rules.specs.{Prelude.{act, Arrival, Act, outcome_of, once, follow_by, refused, admitted, legs_at}, declared.Leg.Leg}
+use Rattle.napt_rules.specs.{Prelude.{act, Arrival, LegAct, outcome_of, leg_effect, with_second_leg, refused_effect, admitted_effect, legs_at}, declared.Leg.Leg}
 use Rattle.napt_rules.specs.declared.{End.{End, TheVariants.Onward}, Outcome.{Outcome, TheVariants.Dropped}}
 use Rattle.napt_sequential.specs.declared.counted_translator.CountedTranslator.{CountedTranslator}
-use Rattle.napt_sequential.specs.CountedTranslators.{RunState, IsCountedTranslator, AreCountedTranslators, state_after, Follows}
+use Rattle.napt_sequential.specs.CountedTranslators.{SequentialRunModel, IsCountedTranslator, AreCountedTranslators, state_after, StepFollows}
 use Rattle.napt_sequential.specs.declared.input.Input.TheInside as fields
 use Rattle.napt_laws.proofs.RunsLocal.{later_at_once}
 
 -- A FIRST LEG ALONE, OR TWO
 
-pub follows_once : (rules : Rules) (address : ℕ) (leg : Leg) (state : RunState) (translators : List CountedTranslator)
+pub follows_once : (rules : Rules) (address : ℕ) (leg : Leg) (state : SequentialRunModel) (translators : List CountedTranslator)
     (end : End) → (act rules address leg state.list).end ≡ end →
-    follow_by rules address leg (act rules address leg state.list) end
-    ≡ once address leg (act rules address leg state.list) →
+    with_second_leg rules address leg (act rules address leg state.list) end
+    ≡ leg_effect address leg (act rules address leg state.list) →
     AreCountedTranslators rules (state_after rules address leg state) translators → (outcome : Outcome) →
-    outcome ≡ outcome_of end → Follows rules leg.now (admitted rules address leg state.list) state translators outcome
+    outcome ≡ outcome_of end → StepFollows rules leg.now (admitted_effect rules address leg state.list) state translators outcome
 follows_once rules address leg state translators end is alone are outcome told = grind (arith, common_steps, nat_tests)
 
-pub follows_twice : (rules : Rules) (address : ℕ) (leg : Leg) (state : RunState) (translators : List CountedTranslator)
+pub follows_twice : (rules : Rules) (address : ℕ) (leg : Leg) (state : SequentialRunModel) (translators : List CountedTranslator)
     (place : ℕ) (packet : List ℕ) → (act rules address leg state.list).end ≡ Onward place packet →
     (let next : Leg = record leg { way = Incoming; packet = packet } in
     let to : ℕ = (destination packet).address in
-    let between : RunState = state_after rules address leg state in
+    let between : SequentialRunModel = state_after rules address leg state in
     AreCountedTranslators rules (state_after rules to next between) translators → (outcome : Outcome) →
     outcome ≡ outcome_of (act rules to next between.list).end →
-    Follows rules leg.now (admitted rules address leg state.list) state translators outcome)
+    StepFollows rules leg.now (admitted_effect rules address leg state.list) state translators outcome)
 follows_twice rules address leg state translators place packet is = grind (arith, common_steps, nat_tests, append_assoc)
 
 -- NO LEG
 
-pub follows_none : (rules : Rules) (now : ℕ) (state : RunState) (translators : List CountedTranslator) →
+pub follows_none : (rules : Rules) (now : ℕ) (state : SequentialRunModel) (translators : List CountedTranslator) →
     state.clock ≤ now → AreCountedTranslators rules state translators → (cause : Cause) →
-    Follows rules now (refused cause state.list) state translators (Dropped cause)
+    StepFollows rules now (refused_effect cause state.list) state translators (Dropped cause)
 follows_none rules now state translators later are cause = (
   refl,
   record {
@@ -46,7 +46,7 @@ follows_none rules now state translators later are cause = (
           own = is.own;
           translator = is.translator;
           at_once = later_at_once rules address state.clock now later is.own state.list is.at_once;
-          legs = subst (λ (xs : List Act). counted.legs ≡ length (legs_at address xs)) (sym (append-nil state.acts))
+          legs = subst (λ (xs : List LegAct). counted.legs ≡ length (legs_at address xs)) (sym (append-nil state.acts))
               is.legs;
         };
   },

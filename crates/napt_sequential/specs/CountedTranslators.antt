@@ -3,74 +3,74 @@
 use Rattle.std.specs.{Prelude.{◌≡◌, ℕ, ◌+◌, ◌<◌, ◌≤◌, ◌^◌, max, length, List, [], ◌∷◌, ◌++◌, flat_map, Option, Some, None}, Option.option_map, List.slice_get}
 use Rattle.napt_wire.specs.{declared.{Protocol.Protocol, Way.{Way, TheVariants.{Outgoing, Incoming}}}, Fields.{source, destination, kind}}
 use Rattle.napt_config.specs.{declared.settings.Timers.Timers, Rules.Rules}
-use Rattle.napt_rules.specs.Prelude.{Binding, by_inside, by_number, Acted, act, Arrival, rows, taken, Act, Course, State, anew, course_from, last_clock, legs_at, Kept, kept_act, answer_of, AreLeft}
+use Rattle.napt_rules.specs.Prelude.{Binding, by_inside, by_number, LegEffect, act, Arrival, rows, live_and_held, LegAct, RunEffect, State, initial_state, effect_from, last_clock, legs_at, LocalState, local_act, answer_of, AreBindingsLeft}
 use Rattle.napt_rules.specs.declared.{Row.Row, Leg.Leg, End.End, Outcome.Outcome}
 use Rattle.napt_rules.specs.declared.End.TheVariants as ends
-use Rattle.napt_table.specs.{declared.TimedRow.TimedRow, TimedRows.timed}
-use Rattle.napt_translate.specs.{Carried.carried_by, Translators.{TranslatorState, begun, kept_of, with_kept, left_by}}
+use Rattle.napt_table.specs.{declared.TimedRow.TimedRow, TimedRows.timed_row}
+use Rattle.napt_translate.specs.{CarriedPackets.packet_carried, Translators.{TranslatorModel, initial_translator, local_state, with_local_state, translator_after}}
 use Rattle.napt_sequential.specs.declared.{counted_translator.CountedTranslator.CountedTranslator, passage.Passage.Passage}
-use Rattle.napt_sequential.specs.declared.{passage.{Passage.TheVariants.{Nothing, Dropped}, Seen.Seen}, telling.{Told.Told, Untold.Untold}}
-use Rattle.napt_sequential.specs.{declared.outcome.Stepped.Stepped, Traces.{gone_through, passage_of, trace_of}}
-use Rattle.napt_laws.specs.Agreeing.{IsAtOnce}
+use Rattle.napt_sequential.specs.declared.{passage.{Passage.TheVariants.{Nothing, Dropped}, PacketTuple.PacketTuple}, leg_trace.{TracedAnswer.TracedAnswer, NoTrace.NoTrace}}
+use Rattle.napt_sequential.specs.{declared.outcome.StepResult.StepResult, Traces.{gone_through, passage_of, trace_of}}
+use Rattle.napt_laws.specs.LocalAgreement.{IsTranslatorCurrent}
 
 -- a run at some time: the time of the last leg, the legs that acted, and the bindings
-pub record RunState : Type 0 where
+pub record SequentialRunModel : Type 0 where
   pub clock : ℕ
-  pub acts : List Act
+  pub acts : List LegAct
   pub list : List Binding
 
 -- the translator at a place of the pool, whose legs are counted
-pub record IsCountedTranslator (rules : Rules) (place address : ℕ) (state : RunState)
+pub record IsCountedTranslator (rules : Rules) (place address : ℕ) (state : SequentialRunModel)
     (counted : CountedTranslator) : Type 0 where
-  pub own : Kept
-  pub translator : counted.translator ≡ with_kept (begun place rules) own
-  pub at_once : IsAtOnce rules address state.clock own state.list
+  pub own : LocalState
+  pub translator : counted.translator ≡ with_local_state (initial_translator place rules) own
+  pub at_once : IsTranslatorCurrent rules address state.clock own state.list
   pub legs : counted.legs ≡ length (legs_at address state.acts)
 
-pub record AreCountedTranslators (rules : Rules) (state : RunState)
+pub record AreCountedTranslators (rules : Rules) (state : SequentialRunModel)
     (translators : List CountedTranslator) : Type 0 where
   pub many : length translators ≡ length rules.pool
   pub each : (place address : ℕ) (counted : CountedTranslator) → slice_get rules.pool place ≡ Some address →
       slice_get translators place ≡ Some counted → IsCountedTranslator rules place address state counted
 
 -- a leg at an address, as it acted there
-abbrev pub act_of : ℕ → Leg → Acted → Act
+abbrev pub act_of : ℕ → Leg → LegEffect → LegAct
 act_of address leg acted = record { address = address; leg = leg; end = acted.end; through = acted.through }
 
 -- after it
-abbrev pub state_after : Rules → ℕ → Leg → RunState → RunState
+abbrev pub state_after : Rules → ℕ → Leg → SequentialRunModel → SequentialRunModel
 state_after rules address leg state =
-    let acted : Acted = act rules address leg state.list in
+    let acted : LegEffect = act rules address leg state.list in
     record { clock = leg.now; acts = state.acts ++ act_of address leg acted ∷ []; list = acted.list }
 
 -- what is told of a leg that acted: this of what it did
-abbrev pub told_of : {P : Type 0} → (Passage → P) → Timers → Act → Told P
-told_of tells timers a = record { answer = answer_of a; passage = tells (passage_of timers a) }
+abbrev pub traced_act : {P : Type 0} → (Passage → P) → Timers → LegAct → TracedAnswer P
+traced_act tells timers a = record { answer = answer_of a; passage = tells (passage_of timers a) }
 
 -- at a place of the pool it told so, and took the translators of any state to those after it
-abbrev pub Takes : Rules → ℕ → Leg → List CountedTranslator → List CountedTranslator → Told Passage → Type 0
-Takes rules place leg before after told = (state : RunState) (address : ℕ) →
+abbrev pub TracesLeg : Rules → ℕ → Leg → List CountedTranslator → List CountedTranslator → TracedAnswer Passage → Type 0
+TracesLeg rules place leg before after told = (state : SequentialRunModel) (address : ℕ) →
     AreCountedTranslators rules state before → state.clock ≤ leg.now → slice_get rules.pool place ≡ Some address →
-    (told ≡ told_of (λ passage. passage) rules.timers (act_of address leg (act rules address leg state.list)))
+    (told ≡ traced_act (λ passage. passage) rules.timers (act_of address leg (act rules address leg state.list)))
     × AreCountedTranslators rules (state_after rules address leg state) after
 
 -- where nothing is told
-abbrev pub nothing_told : Untold
-nothing_told = record {}
+abbrev pub no_trace : NoTrace
+no_trace = record {}
 
 -- how a leg acts at a translator by its list and its time, and what it tells
-abbrev pub act_there : Rules → ℕ → Leg → Kept → Act
-act_there rules address leg kept = act_of address leg (kept_act rules address leg kept)
+abbrev pub act_there : Rules → ℕ → Leg → LocalState → LegAct
+act_there rules address leg kept = act_of address leg (local_act rules address leg kept)
 
-abbrev pub told_by : {P : Type 0} → (Passage → P) → Rules → ℕ → Leg → Kept → Told P
-told_by tells rules address leg kept = told_of tells rules.timers (act_there rules address leg kept)
+abbrev pub traced_by : {P : Type 0} → (Passage → P) → Rules → ℕ → Leg → LocalState → TracedAnswer P
+traced_by tells rules address leg kept = traced_act tells rules.timers (act_there rules address leg kept)
 
-abbrev pub told_at : {P : Type 0} → (Passage → P) → Leg → TranslatorState → Told P
-told_at tells leg state = told_by tells state.rules state.table.address leg (kept_of state.table)
+abbrev pub traced_answer : {P : Type 0} → (Passage → P) → Leg → TranslatorModel → TracedAnswer P
+traced_answer tells leg state = traced_by tells state.rules state.table.address leg (local_state state.table)
 
 -- a counted translator after it
 abbrev pub counted_after : Leg → CountedTranslator → CountedTranslator
-counted_after leg counted = record { translator = left_by leg counted.translator; legs = counted.legs + 1 }
+counted_after leg counted = record { translator = translator_after leg counted.translator; legs = counted.legs + 1 }
 
 -- the rows of a counted translator at a time
 abbrev pub rows_at : ℕ → CountedTranslator → List Row
@@ -78,80 +78,80 @@ rows_at now counted = rows counted.translator.rules.timers (max now counted.tran
     counted.translator.table.list
 
 -- its bindings that are live or held at a time
-abbrev pub left_at : ℕ → CountedTranslator → List Binding
-left_at now counted = taken counted.translator.rules.timers (max now counted.translator.table.at)
+abbrev pub bindings_left_at : ℕ → CountedTranslator → List Binding
+bindings_left_at now counted = live_and_held counted.translator.rules.timers (max now counted.translator.table.at)
     counted.translator.table.list
 
 -- those of all translators, one after another
-pub record AreAllLeft (now : ℕ) (translators : List CountedTranslator) (made : List Binding) : Type 0 where
+pub record AreBindingsOfAll (now : ℕ) (translators : List CountedTranslator) (made : List Binding) : Type 0 where
   pub parts : List (List Binding)
   pub list : made ≡ flat_map (λ part. part) parts
   pub many : length parts ≡ length translators
   pub each : (place : ℕ) (counted : CountedTranslator) (part : List Binding) →
       slice_get translators place ≡ Some counted → slice_get parts place ≡ Some part →
-      AreLeft counted.translator.rules.timers (max now counted.translator.table.at) (left_at now counted) part
+      AreBindingsLeft counted.translator.rules.timers (max now counted.translator.table.at) (bindings_left_at now counted) part
 
 -- LOOK-UPS after a leg, by its packet before it and by how it ended
 
-abbrev pub seen_of : List ℕ → Seen
+abbrev pub seen_of : List ℕ → PacketTuple
 seen_of packet =
-    record { protocol = carried_by (kind packet); source = source packet; destination = destination packet }
+    record { protocol = packet_carried (kind packet); source = source packet; destination = destination packet }
 
 abbrev pub gone_by : Way → Option TimedRow → Passage
 gone_by way None = Nothing
 gone_by way (Some row) = gone_through way row
 
-abbrev pub found_by : Timers → ℕ → List Binding → ℕ → Seen → Option Protocol → End → Passage
+abbrev pub found_by : Timers → ℕ → List Binding → ℕ → PacketTuple → Option Protocol → End → Passage
 found_by timers now list address seen None end = Nothing
 found_by timers now list address seen (Some protocol) (ends.ToInside packet) =
-    gone_by Incoming (option_map (timed timers) (by_number timers address now protocol seen.destination.number list))
+    gone_by Incoming (option_map (timed_row timers) (by_number timers address now protocol seen.destination.number list))
 found_by timers now list address seen (Some protocol) (ends.Dropped cause) =
     Dropped (record { protocol = protocol; host = seen.source.address; cause = cause })
 found_by timers now list address seen (Some protocol) _ =
-    gone_by Outgoing (option_map (timed timers) (by_inside timers address now protocol seen.source list))
+    gone_by Outgoing (option_map (timed_row timers) (by_inside timers address now protocol seen.source list))
 
-abbrev pub passage_seen : ℕ → Seen → End → TranslatorState → Passage
+abbrev pub passage_seen : ℕ → PacketTuple → End → TranslatorModel → Passage
 passage_seen now seen end state =
     found_by state.rules.timers (max now state.table.at) state.table.list state.table.address seen seen.protocol end
 
 -- TIMES AND STEPS
 
 -- it is a later time
-abbrev pub at_time : ℕ → RunState → RunState
-at_time now state = record { clock = now; acts = state.acts; list = state.list }
+abbrev pub state_at_time : ℕ → SequentialRunModel → SequentialRunModel
+state_at_time now state = record { clock = now; acts = state.acts; list = state.list }
 
 -- a counted translator of a state is that of the state at a later time
 abbrev pub StaysCounted : ℕ → CountedTranslator → CountedTranslator → Type 0
-StaysCounted now before after = (rules : Rules) (place address : ℕ) (state : RunState) → state.clock ≤ now →
+StaysCounted now before after = (rules : Rules) (place address : ℕ) (state : SequentialRunModel) → state.clock ≤ now →
     IsCountedTranslator rules place address state before →
-    IsCountedTranslator rules place address (at_time now state) after
+    IsCountedTranslator rules place address (state_at_time now state) after
 
 abbrev pub StayCounted : Rules → ℕ → List CountedTranslator → List CountedTranslator → Type 0
-StayCounted rules now before after = (state : RunState) → state.clock ≤ now →
-    AreCountedTranslators rules state before → AreCountedTranslators rules (at_time now state) after
+StayCounted rules now before after = (state : SequentialRunModel) → state.clock ≤ now →
+    AreCountedTranslators rules state before → AreCountedTranslators rules (state_at_time now state) after
 
 -- the translators are those of some state up to a time, and this many more legs can be counted
 abbrev pub CanTake : Rules → ℕ → ℕ → List CountedTranslator → Type 0
-CanTake rules now more translators = (state : RunState) × AreCountedTranslators rules state translators
+CanTake rules now more translators = (state : SequentialRunModel) × AreCountedTranslators rules state translators
     × (state.clock ≤ now) × (length state.acts + more < 2 ^ 64)
 
 -- the outcome is the one of a step at a time, and the translators are those of the state after it
-abbrev pub Follows : Rules → ℕ → Course → RunState → List CountedTranslator → Outcome → Type 0
-Follows rules now course state translators outcome =
-    let later : RunState = record { clock = now; acts = state.acts ++ course.acts; list = course.list } in
+abbrev pub StepFollows : Rules → ℕ → RunEffect → SequentialRunModel → List CountedTranslator → Outcome → Type 0
+StepFollows rules now course state translators outcome =
+    let later : SequentialRunModel = record { clock = now; acts = state.acts ++ course.acts; list = course.list } in
     (course.outcomes ≡ outcome ∷ []) × AreCountedTranslators rules later translators
 
 -- the same, and the trace is that of the step
-abbrev pub Steps : Rules → ℕ → Course → RunState → List CountedTranslator → Stepped → Type 0
-Steps rules now course state translators stepped = Follows rules now course state translators stepped.outcome
+abbrev pub StepTraces : Rules → ℕ → RunEffect → SequentialRunModel → List CountedTranslator → StepResult → Type 0
+StepTraces rules now course state translators stepped = StepFollows rules now course state translators stepped.outcome
     × (stepped.trace ≡ trace_of rules.timers now course)
 
 -- after these inputs from a state, and before any
-abbrev pub state_from : Rules → State → List Arrival → RunState
+abbrev pub state_from : Rules → State → List Arrival → SequentialRunModel
 state_from rules state inputs =
-    let course : Course = course_from rules state inputs in
+    let course : RunEffect = effect_from rules state inputs in
     record { clock = last_clock state.clock inputs; acts = course.acts; list = course.list }
 
 -- from the bindings that the configuration opens with
-abbrev pub state_of : Rules → List Arrival → RunState
-state_of rules inputs = state_from rules (anew rules) inputs
+abbrev pub state_of : Rules → List Arrival → SequentialRunModel
+state_of rules inputs = state_from rules (initial_state rules) inputs

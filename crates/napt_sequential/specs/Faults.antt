@@ -10,6 +10,6 @@ IsOneThreadFault (faults.Pool fault) = ⊥
 IsOneThreadFault _ = ⊤
 
 -- whether a fault says that the gate was shut
-abbrev pub is_gate_fault : RunFault → Bool
-is_gate_fault (faults.Pool fault) = is_shut fault
-is_gate_fault _ = false
+abbrev pub is_run_gate_fault : RunFault → Bool
+is_run_gate_fault (faults.Pool fault) = is_shut fault
+is_run_gate_fault _ = false

@@ -3,19 +3,19 @@ use Rattle.std.specs.Prelude.{◌≡◌, List, [], ◌∷◌, Option, Some, None
 use Rattle.napt_rules.specs.Prelude.{Arrival}
 
 -- the next input was taken, or none was left
-abbrev pub IsTaken : List Arrival → Option Arrival → List Arrival → Type 0
-IsTaken before None after = (before ≡ []) × (after ≡ [])
-IsTaken before (Some input) after = before ≡ input ∷ after
+abbrev pub InputIsTaken : List Arrival → Option Arrival → List Arrival → Type 0
+InputIsTaken before None after = (before ≡ []) × (after ≡ [])
+InputIsTaken before (Some input) after = before ≡ input ∷ after
 
 -- what a call for the next input does: it hands one out, or reports the end or a fault
-abbrev pub Hands : {S F : Type 0} → (S → List Arrival → S → Type 0) → (S → Option F → S → Type 0) → S →
+abbrev pub NextInputPost : {S F : Type 0} → (S → List Arrival → S → Type 0) → (S → Option F → S → Type 0) → S →
     Result (Option Arrival) F → S → Type 0
-Hands hands ends before (Ok (Some input)) after = hands before (input ∷ []) after
-Hands hands ends before (Ok None) after = ends before None after
-Hands hands ends before (Err fault) after = ends before (Some fault) after
+NextInputPost hands ends before (Ok (Some input)) after = hands before (input ∷ []) after
+NextInputPost hands ends before (Ok None) after = ends before None after
+NextInputPost hands ends before (Err fault) after = ends before (Some fault) after
 
 -- these inputs came, and then the end or a fault
-pub record Came {S F : Type 0} (hands : S → List Arrival → S → Type 0) (ends : S → Option F → S → Type 0) (before : S)
+pub record InputsCame {S F : Type 0} (hands : S → List Arrival → S → Type 0) (ends : S → Option F → S → Type 0) (before : S)
     (inputs : List Arrival) (fault : Option F) (after : S) : Type 0 where
   pub last : S
   pub handed : hands before inputs last

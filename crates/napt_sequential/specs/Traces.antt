@@ -6,9 +6,9 @@
 use Rattle.std.specs.Prelude.{ℕ, ◌+◌, max, List, [], ◌∷◌, Option, Some, None}
 use Rattle.napt_wire.specs.{declared.{Protocol.Protocol, Way.{Way, TheVariants.{Outgoing, Incoming}}}, Fields.{source, kind}}
 use Rattle.napt_config.specs.{Rules.Rules, declared.settings.Timers.Timers}
-use Rattle.napt_rules.specs.{Prelude.{Through, Binding, Arrival, Act, Course, step, State, anew}, declared.End.End}
-use Rattle.napt_table.specs.{declared.TimedRow.TimedRow, TimedRows.timed}
-use Rattle.napt_translate.specs.Carried.{carried_by}
+use Rattle.napt_rules.specs.{Prelude.{BindingUse, Binding, Arrival, LegAct, RunEffect, step, State, initial_state}, declared.End.End}
+use Rattle.napt_table.specs.{declared.TimedRow.TimedRow, TimedRows.timed_row}
+use Rattle.napt_translate.specs.CarriedPackets.{packet_carried}
 use Rattle.napt_rules.specs.declared.End.TheVariants as ends
 use Rattle.napt_sequential.specs.declared.passage.{Passage.{Passage, TheVariants.{Nothing, Out, In, Dropped}}, Trace.Trace}
 
@@ -20,32 +20,32 @@ gone_through Outgoing row = Out row
 gone_through Incoming row = In row
 
 -- through none: a packet of a protocol, no error, from a host was dropped
-abbrev pub lost_by : Option Protocol → ℕ → End → Passage
-lost_by (Some protocol) host (ends.Dropped cause) = Dropped (record { protocol = protocol; host = host; cause = cause })
-lost_by _ host _ = Nothing
+abbrev pub loss_of : Option Protocol → ℕ → End → Passage
+loss_of (Some protocol) host (ends.Dropped cause) = Dropped (record { protocol = protocol; host = host; cause = cause })
+loss_of _ host _ = Nothing
 
-abbrev pub passage_by : Timers → Way → Option Protocol → ℕ → End → Option Through → Passage
-passage_by timers way protocol host end (Some went) = gone_through way (timed timers went.binding)
-passage_by timers way protocol host end None = lost_by protocol host end
+abbrev pub passage_by : Timers → Way → Option Protocol → ℕ → End → Option BindingUse → Passage
+passage_by timers way protocol host end (Some went) = gone_through way (timed_row timers went.binding)
+passage_by timers way protocol host end None = loss_of protocol host end
 
-abbrev pub passage_of : Timers → Act → Passage
-passage_of timers a = passage_by timers a.leg.way (carried_by (kind a.leg.packet)) (source a.leg.packet).address a.end
+abbrev pub passage_of : Timers → LegAct → Passage
+passage_of timers a = passage_by timers a.leg.way (packet_carried (kind a.leg.packet)) (source a.leg.packet).address a.end
     a.through
 
 -- ALL INPUTS, each with two legs at most
-abbrev pub first_of : Timers → List Act → Passage
-first_of timers [] = Nothing
-first_of timers (a ∷ acts) = passage_of timers a
+abbrev pub first_passage : Timers → List LegAct → Passage
+first_passage timers [] = Nothing
+first_passage timers (a ∷ acts) = passage_of timers a
 
-abbrev pub second_of : Timers → List Act → Passage
-second_of timers [] = Nothing
-second_of timers (a ∷ acts) = first_of timers acts
+abbrev pub second_passage : Timers → List LegAct → Passage
+second_passage timers [] = Nothing
+second_passage timers (a ∷ acts) = first_passage timers acts
 
-abbrev pub trace_of : Timers → ℕ → Course → Trace
+abbrev pub trace_of : Timers → ℕ → RunEffect → Trace
 trace_of timers now course = record {
   now = now;
-  first = first_of timers course.acts;
-  second = second_of timers course.acts;
+  first = first_passage timers course.acts;
+  second = second_passage timers course.acts;
 }
 
 -- one for each input, from a number, a clock and a list on
@@ -53,7 +53,7 @@ abbrev pub traces_from : Rules → ℕ → ℕ → List Arrival → List Binding
 traces_from rules number clock [] list = []
 traces_from rules number clock (input ∷ inputs) list =
     let now : ℕ = max clock input.clock in
-    let course : Course = step rules number now input list in
+    let course : RunEffect = step rules number now input list in
     trace_of rules.timers now course ∷ traces_from rules (number + 1) now inputs course.list
 
 -- from a state
@@ -62,4 +62,4 @@ traces_of rules state inputs = traces_from rules 0 state.clock inputs state.list
 
 -- from the bindings that the configuration opens with
 abbrev pub traces : Rules → List Arrival → List Trace
-traces rules inputs = traces_of rules (anew rules) inputs
+traces rules inputs = traces_of rules (initial_state rules) inputs

@@ -2,8 +2,8 @@
 
 ghost use Rattle.std.specs.Prelude.{◌≡◌, ◌-◌, ◌^◌, ◌<◌, max, IfOk, OnOk};
 
+use crate::leg_trace::{LegTrace, TracedAnswer};
 use crate::passage::Passage;
-use crate::telling::{Telling, Told};
 use napt_rules::{Leg, Row, StateBinding};
 use napt_translate::Translator;
 use std::alloc::{AllocError, Global};
@@ -16,14 +16,18 @@ pub(crate) struct CountedTranslator {
 }
 
 impl CountedTranslator {
-    ghost use Rattle.napt_sequential.specs.CountedTranslators.{told_at, counted_after, left_at, rows_at};
-    ghost use Rattle.napt_rules.specs.Prelude.{AreLeft};
+    ghost use Rattle.napt_sequential.specs.CountedTranslators.{traced_answer, counted_after, bindings_left_at, rows_at};
+    ghost use Rattle.napt_rules.specs.Prelude.{AreBindingsLeft};
 
     /// Translates and counts a leg; returns its answer and what it did.
-    pub(crate) fn take(&mut self, alloc: Global, leg: Leg) -> Result<Told<Passage>, AllocError>
+    pub(crate) fn take(
+        &mut self,
+        alloc: Global,
+        leg: Leg,
+    ) -> Result<TracedAnswer<Passage>, AllocError>
         requires few { self.old.legs < 2 ^ 64 - 1 }
         ensures told { IfOk result (λ told. told
-            ≡ told_at (λ passage. passage) leg self.old.translator) }
+            ≡ traced_answer (λ passage. passage) leg self.old.translator) }
         ensures left { OnOk result (self.new ≡ counted_after leg self.old) }
     {
         let told = Passage::tell(alloc, &mut self.translator, leg)?;
@@ -40,8 +44,8 @@ impl CountedTranslator {
 
     /// The bindings that are live or held at a time, in ns, in the order of their rows.
     pub(crate) fn left(&self, alloc: Global, now: u64) -> Result<Vec<StateBinding>, AllocError>
-        ensures { IfOk result (λ made. AreLeft self.now.translator.rules.timers
-            (max now self.now.translator.table.at) (left_at now self.now) made.items) }
+        ensures { IfOk result (λ made. AreBindingsLeft self.now.translator.rules.timers
+            (max now self.now.translator.table.at) (bindings_left_at now self.now) made.items) }
     {
         self.translator.left(alloc, now)
     }

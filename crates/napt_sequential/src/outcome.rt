@@ -6,7 +6,7 @@ use std::marker::Model;
 
 /// The result of one input.
 #[derive(Drop)]
-pub struct Stepped {
+pub struct StepResult {
     pub outcome: Outcome,
     /// What its legs did.
     pub trace: Trace,
@@ -25,9 +25,9 @@ pub struct Run {
 }
 
 impl Model for Run {
-    ghost use Rattle.napt_rules.specs.Prelude.{Ran};
+    ghost use Rattle.napt_rules.specs.Prelude.{RunResult};
 
-    ghost Value = { Ran };
+    ghost Value = { RunResult };
 
     ghost view = { λ run. record { outcomes = run.outcomes.items; bindings = run.bindings.items; legs = run.legs.items } };
 }

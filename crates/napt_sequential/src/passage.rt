@@ -3,7 +3,7 @@
 ghost use Rattle.std.specs.Prelude.{◌≡◌};
 ghost use Rattle.napt_sequential.specs.CountedTranslators as lookups;
 
-use crate::through::Through;
+use crate::packed_timed_row::PackedTimedRow;
 use napt_table::TimedRow;
 use napt_wire::{Cause, Endpoint, Kind, Packet, Protocol, Way};
 
@@ -13,16 +13,16 @@ pub enum Passage {
     /// There was no such leg, or its packet is an ICMP error, which goes through no binding.
     Nothing,
     /// It went out through the binding of its source.
-    Out(Through),
+    Out(PackedTimedRow),
     /// It came in through the binding of its destination.
-    In(Through),
+    In(PackedTimedRow),
     /// It was dropped.
-    Dropped(Loss),
+    Dropped(DroppedPacket),
 }
 
 /// A packet, not an ICMP error, that a leg dropped.
 #[derive(Clone, Copy, Debug, PartialEq, Eq)]
-pub struct Loss {
+pub struct DroppedPacket {
     pub protocol: Protocol,
     /// Its source address.
     pub host: u32,
@@ -41,17 +41,17 @@ pub struct Trace {
 
 /// The protocol and endpoints of a packet before a leg changes it.
 #[derive(Clone, Copy)]
-pub(crate) struct Seen {
+pub(crate) struct PacketTuple {
     /// `None` for an ICMP error.
     pub(crate) protocol: Option<Protocol>,
     pub(crate) source: Endpoint,
     pub(crate) destination: Endpoint,
 }
 
-impl Seen {
+impl PacketTuple {
     ghost use Rattle.napt_sequential.specs.CountedTranslators.{seen_of};
 
-    pub(crate) fn of(packet: &Packet) -> Seen
+    pub(crate) fn of(packet: &Packet) -> PacketTuple
         ensures { result ≡ seen_of packet.now }
     {
         let protocol = match packet.kind() {
@@ -60,7 +60,7 @@ impl Seen {
             Kind::Echo => Some(Protocol::Icmp),
             Kind::ErrorOf(_) => None,
         };
-        Seen {
+        PacketTuple {
             protocol,
             source: packet.source(),
             destination: packet.destination(),
@@ -74,7 +74,7 @@ pub(crate) fn gone_by(way: Way, found: Option<TimedRow>) -> Passage
 {
     match (way, found) {
         (_, None) => Passage::Nothing,
-        (Way::Outgoing, Some(row)) => Passage::Out(Through::of(row)),
-        (Way::Incoming, Some(row)) => Passage::In(Through::of(row)),
+        (Way::Outgoing, Some(row)) => Passage::Out(PackedTimedRow::of(row)),
+        (Way::Incoming, Some(row)) => Passage::In(PackedTimedRow::of(row)),
     }
 }

@@ -1,14 +1,14 @@
 //! A sequential run, one input at a time.
 
 ghost use Rattle.std.specs.Prelude.{◌≡◌, ◌↔◌, ◌+◌, ◌^◌, ◌<◌, ◌≤◌, ◌++◌, [], ◌∷◌, List, length, IfOk, IfErr, OnOk, Err};
-ghost use Rattle.napt_config.specs.Rules.{Rules, KeepsRules};
-ghost use Rattle.napt_rules.specs.Prelude.{Arrival, Takes, under, IsInOrder};
+ghost use Rattle.napt_config.specs.Rules.{Rules, RulesInvariant};
+ghost use Rattle.napt_rules.specs.Prelude.{Arrival, TakesState, with_redirects, IsStateInOrder};
 ghost use Rattle.napt_rules.specs.Sequential.{State};
 ghost use Rattle.napt_rules.specs.Sequential as model;
 ghost use Rattle.napt_sequential.specs.Faults.{IsOneThreadFault};
 
 use crate::counted_translator::CountedTranslator;
-use crate::outcome::Stepped;
+use crate::outcome::StepResult;
 use crate::run::{begin, bindings, left, legs, resume, step};
 use crate::{Input, MOST_INPUTS, RunFault};
 use napt_config::Config;
@@ -28,12 +28,12 @@ pub struct SequentialRun {
 }
 
 impl SequentialRun {
-    ghost use Rattle.napt_sequential.specs.SequentialRuns.{StandsAfter, StandsFrom, TellsLastFrom};
+    ghost use Rattle.napt_sequential.specs.SequentialRuns.{IsRunFromOpening, SequentialRunInvariant, StepPost};
 
     /// A run before its first input, with the bindings that the configuration opens with.
     pub fn begin(alloc: Global, config: &Config) -> Result<SequentialRun, AllocError>
-        ensures kept { KeepsRules config.now }
-        ensures begun { IfOk result (StandsAfter config.now []) }
+        ensures kept { RulesInvariant config.now }
+        ensures begun { IfOk result (IsRunFromOpening config.now []) }
     {
         let translators = begin(alloc, config)?;
         Ok(SequentialRun {
@@ -50,9 +50,9 @@ impl SequentialRun {
         config: &Config,
         state: &State,
     ) -> Result<SequentialRun, AllocError>
-        requires { Takes config.now state.now }
-        ensures kept { KeepsRules config.now }
-        ensures begun { IfOk result (StandsFrom config.now (under config.now state.now) []) }
+        requires { TakesState config.now state.now }
+        ensures kept { RulesInvariant config.now }
+        ensures begun { IfOk result (SequentialRunInvariant config.now (with_redirects config.now state.now) []) }
     {
         let translators = resume(alloc, config, state)?;
         Ok(SequentialRun {
@@ -73,17 +73,17 @@ impl SequentialRun {
         alloc: Global,
         config: &Config,
         input: &Input,
-    ) -> Result<Stepped, RunFault>
+    ) -> Result<StepResult, RunFault>
         requires { (state : State) × ((before : List Arrival)
-            × StandsFrom config.now state before self.old) }
+            × SequentialRunInvariant config.now state before self.old) }
         ensures tells { (state : State) (before : List Arrival) →
-            StandsFrom config.now state before self.old →
-            IfOk result (TellsLastFrom config.now state before input.now) }
+            SequentialRunInvariant config.now state before self.old →
+            IfOk result (StepPost config.now state before input.now) }
         ensures stands { (state : State) (before : List Arrival) →
-            StandsFrom config.now state before self.old →
-            OnOk result (StandsFrom config.now state (before ++ input.now ∷ []) self.new) }
+            SequentialRunInvariant config.now state before self.old →
+            OnOk result (SequentialRunInvariant config.now state (before ++ input.now ∷ []) self.new) }
         ensures too_many { (state : State) (before : List Arrival) →
-            StandsFrom config.now state before self.old →
+            SequentialRunInvariant config.now state before self.old →
             (result ≡ Err RunFault.TooMany) ↔ (2 ^ 32 ≤ length before + 1) }
         ensures never_pool { IfErr result IsOneThreadFault }
     {
@@ -101,16 +101,16 @@ impl SequentialRun {
         alloc: Global,
         config: &Config,
         input: &Input,
-    ) -> Result<Stepped, AllocError>
-        requires keeps { KeepsRules config.now }
+    ) -> Result<StepResult, AllocError>
+        requires keeps { RulesInvariant config.now }
         requires few { (state : State) × ((before : List Arrival)
-            × StandsFrom config.now state before self.old × (length before + 1 < 2 ^ 32)) }
+            × SequentialRunInvariant config.now state before self.old × (length before + 1 < 2 ^ 32)) }
         ensures tells { (state : State) (before : List Arrival) →
-            StandsFrom config.now state before self.old →
-            IfOk result (TellsLastFrom config.now state before input.now) }
+            SequentialRunInvariant config.now state before self.old →
+            IfOk result (StepPost config.now state before input.now) }
         ensures stands { (state : State) (before : List Arrival) →
-            StandsFrom config.now state before self.old →
-            OnOk result (StandsFrom config.now state (before ++ input.now ∷ []) self.new) }
+            SequentialRunInvariant config.now state before self.old →
+            OnOk result (SequentialRunInvariant config.now state (before ++ input.now ∷ []) self.new) }
     {
         let now = self.clock.max(input.clock);
         let stepped = step(alloc, config, &mut self.translators, self.many, now, input)?;
@@ -123,8 +123,8 @@ impl SequentialRun {
     /// (ICMP, TCP, UDP) and external number.
     pub fn bindings(&self, alloc: Global) -> Result<Vec<Row>, AllocError>
         ensures { (rules : Rules) (state : State) (inputs : List Arrival) →
-            StandsFrom rules state inputs self.now →
-            IfOk result (λ made. made.items ≡ (model.ran_from rules state inputs).bindings) }
+            SequentialRunInvariant rules state inputs self.now →
+            IfOk result (λ made. made.items ≡ (model.run_result_from rules state inputs).bindings) }
     {
         bindings(alloc, &self.translators, self.clock)
     }
@@ -132,8 +132,8 @@ impl SequentialRun {
     /// How many legs acted at each external address, in the order of the pool.
     pub fn legs(&self, alloc: Global) -> Result<Vec<u64>, AllocError>
         ensures { (rules : Rules) (state : State) (inputs : List Arrival) →
-            StandsFrom rules state inputs self.now →
-            IfOk result (λ made. made.items ≡ (model.ran_from rules state inputs).legs) }
+            SequentialRunInvariant rules state inputs self.now →
+            IfOk result (λ made. made.items ≡ (model.run_result_from rules state inputs).legs) }
     {
         legs(alloc, &self.translators)
     }
@@ -142,8 +142,8 @@ impl SequentialRun {
     /// the order of `bindings`.
     pub fn left(&self, alloc: Global) -> Result<State, AllocError>
         ensures { (rules : Rules) (state : State) (inputs : List Arrival) →
-            StandsFrom rules state inputs self.now →
-            IfOk result (IsInOrder rules (model.left_by rules state inputs)) }
+            SequentialRunInvariant rules state inputs self.now →
+            IfOk result (IsStateInOrder rules (model.next_state rules state inputs)) }
     {
         let list = left(alloc, &self.translators, self.clock)?;
         Ok(State {

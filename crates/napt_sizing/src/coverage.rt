@@ -1,6 +1,6 @@
 //! How much captures show: what figures for a plan need and captures may lack.
 
-use napt_account::{Listed, LoggedStep};
+use napt_account::{LogEntry, LogStep};
 use napt_commands::begin_warning;
 use napt_sequential::{Input, Outcome};
 use napt_wire::{Cause, Side};
@@ -25,7 +25,7 @@ pub struct Coverage {
 
 impl Coverage {
     /// Takes the next packet, and what it did.
-    pub fn take(&mut self, input: &Input, step: &LoggedStep) {
+    pub fn take(&mut self, input: &Input, step: &LogStep) {
         let many = match input.side {
             Side::Inside => &mut self.from_inside,
             Side::Outside => &mut self.from_outside,
@@ -62,8 +62,8 @@ impl Coverage {
     }
 
     /// Takes bindings that end, or would if no more packets came.
-    fn end(&mut self, entries: &[Listed]) {
-        for Listed { entry, .. } in entries {
+    fn end(&mut self, entries: &[LogEntry]) {
+        for LogEntry { entry, .. } in entries {
             let end = u64::try_from(entry.end.unwrap_or(0)).unwrap_or(u64::MAX);
             self.longest = self.longest.max(end.saturating_sub(entry.last));
         }
@@ -71,7 +71,7 @@ impl Coverage {
 
     /// Reports that half of the bindings had not ended at the end, at which these live, or that the captures are shorter
     /// than a timer. `under` names the configuration, where there are several.
-    pub fn tell_living<R: Eprint>(mut self, rt: &R, under: Option<&str>, entries: &[Listed]) {
+    pub fn tell_living<R: Eprint>(mut self, rt: &R, under: Option<&str>, entries: &[LogEntry]) {
         self.end(entries);
         let (living, made) = (self.made.saturating_sub(self.ended), self.made);
         let span = self.last.saturating_sub(self.first.unwrap_or(0));

@@ -9,5 +9,5 @@ mod plan;
 mod sizes;
 
 pub use crate::measures::tell_sizes;
-pub use crate::plan::Plans;
+pub use crate::plan::PlanTable;
 pub use crate::sizes::Sizes;

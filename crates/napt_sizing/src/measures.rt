@@ -1,14 +1,14 @@
 //! Prints the figures of a run.
 
-use crate::moment::Moment;
+use crate::moment::SizedMoment;
 use crate::sizes::Sizes;
-use crate::sizes::hosts::{Host, percentile};
-use crate::sizes::level::Level;
+use crate::sizes::hosts::{SizedHost, percentile};
+use crate::sizes::level::PeakLevel;
 use crate::sizes::lifetimes::{Lifetimes, SPANS};
 use crate::sizes::quotas::Quota;
 use crate::sizes::refusals::Refusals;
 use crate::sizes::spaces::Space;
-use napt_commands::{Ending, Exit};
+use napt_commands::{Exit, RunEnd};
 use napt_config::Address;
 use napt_records::protocol_name;
 
@@ -22,7 +22,7 @@ const NUMBERS: u64 = 64_512;
 pub fn tell_sizes<R: Print + Eprint + AllocGlobal>(
     rt: &R,
     sizes: &Sizes,
-    ending: &Ending<'_>,
+    ending: &RunEnd<'_>,
 ) -> Result<(), Exit> {
     let config = ending.config;
     sizes.coverage.tell(rt);
@@ -44,7 +44,7 @@ pub fn tell_sizes<R: Print + Eprint + AllocGlobal>(
 /// Prints how much of a protocol's numbers is used at an address.
 fn tell_space<R: Print>(rt: &R, space: &Space) -> Result<(), Exit> {
     let (name, address) = (protocol_name(space.protocol), Address(space.address));
-    let Level { most, at, .. } = space.bindings;
+    let PeakLevel { most, at, .. } = space.bindings;
     if most == 0 {
         println!(rt; "{name} at {address}: no bindings")?;
         return Ok(());
@@ -52,7 +52,7 @@ fn tell_space<R: Print>(rt: &R, space: &Space) -> Result<(), Exit> {
     print!(rt; "{name} at {address}: most bindings at once {most}, first ")?;
     match at {
         0 => print!(rt; "before the first packet")?,
-        _ => print!(rt; "at {}", Moment(at))?,
+        _ => print!(rt; "at {}", SizedMoment(at))?,
     }
     println!(rt; "; most hosts at once {}", space.hosts.most)?;
     tell_classes(rt, space)
@@ -69,7 +69,7 @@ fn tell_classes<R: Print>(rt: &R, space: &Space) -> Result<(), Exit> {
 }
 
 /// Prints how many bindings the ranked hosts had at once.
-fn tell_hosts<R: Print>(rt: &R, ranked: &[Host]) -> Result<(), Exit> {
+fn tell_hosts<R: Print>(rt: &R, ranked: &[SizedHost]) -> Result<(), Exit> {
     println!(rt; "hosts with bindings: {}", ranked.len())?;
     if ranked.is_empty() {
         return Ok(());
@@ -87,9 +87,9 @@ fn tell_hosts<R: Print>(rt: &R, ranked: &[Host]) -> Result<(), Exit> {
     Ok(())
 }
 
-fn tell_host<R: Print>(rt: &R, host: &Host) -> Result<(), Exit> {
-    let Level { most, at, .. } = host.bindings;
-    let (address, time) = (Address(host.address), Moment(at));
+fn tell_host<R: Print>(rt: &R, host: &SizedHost) -> Result<(), Exit> {
+    let PeakLevel { most, at, .. } = host.bindings;
+    let (address, time) = (Address(host.address), SizedMoment(at));
     println!(rt; "  {address}: {most}, first at {time}")?;
     Ok(())
 }

@@ -2,47 +2,47 @@
 
 pub mod cells;
 pub mod figures;
-pub mod fullest;
+pub mod fullest_address;
 pub mod keys;
-pub mod planned_run;
+pub mod plan_run;
 pub mod sheet;
 pub mod table;
 
-use crate::plan::planned_run::PlannedRun;
+use crate::plan::plan_run::PlanRun;
 use crate::plan::sheet::write_sheet;
 use crate::plan::table::tell_table;
-use napt_commands::{Consumer, Exit, Outside, tell_warning};
+use napt_commands::{Consumer, Exit, OutsideCapture, tell_warning};
 use napt_config::Config;
 use napt_sequential::Input;
 use std::alloc::{AllocError, Global};
 
 /// The runs of a plan, side by side, in the order in which their configurations are named.
 #[derive(Drop)]
-pub struct Plans<'a> {
+pub struct PlanTable<'a> {
     /// The paths of the configurations.
     paths: &'a [String],
-    runs: Vec<PlannedRun<'a>>,
+    runs: Vec<PlanRun<'a>>,
 }
 
-impl<'a> Plans<'a> {
+impl<'a> PlanTable<'a> {
     /// Those under the configurations at these paths, before the first packet.
     pub fn begin(
         alloc: Global,
         paths: &'a [String],
         configs: &'a [Config],
-    ) -> Result<Plans<'a>, AllocError> {
+    ) -> Result<PlanTable<'a>, AllocError> {
         let mut runs = Vec::new(alloc);
         for config in configs {
-            runs.push(PlannedRun::begin(alloc, config)?)?;
+            runs.push(PlanRun::begin(alloc, config)?)?;
         }
-        Ok(Plans { paths, runs })
+        Ok(PlanTable { paths, runs })
     }
 
     /// Takes the packets of captures of which the outside one follows each run alone.
     pub fn follow(
         &mut self,
         alloc: Global,
-        outside: Outside,
+        outside: OutsideCapture,
         inputs: &[Input],
     ) -> Result<(), Exit> {
         for run in self.runs.iter_mut() {
@@ -56,7 +56,7 @@ impl<'a> Plans<'a> {
     pub fn tell<R: Print + Eprint + AllocGlobal>(
         &self,
         rt: &R,
-        outside: Outside,
+        outside: OutsideCapture,
         is_csv: bool,
     ) -> Result<(), Exit> {
         if let Some(run) = self.runs.first() {
@@ -80,7 +80,7 @@ impl<'a> Plans<'a> {
     }
 }
 
-impl<R: AllocGlobal> Consumer<R> for Plans<'_> {
+impl<R: AllocGlobal> Consumer<R> for PlanTable<'_> {
     fn take(&mut self, rt: &R, _number: u64, input: &Input) -> Result<(), Exit> {
         for run in self.runs.iter_mut() {
             run.take(rt.alloc(), input)?;

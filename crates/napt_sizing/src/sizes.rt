@@ -2,7 +2,7 @@
 //! bindings lived: figures for sizing a pool, a quota (RFC 6888, REQ-4) and a block (RFC 7422). docs/FORMATS.md
 //! defines each.
 
-pub mod held;
+pub mod held_bindings;
 pub mod hosts;
 pub mod level;
 pub mod lifetimes;
@@ -13,12 +13,12 @@ pub mod trials;
 pub mod usage;
 
 use crate::coverage::Coverage;
-use crate::sizes::held::HeldBindings;
+use crate::sizes::held_bindings::HeldBindings;
 use crate::sizes::lifetimes::Lifetimes;
 use crate::sizes::trials::Trials;
-use crate::sizes::usage::Usage;
-use napt_account::Listed;
-use napt_commands::Passing;
+use crate::sizes::usage::NumberUsage;
+use napt_account::LogEntry;
+use napt_commands::RunPacket;
 use napt_config::Config;
 use std::alloc::{AllocError, Global};
 
@@ -26,7 +26,7 @@ use std::alloc::{AllocError, Global};
 #[derive(Drop)]
 pub struct Sizes {
     held: HeldBindings,
-    pub usage: Usage,
+    pub usage: NumberUsage,
     pub trials: Trials,
     pub lifetimes: Lifetimes,
     pub coverage: Coverage,
@@ -34,10 +34,10 @@ pub struct Sizes {
 
 impl Sizes {
     /// Those of a run before its first packet, which begins with these redirects.
-    pub fn of(alloc: Global, config: &Config, opening: &[Listed]) -> Result<Sizes, AllocError> {
+    pub fn of(alloc: Global, config: &Config, opening: &[LogEntry]) -> Result<Sizes, AllocError> {
         Ok(Sizes {
             held: HeldBindings::of(alloc, config),
-            usage: Usage::of(alloc, config, opening)?,
+            usage: NumberUsage::of(alloc, config, opening)?,
             trials: Trials::new(alloc)?,
             lifetimes: Lifetimes::default(),
             coverage: Coverage::default(),
@@ -45,7 +45,7 @@ impl Sizes {
     }
 
     /// Takes what a packet did.
-    pub fn take(&mut self, config: &Config, passing: Passing<'_>) -> Result<(), AllocError> {
+    pub fn take(&mut self, config: &Config, passing: RunPacket<'_>) -> Result<(), AllocError> {
         let (input, step) = (passing.input, passing.step);
         self.held.take(input.clock, step)?;
         let gone = &self.held.gone;

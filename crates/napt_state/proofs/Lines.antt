@@ -10,27 +10,27 @@ use Rattle.napt_wire.specs.declared.Protocol.{Protocol, TheVariants.{Icmp, Tcp, 
 use Rattle.napt_config.specs.Text.{address_text}
 use Rattle.napt_state.specs.declared.line.StateLine.{StateLine}
 use Rattle.napt_state.specs.declared.line.StateLine.TheVariants as lines
-use Rattle.napt_state.specs.Saved.{IsFirst}
-use Rattle.napt_state.specs.StateText.{Text, is_space, words_in, words_text, flag_text, kind_text, protocol_name, end_text, count_words, words, line_text}
+use Rattle.napt_state.specs.StateContents.{IsFirstLine}
+use Rattle.napt_state.specs.StateText.{StateTextBytes, is_space, words_in, words_text, state_flag, kind_text, state_protocol_name, end_text, count_words, split_words, line_text}
 
 -- what ends a word
 abbrev is_mark : ℕ → Bool
 is_mark byte = is_space byte || (byte == 10)
 
-abbrev has_mark : Text → Bool
+abbrev has_mark : StateTextBytes → Bool
 has_mark text = list_any is_mark text
 
-no_mark_at : (text : Text) → has_mark text ≡ false → All (λ byte. is_mark byte ≡ false) text
+no_mark_at : (text : StateTextBytes) → has_mark text ≡ false → All (λ byte. is_mark byte ≡ false) text
 no_mark_at text none k d within =
     false_from_ne_true _ (λ is. both_ways _ none (list_any_at is_mark text k d within is))
 
-no_space_at : (text : Text) → has_mark text ≡ false → All (λ byte. is_space byte ≡ false) text
+no_space_at : (text : StateTextBytes) → has_mark text ≡ false → All (λ byte. is_space byte ≡ false) text
 no_space_at text none k d within = (or_parts (is_space (get_or text k d)) _ (no_mark_at text none k d within)).0
 
-abbrev pub IsLine : Text → Type 0
+abbrev pub IsLine : StateTextBytes → Type 0
 IsLine text = All (λ byte. byte ≢ 10) text
 
-no_end_at : (text : Text) → has_mark text ≡ false → IsLine text
+no_end_at : (text : StateTextBytes) → has_mark text ≡ false → IsLine text
 no_end_at text none k d within =
     eqb-false (get_or text k d) 10 (or_parts (is_space (get_or text k d)) _ (no_mark_at text none k d within)).1
 
@@ -39,7 +39,7 @@ no_end_at text none k d within =
 glyph : (digit : ℕ) → is_mark (digit_glyph false digit) ≡ false
 glyph digit = grind (arith, nat_tests)
 
-in_digits : (many number : ℕ) (text : Text) → has_mark text ≡ false →
+in_digits : (many number : ℕ) (text : StateTextBytes) → has_mark text ≡ false →
     has_mark (digits_onto many 10 false number text) ≡ false
 in_digits zero number text none = none
 in_digits (suc many) number text none =
@@ -59,7 +59,7 @@ in_address : (address : ℕ) → has_mark (address_text address) ≡ false
 unfolding address_text
 in_address address = in_dotted _ _ _ _
 
-in_flag : (flag : Bool) → has_mark (flag_text flag) ≡ false
+in_flag : (flag : Bool) → has_mark (state_flag flag) ≡ false
 in_flag true = refl
 in_flag false = refl
 
@@ -67,7 +67,7 @@ in_kind : (fixed : Bool) → has_mark (kind_text fixed) ≡ false
 in_kind true = refl
 in_kind false = refl
 
-in_protocol : (protocol : Protocol) → has_mark (protocol_name protocol) ≡ false
+in_protocol : (protocol : Protocol) → has_mark (state_protocol_name protocol) ≡ false
 in_protocol Icmp = refl
 in_protocol Tcp = refl
 in_protocol Udp = refl
@@ -76,10 +76,10 @@ in_end : (end : Option ℕ) → has_mark (end_text end) ≡ false
 in_end (Some end) = in_decimal end
 in_end None = refl
 
-abbrev have_marks : List Text → Bool
+abbrev have_marks : List StateTextBytes → Bool
 have_marks texts = list_any has_mark texts
 
-in_words : (entry : StateLine) → have_marks (words entry) ≡ false
+in_words : (entry : StateLine) → have_marks (split_words entry) ≡ false
 in_words (lines.Clock clock) = simp (in_decimal)
 in_words (lines.Binding row last) = simp (in_kind, in_protocol, in_address, in_decimal)
 in_words (lines.Flow flow) = simp (in_address, in_decimal, in_flag)
@@ -88,7 +88,7 @@ in_words (lines.Entry listed) = simp (in_kind, in_protocol, in_address, in_decim
 in_words (lines.End counts) = elim counts.entries as (λ n. have_marks (codes "end" ∷ decimal counts.bindings
     ∷ decimal counts.flows ∷ count_words n) ≡ false) [ Some n ↦ simp (in_decimal) | None ↦ simp (in_decimal) ]
 
-many : (entry : StateLine) → 0 < length (words entry)
+many : (entry : StateLine) → 0 < length (split_words entry)
 many (lines.Clock clock) = omega arith
 many (lines.Binding row last) = omega arith
 many (lines.Flow flow) = omega arith
@@ -99,15 +99,15 @@ many (lines.End counts) = omega arith
 -- LINES
 
 -- a line before the line feed at its end
-abbrev joined : Text → List Text → Text
+abbrev joined : StateTextBytes → List StateTextBytes → StateTextBytes
 joined first [] = first
 joined first (word ∷ more) = first ++ 32 ∷ joined word more
 
-words_text-joined : (first : Text) (more : List Text) → words_text (first ∷ more) ≡ joined first more ++ codes "\n"
+words_text-joined : (first : StateTextBytes) (more : List StateTextBytes) → words_text (first ∷ more) ≡ joined first more ++ codes "\n"
 words_text-joined first [] = refl
 words_text-joined first (word ∷ more) = rw (words_text-joined word more) (simp append_assoc)
 
-split-joined : (first : Text) (more : List Text) → have_marks (first ∷ more) ≡ false →
+split-joined : (first : StateTextBytes) (more : List StateTextBytes) → have_marks (first ∷ more) ≡ false →
     slice_split is_space (joined first more) ≡ first ∷ more
 split-joined first [] none =
     slice_split_none is_space first (no_space_at first (or_parts (has_mark first) false none).0)
@@ -116,36 +116,36 @@ split-joined first (word ∷ more) none =
     slice_split_at is_space first 32 (joined word more) (no_space_at first here) refl
     ∙ ap (λ parts. first ∷ parts) (split-joined word more behind)
 
-words_in-line : (line : Text) (texts : List Text) → 0 < length texts → have_marks texts ≡ false →
+words_in-line : (line : StateTextBytes) (texts : List StateTextBytes) → 0 < length texts → have_marks texts ≡ false →
     words_text texts ≡ line ++ codes "\n" → words_in line ≡ texts
 words_in-line line [] some none is = absurd (omega arith)
 words_in-line line (first ∷ more) some none is =
     ap (slice_split is_space) (append_cancel_right _ _ (codes "\n") (sym is ∙ words_text-joined first more))
     ∙ split-joined first more none
 
-pub words_read : (entry : StateLine) (line : Text) → line_text entry ≡ line ++ codes "\n" → words_in line ≡ words entry
+pub words_read : (entry : StateLine) (line : StateTextBytes) → line_text entry ≡ line ++ codes "\n" → words_in line ≡ split_words entry
 unfolding line_text
-words_read entry line is = words_in-line line (words entry) (many entry) (in_words entry) is
+words_read entry line is = words_in-line line (split_words entry) (many entry) (in_words entry) is
 
-joined-line : (first : Text) (more : List Text) → have_marks (first ∷ more) ≡ false → IsLine (joined first more)
+joined-line : (first : StateTextBytes) (more : List StateTextBytes) → have_marks (first ∷ more) ≡ false → IsLine (joined first more)
 joined-line first [] none = no_end_at first (or_parts (has_mark first) false none).0
 joined-line first (word ∷ more) none =
     let (here, behind) = or_parts (has_mark first) (have_marks (word ∷ more)) none in
     All-append (λ byte. byte ≢ 10) first (32 ∷ joined word more) (no_end_at first here)
     (All-cons (λ byte. byte ≢ 10) 32 (joined word more) (λ is. omega arith) (joined-line word more behind))
 
-abbrev pub Line : Text → Type 0
-Line text = (line : Text) × (text ≡ line ++ codes "\n") × IsLine line
+abbrev pub Line : StateTextBytes → Type 0
+Line text = (line : StateTextBytes) × (text ≡ line ++ codes "\n") × IsLine line
 
-line_of : (texts : List Text) → 0 < length texts → have_marks texts ≡ false → Line (words_text texts)
+line_of : (texts : List StateTextBytes) → 0 < length texts → have_marks texts ≡ false → Line (words_text texts)
 line_of [] some none = absurd (omega arith)
 line_of (first ∷ more) some none = (joined first more, words_text-joined first more, joined-line first more none)
 
 pub line_text-ended : (entry : StateLine) → Line (line_text entry)
 unfolding line_text
-line_text-ended entry = line_of (words entry) (many entry) (in_words entry)
+line_text-ended entry = line_of (split_words entry) (many entry) (in_words entry)
 
-module _ (left new : Option (List ℕ)) (old line : Text) (text rest : Text) (none : old ≡ [])
+module _ (left new : Option (List ℕ)) (old line : StateTextBytes) (text rest : StateTextBytes) (none : old ≡ [])
     (got : IfSome left (λ xs. line ≡ old ++ take_through 10 xs)) (left_is : left ≡ Some (text ++ rest)) where
   -- a line that is read is the first of what is left, which loses it
   pub line_read : IfSome left (λ xs. new ≡ Some (drop_through 10 xs)) → Line text → (line ≡ text) × (new ≡ Some rest)
@@ -158,7 +158,7 @@ module _ (left new : Option (List ℕ)) (old line : Text) (text rest : Text) (no
       omega (arith, ap length empty, ap length is, length-append text rest, length-append row (codes "\n"))
 
 -- what breaks off has no end of a line
-pub torn_read : (left : Option (List ℕ)) (old line torn front : Text) → old ≡ [] →
+pub torn_read : (left : Option (List ℕ)) (old line torn front : StateTextBytes) → old ≡ [] →
     IfSome left (λ xs. line ≡ old ++ take_through 10 xs) → left ≡ Some torn → IsLine torn →
     line ≡ front ++ codes "\n" → ⊥
 torn_read left old line torn front none got left_is whole ended =
@@ -169,15 +169,15 @@ torn_read left old line torn front none got left_is whole ended =
     whole (length front) 0 (omega (arith, ap length is, length-append front (codes "\n")))
     (ap (λ l. get_or l (length front) 0) is ∙ get_or-append_seam front 10 [] 0)
 
-both_parts : (xs : Text) → take_through 10 xs ++ drop_through 10 xs ≡ xs
+both_parts : (xs : StateTextBytes) → take_through 10 xs ++ drop_through 10 xs ≡ xs
 both_parts [] = refl
 both_parts (x ∷ xs) = elim (x == 10) as (λ b. (if b then x ∷ [] else x ∷ take_through 10 xs)
     ++ (if b then xs else drop_through 10 xs) ≡ x ∷ xs) [ true ↦ refl | false ↦ ap (λ l. x ∷ l) (both_parts xs) ]
 
 -- what is read begins what was left
-pub first_read : (left new : Option (List ℕ)) (old line : Text) (all : Text) (is : StateLine) → old ≡ [] →
+pub first_read : (left new : Option (List ℕ)) (old line : StateTextBytes) (all : StateTextBytes) (is : StateLine) → old ≡ [] →
     IfSome left (λ xs. line ≡ old ++ take_through 10 xs) → IfSome left (λ xs. new ≡ Some (drop_through 10 xs)) →
-    left ≡ Some all → line ≡ line_text is → IsFirst is all new
+    left ≡ Some all → line ≡ line_text is → IsFirstLine is all new
 first_read left new old line all is none got gone left_is same =
     let first : line ≡ old ++ take_through 10 all =
     subst (λ o. IfSome o (λ xs. line ≡ old ++ take_through 10 xs)) left_is got in (

@@ -2,12 +2,12 @@
 use Rattle.std.proofs.lemmas.{Grind.flat_map-append}
 use Rattle.std.proofs.Common.{ℕ, ◌≡◌, ◌≤◌, ◌^◌, List, [], ◌∷◌, ◌++◌, map, flat_map, Option, Some, None, IfSome, Result, Ok, Err, OnOk, IfOk, refl, sym, ◌∙◌, ap, subst, append_assoc, append-nil}
 use Rattle.std.specs.Io.KnownBytes.{IsAtEnd}
-use Rattle.napt_account.specs.{GoingOn.IsFew, declared.log.Listed.Listed}
+use Rattle.napt_account.specs.{ResumedLogRuns.IsFew, declared.log.LogEntry.LogEntry}
 use Rattle.napt_rules.specs.Prelude.{Each}
-use Rattle.napt_state.specs.declared.{saved.{Saved.Saved, KeptLog.KeptLog}, line.{Counts.Counts, StateLine.StateLine}, fault.StateReason.{StateReason, TheVariants.{Unread, Memory, NotUtf8, Torn, Word, WordCount, NoBinding, Counts as OtherCounts, BehindEnd}}}
+use Rattle.napt_state.specs.declared.{state_contents.{StateFileContents.StateFileContents, LogPosition.LogPosition}, line.{LineCounts.LineCounts, StateLine.StateLine}, fault.StateReason.{StateReason, TheVariants.{Unread, Memory, NotUtf8, Torn, Word, WordCount, NoBinding, Counts as OtherCounts, BehindEnd}}}
 use Rattle.napt_state.specs.declared.line.StateLine.TheVariants as lines
-use Rattle.napt_state.specs.StateText.{Text, IsStateLine, IsSaved, clock, entry, end, binding_lines, log_lines, lines_between, counts_of, saved_text, line_text}
-use Rattle.napt_state.specs.Saved.{unless_for, UnlessUnread, IsFirst, IsFewLine, IsNoEnd, IsAdded, CanFollow, begun}
+use Rattle.napt_state.specs.StateText.{StateTextBytes, IsStateLine, IsSaved, clock, entry, end, binding_lines, log_lines, lines_between, counts_of, saved_text, line_text}
+use Rattle.napt_state.specs.StateContents.{unless_for, StateUnlessUnread, IsFirstLine, IsFewLine, IsNoEnd, IsAdded, CanFollow, empty_contents}
 use Rattle.napt_state.proofs.Replay.{one_follows, is_last}
 
 pub unless_weaker : {P Q : Type 0} (reason : StateReason) → (P → Q) → unless_for reason P → unless_for reason Q
@@ -22,9 +22,9 @@ unless_weaker OtherCounts f h = f h
 unless_weaker BehindEnd f h = f h
 
 -- what a call returns that reads the next line
-abbrev pub Reads : Result StateLine StateReason → Option Text → Option Text → Type 0
-Reads read old new = (line : StateLine) (rest : Text) → IsStateLine line → old ≡ Some (line_text line ++ rest) →
-    UnlessUnread read ((read ≡ Ok line) × (new ≡ Some rest))
+abbrev pub Reads : Result StateLine StateReason → Option StateTextBytes → Option StateTextBytes → Type 0
+Reads read old new = (line : StateLine) (rest : StateTextBytes) → IsStateLine line → old ≡ Some (line_text line ++ rest) →
+    StateUnlessUnread read ((read ≡ Ok line) × (new ≡ Some rest))
 
 pub no_ok : {A E : Type 0} (e : E) (x : A) → ◌≡◌ {A = Result A E} (Err e) (Ok x) → ⊥
 no_ok e x is = subst (λ r. OnOk r ⊥) is tt
@@ -35,23 +35,23 @@ same_ok x y is = subst (λ r. IfOk r (λ z. x ≡ z)) is refl
 -- WHAT IS LEFT
 
 -- of the lines of a text those behind some are left
-pub record Ahead (whole so_far : Saved) (more : List StateLine) (left : Option Text) : Type 0 where
+pub record Ahead (whole so_far : StateFileContents) (more : List StateLine) (left : Option StateTextBytes) : Type 0 where
   pub clock : so_far.state.clock ≡ whole.state.clock
   pub split : lines_between whole ++ end (counts_of whole) ∷ [] ≡ lines_between so_far ++ more
   pub fits : Each IsStateLine more
   pub text : left ≡ Some (flat_map line_text more)
 
-abbrev pub IsAhead : Saved → Saved → Option Text → Type 0
+abbrev pub IsAhead : StateFileContents → StateFileContents → Option StateTextBytes → Type 0
 IsAhead whole so_far left = (more : List StateLine) × Ahead whole so_far more left
 
 -- behind a line that was read
-pub record AheadOf (whole so_far : Saved) (line : StateLine) (more : List StateLine) (left : Option Text) : Type 0 where
+pub record AheadOf (whole so_far : StateFileContents) (line : StateLine) (more : List StateLine) (left : Option StateTextBytes) : Type 0 where
   pub clock : so_far.state.clock ≡ whole.state.clock
   pub split : lines_between whole ++ end (counts_of whole) ∷ [] ≡ lines_between so_far ++ line ∷ more
   pub fits : Each IsStateLine more
   pub text : left ≡ Some (flat_map line_text more)
 
-module _ (whole so_far : Saved) (old new : Option Text) where
+module _ (whole so_far : StateFileContents) (old new : Option StateTextBytes) where
   -- the next line was read
   pub ahead_next : (line : StateLine) → Reads (Ok line) old new → IsAhead whole so_far old →
       (more : List StateLine) × AheadOf whole so_far line more new
@@ -76,11 +76,11 @@ module _ (whole so_far : Saved) (old new : Option Text) where
       unless_weaker reason (λ got. absurd (no_ok reason told got.0))
       (reads told (flat_map line_text more) ahead.fits.0 ahead.text)
 
-module _ (whole so_far : Saved) (line : StateLine) (more : List StateLine) (left : Option Text) where
+module _ (whole so_far : StateFileContents) (line : StateLine) (more : List StateLine) (left : Option StateTextBytes) where
   pub can_follow : AheadOf whole so_far line more left → IsNoEnd line → CanFollow line so_far
   can_follow a other = record { other = other; whole = whole; more = more; split = a.split }
 
-  pub ahead_added : (grown : Saved) → AheadOf whole so_far line more left → IsAdded line so_far grown →
+  pub ahead_added : (grown : StateFileContents) → AheadOf whole so_far line more left → IsAdded line so_far grown →
       IsAhead whole grown left
   ahead_added grown a added = (
     more,
@@ -94,7 +94,7 @@ module _ (whole so_far : Saved) (line : StateLine) (more : List StateLine) (left
   )
 
 -- the last line was read
-pub all_read : (whole so_far : Saved) (counts : Counts) (more : List StateLine) (left : Option Text) →
+pub all_read : (whole so_far : StateFileContents) (counts : LineCounts) (more : List StateLine) (left : Option StateTextBytes) →
     AheadOf whole so_far (end counts) more left →
     (so_far ≡ whole) × (counts ≡ counts_of so_far) × (left ≡ Some [])
 all_read whole so_far counts more left a =
@@ -106,7 +106,7 @@ all_read whole so_far counts more left a =
       a.text ∙ ap (λ (l : List StateLine). Some (flat_map line_text l)) last.none,
     )
 
-pub no_end : (line : StateLine) → ((counts : Counts) → line ≡ end counts → ⊥) → IsNoEnd line
+pub no_end : (line : StateLine) → ((counts : LineCounts) → line ≡ end counts → ⊥) → IsNoEnd line
 no_end (lines.Clock at) h = tt
 no_end (lines.Binding row last) h = tt
 no_end (lines.Flow one) h = tt
@@ -117,28 +117,28 @@ no_end (lines.End counts) h = h counts refl
 -- WHAT WAS READ
 
 -- a text begins with the lines of what was read, and the rest is left
-pub record Taken (text : Text) (so_far : Saved) (left : Option Text) : Type 0 where
-  pub rest : Text
+pub record Taken (text : StateTextBytes) (so_far : StateFileContents) (left : Option StateTextBytes) : Type 0 where
+  pub rest : StateTextBytes
   pub remains : left ≡ Some rest
   pub is : text ≡ line_text (clock so_far.state.clock) ++ (flat_map line_text (lines_between so_far) ++ rest)
 
-module _ (text : Text) (so_far : Saved) (line : StateLine) (old new : Option Text) (taken : Taken text so_far old)
-    (read : (all : Text) → old ≡ Some all → IsFirst line all new) where
-  read_behind : (rest : Text) × (text ≡ line_text (clock so_far.state.clock)
+module _ (text : StateTextBytes) (so_far : StateFileContents) (line : StateLine) (old new : Option StateTextBytes) (taken : Taken text so_far old)
+    (read : (all : StateTextBytes) → old ≡ Some all → IsFirstLine line all new) where
+  read_behind : (rest : StateTextBytes) × (text ≡ line_text (clock so_far.state.clock)
       ++ (flat_map line_text (lines_between so_far ++ line ∷ []) ++ rest)) × (new ≡ Some rest)
   read_behind =
       let (rest, is, gone) = read taken.rest taken.remains in
-      let before : Text = flat_map line_text (lines_between so_far) in (
+      let before : StateTextBytes = flat_map line_text (lines_between so_far) in (
         rest,
-        taken.is ∙ ap (λ (l : Text). line_text (clock so_far.state.clock) ++ l)
-            (ap (λ (l : Text). before ++ l) is
+        taken.is ∙ ap (λ (l : StateTextBytes). line_text (clock so_far.state.clock) ++ l)
+            (ap (λ (l : StateTextBytes). before ++ l) is
             ∙ sym (append_assoc before (line_text line) rest)
-            ∙ ap (λ (l : Text). (before ++ l) ++ rest) (sym (append-nil (line_text line)))
-            ∙ ap (λ (l : Text). l ++ rest) (sym (flat_map-append line_text (lines_between so_far) (line ∷ [])))),
+            ∙ ap (λ (l : StateTextBytes). (before ++ l) ++ rest) (sym (append-nil (line_text line)))
+            ∙ ap (λ (l : StateTextBytes). l ++ rest) (sym (flat_map-append line_text (lines_between so_far) (line ∷ [])))),
         gone,
       )
 
-  pub taken_added : (grown : Saved) → IsAdded line so_far grown → Taken text grown new
+  pub taken_added : (grown : StateFileContents) → IsAdded line so_far grown → Taken text grown new
   taken_added grown added =
       let (rest, is, gone) = read_behind in record {
         rest = rest;
@@ -150,25 +150,25 @@ module _ (text : Text) (so_far : Saved) (line : StateLine) (old new : Option Tex
             (sym added.lines);
       }
 
-  pub taken_all : (counts : Counts) → line ≡ end counts → counts ≡ counts_of so_far → IsAtEnd new →
+  pub taken_all : (counts : LineCounts) → line ≡ end counts → counts ≡ counts_of so_far → IsAtEnd new →
       text ≡ saved_text so_far
   taken_all counts last same over =
       let (rest, is, gone) = read_behind in
       let none : rest ≡ [] = subst IsAtEnd gone over in
-      is ∙ ap (λ (l : Text). line_text (clock so_far.state.clock)
+      is ∙ ap (λ (l : StateTextBytes). line_text (clock so_far.state.clock)
       ++ (flat_map line_text (lines_between so_far ++ line ∷ []) ++ l)) none
-      ∙ ap (λ (l : Text). line_text (clock so_far.state.clock) ++ l) (append-nil _)
+      ∙ ap (λ (l : StateTextBytes). line_text (clock so_far.state.clock) ++ l) (append-nil _)
       ∙ ap (λ (l : StateLine). line_text (clock so_far.state.clock)
       ++ flat_map line_text (lines_between so_far ++ l ∷ [])) (last ∙ ap end same)
 
 -- FEW
 
-entries_few : (living : List Listed) → Each IsFewLine (map entry living) →
+entries_few : (living : List LogEntry) → Each IsFewLine (map entry living) →
     Each (λ l. (l.entry.sent ≤ 2 ^ 61) × (l.entry.received ≤ 2 ^ 61)) living
 entries_few [] h = tt
 entries_few (l ∷ living) h = (h.0, entries_few living h.1)
 
-log_few : (log : Option KeptLog) → Each IsFewLine (log_lines log) → IfSome log (λ l. IsFew l.log)
+log_few : (log : Option LogPosition) → Each IsFewLine (log_lines log) → IfSome log (λ l. IsFew l.log)
 log_few None h = tt
 log_few (Some saved) h = record { made = h.0; packets = entries_few saved.log.living h.1 }
 
@@ -176,5 +176,5 @@ each_behind : (xs ys : List StateLine) → Each IsFewLine (xs ++ ys) → Each Is
 each_behind [] ys h = h
 each_behind (x ∷ xs) ys h = each_behind xs ys h.1
 
-pub few_of : (s : Saved) → Each IsFewLine (lines_between s) → IfSome s.log (λ l. IsFew l.log)
+pub few_of : (s : StateFileContents) → Each IsFewLine (lines_between s) → IfSome s.log (λ l. IsFew l.log)
 few_of s h = log_few s.log (each_behind (flat_map binding_lines s.state.list) (log_lines s.log) h)

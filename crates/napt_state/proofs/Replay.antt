@@ -2,19 +2,19 @@
 use Rattle.std.proofs.lemmas.{List.{Sums.fold-append}}
 use Rattle.std.proofs.Common.{ℕ, ◌≡◌, List, [], ◌∷◌, ◌++◌, map, flat_map, Option, Some, None, refl, sym, ◌∙◌, ap, append_assoc, append-nil}
 use Rattle.std.specs.List.{fold}
-use Rattle.napt_account.specs.declared.log.Listed.{Listed}
+use Rattle.napt_account.specs.declared.log.LogEntry.{LogEntry}
 use Rattle.napt_rules.specs.{Prelude.Binding, declared.{Flow.Flow, Row.Row}}
-use Rattle.napt_state.specs.declared.{saved.{Saved.Saved, KeptLog.KeptLog}, line.{Counts.Counts, StateLine.StateLine}}
+use Rattle.napt_state.specs.declared.{state_contents.{StateFileContents.StateFileContents, LogPosition.LogPosition}, line.{LineCounts.LineCounts, StateLine.StateLine}}
 use Rattle.napt_state.specs.declared.line.StateLine.TheVariants as lines
 use Rattle.napt_state.specs.StateText.{flow, entry, end, binding_lines, log_lines, lines_between, counts_of}
-use Rattle.napt_state.specs.Saved.{CanFollow}
+use Rattle.napt_state.specs.StateContents.{CanFollow}
 
 pub data Stage : Type 0 where
-  Going : Saved → Stage
-  Closed : Saved → Counts → Stage
+  Going : StateFileContents → Stage
+  Closed : StateFileContents → LineCounts → Stage
   Refused : Stage
 
-abbrev of_list : ℕ → List Binding → Option KeptLog → Saved
+abbrev of_list : ℕ → List Binding → Option LogPosition → StateFileContents
 of_list clock list log = record { state = record { clock = clock; list = list }; log = log }
 
 abbrev pub longer : Binding → Flow → Binding
@@ -38,13 +38,13 @@ in_state clock list (lines.Log made length) =
 in_state clock list (lines.End counts) = Closed (of_list clock list None) counts
 in_state clock list _ = Refused
 
-abbrev pub in_log : ℕ → List Binding → KeptLog → StateLine → Stage
+abbrev pub in_log : ℕ → List Binding → LogPosition → StateLine → Stage
 in_log clock list saved (lines.Entry listed) = Going (of_list clock list
     (Some (record saved { log = record saved.log { living = saved.log.living ++ listed ∷ [] } })))
 in_log clock list saved (lines.End counts) = Closed (of_list clock list (Some saved)) counts
 in_log clock list saved _ = Refused
 
-abbrev pub goes : ℕ → List Binding → Option KeptLog → StateLine → Stage
+abbrev pub goes : ℕ → List Binding → Option LogPosition → StateLine → Stage
 goes clock list None line = in_state clock list line
 goes clock list (Some saved) line = in_log clock list saved line
 
@@ -87,7 +87,7 @@ bindings_said clock front (b ∷ list) =
     ∙ bindings_said clock (front ++ b ∷ []) list
     ∙ ap (λ l. Going (of_list clock l None)) (append_assoc front (b ∷ []) list)
 
-entries_said : (clock made length : ℕ) (list : List Binding) (front living : List Listed) →
+entries_said : (clock made length : ℕ) (list : List Binding) (front living : List LogEntry) →
     fold step (Going (of_list clock list
     (Some (record { log = record { made = made; living = front }; length = length })))) (map entry living)
     ≡ Going (of_list clock list
@@ -99,13 +99,13 @@ entries_said clock made length list front (l ∷ living) =
     (Some (record { log = record { made = made; living = l }; length = length }))))
     (append_assoc front (l ∷ []) living)
 
-log_said : (clock : ℕ) (list : List Binding) (log : Option KeptLog) →
+log_said : (clock : ℕ) (list : List Binding) (log : Option LogPosition) →
     fold step (Going (of_list clock list None)) (log_lines log) ≡ Going (of_list clock list log)
 log_said clock list None = refl
 log_said clock list (Some saved) =
     entries_said clock saved.log.made saved.length list [] saved.log.living
 
-said : (clock : ℕ) (s : Saved) → fold step (Going (of_list clock [] None)) (lines_between s)
+said : (clock : ℕ) (s : StateFileContents) → fold step (Going (of_list clock [] None)) (lines_between s)
     ≡ Going (of_list clock s.state.list s.log)
 said clock s =
     fold-append step (Going (of_list clock [] None)) (flat_map binding_lines s.state.list) (log_lines s.log)
@@ -114,13 +114,13 @@ said clock s =
 
 -- WHAT MAY FOLLOW
 
-closes : (clock : ℕ) (list : List Binding) (log : Option KeptLog) (counts : Counts) →
+closes : (clock : ℕ) (list : List Binding) (log : Option LogPosition) (counts : LineCounts) →
     step (Going (of_list clock list log)) (end counts) ≡ Closed (of_list clock list log) counts
 closes clock list None counts = refl
 closes clock list (Some saved) counts = refl
 
 -- what is said behind some of a text's lines
-pub goes_on : (old whole : Saved) (more : List StateLine) →
+pub goes_on : (old whole : StateFileContents) (more : List StateLine) →
     lines_between whole ++ end (counts_of whole) ∷ [] ≡ lines_between old ++ more →
     fold step (Going old) more ≡ Closed (of_list old.state.clock whole.state.list whole.log) (counts_of whole)
 goes_on old whole more is =
@@ -136,7 +136,7 @@ refused : (more : List StateLine) → fold step Refused more ≡ Refused
 refused [] = refl
 refused (line ∷ more) = refused more
 
-pub none_follows : (line its : StateLine) (old : Saved) (list : List Binding) (log : Option KeptLog) → line ≡ its →
+pub none_follows : (line its : StateLine) (old : StateFileContents) (list : List Binding) (log : Option LogPosition) → line ≡ its →
     old.state.list ≡ list → old.log ≡ log → goes old.state.clock list log its ≡ Refused → ¬ CanFollow line old
 none_follows line its old list log same list_is log_is none can =
     let is = goes_on old can.whole (line ∷ can.more) can.split in
@@ -146,18 +146,18 @@ none_follows line its old list log same list_is log_is none can =
     let never : ⊥ = cc in
     never
 
-pub flow_out : (clock : ℕ) (f : Flow) (log : Option KeptLog) → goes clock [] log (flow f) ≡ Refused
+pub flow_out : (clock : ℕ) (f : Flow) (log : Option LogPosition) → goes clock [] log (flow f) ≡ Refused
 flow_out clock f None = refl
 flow_out clock f (Some saved) = refl
 
-clock_out : (clock at : ℕ) (list : List Binding) (log : Option KeptLog) →
+clock_out : (clock at : ℕ) (list : List Binding) (log : Option LogPosition) →
     goes clock list log (lines.Clock at) ≡ Refused
 clock_out clock at list None = refl
 clock_out clock at list (Some saved) = refl
 
-pub no_other_follows : (line : StateLine) (old : Saved) → ((row : Row) (last : ℕ) → line ≡ lines.Binding row last → ⊥) →
+pub no_other_follows : (line : StateLine) (old : StateFileContents) → ((row : Row) (last : ℕ) → line ≡ lines.Binding row last → ⊥) →
     ((one : Flow) → line ≡ flow one → ⊥) → ((made length : ℕ) → line ≡ lines.Log made length → ⊥) →
-    ((one : Listed) → line ≡ entry one → ⊥) → ¬ CanFollow line old
+    ((one : LogEntry) → line ≡ entry one → ⊥) → ¬ CanFollow line old
 no_other_follows (lines.Clock at) old a b c d =
     none_follows (lines.Clock at) (lines.Clock at) old old.state.list old.log refl refl refl
     (clock_out old.state.clock at old.state.list old.log)
@@ -167,7 +167,7 @@ no_other_follows (lines.Log made length) old a b c d = absurd (c made length ref
 no_other_follows (lines.Entry one) old a b c d = absurd (d one refl)
 no_other_follows (lines.End counts) old a b c d = λ can. can.other
 
-pub one_follows : (old whole : Saved) →
+pub one_follows : (old whole : StateFileContents) →
     lines_between whole ++ end (counts_of whole) ∷ [] ≡ lines_between old ++ [] → ⊥
 one_follows old whole is =
     let going = goes_on old whole [] is in
@@ -175,13 +175,13 @@ one_follows old whole is =
     never
 
 -- the last line: the whole was said before it, and nothing is behind it
-pub record IsLast (old whole : Saved) (counts : Counts) (more : List StateLine) : Type 0 where
+pub record IsLast (old whole : StateFileContents) (counts : LineCounts) (more : List StateLine) : Type 0 where
   pub list : old.state.list ≡ whole.state.list
   pub log : old.log ≡ whole.log
   pub same : counts ≡ counts_of whole
   pub none : more ≡ []
 
-over : (old whole : Saved) (counts : Counts) (more : List StateLine) → fold step (Closed old counts) more
+over : (old whole : StateFileContents) (counts : LineCounts) (more : List StateLine) → fold step (Closed old counts) more
     ≡ Closed (of_list old.state.clock whole.state.list whole.log) (counts_of whole) → IsLast old whole counts more
 over old whole counts [] is =
     let now : old ≡ of_list old.state.clock whole.state.list whole.log = cc in
@@ -191,7 +191,7 @@ over old whole counts (line ∷ more) is =
     let never : ⊥ = cc in
     absurd never
 
-pub is_last : (old whole : Saved) (counts : Counts) (more : List StateLine) →
+pub is_last : (old whole : StateFileContents) (counts : LineCounts) (more : List StateLine) →
     lines_between whole ++ end (counts_of whole) ∷ [] ≡ lines_between old ++ end counts ∷ more →
     IsLast old whole counts more
 is_last old whole counts more is = over old whole counts more

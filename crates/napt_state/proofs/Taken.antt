@@ -7,11 +7,11 @@ use Rattle.std.specs.HashSet as hash
 use denote.Enum.Bare.{sameb}
 use Rattle.napt_wire.specs.contracts.Protocol.{the_type}
 use Rattle.napt_rules.specs.declared.{Flow.Flow, Row.Row}
-use Rattle.napt_rules.specs.Prelude.{Binding, Protocol, Icmp, Tcp, Udp, Timers, Rules, State, same_protocol, is_live, with_live_flows, purge, hold_ago, taken, loose, under, opening, flows_share, clashes, is_flow_of}
+use Rattle.napt_rules.specs.Prelude.{Binding, Protocol, Icmp, Tcp, Udp, Timers, Rules, State, same_protocol, is_live, with_live_flows, purge, hold_ago, live_and_held, dynamic_bindings, with_redirects, opening, flows_share, clashes, is_flow_of}
 use Rattle.napt_rules.proofs.Lists.{each_filter, filter_all}
 use Rattle.napt_laws.proofs.{Lists.{filter_map, filter_swap}, Purges.purge_purge}
 use Rattle.napt_state.specs.declared.endpoints.{EndpointKey.EndpointKey, Endpoints.Endpoints}
-use Rattle.napt_state.specs.Taken.{external_key, inside_key, key_eq, clash, AreOf, AreRemotes}
+use Rattle.napt_state.specs.StateReaders.{state_external_key, state_inside_key, state_key_eq, clash, AreOf, AreRemotes}
 use Rattle.napt_binding.specs.Lists.{pair_eq}
 
 -- LOOSE BINDINGS
@@ -41,22 +41,22 @@ loose_purge timers now xs = sym (filter_map is_loose (with_live_flows timers now
     (λ b. refl) ∙ ap (map (with_live_flows timers now)) (filter_swap is_loose (is_live timers now) xs))
 
 pub loose_twice : (rules : Rules) (state : State) →
-    loose rules (record state { list = loose rules state }) ≡ loose rules state
+    dynamic_bindings rules (record state { list = dynamic_bindings rules state }) ≡ dynamic_bindings rules state
 loose_twice rules state =
     let now : ℕ = hold_ago rules.timers state.clock in
-    let kept : List Binding = taken rules.timers state.clock state.list in
+    let kept : List Binding = live_and_held rules.timers state.clock state.list in
     ap (filter is_loose) (loose_purge rules.timers now kept
     ∙ ap (filter is_loose) (purge_purge rules.timers now now (omega arith) state.list))
     ∙ filter_all is_loose (filter is_loose kept) (each_filter is_loose kept)
 
-under_same : (rules : Rules) (state : State) → under rules (record state { list = loose rules state })
-    ≡ under rules state
+under_same : (rules : Rules) (state : State) → with_redirects rules (record state { list = dynamic_bindings rules state })
+    ≡ with_redirects rules state
 under_same rules state = ap (λ (list : List Binding). record state { list = opening rules ++ list })
     (loose_twice rules state)
 
-pub kept_loose : (rules : Rules) (old new : State) → new ≡ record old { list = loose rules old } →
-    (loose rules new ≡ new.list) × (under rules new ≡ under rules old)
-kept_loose rules old new is = subst (λ (s : State). (loose rules s ≡ s.list) × (under rules s ≡ under rules old))
+pub kept_loose : (rules : Rules) (old new : State) → new ≡ record old { list = dynamic_bindings rules old } →
+    (dynamic_bindings rules new ≡ new.list) × (with_redirects rules new ≡ with_redirects rules old)
+kept_loose rules old new is = subst (λ (s : State). (dynamic_bindings rules s ≡ s.list) × (with_redirects rules s ≡ with_redirects rules old))
     (sym is) (loose_twice rules old, under_same rules old)
 
 -- FLOWS
@@ -99,8 +99,8 @@ either : (a b c d p x y : Bool) → (cond (a && (b && p)) true x || cond (c && (
     ≡ ((p && ((a && b) || (c && d))) || (x || y))
 either a b c d p x y = grind arith
 
-keys : (row other : Row) (x y : Bool) → (cond (key_eq (external_key row) (external_key other)) true x
-    || cond (key_eq (inside_key row) (inside_key other)) true y) ≡ (clashes other row || (x || y))
+keys : (row other : Row) (x y : Bool) → (cond (state_key_eq (state_external_key row) (state_external_key other)) true x
+    || cond (state_key_eq (state_inside_key row) (state_inside_key other)) true y) ≡ (clashes other row || (x || y))
 keys row other x y = rw (
   protocol_either row.protocol other.protocol,
   same_either row.external.address other.external.address,
@@ -111,23 +111,23 @@ keys row other x y = rw (
     (other.inside.address == row.inside.address) (other.inside.number == row.inside.number)
     (same_protocol other.protocol row.protocol) x y)
 
-pub clash_more : (old new : Endpoints) (row : Row) (external inside : EndpointKey) → external ≡ external_key row →
-    inside ≡ inside_key row →
-    ((k : EndpointKey) → hash.contains key_eq new.external k
-    ≡ cond (key_eq external k) true (hash.contains key_eq old.external k)) →
-    ((k : EndpointKey) → hash.contains key_eq new.inside k
-    ≡ cond (key_eq inside k) true (hash.contains key_eq old.inside k)) →
+pub clash_more : (old new : Endpoints) (row : Row) (external inside : EndpointKey) → external ≡ state_external_key row →
+    inside ≡ state_inside_key row →
+    ((k : EndpointKey) → hash.contains state_key_eq new.external k
+    ≡ cond (state_key_eq external k) true (hash.contains state_key_eq old.external k)) →
+    ((k : EndpointKey) → hash.contains state_key_eq new.inside k
+    ≡ cond (state_key_eq inside k) true (hash.contains state_key_eq old.inside k)) →
     (other : Row) → clash new other ≡ (clashes other row || clash old other)
 clash_more old new row external inside is its outer inner other =
-    ap (λ b. b || hash.contains key_eq new.inside (inside_key other)) (outer (external_key other)
-    ∙ ap (λ (k : EndpointKey). cond (key_eq k (external_key other)) true
-    (hash.contains key_eq old.external (external_key other))) is)
-    ∙ ap (λ b. cond (key_eq (external_key row) (external_key other)) true
-    (hash.contains key_eq old.external (external_key other)) || b) (inner (inside_key other)
-    ∙ ap (λ (k : EndpointKey). cond (key_eq k (inside_key other)) true
-    (hash.contains key_eq old.inside (inside_key other))) its)
-    ∙ keys row other (hash.contains key_eq old.external (external_key other))
-    (hash.contains key_eq old.inside (inside_key other))
+    ap (λ b. b || hash.contains state_key_eq new.inside (state_inside_key other)) (outer (state_external_key other)
+    ∙ ap (λ (k : EndpointKey). cond (state_key_eq k (state_external_key other)) true
+    (hash.contains state_key_eq old.external (state_external_key other))) is)
+    ∙ ap (λ b. cond (state_key_eq (state_external_key row) (state_external_key other)) true
+    (hash.contains state_key_eq old.external (state_external_key other)) || b) (inner (state_inside_key other)
+    ∙ ap (λ (k : EndpointKey). cond (state_key_eq k (state_inside_key other)) true
+    (hash.contains state_key_eq old.inside (state_inside_key other))) its)
+    ∙ keys row other (hash.contains state_key_eq old.external (state_external_key other))
+    (hash.contains state_key_eq old.inside (state_inside_key other))
 
 pub are_more : (list : List Binding) (b : Binding) (row : Row) (old new : Endpoints) → row ≡ b.row →
     AreOf list old → ((other : Row) → clash new other ≡ (clashes other row || clash old other)) →

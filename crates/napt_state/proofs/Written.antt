@@ -4,8 +4,8 @@ use Rattle.std.proofs.Common.{ℕ, zero, suc, ◌≡◌, ◌≤◌, ◌<◌, Lis
 use Rattle.std.proofs.KnownBytes.{Appends-trans, Appends-kept}
 use Rattle.std.specs.Io.KnownBytes.{Appends, Keeps}
 use Rattle.napt_rules.specs.Prelude.{Binding}
-use Rattle.napt_state.specs.declared.{saved.Saved.Saved, line.{Counts.Counts, StateLine.StateLine}}
-use Rattle.napt_state.specs.StateText.{Text, words_text, spaced, clock, end, binding_lines, log_lines, lines_between, counts_of, saved_text, line_text}
+use Rattle.napt_state.specs.declared.{state_contents.StateFileContents.StateFileContents, line.{LineCounts.LineCounts, StateLine.StateLine}}
+use Rattle.napt_state.specs.StateText.{StateTextBytes, words_text, spaced, clock, end, binding_lines, log_lines, lines_between, counts_of, saved_text, line_text}
 
 pub finished : {A E P : Type 0} (r : Result A E) → P → OnOk r P
 finished (Ok x) p = p
@@ -17,7 +17,7 @@ whole zero (x ∷ xs) le = absurd (omega arith)
 whole (suc n) [] le = refl
 whole (suc n) (x ∷ xs) le = ap (λ (l : List _). x ∷ l) (whole n xs (omega arith))
 
-joined : (old : Text) (front : List Text) (word : Text) (more : List Text) →
+joined : (old : StateTextBytes) (front : List StateTextBytes) (word : StateTextBytes) (more : List StateTextBytes) →
     (old ++ spaced front) ++ words_text (word ∷ more) ≡ old ++ words_text (front ++ word ∷ more)
 joined old [] word more = ap (λ l. l ++ words_text (word ∷ more)) (append-nil old)
 joined old (w ∷ []) word more = append_assoc old ((w ++ codes " ") ++ []) (words_text (word ∷ more))
@@ -28,7 +28,7 @@ joined old (w ∷ (v ∷ front)) word more =
     ∙ append_assoc old (w ++ codes " ") (words_text (v ∷ front ++ word ∷ more))
 
 -- words behind others are of one line
-pub words_behind : (old : Text) (front behind : List Text) → 0 < length behind →
+pub words_behind : (old : StateTextBytes) (front behind : List StateTextBytes) → 0 < length behind →
     (old ++ spaced front) ++ words_text behind ≡ old ++ words_text (front ++ behind)
 words_behind old front [] some = absurd (omega (arith, some))
 words_behind old front (word ∷ more) some = joined old front word more
@@ -45,7 +45,7 @@ bindings_text [] = refl
 bindings_text (b ∷ list) = flat_map-append line_text (binding_lines b) (flat_map binding_lines list)
     ∙ ap (λ l. flat_map line_text (binding_lines b) ++ l) (bindings_text list)
 
-pub text_parts : (s : Saved) → saved_text s ≡ line_text (clock s.state.clock)
+pub text_parts : (s : StateFileContents) → saved_text s ≡ line_text (clock s.state.clock)
     ++ (flat_map (λ b. flat_map line_text (binding_lines b)) s.state.list
     ++ (flat_map line_text (log_lines s.log) ++ line_text (end (counts_of s))))
 text_parts s = ap (λ l. line_text (clock s.state.clock) ++ l)
@@ -57,7 +57,7 @@ text_parts s = ap (λ l. line_text (clock s.state.clock) ++ l)
     ∙ ap (λ l. flat_map (λ b. flat_map line_text (binding_lines b)) s.state.list
     ++ (flat_map line_text (log_lines s.log) ++ l)) (append-nil (line_text (end (counts_of s)))))
 
-pub written_saved : (s : Saved) (counts : Counts) (n : ℕ) (a b c d e : Option Text) → length s.state.list ≤ n →
+pub written_saved : (s : StateFileContents) (counts : LineCounts) (n : ℕ) (a b c d e : Option StateTextBytes) → length s.state.list ≤ n →
     counts ≡ counts_of s →
     Appends a b (line_text (clock s.state.clock)
     ++ flat_map (λ b. flat_map line_text (binding_lines b)) (take n s.state.list)) →
@@ -68,7 +68,7 @@ written_saved s counts n a b c d e le same text log last kept =
     let list = flat_map (λ (b : Binding). flat_map line_text (binding_lines b)) s.state.list in
     let behind = flat_map line_text (log_lines s.log) in
     let all = Appends-trans a b d _ _ text (Appends-trans b c d _ _ log
-    (subst (λ (m : Counts). Appends c d (line_text (end m))) same last)) in
+    (subst (λ (m : LineCounts). Appends c d (line_text (end m))) same last)) in
     subst (Appends a e) (ap (λ (l : List Binding). (first ++ flat_map (λ b. flat_map line_text (binding_lines b)) l)
     ++ (behind ++ line_text (end (counts_of s)))) (whole n s.state.list le)
     ∙ append_assoc first list (behind ++ line_text (end (counts_of s))) ∙ sym (text_parts s))

@@ -1,3 +1,3 @@
 pub mod StateText
-pub mod Saved
-pub mod Taken
+pub mod StateContents
+pub mod StateReaders

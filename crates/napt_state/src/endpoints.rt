@@ -1,8 +1,8 @@
 //! The endpoints that bindings have.
 ghost use Rattle.std.specs.Prelude.{◌≡◌, ◌||◌, false, OnOk};
-ghost use Rattle.napt_rules.specs.Taking.{clashes};
+ghost use Rattle.napt_rules.specs.Misfits.{clashes};
 ghost use Rattle.napt_rules.specs.declared.Row.{Row as Bound};
-ghost use Rattle.napt_state.specs.Taken.{external_key, inside_key, clash};
+ghost use Rattle.napt_state.specs.StateReaders.{state_external_key, state_inside_key, clash};
 
 use napt_rules::Row;
 use napt_wire::Protocol;
@@ -25,7 +25,7 @@ pub(crate) struct Endpoints {
 }
 
 fn external_key(row: &Row) -> EndpointKey
-    ensures { result ≡ external_key row.now }
+    ensures { result ≡ state_external_key row.now }
 {
     EndpointKey {
         address: row.external.address,
@@ -35,7 +35,7 @@ fn external_key(row: &Row) -> EndpointKey
 }
 
 fn inside_key(row: &Row) -> EndpointKey
-    ensures { result ≡ inside_key row.now }
+    ensures { result ≡ state_inside_key row.now }
 {
     EndpointKey {
         address: row.inside.address,

@@ -24,7 +24,7 @@ pub enum StateReason {
     /// The text ends before its last line does.
     Torn,
     /// A word is none that may stand there; with it, of its first 40 characters those that can be shown.
-    Word(StateWord, String),
+    Word(StateField, String),
     /// A line has more or fewer words than its first one tells.
     WordCount,
     /// A flow comes before each binding.
@@ -37,7 +37,7 @@ pub enum StateReason {
 
 /// What a word of a line has to be.
 #[derive(Clone, Copy, Debug, PartialEq, Eq)]
-pub enum StateWord {
+pub enum StateField {
     /// The first word of a line: what the line is.
     Kind,
     Protocol,
@@ -79,16 +79,16 @@ impl<T: Drop> From<AllocFailed<T>> for StateReason {
     }
 }
 
-impl fmt::Display for StateWord {
+impl fmt::Display for StateField {
     fn fmt<W: fmt::Write>(&self, f: &mut fmt::Formatter<W>) -> fmt::Result {
         f.write_str(match self {
-            StateWord::Kind => "first word",
-            StateWord::Protocol => "protocol",
-            StateWord::Address => "address",
-            StateWord::Number | StateWord::Count | StateWord::Few => "number",
-            StateWord::End => "end",
-            StateWord::Row => "kind",
-            StateWord::Mark => "mark",
+            StateField::Kind => "first word",
+            StateField::Protocol => "protocol",
+            StateField::Address => "address",
+            StateField::Number | StateField::Count | StateField::Few => "number",
+            StateField::End => "end",
+            StateField::Row => "kind",
+            StateField::Mark => "mark",
         })
     }
 }

@@ -2,12 +2,12 @@
 ghost use Rattle.std.specs.Prelude.{◌≡◌, ◌+◌, ◌++◌, ◌<◌, ◌≤◌, ◌^◌, ℕ, [], ◌∷◌, Bool, Option, Some, None, IfSome, OnOk, codes, decimal, slice_index_or, string_bytes};
 ghost use Rattle.napt_config.specs.Text.{address_text};
 ghost use Rattle.napt_wire.specs.declared.{Endpoint.Endpoint as End, Protocol.Protocol as Carried};
-ghost use Rattle.napt_rules.specs.declared.{Marks.Marks as Noted, Row.Row as Bound};
+ghost use Rattle.napt_rules.specs.declared.{SessionMarks.SessionMarks as Noted, Row.Row as Bound};
 ghost use Rattle.napt_state.specs.StateText as texts;
 
 use itoa::Buffer;
 use napt_config::Address;
-use napt_rules::{Marks, Row};
+use napt_rules::{Row, SessionMarks};
 use napt_wire::{Endpoint, Protocol};
 use std::alloc::AllocError;
 
@@ -82,11 +82,11 @@ pub(crate) fn add_end(text: &mut String, end: Option<u128>) -> Result<(), AllocE
 }
 
 /// Appends the words of marks, with a space before each. Fails only if memory runs out.
-pub(crate) fn add_marks(text: &mut String, marks: Marks) -> Result<(), AllocError>
+pub(crate) fn add_marks(text: &mut String, marks: SessionMarks) -> Result<(), AllocError>
     ensures { OnOk result (string_bytes text.new ≡ string_bytes text.old
-        ++ (codes " " ++ texts.flag_text marks.syn_out ++ codes " " ++ texts.flag_text marks.syn_in
-        ++ codes " " ++ texts.flag_text marks.fin_out ++ codes " " ++ texts.flag_text marks.fin_in
-        ++ codes " " ++ texts.flag_text marks.reset)) }
+        ++ (codes " " ++ texts.state_flag marks.syn_out ++ codes " " ++ texts.state_flag marks.syn_in
+        ++ codes " " ++ texts.state_flag marks.fin_out ++ codes " " ++ texts.state_flag marks.fin_in
+        ++ codes " " ++ texts.state_flag marks.reset)) }
 {
     text.push_str(flag_name(marks.syn_out))?;
     text.push_str(flag_name(marks.syn_in))?;
@@ -96,13 +96,13 @@ pub(crate) fn add_marks(text: &mut String, marks: Marks) -> Result<(), AllocErro
 }
 
 fn flag_name(is_set: bool) -> &'static str
-    ensures { result.now ≡ codes " " ++ texts.flag_text is_set }
+    ensures { result.now ≡ codes " " ++ texts.state_flag is_set }
 {
     if is_set { " 1" } else { " 0" }
 }
 
 pub(crate) fn protocol_name(protocol: Protocol) -> &'static str
-    ensures { result.now ≡ texts.protocol_name protocol }
+    ensures { result.now ≡ texts.state_protocol_name protocol }
 {
     match protocol {
         Protocol::Icmp => "icmp",
@@ -138,7 +138,7 @@ pub(crate) fn count(line: &str, place: usize) -> Option<u64>
 
 /// The end of an entry that the word at a place is.
 pub(crate) fn end(line: &str, place: usize) -> Option<Option<u128>>
-    ensures { (end : Option ℕ) → texts.IsEnd end →
+    ensures { (end : Option ℕ) → texts.IsEndLine end →
         slice_index_or (texts.words_in line.now) place [] ≡ texts.end_text end → result ≡ Some end }
 {
     match word(line, place) {
@@ -150,7 +150,7 @@ pub(crate) fn end(line: &str, place: usize) -> Option<Option<u128>>
 /// The endpoint that the words from a place on are.
 pub(crate) fn endpoint(line: &str, place: usize) -> Option<Endpoint>
     requires { place < 100 }
-    ensures { (endpoint : End) → texts.IsEndpoint endpoint →
+    ensures { (endpoint : End) → texts.IsEndpointWord endpoint →
         slice_index_or (texts.words_in line.now) place [] ≡ address_text endpoint.address →
         slice_index_or (texts.words_in line.now) (place + 1) [] ≡ decimal endpoint.number →
         result ≡ Some endpoint }
@@ -166,7 +166,7 @@ pub(crate) fn endpoint(line: &str, place: usize) -> Option<Endpoint>
 /// The protocol that the word at a place is.
 pub(crate) fn protocol(line: &str, place: usize) -> Option<Protocol>
     ensures { (protocol : Carried) →
-        slice_index_or (texts.words_in line.now) place [] ≡ texts.protocol_name protocol →
+        slice_index_or (texts.words_in line.now) place [] ≡ texts.state_protocol_name protocol →
         result ≡ Some protocol }
 {
     match word(line, place) {
@@ -193,9 +193,9 @@ pub(crate) fn is_fixed(line: &str, place: usize) -> Option<bool>
 /// The row that the six words from a place on are.
 pub(crate) fn row(line: &str, place: usize) -> Option<Row>
     requires { place < 90 }
-    ensures { (row : Bound) → texts.IsRow row →
+    ensures { (row : Bound) → texts.IsRowLine row →
         slice_index_or (texts.words_in line.now) place [] ≡ texts.kind_text row.fixed →
-        slice_index_or (texts.words_in line.now) (place + 1) [] ≡ texts.protocol_name row.protocol →
+        slice_index_or (texts.words_in line.now) (place + 1) [] ≡ texts.state_protocol_name row.protocol →
         slice_index_or (texts.words_in line.now) (place + 2) [] ≡ address_text row.inside.address →
         slice_index_or (texts.words_in line.now) (place + 3) [] ≡ decimal row.inside.number →
         slice_index_or (texts.words_in line.now) (place + 4) [] ≡ address_text row.external.address →
@@ -212,7 +212,7 @@ pub(crate) fn row(line: &str, place: usize) -> Option<Row>
 
 fn flag(line: &str, place: usize) -> Option<bool>
     ensures { (is_set : Bool) →
-        slice_index_or (texts.words_in line.now) place [] ≡ texts.flag_text is_set →
+        slice_index_or (texts.words_in line.now) place [] ≡ texts.state_flag is_set →
         result ≡ Some is_set }
 {
     match word(line, place) {
@@ -223,17 +223,17 @@ fn flag(line: &str, place: usize) -> Option<bool>
 }
 
 /// The marks that the five words from a place on are.
-pub(crate) fn marks(line: &str, place: usize) -> Option<Marks>
+pub(crate) fn marks(line: &str, place: usize) -> Option<SessionMarks>
     requires { place < 100 }
     ensures { (marks : Noted) →
-        slice_index_or (texts.words_in line.now) place [] ≡ texts.flag_text marks.syn_out →
-        slice_index_or (texts.words_in line.now) (place + 1) [] ≡ texts.flag_text marks.syn_in →
-        slice_index_or (texts.words_in line.now) (place + 2) [] ≡ texts.flag_text marks.fin_out →
-        slice_index_or (texts.words_in line.now) (place + 3) [] ≡ texts.flag_text marks.fin_in →
-        slice_index_or (texts.words_in line.now) (place + 4) [] ≡ texts.flag_text marks.reset →
+        slice_index_or (texts.words_in line.now) place [] ≡ texts.state_flag marks.syn_out →
+        slice_index_or (texts.words_in line.now) (place + 1) [] ≡ texts.state_flag marks.syn_in →
+        slice_index_or (texts.words_in line.now) (place + 2) [] ≡ texts.state_flag marks.fin_out →
+        slice_index_or (texts.words_in line.now) (place + 3) [] ≡ texts.state_flag marks.fin_in →
+        slice_index_or (texts.words_in line.now) (place + 4) [] ≡ texts.state_flag marks.reset →
         result ≡ Some marks }
 {
-    Some(Marks {
+    Some(SessionMarks {
         syn_out: flag(line, place)?,
         syn_in: flag(line, place + 1)?,
         fin_out: flag(line, place + 2)?,

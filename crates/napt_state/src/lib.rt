@@ -6,17 +6,17 @@
 mod endpoints;
 mod fault;
 mod fields;
-mod fitting;
 mod line;
-mod saved;
-mod saved_state;
-mod taking;
+mod state_checks;
+mod state_contents;
+mod state_reader;
+mod state_writer;
 #[cfg(test)]
 mod tests;
 mod text;
-mod wrong;
+mod wrong_words;
 
-pub use fault::{StateFault, StateReason, StateWord};
-pub use saved::{KeptLog, Saved};
-pub use taking::take_up;
+pub use fault::{StateFault, StateField, StateReason};
+pub use state_contents::{LogPosition, StateFileContents};
+pub use state_reader::take_up;
 pub use text::{read_state, write_state};

@@ -1,14 +1,14 @@
 //! Entries of a state, as lines of its text.
 ghost use Rattle.std.specs.Prelude.{◌≡◌, ◌++◌, ℕ, Some, IfSome, OnOk, codes, string_bytes};
-ghost use Rattle.napt_account.specs.declared.log.Listed.{Listed as Logged};
+ghost use Rattle.napt_account.specs.declared.log.LogEntry.{LogEntry as Logged};
 ghost use Rattle.napt_rules.specs.declared.{Flow.Flow as Used, Row.Row as Bound};
-ghost use Rattle.napt_state.specs.declared.line.Counts.{Counts as Counted};
-ghost use Rattle.napt_state.specs.Saved.{IsFewLine};
+ghost use Rattle.napt_state.specs.declared.line.LineCounts.{LineCounts as Counted};
+ghost use Rattle.napt_state.specs.StateContents.{IsFewLine};
 ghost use Rattle.napt_state.specs.StateText as texts;
 ghost use Rattle.napt_state.specs.declared.line.StateLine.{StateLine as Told};
 
 use crate::fields;
-use napt_account::{Entry, Listed};
+use napt_account::{Entry, LogEntry};
 use napt_rules::{Flow, Row};
 use std::alloc::AllocError;
 
@@ -24,14 +24,14 @@ pub(crate) enum StateLine {
     /// How many entries the log has so far, and how many bytes its file had. Its entries come behind it.
     Log(u64, u64),
     /// An entry of the log that has not ended.
-    Entry(Listed),
+    Entry(LogEntry),
     /// The last line.
-    End(Counts),
+    End(LineCounts),
 }
 
 /// How many lines of each kind a state has.
 #[derive(Clone, Copy, Debug, PartialEq, Eq)]
-pub(crate) struct Counts {
+pub(crate) struct LineCounts {
     pub bindings: u64,
     pub flows: u64,
     /// `None` if it has no log.
@@ -117,7 +117,7 @@ fn add_log(made: u64, length: u64, text: &mut String) -> Result<(), AllocError>
     Ok(())
 }
 
-fn add_entry(listed: &Listed, text: &mut String) -> Result<(), AllocError>
+fn add_entry(listed: &LogEntry, text: &mut String) -> Result<(), AllocError>
     ensures { OnOk result (string_bytes text.new
         ≡ string_bytes text.old ++ texts.words_text (texts.entry_words listed.now)) }
 {
@@ -143,9 +143,9 @@ fn add_use(entry: &Entry, text: &mut String) -> Result<(), AllocError>
     Ok(())
 }
 
-fn add_end(counts: Counts, text: &mut String) -> Result<(), AllocError>
+fn add_end(counts: LineCounts, text: &mut String) -> Result<(), AllocError>
     ensures { OnOk result (string_bytes text.new
-        ≡ string_bytes text.old ++ texts.words_text (texts.end_words counts)) }
+        ≡ string_bytes text.old ++ texts.words_text (texts.end_line_words counts)) }
 {
     text.push_str("end ")?;
     fields::add_spaced(text, counts.bindings)?;
@@ -206,7 +206,7 @@ fn read_entry(line: &str) -> Option<StateLine>
     ensures read { (listed : Logged) → texts.IsStateLine (texts.entry listed) →
         texts.words_in line.now ≡ texts.entry_words listed → result ≡ Some (texts.entry listed) }
 {
-    Some(StateLine::Entry(Listed {
+    Some(StateLine::Entry(LogEntry {
         number: fields::number(line, 1)?,
         entry: Entry {
             binding: fields::row(line, 2)?,
@@ -224,9 +224,9 @@ fn read_entry(line: &str) -> Option<StateLine>
 fn read_end(line: &str) -> Option<StateLine>
     ensures few { IfSome result IsFewLine }
     ensures read { (counts : Counted) → texts.IsStateLine (texts.end counts) →
-        texts.words_in line.now ≡ texts.end_words counts → result ≡ Some (texts.end counts) }
+        texts.words_in line.now ≡ texts.end_line_words counts → result ≡ Some (texts.end counts) }
 {
-    Some(StateLine::End(Counts {
+    Some(StateLine::End(LineCounts {
         bindings: fields::number(line, 1)?,
         flows: fields::number(line, 2)?,
         entries: fields::number(line, 3),

@@ -1,6 +1,6 @@
 //! A state with a line of each kind is written and read back; damaged texts are refused, with a line that says why.
 
-use crate::{Saved, read_state, take_up, write_state};
+use crate::{StateFileContents, read_state, take_up, write_state};
 use napt_config::Config;
 use napt_rules::Misfit;
 use std::alloc::{AllocError, Global};
@@ -165,7 +165,7 @@ const CONFIG: &str = "pool = [\"203.0.113.1\"]\n\
 /// The first reason against a state with these lines behind its clock.
 fn misfit(alloc: Global, lines: &str) -> Result<Option<Misfit>, AllocError> {
     let text = format!(in alloc; "clock 1000000000\n{lines}")?;
-    let Ok(Saved { mut state, .. }) = read_state(alloc, text.as_bytes()) else {
+    let Ok(StateFileContents { mut state, .. }) = read_state(alloc, text.as_bytes()) else {
         return Err(AllocError);
     };
     let Ok(config) = Config::read(alloc, CONFIG.as_bytes()) else {

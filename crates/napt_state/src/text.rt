@@ -1,14 +1,14 @@
 //! The text of a state, written and read whole.
 ghost use Rattle.std.specs.{Prelude.{◌≡◌, ℕ, List, Option, Some, Ok, OnOk, IfOk, IfSome, flat_map}, Io.KnownBytes.Appends, Option.option_copied};
-ghost use Rattle.napt_account.specs.GoingOn.{IsFew};
-ghost use Rattle.napt_state.specs.declared.saved.Saved.{Saved as Left};
-ghost use Rattle.napt_state.specs.Saved.{UnlessFailed};
+ghost use Rattle.napt_account.specs.ResumedLogRuns.{IsFew};
+ghost use Rattle.napt_state.specs.declared.state_contents.StateFileContents.{StateFileContents as Left};
+ghost use Rattle.napt_state.specs.StateContents.{UnlessFailed};
 ghost use Rattle.napt_state.specs.StateText as texts;
 
 use crate::fault::StateFault;
-use crate::line::{Counts, StateLine};
-use crate::saved::{KeptLog, Saved};
-use crate::saved_state::SavedState;
+use crate::line::{LineCounts, StateLine};
+use crate::state_contents::{LogPosition, StateFileContents};
+use crate::state_writer::SavedState;
 use napt_rules::{State, StateBinding};
 use std::alloc::Global;
 use std::io;
@@ -41,7 +41,7 @@ fn put_binding<W: Write>(
 }
 
 /// Writes a log and its entries.
-fn put_log<W: Write>(writer: &mut W, line: &mut String, saved: &KeptLog) -> io::Result<()>
+fn put_log<W: Write>(writer: &mut W, line: &mut String, saved: &LogPosition) -> io::Result<()>
     ensures { OnOk result (Appends (W.contents writer.old) (W.contents writer.new)
         (flat_map texts.line_text (texts.log_lines (Some saved.now)))) }
 {
@@ -53,7 +53,11 @@ fn put_log<W: Write>(writer: &mut W, line: &mut String, saved: &KeptLog) -> io::
 }
 
 /// Writes a log and its entries, if there is one.
-fn put_any_log<W: Write>(writer: &mut W, line: &mut String, log: Option<&KeptLog>) -> io::Result<()>
+fn put_any_log<W: Write>(
+    writer: &mut W,
+    line: &mut String,
+    log: Option<&LogPosition>,
+) -> io::Result<()>
     ensures { OnOk result (Appends (W.contents writer.old) (W.contents writer.new)
         (flat_map texts.line_text (texts.log_lines (option_copied log.entry)))) }
 {
@@ -69,7 +73,7 @@ pub fn write_state<W: Write>(
     alloc: Global,
     writer: &mut W,
     state: &State,
-    log: Option<&KeptLog>,
+    log: Option<&LogPosition>,
 ) -> io::Result<()>
     ensures { OnOk result (Appends (W.contents writer.old) (W.contents writer.new)
         (texts.saved_text (record { state = state.now; log = option_copied log.entry }))) }
@@ -80,7 +84,7 @@ pub fn write_state<W: Write>(
         put_binding(writer, &mut line, binding)?;
     }
     put_any_log(writer, &mut line, log)?;
-    let counts = Counts::of(state, log)?;
+    let counts = LineCounts::of(state, log)?;
     put_line(writer, &mut line, &StateLine::End(counts))?;
     writer.flush()
 }
@@ -89,7 +93,10 @@ pub fn write_state<W: Write>(
 /// taken: no part of a text, and nothing with anything behind it. The fault is the first one; of the reader, which is
 /// dropped, some first bytes were taken then. `read` says nothing where a read fails, memory runs out or the reader says
 /// that the bytes are not UTF-8, which those of a state's text are.
-pub fn read_state<R: BufRead + Drop>(alloc: Global, reader: R) -> Result<Saved, StateFault>
+pub fn read_state<R: BufRead + Drop>(
+    alloc: Global,
+    reader: R,
+) -> Result<StateFileContents, StateFault>
     ensures read { (saved : Left) → texts.IsSaved saved →
         R.remaining reader ≡ Some (texts.saved_text saved) → UnlessFailed result (result ≡ Ok saved) }
     ensures exact { (text : List ℕ) → R.remaining reader ≡ Some text →

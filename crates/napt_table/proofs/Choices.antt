@@ -1,8 +1,8 @@
 -- The first free place from a number's own on, else before it, is that of its first free candidate.
 use Rattle.std.proofs.Common.{◌≡◌, ℕ, zero, suc, ◌+◌, ◌-◌, ◌*◌, ◌<◌, ◌≤◌, Bool, true, false, not, cond, List, [], ◌∷◌, ◌++◌, map, Option, Some, None, refl, sym, ◌∙◌, ap, subst, arith}
 use Rattle.std.specs.{Prelude.find, List.range_with_len}
-use Rattle.napt_collections.specs.Sets.{IsFirstAbsent}
-use Rattle.napt_table.specs.{declared.class.Class.Class, Classes.{member, from_place}, Places.place_of}
+use Rattle.napt_collections.specs.BitSets.{IsFirstAbsent}
+use Rattle.napt_table.specs.{declared.candidate_class.CandidateClass.CandidateClass, Classes.{member, from_place}, Places.number_place_in_map}
 
 -- FIND AMONG THE NUMBERS FROM ONE ON
 
@@ -52,7 +52,7 @@ module _ (p : ℕ → Bool) where
 
 -- THE FIRST FREE ONE OF A CLASS, whose numbers stand at a run of places, from a place of it on
 
-module _ (used : ℕ → Bool) (place : ℕ → ℕ) (class : Class)
+module _ (used : ℕ → Bool) (place : ℕ → ℕ) (class : CandidateClass)
     (place_is : (q : ℕ) → q < class.many → place (class.least + class.apart * q) ≡ place class.least + q) (k : ℕ)
     (within : k ≤ class.many) where
   abbrev end : ℕ
@@ -117,53 +117,53 @@ module _ (used : ℕ → Bool) (place : ℕ → ℕ) (class : Class)
       ∙ none_among 0 k (place class.least) first (omega arith) (omega arith) refl before
 
 -- a class of numbers that are two apart stands at a run of places
-pub two_apart : (class : Class) → class.apart ≡ 2 → (q : ℕ) →
-    place_of (class.least + class.apart * q) ≡ place_of class.least + q
+pub two_apart : (class : CandidateClass) → class.apart ≡ 2 → (q : ℕ) →
+    number_place_in_map (class.least + class.apart * q) ≡ number_place_in_map class.least + q
 two_apart class apart q =
     let twice : class.apart * q ≡ 2 * q = ap (λ (n : ℕ). n * q) apart in
-    ap (λ (n : ℕ). place_of (class.least + n)) twice ∙ omega arith
+    ap (λ (n : ℕ). number_place_in_map (class.least + n)) twice ∙ omega arith
 
 -- by a start that is the place of its least number
-module _ (used : ℕ → Bool) (class : Class) (apart : class.apart ≡ 2) (k : ℕ) (within : k ≤ class.many) (start : ℕ)
-    (starts : start ≡ place_of class.least) where
-  abbrev run_is : (q : ℕ) → q < class.many → place_of (class.least + class.apart * q) ≡ place_of class.least + q
+module _ (used : ℕ → Bool) (class : CandidateClass) (apart : class.apart ≡ 2) (k : ℕ) (within : k ≤ class.many) (start : ℕ)
+    (starts : start ≡ number_place_in_map class.least) where
+  abbrev run_is : (q : ℕ) → q < class.many → number_place_in_map (class.least + class.apart * q) ≡ number_place_in_map class.least + q
   run_is = λ q lt. two_apart class apart q
 
   abbrev free_number : ℕ → Bool
-  free_number n = not (used (place_of n))
+  free_number n = not (used (number_place_in_map n))
 
   moved : (from many : ℕ) (o : Option ℕ) → IsFirstAbsent used (start + from) (start + many) o →
-      IsFirstAbsent used (place_of class.least + from) (place_of class.least + many) o
+      IsFirstAbsent used (number_place_in_map class.least + from) (number_place_in_map class.least + many) o
   moved from many o h = subst (λ (s : ℕ). IsFirstAbsent used (s + from) (s + many) o) starts h
 
   moved_first : (o : Option ℕ) → IsFirstAbsent used start (start + k) o →
-      IsFirstAbsent used (place_of class.least) (place_of class.least + k) o
+      IsFirstAbsent used (number_place_in_map class.least) (number_place_in_map class.least + k) o
   moved_first o h = subst (λ (s : ℕ). IsFirstAbsent used s (s + k) o) starts h
 
-  number_is : (x : ℕ) → Some (class.least + 2 * (x - start)) ≡ Some (member class (x - place_of class.least))
+  number_is : (x : ℕ) → Some (class.least + 2 * (x - start)) ≡ Some (member class (x - number_place_in_map class.least))
   number_is x = ap (λ (s : ℕ). Some (class.least + 2 * (x - s))) starts
-      ∙ ap (λ (n : ℕ). Some (class.least + n * (x - place_of class.least))) (sym apart)
+      ∙ ap (λ (n : ℕ). Some (class.least + n * (x - number_place_in_map class.least))) (sym apart)
 
   pub near_choice : (x : ℕ) → IsFirstAbsent used (start + k) (start + class.many) (Some x) →
       Some (class.least + 2 * (x - start)) ≡ find free_number (from_place class k)
   near_choice x h =
-      number_is x ∙ sym (found_near used place_of class run_is k within x (moved k class.many (Some x) h))
+      number_is x ∙ sym (found_near used number_place_in_map class run_is k within x (moved k class.many (Some x) h))
 
   pub far_choice : IsFirstAbsent used (start + k) (start + class.many) None → (x : ℕ) →
       IsFirstAbsent used start (start + k) (Some x) →
       Some (class.least + 2 * (x - start)) ≡ find free_number (from_place class k)
   far_choice none x h =
       number_is x
-      ∙ sym (found_far used place_of class run_is k within x (moved k class.many None none) (moved_first (Some x) h))
+      ∙ sym (found_far used number_place_in_map class run_is k within x (moved k class.many None none) (moved_first (Some x) h))
 
   pub no_choice : IsFirstAbsent used (start + k) (start + class.many) None →
       IsFirstAbsent used start (start + k) None → None ≡ find free_number (from_place class k)
   no_choice none h =
-      sym (found_nowhere used place_of class run_is k within (moved k class.many None none) (moved_first None h))
+      sym (found_nowhere used number_place_in_map class run_is k within (moved k class.many None none) (moved_first None h))
 
 -- A CLASS WITHOUT GAPS
 
-module _ (used : ℕ → Bool) (class : Class) (apart : class.apart ≡ 1) (p : ℕ) (small : p ≤ class.many) where
+module _ (used : ℕ → Bool) (class : CandidateClass) (apart : class.apart ≡ 1) (p : ℕ) (small : p ≤ class.many) where
   all_is : (q : ℕ) → q < class.many → class.least + class.apart * q ≡ class.least + q
   all_is q lt = ap (λ n. class.least + n * q) apart ∙ omega arith
 

@@ -4,9 +4,9 @@ use Rattle.std.specs.{Prelude.filter, List.range_with_len}
 use Rattle.std.proofs.lemmas.{Bool.{and_parts, and_from, cases_lt, true≢false, ltb-true, ltb-false, lt-ltb, le-ltb, leb-true, le-leb}, Nat.mod_below}
 use Rattle.std.proofs.lemmas.List.FromFn.{length-map-range_with_len, get_or-map-range_with_len}
 use Rattle.napt_wire.specs.declared.{Endpoint.Endpoint, Protocol.{Protocol, TheVariants.{Icmp, Tcp, Udp}}}
-use Rattle.napt_rules.specs.Prelude.{is_port_for, is_number_for, numbers_below, numbers_for, upwards, start_of, mixed, candidates_in_class, Choosing, Seed}
+use Rattle.napt_rules.specs.Prelude.{is_port_for, is_number_for, numbers_below, numbers_for, upwards, start_of, mixed, candidates_in_class, NumberAssignment, Seed}
 use Rattle.napt_laws.proofs.Classes.{port_from_test, test_from_port}
-use Rattle.napt_table.{specs.{declared.class.Class.Class, Classes.{port_class, class_of, member, from_place, place_of_class}}, proofs.Ports.by_class}
+use Rattle.napt_table.{specs.{declared.candidate_class.CandidateClass.CandidateClass, Classes.{port_class, class_of, member, from_place, place_of_class}}, proofs.Ports.by_class}
 
 -- WHAT A FILTER KEEPS OF A RANGE
 
@@ -80,7 +80,7 @@ filter_both p q (x ∷ xs) = grind (arith, filter_both p q xs)
 
 -- A CLASS THAT HAS THE CANDIDATES OF A NUMBER, which would come at a place
 
-record IsClassOf (fits : ℕ → Bool) (number place : ℕ) (class : Class) : Type 0 where
+record IsClassOf (fits : ℕ → Bool) (number place : ℕ) (class : CandidateClass) : Type 0 where
   some : 0 < class.many
   rises : (i j : ℕ) → i < j → member class i < member class j
   sound : (j : ℕ) → j < class.many → (member class j < 65536) × (fits (member class j) ≡ true)
@@ -89,7 +89,7 @@ record IsClassOf (fits : ℕ → Bool) (number place : ℕ) (class : Class) : Ty
   from_it : (j : ℕ) → place ≤ j → number ≤ member class j
   before_it : (j : ℕ) → j < place → member class j < number
 
-module _ (fits : ℕ → Bool) (number place : ℕ) (class : Class) (s : IsClassOf fits number place class) where
+module _ (fits : ℕ → Bool) (number place : ℕ) (class : CandidateClass) (s : IsClassOf fits number place class) where
   at_or_after : (j : ℕ) → number ≤ member class j → place ≤ j
   at_or_after j high = elim (cases_lt j place) as (λ _. place ≤ j) [
     | inl less ↦ let low : member class j < number = s.before_it j less in absurd (omega (arith, low, high))
@@ -293,7 +293,7 @@ module _ (port : ℕ) (small : port < 65536) where
   free_class : IsClassOf (is_port_for false port) port
       ((port - (port_class false port).least) / (port_class false port).apart) (port_class false port)
   free_class = elim (nat_lt port 1024) as (λ v. nat_lt port 1024 ≡ v →
-      (let class : Class = cond v (record { least = 1; many = 1023; apart = 1 }) (record {
+      (let class : CandidateClass = cond v (record { least = 1; many = 1023; apart = 1 }) (record {
         least = 1024;
         many = 64512;
         apart = 1;
@@ -344,7 +344,7 @@ is_class_of keeps Udp number small = is_port_class number small keeps
 -- THE LAW
 
 module _ (keeps : Bool) (protocol : Protocol) (inside : Endpoint) (small : inside.number < 65536) where
-  abbrev class : Class
+  abbrev class : CandidateClass
   class = class_of keeps protocol inside.number
 
   abbrev numbers : List ℕ
@@ -373,11 +373,11 @@ module _ (keeps : Bool) (protocol : Protocol) (inside : Endpoint) (small : insid
       ap (λ n. upwards n numbers) first
       ∙ both_parts fits (member class place) place class (from_other fits inside.number own class is_own place within)
 
-pub candidates_by_class : (choosing : Choosing) (protocol : Protocol) (inside : Endpoint) → inside.number < 65536 →
-    (class : Class) → class ≡ class_of choosing.keeps_parity protocol inside.number →
+pub candidates_by_class : (choosing : NumberAssignment) (protocol : Protocol) (inside : Endpoint) → inside.number < 65536 →
+    (class : CandidateClass) → class ≡ class_of choosing.keeps_parity protocol inside.number →
     (place : ℕ) → place ≡ place_of_class choosing.seed class protocol inside →
     from_place class place ≡ candidates_in_class choosing protocol inside
 candidates_by_class choosing protocol inside small class class_is place place_is =
     ap (from_place class) place_is
-    ∙ (ap (λ (k : Class). from_place k (place_of_class choosing.seed k protocol inside)) class_is
+    ∙ (ap (λ (k : CandidateClass). from_place k (place_of_class choosing.seed k protocol inside)) class_is
     ∙ sym (from_start choosing.keeps_parity protocol inside small choosing.seed))

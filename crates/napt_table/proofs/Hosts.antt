@@ -4,8 +4,8 @@ use Rattle.std.{specs.Prelude.{filter, find}, proofs.lemmas.Bool.{eq-eqb, true�
 use Rattle.napt_wire.specs.declared.Protocol.{Protocol, TheVariants.{Icmp, Tcp, Udp}}
 use Rattle.napt_rules.specs.declared.Row.{Row}
 use Rattle.std.specs.Option.{option_map}
-use Rattle.napt_rules.specs.Prelude.{Binding, same_protocol, is_at, has_number, counts_for, count_for, row, Apart}
-use Rattle.napt_table.specs.{Hosts.{held_for, count_below, count_held, CountIsHeld}}
+use Rattle.napt_rules.specs.Prelude.{Binding, same_protocol, is_at, has_number, counts_for, count_for, row, AreBindingsApart}
+use Rattle.napt_table.specs.{Hosts.{held_counts_for, count_below, count_held, CountIsHeld}}
 use Rattle.napt_laws.proofs.{Lists.find_nowhere, Finds.Once, Endpoints.{protocol_is, same_itself, has_it, number_of_it, not_has, once_number}}
 
 -- one where the test passes
@@ -68,31 +68,31 @@ module _ (test : ℕ → Bool) where
 -- WHAT IS HELD FOR A HOST
 
 pub count_same : (held held' : ℕ → Option Binding) (host : ℕ) →
-    ((n : ℕ) → n < 2 ^ 16 → held_for host (held' n) ≡ held_for host (held n)) →
+    ((n : ℕ) → n < 2 ^ 16 → held_counts_for host (held' n) ≡ held_counts_for host (held n)) →
     count_held held' host ≡ count_held held host
 count_same held held' host same =
-    below_same (λ n. held_for host (held' n)) (λ n. held_for host (held n)) (2 ^ 16) same
+    below_same (λ n. held_counts_for host (held' n)) (λ n. held_counts_for host (held n)) (2 ^ 16) same
 
 pub count_changed : (held held' : ℕ → Option Binding) (host number : ℕ) → number < 2 ^ 16 →
     ((n : ℕ) → n ≢ number → held' n ≡ held n) →
-    count_held held' host + cond {A = ℕ} (held_for host (held number)) 1 0
-    ≡ count_held held host + cond {A = ℕ} (held_for host (held' number)) 1 0
+    count_held held' host + cond {A = ℕ} (held_counts_for host (held number)) 1 0
+    ≡ count_held held host + cond {A = ℕ} (held_counts_for host (held' number)) 1 0
 count_changed held held' host number less same =
-    below_changed (λ n. held_for host (held' n)) (λ n. held_for host (held n)) number (2 ^ 16) less
-    (λ n differs. ap (held_for host) (same n differs))
+    below_changed (λ n. held_counts_for host (held' n)) (λ n. held_counts_for host (held n)) number (2 ^ 16) less
+    (λ n differs. ap (held_counts_for host) (same n differs))
 
 pub count_none : (held : ℕ → Option Binding) (host : ℕ) → ((n : ℕ) → held n ≡ None) → count_held held host ≡ 0
-count_none held host none = below_none (λ n. held_for host (held n)) (2 ^ 16) (λ n. ap (held_for host) (none n))
+count_none held host none = below_none (λ n. held_counts_for host (held n)) (2 ^ 16) (λ n. ap (held_counts_for host) (none n))
 
 pub count_few : (held : ℕ → Option Binding) (host : ℕ) → count_held held host ≤ 2 ^ 16
-count_few held host = below_few (λ n. held_for host (held n)) (2 ^ 16)
+count_few held host = below_few (λ n. held_counts_for host (held n)) (2 ^ 16)
 
 -- THE LIST
 
 module _ (many address host : ℕ) where
   -- whether what is found at a number of the protocol counts for the host
   abbrev found_for : List Binding → Protocol → ℕ → Bool
-  found_for list q n = held_for host (find (λ b. has_number address q n b.row) list)
+  found_for list q n = held_counts_for host (find (λ b. has_number address q n b.row) list)
 
   abbrev found : List Binding → Protocol → ℕ
   found list q = count_below (found_for list q) many
@@ -117,7 +117,7 @@ module _ (many address host : ℕ) where
 
     elsewhere : (q : Protocol) (n : ℕ) → has_number address q n x.row ≡ false → found_for (x ∷ xs) q n
         ≡ found_for xs q n
-    elsewhere q n h = ap (λ v. held_for host (cond v (Some x) (find (λ b. has_number address q n b.row) xs))) h
+    elsewhere q n h = ap (λ v. held_counts_for host (cond v (Some x) (find (λ b. has_number address q n b.row) xs))) h
 
     not_number : (q : Protocol) (n : ℕ) → n ≢ x.row.external.number → has_number address q n x.row ≡ false
     not_number q n differs =
@@ -131,7 +131,7 @@ module _ (many address host : ℕ) where
         below_same (found_for (x ∷ xs) q) (found_for xs q) many
         (λ n less. elsewhere q n (not_has address q n x.row differs))
 
-    of_own : Apart (map row (x ∷ xs)) → AreBelow (x ∷ xs) → (q : Protocol) → q ≡ x.row.protocol →
+    of_own : AreBindingsApart (map row (x ∷ xs)) → AreBelow (x ∷ xs) → (q : Protocol) → q ≡ x.row.protocol →
         found (x ∷ xs) q ≡ found xs q + one counted
     of_own apart below q p =
         let number : ℕ = x.row.external.number in
@@ -140,15 +140,15 @@ module _ (many address host : ℕ) where
         let once : Once (λ b. has_number address q number b.row) (x ∷ xs) =
         once_number address q number (x ∷ xs) apart in
         let none : find (λ b. has_number address q number b.row) xs ≡ None = find_nowhere _ xs (once.0 has) in
-        let before : one (found_for xs q number) ≡ 0 = ap (λ o. one (held_for host o)) none in
-        let after : one (found_for (x ∷ xs) q number) ≡ one counted = ap (λ v. one (held_for host (head v))) has in
+        let before : one (found_for xs q number) ≡ 0 = ap (λ o. one (held_counts_for host o)) none in
+        let after : one (found_for (x ∷ xs) q number) ≡ one counted = ap (λ v. one (held_counts_for host (head v))) has in
         let changed : found (x ∷ xs) q + one (found_for xs q number)
         ≡ found xs q + one (found_for (x ∷ xs) q number) =
         below_changed (found_for (x ∷ xs) q) (found_for xs q) number many (below q number x (ap head has))
         (λ n differs. elsewhere q n (not_number q n differs)) in
         omega (arith, changed, before, after)
 
-    of_each : Apart (map row (x ∷ xs)) → AreBelow (x ∷ xs) → (q : Protocol) →
+    of_each : AreBindingsApart (map row (x ∷ xs)) → AreBelow (x ∷ xs) → (q : Protocol) →
         found (x ∷ xs) q ≡ found xs q + one (same_protocol q x.row.protocol && counted)
     of_each apart below q =
         elim (same_protocol q x.row.protocol) as
@@ -179,7 +179,7 @@ module _ (many address host : ℕ) where
   one_protocol Tcp v = omega arith
   one_protocol Udp v = omega arith
 
-  count_found : (list : List Binding) → Apart (map row list) → AreBelow list →
+  count_found : (list : List Binding) → AreBindingsApart (map row list) → AreBelow list →
       count_for address host list ≡ found_in_all list
   count_found [] apart below =
       let none : (q : Protocol) → found [] q ≡ 0 = λ q. below_none (found_for [] q) many (λ n. refl) in
@@ -205,7 +205,7 @@ module _ (many address host : ℕ) where
       ] refl
     where
       missed : (q : Protocol) (n : ℕ) → has_number address q n x.row ≡ false → found_for (x ∷ xs) q n ≡ found_for xs q n
-      missed q n h = ap (λ v. held_for host (cond v (Some x) (find (λ b. has_number address q n b.row) xs))) h
+      missed q n h = ap (λ v. held_counts_for host (cond v (Some x) (find (λ b. has_number address q n b.row) xs))) h
 
 -- OF THE SAME ROWS
 
@@ -214,7 +214,7 @@ abbrev for_row : ℕ → Option Row → Bool
 for_row host None = false
 for_row host (Some r) = eqb r.inside.address host && not r.fixed
 
-by_row : (host : ℕ) (o : Option Binding) → held_for host o ≡ for_row host (option_map row o)
+by_row : (host : ℕ) (o : Option Binding) → held_counts_for host o ≡ for_row host (option_map row o)
 by_row host None = refl
 by_row host (Some b) = refl
 
@@ -225,9 +225,9 @@ some_held (Some c) r e = (c, refl)
 -- for any bound of the numbers at which something is held
 module _ (many address host : ℕ) (held : Protocol → ℕ → Option Binding) where
   abbrev held_in : Protocol → ℕ
-  held_in q = count_below (λ n. held_for host (held q n)) many
+  held_in q = count_below (λ n. held_counts_for host (held q n)) many
 
-  count_within : (list : List Binding) → Apart (map row list) →
+  count_within : (list : List Binding) → AreBindingsApart (map row list) →
       ((q : Protocol) (n : ℕ) → option_map row (find (λ b. has_number address q n b.row) list)
       ≡ option_map row (held q n)) →
       ((q : Protocol) (n : ℕ) (b : Binding) → held q n ≡ Some b → n < many) →
@@ -236,7 +236,7 @@ module _ (many address host : ℕ) (held : Protocol → ℕ → Option Binding) 
       let below : AreBelow many address host list =
       λ q n b e. let h = some_held (held q n) (row b) (sym (rows q n) ∙ ap (option_map row) e) in small q n h.0 h.1 in
       let same : (q : Protocol) → found many address host list q ≡ held_in q =
-      λ q. below_same (found_for many address host list q) (λ n. held_for host (held q n)) many
+      λ q. below_same (found_for many address host list q) (λ n. held_counts_for host (held q n)) many
       (λ n less. by_row host (find (λ b. has_number address q n b.row) list)
       ∙ (ap (for_row host) (rows q n) ∙ sym (by_row host (held q n)))) in
       omega (arith, count_found many address host list apart below, same Icmp, same Tcp, same Udp)

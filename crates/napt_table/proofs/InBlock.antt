@@ -2,11 +2,11 @@
 -- place of it on, then before it; or, where parity is free, all of them so.
 use Rattle.std.proofs.Common.{◌≡◌, ℕ, zero, suc, ◌+◌, ◌-◌, ◌*◌, ◌/◌, ◌%◌, ◌<◌, ◌≤◌, ◌^◌, Bool, true, false, List, ◌∷◌, ◌++◌, map, Option, Some, None, refl, sym, ◌∙◌, ap, arith}
 use Rattle.std.{specs.{Prelude.{find, IfSome}, List.range_with_len}, proofs.{lemmas.List.map-append, Math.Nat.{mod-eq_of_lt, add-mod_left}}}
-use Rattle.napt_config.specs.{Rules.IsBlock, declared.settings.Block.Block}
+use Rattle.napt_config.specs.{Rules.IsPortBlock, declared.settings.PortBlock.PortBlock}
 use Rattle.napt_wire.specs.declared.{Endpoint.Endpoint, Protocol.Protocol}
-use Rattle.napt_rules.specs.Prelude.{Each, numbers_below, every_other, each_one, place_in, block_from, candidates_in_block, candidates, Choosing}
+use Rattle.napt_rules.specs.Prelude.{Each, numbers_below, every_other, each_one, place_in, block_from, candidates_in_block, candidates, NumberAssignment}
 use Rattle.napt_laws.proofs.{Blocks.each_of_block, Classes.{small_number, each_candidate}}
-use Rattle.napt_table.{specs.{declared.class.Class.Class, Classes.{member, from_place, class_in_block, class_of_block}}, proofs.Choices.{find_front, find_rest}}
+use Rattle.napt_table.{specs.{declared.candidate_class.CandidateClass.CandidateClass, Classes.{member, from_place, class_in_block, class_of_block}}, proofs.Choices.{find_front, find_rest}}
 
 -- RANGES
 
@@ -50,7 +50,7 @@ map_wraps f g many j le before after =
 
 -- ONE PARITY
 
-module _ (block : Block) (is : IsBlock block) where
+module _ (block : PortBlock) (is : IsPortBlock block) where
   pub turn_is : (place : ℕ) → place ≤ block.size →
       every_other block place ≡ from_place (class_in_block block (place % 2)) (place / 2)
   unfolding numbers_below
@@ -82,12 +82,12 @@ module _ (block : Block) (is : IsBlock block) where
       ∙ (ap (λ n. block.first + n) (add-mod_left block.size k ∙ mod-eq_of_lt less) ∙ omega arith))
 
   -- by a class and a place that are those
-  pub each_by : (choosing : Choosing) → choosing.keeps_parity ≡ false → (protocol : Protocol) (inside : Endpoint)
-      (class : Class) → class ≡ class_of_block block → (place : ℕ) →
+  pub each_by : (choosing : NumberAssignment) → choosing.keeps_parity ≡ false → (protocol : Protocol) (inside : Endpoint)
+      (class : CandidateClass) → class ≡ class_of_block block → (place : ℕ) →
       place ≡ place_in choosing.seed choosing.keeps_parity block.size protocol inside → place < block.size →
       from_place class place ≡ candidates_in_block choosing block protocol inside
   each_by choosing free protocol inside class class_is place place_is within =
-      ap (λ (k : Class). from_place k place) class_is
+      ap (λ (k : CandidateClass). from_place k place) class_is
       ∙ (sym (each_is place (omega (arith, within)))
       ∙ (sym (ap (λ keeps. block_from keeps block place) free)
       ∙ ap (block_from choosing.keeps_parity block) place_is))
@@ -114,7 +114,7 @@ module _ (block : Block) (is : IsBlock block) where
 
 -- EACH CANDIDATE has 16 bits
 
-pub each_small : (choosing : Choosing) (block : Option Block) → IfSome block IsBlock → (P : ℕ → Type 0)
+pub each_small : (choosing : NumberAssignment) (block : Option PortBlock) → IfSome block IsPortBlock → (P : ℕ → Type 0)
     (protocol : Protocol) (inside : Endpoint) → ((n : ℕ) → n < 2 ^ 16 → P n) →
     Each P (candidates choosing block protocol inside)
 each_small choosing None is P protocol inside holds =

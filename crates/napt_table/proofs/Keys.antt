@@ -3,7 +3,7 @@ use Rattle.std.proofs.Common.{◌≡◌, ◌≢◌, ℕ, Bool, true, false, ◌&
 use Rattle.std.{proofs.lemmas.Bool.{eq-eqb, and_from, and_parts, true≢false}, specs.Cmp.IsEquivalence}
 use denote.Enum.Bare.{sameb}
 use Rattle.napt_wire.specs.{contracts.Protocol.the_type, declared.{Protocol.{Protocol, TheVariants.{Icmp, Tcp, Udp}}, Endpoint.Endpoint}}
-use Rattle.napt_table.specs.{declared.bindings.keys.ExternalKey.ExternalKey, Keys.{key_eq, inside_eq, external_key, inside_key}}
+use Rattle.napt_table.specs.{declared.bindings.keys.ExternalNumberKey.ExternalNumberKey, Keys.{key_eq, inside_eq, external_key, inside_key}}
 
 same_bare : (p q : Protocol) → sameb the_type p q ≡ true → p ≡ q
 same_bare Icmp Icmp h = refl
@@ -21,21 +21,21 @@ bare_itself Icmp = refl
 bare_itself Tcp = refl
 bare_itself Udp = refl
 
-pub key_is : (a b : ExternalKey) → key_eq a b ≡ true → a ≡ b
+pub key_is : (a b : ExternalNumberKey) → key_eq a b ≡ true → a ≡ b
 key_is a b h =
     let p = and_parts (eqb a.number b.number) (sameb the_type a.protocol b.protocol) h in
     let n : a.number ≡ b.number = eqb-true a.number b.number p.0 in
     let q : a.protocol ≡ b.protocol = same_bare a.protocol b.protocol p.1 in
     λ k. record { number = n k; protocol = q k }
 
-pub key_itself : (a : ExternalKey) → key_eq a a ≡ true
+pub key_itself : (a : ExternalNumberKey) → key_eq a a ≡ true
 key_itself a = and_from (eqb a.number a.number) (sameb the_type a.protocol a.protocol) (eq-eqb a.number a.number refl)
     (bare_itself a.protocol)
 
-pub key_differs : (a b : ExternalKey) → key_eq a b ≡ false → a ≢ b
+pub key_differs : (a b : ExternalNumberKey) → key_eq a b ≡ false → a ≢ b
 key_differs a b h e = true≢false (sym (sym (ap (key_eq a) e) ∙ key_itself a) ∙ h)
 
-pub other_key : (a b : ExternalKey) → a ≢ b → key_eq a b ≡ false
+pub other_key : (a b : ExternalNumberKey) → a ≢ b → key_eq a b ≡ false
 other_key a b differs = elim (key_eq a b) as (λ v. key_eq a b ≡ v → v ≡ false) [
   | true ↦ λ t. absurd (differs (key_is a b t))
   | false ↦ λ t. refl
@@ -46,28 +46,28 @@ same_tests true w f g = sym (f refl)
 same_tests false true f g = g refl
 same_tests false false f g = refl
 
-key_swap : (a b : ExternalKey) → key_eq a b ≡ true → key_eq b a ≡ true
+key_swap : (a b : ExternalNumberKey) → key_eq a b ≡ true → key_eq b a ≡ true
 key_swap a b t = ap (key_eq b) (key_is a b t) ∙ key_itself b
 
 pub key_equiv : IsEquivalence key_eq
 key_equiv = record {
   refl = key_itself;
   symm = λ a b. same_tests (key_eq a b) (key_eq b a) (key_swap a b) (key_swap b a);
-  congr = λ a b c t. ap (λ (x : ExternalKey). key_eq x c) (key_is a b t);
+  congr = λ a b c t. ap (λ (x : ExternalNumberKey). key_eq x c) (key_is a b t);
 }
 
 -- what holds at the key, and at each other one
-pub by_key : (a b : ExternalKey) (P : ExternalKey → Type 0) → P a → (b ≢ a → P b) → P b
+pub by_key : (a b : ExternalNumberKey) (P : ExternalNumberKey → Type 0) → P a → (b ≢ a → P b) → P b
 by_key a b P here rest = elim (key_eq a b) as (λ v. key_eq a b ≡ v → P b) [
   | true ↦ λ t. subst P (key_is a b t) here
   | false ↦ λ t. rest (λ e. key_differs a b t (sym e))
 ] refl
 
-module _ {X : Type 0} (a : ExternalKey) (x y : X) where
+module _ {X : Type 0} (a : ExternalNumberKey) (x y : X) where
   pub at_key : cond (key_eq a a) x y ≡ x
   at_key = ap (λ v. cond v x y) (key_itself a)
 
-  pub past_key : (b : ExternalKey) → b ≢ a → cond (key_eq a b) x y ≡ y
+  pub past_key : (b : ExternalNumberKey) → b ≢ a → cond (key_eq a b) x y ≡ y
   past_key b differs = ap (λ v. cond v x y) (other_key a b (λ e. differs (sym e)))
 
 and_true : (v : Bool) → (v && true) ≡ v

@@ -1,6 +1,6 @@
 -- The least free number, by the first free places.
 use Rattle.std.proofs.Common.{◌≡◌, ℕ, ◌<◌, Bool, Option, Some, None, sym, ◌∙◌, arith}
-use Rattle.napt_collections.specs.Sets.{IsFirstAbsent}
+use Rattle.napt_collections.specs.BitSets.{IsFirstAbsent}
 
 -- by two tests that agree
 pub first_agrees : (p q : ℕ → Bool) (from end : ℕ) → ((n : ℕ) → n < end → p n ≡ q n) → (o : Option ℕ) →

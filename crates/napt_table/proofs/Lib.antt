@@ -5,22 +5,22 @@ pub mod InBlock
 pub mod LeastFree
 pub mod QuotaKept
 pub mod Tables
-pub mod Opened
-pub mod Seen
+pub mod NewTables
+pub mod SeenBindings
 pub mod Hosts
 pub mod Keys
 pub mod Ends
 pub mod Queues
 pub mod Steps
-mod Used
-pub mod Sends
-pub mod Enters
+mod LastUses
+pub mod OutboundSteps
+pub mod InboundSteps
 pub mod LiveNumbers
 pub mod TableSteps
-pub mod Listed
-pub mod Opening
-pub mod Resuming
+pub mod ListedRows
+pub mod TableBuilders
+pub mod ResumedTables
 pub mod Alike
-pub mod Left
-pub mod Keeps
-pub mod Granted
+pub mod LeftBindings
+pub mod HeldThroughTime
+pub mod AssignedNumbers

@@ -1,6 +1,6 @@
 -- What holds of each class of ports holds of that of a port.
 use Rattle.std.proofs.{Common.{◌≡◌, ◌≢◌, ℕ, ◌%◌, ◌<◌, ◌==◌, Bool, true, false, cond, nat_lt, refl, arith}, lemmas.Bool.Decides.nat_tests}
-use Rattle.napt_table.specs.{declared.class.Class.Class, Classes.port_class}
+use Rattle.napt_table.specs.{declared.candidate_class.CandidateClass.CandidateClass, Classes.port_class}
 
 odd : (p : ℕ) → (p % 2 == 1) ≡ true → p % 2 ≡ 1
 odd p e = grind (arith, nat_tests, e)
@@ -10,14 +10,14 @@ even p e = let differs : p % 2 ≢ 1 = grind (arith, nat_tests, e) in
     let small : p % 2 < 2 = omega arith in
     omega (arith, differs, small)
 
-abbrev low_class : Bool → Class
+abbrev low_class : Bool → CandidateClass
 low_class v = cond v (record { least = 1; many = 512; apart = 2 }) (record { least = 2; many = 511; apart = 2 })
 
-abbrev high_class : Bool → Class
+abbrev high_class : Bool → CandidateClass
 high_class v =
     cond v (record { least = 1025; many = 32256; apart = 2 }) (record { least = 1024; many = 32256; apart = 2 })
 
-pub by_class : (P : Class → Type 0) (p : ℕ) →
+pub by_class : (P : CandidateClass → Type 0) (p : ℕ) →
     (nat_lt p 1024 ≡ true → p % 2 ≡ 1 → P (record { least = 1; many = 512; apart = 2 })) →
     (nat_lt p 1024 ≡ true → p % 2 ≡ 0 → P (record { least = 2; many = 511; apart = 2 })) →
     (nat_lt p 1024 ≡ false → p % 2 ≡ 1 → P (record { least = 1025; many = 32256; apart = 2 })) →

@@ -3,40 +3,40 @@ use Rattle.std.proofs.Common.{◌≡◌, ◌≢◌, ℕ, Bool, true, false, cond
 use Rattle.std.{specs.Prelude.{find, OnErr}, proofs.lemmas.Bool.{eq-eqb, true≢false}}
 use Rattle.napt_wire.specs.declared.{Protocol.Protocol, Cause.TheVariants.{NoBinding, Filtered}}
 use Rattle.napt_config.specs.declared.settings.Timers.{Timers}
-use Rattle.napt_rules.specs.declared.{Granting.Granting, Inbound.Inbound, Sent.Sent, Received.Received}
-use Rattle.napt_rules.specs.Prelude.{Binding, change_first, same_protocol, has_number, purge, permits, of_source, sent_by, of_destination, received_by, In, in_found, in_taken, AreTimers}
+use Rattle.napt_rules.specs.declared.{AssignmentRules.AssignmentRules, InboundRules.InboundRules, OutboundPacket.OutboundPacket, InboundPacket.InboundPacket}
+use Rattle.napt_rules.specs.Prelude.{Binding, change_first, same_protocol, has_number, purge, permits, is_of_source, binding_after_out, is_of_destination, binding_after_in, InboundEffect, in_found, in_taken, AreTimers}
 use Rattle.napt_laws.proofs.{Finds.find_other, Passes.in_passed, StepsLive.received_seen}
 use Rattle.napt_laws.proofs.Endpoints.{protocol_is, same_itself, changed_other, inside_protocol, not_has}
-use Rattle.napt_table.specs.{declared.event.Event.Event, Events.{played, played_all}}
+use Rattle.napt_table.specs.{declared.table_event.TableEvent.TableEvent, Events.{list_after_event, list_after_events}}
 
 -- what a packet that comes in does to what is shown
-abbrev pub shown_passed : Inbound → List Binding → ℕ → Received → Binding → Bool → In
+abbrev pub shown_passed : InboundRules → List Binding → ℕ → InboundPacket → Binding → Bool → InboundEffect
 shown_passed inbound list address packet b passes =
     cond passes
     (record {
       inside = Ok b.row.inside;
       through = None;
-      list = change_first (of_destination address packet) (received_by inbound packet) list;
+      list = change_first (is_of_destination address packet) (binding_after_in inbound packet) list;
     })
     (record { inside = Err Filtered; through = None; list = list })
 
-abbrev pub shown_found : Inbound → List Binding → ℕ → Received → Option Binding → In
+abbrev pub shown_found : InboundRules → List Binding → ℕ → InboundPacket → Option Binding → InboundEffect
 shown_found inbound list address packet None = record { inside = Err NoBinding; through = None; list = list }
 shown_found inbound list address packet (Some b) =
     shown_passed inbound list address packet b (permits inbound b packet.remote)
 
-abbrev pub shown_in : Inbound → ℕ → Received → List Binding → In
+abbrev pub shown_in : InboundRules → ℕ → InboundPacket → List Binding → InboundEffect
 shown_in inbound address packet list =
-    shown_found inbound list address packet (find (of_destination address packet) list)
+    shown_found inbound list address packet (find (is_of_destination address packet) list)
 
 -- it is what the packet does to the list, as it is shown
-pub in_is_shown : (timers : Timers) → AreTimers timers → (inbound : Inbound) (address : ℕ) (packet : Received)
-    (all : List Binding) → (let came : In = in_taken timers inbound address packet all in
-    let shown : In = shown_in inbound address packet (purge timers packet.now all) in
+pub in_is_shown : (timers : Timers) → AreTimers timers → (inbound : InboundRules) (address : ℕ) (packet : InboundPacket)
+    (all : List Binding) → (let came : InboundEffect = in_taken timers inbound address packet all in
+    let shown : InboundEffect = shown_in inbound address packet (purge timers packet.now all) in
     (came.inside ≡ shown.inside) × (purge timers packet.now came.list ≡ shown.list))
 in_is_shown timers t inbound address packet all =
     let live : List Binding = purge timers packet.now all in
-    elim (find (of_destination address packet) live) as (λ o.
+    elim (find (is_of_destination address packet) live) as (λ o.
     ((in_found timers inbound all address packet o).inside ≡ (shown_found inbound live address packet o).inside)
     × (purge timers packet.now (in_found timers inbound all address packet o).list
     ≡ (shown_found inbound live address packet o).list)) [
@@ -50,29 +50,29 @@ in_is_shown timers t inbound address packet all =
     ]
 
 -- other protocols are as before
-pub in_others : (inbound : Inbound) (timers : Timers) (address : ℕ) (packet : Received) (list : List Binding)
+pub in_others : (inbound : InboundRules) (timers : Timers) (address : ℕ) (packet : InboundPacket) (list : List Binding)
     (q : Protocol) → q ≢ packet.protocol → (n : ℕ) →
     find (λ b. has_number address q n b.row) (shown_in inbound address packet list).list
     ≡ find (λ b. has_number address q n b.row) list
 in_others inbound timers address packet list q differs n =
-    elim (find (of_destination address packet) list) as (λ o.
+    elim (find (is_of_destination address packet) list) as (λ o.
     find (λ b. has_number address q n b.row) (shown_found inbound list address packet o).list
     ≡ find (λ b. has_number address q n b.row) list) [
       | None ↦ refl
       | Some b ↦ elim (permits inbound b packet.remote) as (λ v.
           find (λ b. has_number address q n b.row) (shown_passed inbound list address packet b v).list
           ≡ find (λ b. has_number address q n b.row) list) [
-            | true ↦ changed_other address packet.protocol packet.number (received_by inbound packet)
+            | true ↦ changed_other address packet.protocol packet.number (binding_after_in inbound packet)
                 (λ b. refl) list q n (λ p. absurd (differs p))
             | false ↦ refl
           ]
     ]
 
-pub sent_others : (address : ℕ) (packet : Sent) (list : List Binding) (q : Protocol) → q ≢ packet.protocol → (n : ℕ) →
-    find (λ b. has_number address q n b.row) (change_first (of_source address packet) (sent_by packet) list)
+pub sent_others : (address : ℕ) (packet : OutboundPacket) (list : List Binding) (q : Protocol) → q ≢ packet.protocol → (n : ℕ) →
+    find (λ b. has_number address q n b.row) (change_first (is_of_source address packet) (binding_after_out packet) list)
     ≡ find (λ b. has_number address q n b.row) list
 sent_others address packet list q differs n =
-    find_other (of_source address packet) (sent_by packet) (λ b. has_number address q n b.row)
+    find_other (is_of_source address packet) (binding_after_out packet) (λ b. has_number address q n b.row)
     (λ x. refl) (λ x h. not_has address q n x.row (λ p. differs (p ∙ sym
     (inside_protocol address packet.protocol packet.inside x.row h)))) list
 
@@ -95,11 +95,11 @@ same_everywhere old new number others here n = elim (eqb n number) as (λ v. eqb
 ] refl
 
 -- one event more
-pub played_more : (timers : Timers) (granting : Granting) (inbound : Inbound) (address : ℕ) (events : List (ℕ × Event))
-    (event : ℕ × Event) (list : List Binding) →
-    played_all timers granting inbound address (events ++ event ∷ []) list
-    ≡ played timers granting inbound address event.1 (played_all timers granting inbound address events list)
+pub played_more : (timers : Timers) (granting : AssignmentRules) (inbound : InboundRules) (address : ℕ) (events : List (ℕ × TableEvent))
+    (event : ℕ × TableEvent) (list : List Binding) →
+    list_after_events timers granting inbound address (events ++ event ∷ []) list
+    ≡ list_after_event timers granting inbound address event.1 (list_after_events timers granting inbound address events list)
 played_more timers granting inbound address [] event list = refl
 played_more timers granting inbound address (e ∷ events) event list = played_more timers granting inbound address
     events event
-    (played timers granting inbound address e.1 list)
+    (list_after_event timers granting inbound address e.1 list)

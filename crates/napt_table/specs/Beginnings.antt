@@ -2,18 +2,18 @@
 use Rattle.std.specs.Prelude.{◌≡◌, ℕ, not, List, map, filter, find}
 use Rattle.napt_wire.specs.declared.Protocol.{Protocol}
 use Rattle.napt_config.specs.declared.settings.Timers.{Timers}
-use Rattle.napt_rules.specs.Prelude.{Binding, has_number, of, taken}
-use Rattle.napt_table.specs.{declared.beginning.Beginning.TheInside.Inside, Holdings.{Holdings, held_at}, Tables.TableState}
+use Rattle.napt_rules.specs.Prelude.{Binding, has_number, bindings_at, live_and_held}
+use Rattle.napt_table.specs.{declared.table_builder.TableBuilder.TheInside.Inside, BindingIndexes.{BindingIndexModel, held_at}, Tables.TableModel}
 
 -- at each number of each protocol what the list has is held
-abbrev pub AreHeld : ℕ → Holdings → List Binding → Type 0
+abbrev pub AreHeld : ℕ → BindingIndexModel → List Binding → Type 0
 AreHeld address all list = (q : Protocol) (n : ℕ) → held_at all q n ≡ find (λ b. has_number address q n b.row) list
 
 abbrev pub list_of : Inside → List Binding
 list_of it = map (λ e. e.1) it.list.items
 
-abbrev pub shown : Inside → TableState
-shown it = record {
+abbrev pub builder_model : Inside → TableModel
+builder_model it = record {
   address = it.bindings.held.address;
   timers = it.bindings.timers;
   granting = it.bindings.held.granting;
@@ -23,5 +23,5 @@ shown it = record {
 }
 
 -- those of bindings that are at the address, no redirects, and live or are held at the time
-abbrev pub taken_up : Timers → ℕ → ℕ → List Binding → List Binding
-taken_up timers at address list = of address (filter (λ b. not b.row.fixed) (taken timers at list))
+abbrev pub state_bindings_at : Timers → ℕ → ℕ → List Binding → List Binding
+state_bindings_at timers at address list = bindings_at address (filter (λ b. not b.row.fixed) (live_and_held timers at list))

@@ -1,13 +1,13 @@
 -- Counts by inside host.
 use Rattle.std.specs.{Prelude.{ℕ, Bool, Option, Some, None}, Option.is_some}
-use Rattle.napt_binding.specs.{declared.addresses.Addresses.Addresses, Counts.{count_at, room_of}}
+use Rattle.napt_binding.specs.{declared.address_counts.AddressCounts.AddressCounts, Counts.{count_at, room_of}}
 use Rattle.napt_table.specs.declared.host_counts.HostCounts.{HostCounts}
 
 -- whether bindings are counted by host
 abbrev pub are_counted : HostCounts → Bool
 are_counted hosts = is_some hosts.counts
 
-abbrev pub count_by : Option Addresses → ℕ → ℕ
+abbrev pub count_by : Option AddressCounts → ℕ → ℕ
 count_by None host = 0
 count_by (Some counts) host = count_at counts host
 
@@ -16,9 +16,9 @@ abbrev pub count_in : HostCounts → ℕ → ℕ
 count_in hosts host = count_by hosts.counts host
 
 -- how many more hosts fit without a growth; where none is counted, one at any time
-abbrev pub place_by : Option Addresses → ℕ
+abbrev pub place_by : Option AddressCounts → ℕ
 place_by None = 1
 place_by (Some counts) = room_of counts
 
-abbrev pub place_of : HostCounts → ℕ
-place_of hosts = place_by hosts.counts
+abbrev pub host_place : HostCounts → ℕ
+host_place hosts = place_by hosts.counts

@@ -1,11 +1,11 @@
 -- No inside host comes to have more bindings than its quota (RFC 6888, REQ-4).
 use Rattle.std.specs.Prelude.{◌≡◌, ℕ, ◌≤◌, max, List, Some}
 use Rattle.napt_config.specs.declared.settings.Timers.{Timers}
-use Rattle.napt_rules.specs.{declared.{Granting.Granting, Inbound.Inbound}, Prelude.{Binding, count_for}}
-use Rattle.napt_table.specs.{declared.event.Event.Event, Events.played_all}
+use Rattle.napt_rules.specs.{declared.{AssignmentRules.AssignmentRules, InboundRules.InboundRules}, Prelude.{Binding, count_for}}
+use Rattle.napt_table.specs.{declared.table_event.TableEvent.TableEvent, Events.list_after_events}
 
 -- so whatever happened to a table, no host has more than the quota, or than it began with
 abbrev pub PlayedKeepsQuota : Type 0
-PlayedKeepsQuota = (timers : Timers) (granting : Granting) (quota : ℕ) → granting.quota ≡ Some quota →
-    (inbound : Inbound) (address : ℕ) (events : List (ℕ × Event)) (begun : List Binding) (at host : ℕ) →
-    count_for at host (played_all timers granting inbound address events begun) ≤ max quota (count_for at host begun)
+PlayedKeepsQuota = (timers : Timers) (granting : AssignmentRules) (quota : ℕ) → granting.quota ≡ Some quota →
+    (inbound : InboundRules) (address : ℕ) (events : List (ℕ × TableEvent)) (begun : List Binding) (at host : ℕ) →
+    count_for at host (list_after_events timers granting inbound address events begun) ≤ max quota (count_for at host begun)

@@ -4,5 +4,5 @@ use Rattle.napt_rules.specs.Prelude.{Binding, row}
 use Rattle.napt_binding.specs.Ends.{end_of}
 use Rattle.napt_table.specs.declared.TimedRow.{TimedRow}
 
-abbrev pub timed : Timers → Binding → TimedRow
-timed timers binding = record { row = row binding; end = end_of timers binding }
+abbrev pub timed_row : Timers → Binding → TimedRow
+timed_row timers binding = record { row = row binding; end = end_of timers binding }

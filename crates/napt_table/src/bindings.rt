@@ -5,24 +5,24 @@
 //! does not move the entry, and when its time has come the binding is checked again.
 
 ghost use Rattle.std.specs.{Prelude.{◌≡◌, ℕ, ◌+◌, ◌*◌, ◌^◌, ◌≤◌, ◌<◌, All, true, false, Some, None, OnOk, IfOk}, Option.{option_map, is_some}};
-ghost use Rattle.napt_rules.specs.Prelude.{Binding, second, is_live, hold_ago};
+ghost use Rattle.napt_rules.specs.Prelude.{Binding, ns_per_second, is_live, hold_ago};
 ghost use Rattle.napt_binding.specs.Ends.{least_timer};
-ghost use Rattle.napt_table.specs.{Held.HeldIsPurgedLater, Holdings.{KeepsSeen, held as held_at_key}, Bindings.{AreDue, AreDueBut, come_up}};
+ghost use Rattle.napt_table.specs.{HeldLists.HeldIsPurgedLater, BindingIndexes.{KeepsSeen, held_binding as held_at_key}, Bindings.{AreDue, AreDueBut, entries_due}};
 
 use crate::TimedRow;
 use crate::bindings::binding_index::BindingIndex;
-use crate::bindings::keys::ExternalKey;
+use crate::bindings::keys::ExternalNumberKey;
 use napt_binding::{IdleTimers, end_of, is_live, until};
 use napt_collections::Due;
-use napt_rules::{Granting, Inbound, Received, Row, StateBinding};
+use napt_rules::{AssignmentRules, InboundPacket, InboundRules, Row, StateBinding};
 use napt_wire::{Cause, Endpoint, Protocol};
 use std::alloc::{AllocError, Global};
 use std::marker::Model;
 
 mod binding_index;
+mod binding_places;
 mod keys;
 mod numbers_in_use;
-mod places;
 mod sending;
 
 /// The bindings of one external address; contracts see what is held, the timers, the time of the last packet, and the
@@ -34,13 +34,13 @@ pub(crate) struct Bindings {
     at: u64,
     held: BindingIndex,
     /// One entry for each binding that is not fixed, with a time until which it is sure to live.
-    due: Due<ExternalKey>,
+    due: Due<ExternalNumberKey>,
 }
 
 impl Model for Bindings {
-    ghost use Rattle.napt_table.specs.Bindings.{BindingsState, AreDue};
+    ghost use Rattle.napt_table.specs.Bindings.{BindingsModel, AreDue};
 
-    ghost Value = { BindingsState };
+    ghost Value = { BindingsModel };
 
     ghost view = { λ bindings. record {
       timers = bindings.timers;
@@ -55,21 +55,21 @@ impl Model for Bindings {
 /// For a binding without a queue entry: removes one that had ended the hold before `at`, queues another.
 fn requeue_or_remove(
     held: &mut BindingIndex,
-    due: &mut Due<ExternalKey>,
+    due: &mut Due<ExternalNumberKey>,
     timers: IdleTimers,
     at: u64,
-    key: ExternalKey,
+    key: ExternalNumberKey,
 )
     requires due { AreDueBut timers at key held.old due.old.entries }
     requires room { 0 < due.old.room }
     ensures due { AreDue timers at held.new due.new.entries }
     ensures keeps { KeepsSeen timers (hold_ago timers at) held.old held.new }
-    ensures come_up { come_up (hold_ago timers at) due.new.entries
-        ≤ come_up (hold_ago timers at) due.old.entries }
+    ensures come_up { entries_due (hold_ago timers at) due.new.entries
+        ≤ entries_due (hold_ago timers at) due.old.entries }
     // What is queued comes up no sooner than its binding may have ended.
     ensures far { (b : Binding) (t : ℕ) → held_at_key held.old key ≡ Some b → b.row.fixed ≡ false →
-        t < 2 ^ 64 → t < hold_ago timers at + least_timer b.row.protocol timers * second →
-        is_live timers t b ≡ true → come_up t due.new.entries ≤ come_up t due.old.entries }
+        t < 2 ^ 64 → t < hold_ago timers at + least_timer b.row.protocol timers * ns_per_second →
+        is_live timers t b ≡ true → entries_due t due.new.entries ≤ entries_due t due.old.entries }
     ensures room { 0 < held.old.room → 0 < held.new.room }
     ensures queue { due.old.room ≤ due.new.room + 1 }
 {
@@ -88,25 +88,25 @@ fn requeue_or_remove(
 }
 
 impl Bindings {
-    ghost use Rattle.napt_table.specs.Held.{seen};
-    ghost use Rattle.napt_table.specs.TimedRows.{timed};
-    ghost use Rattle.napt_table.specs.declared.bindings.keys.ExternalKey.{ExternalKey as Key};
-    ghost use Rattle.napt_table.specs.Holdings.{held, held_at, IsSamePlace, IsNamed};
-    ghost use Rattle.napt_table.specs.Bindings.{HasRoom, IsPurged, IsLiveNumberOf, Receives};
+    ghost use Rattle.napt_table.specs.HeldLists.{seen_binding};
+    ghost use Rattle.napt_table.specs.TimedRows.{timed_row};
+    ghost use Rattle.napt_table.specs.declared.bindings.keys.ExternalNumberKey.{ExternalNumberKey as Key};
+    ghost use Rattle.napt_table.specs.BindingIndexes.{held_binding, held_at, IsSamePlace, IsNamed};
+    ghost use Rattle.napt_table.specs.Bindings.{BindingsHaveRoom, IsPurged, IsLiveNumberOf, ReceivePost};
 
     /// Nothing is held at a time, in ns. It takes memory for the numbers in use.
     pub(crate) fn new(
         alloc: Global,
         address: u32,
         timers: IdleTimers,
-        granting: Granting,
+        granting: AssignmentRules,
         at: u64,
     ) -> Result<Bindings, AllocError>
         ensures timers { IfOk result (λ bindings. bindings.timers ≡ timers) }
         ensures at { IfOk result (λ bindings. bindings.at ≡ at) }
         ensures address { IfOk result (λ bindings. bindings.held.address ≡ address) }
         ensures granting { IfOk result (λ bindings. bindings.held.granting ≡ granting) }
-        ensures none { IfOk result (λ bindings. (key : Key) → held bindings.held key ≡ None) }
+        ensures none { IfOk result (λ bindings. (key : Key) → held_binding bindings.held key ≡ None) }
     {
         Ok(Bindings {
             timers,
@@ -151,9 +151,9 @@ impl Bindings {
     /// The inside endpoint of the live binding with the number.
     pub(crate) fn inside_of(&self, now: u64, protocol: Protocol, number: u16) -> Option<Endpoint>
         ensures { result ≡ option_map (λ b. b.row.inside)
-            (seen self.now.timers now (held_at self.now.held protocol number)) }
+            (seen_binding self.now.timers now (held_at self.now.held protocol number)) }
     {
-        match self.held.get(ExternalKey { number, protocol }) {
+        match self.held.get(ExternalNumberKey { number, protocol }) {
             Some(binding) if is_live(binding, self.timers, now) => Some(binding.row.inside()),
             _ => None,
         }
@@ -164,7 +164,7 @@ impl Bindings {
         ensures { IsLiveNumberOf now self.now protocol inside result }
     {
         let number = self.held.number_of(protocol, inside)?;
-        match self.held.get(ExternalKey { number, protocol }) {
+        match self.held.get(ExternalNumberKey { number, protocol }) {
             Some(binding) if is_live(binding, self.timers, now) => Some(number),
             _ => None,
         }
@@ -172,11 +172,11 @@ impl Bindings {
 
     /// The live binding with the number, with its end.
     pub(crate) fn timed(&self, now: u64, protocol: Protocol, number: u16) -> Option<TimedRow>
-        ensures { result ≡ option_map (timed self.now.timers)
-            (seen self.now.timers now (held_at self.now.held protocol number)) }
+        ensures { result ≡ option_map (timed_row self.now.timers)
+            (seen_binding self.now.timers now (held_at self.now.held protocol number)) }
     {
         self.timers.keep_limits();
-        match self.held.find(ExternalKey { number, protocol }) {
+        match self.held.find(ExternalNumberKey { number, protocol }) {
             Some((_, binding)) if is_live(binding, self.timers, now) => Some(TimedRow {
                 row: binding.row.row(),
                 end: end_of(binding, self.timers),
@@ -187,12 +187,16 @@ impl Bindings {
 
     /// Takes in a packet: the inside endpoint of the live binding with its number, if it lets the remote in; else
     /// `NoBinding` or `Filtered`. It takes no memory.
-    pub(crate) fn receive(&mut self, inbound: Inbound, packet: Received) -> Result<Endpoint, Cause>
+    pub(crate) fn receive(
+        &mut self,
+        inbound: InboundRules,
+        packet: InboundPacket,
+    ) -> Result<Endpoint, Cause>
         requires later { self.old.at ≤ packet.now }
         ensures timers { self.new.timers ≡ self.old.timers }
         ensures place { IsSamePlace self.old.held self.new.held }
         ensures at { self.new.at ≡ packet.now }
-        ensures receives { Receives inbound packet self.old self.new result }
+        ensures receives { ReceivePost inbound packet self.old self.new result }
     {
         let timers = self.timers;
         timers.keep_limits();
@@ -208,10 +212,10 @@ impl Bindings {
         ensures at { self.new.at ≡ self.old.at }
         ensures keeps { KeepsSeen self.old.timers (hold_ago self.old.timers self.old.at)
             self.old.held self.new.held }
-        ensures room { HasRoom self.old → HasRoom self.new }
+        ensures room { BindingsHaveRoom self.old → BindingsHaveRoom self.new }
         ensures fewer { result ≡ true →
-            come_up (hold_ago self.old.timers self.old.at) self.new.due.entries
-            < come_up (hold_ago self.old.timers self.old.at) self.old.due.entries }
+            entries_due (hold_ago self.old.timers self.old.at) self.new.due.entries
+            < entries_due (hold_ago self.old.timers self.old.at) self.old.due.entries }
         ensures none { result ≡ false → All (λ e. hold_ago self.old.timers self.old.at ≤ e.0)
             self.new.due.entries }
         ensures due { AreDue self.new.timers self.new.at self.new.held self.new.due.entries }
@@ -248,9 +252,9 @@ impl Bindings {
 }
 
 impl Bindings {
-    ghost use Rattle.napt_collections.specs.Sets.{IsFirstAbsent};
-    ghost use Rattle.napt_table.specs.Held.{seen};
-    ghost use Rattle.napt_table.specs.Holdings.{held_at};
+    ghost use Rattle.napt_collections.specs.BitSets.{IsFirstAbsent};
+    ghost use Rattle.napt_table.specs.HeldLists.{seen_binding};
+    ghost use Rattle.napt_table.specs.BindingIndexes.{held_at};
     ghost use Rattle.napt_table.specs.Bindings.{IsPurged};
 
     /// The least number from 1 on that no binding has, live or held, at `now`, which becomes the time. What had ended the
@@ -259,7 +263,7 @@ impl Bindings {
         requires later { self.old.at ≤ now }
         ensures purged { IsPurged now self.old self.new }
         ensures spare { IsFirstAbsent (λ n.
-            is_some (seen self.old.timers (hold_ago self.old.timers now)
+            is_some (seen_binding self.old.timers (hold_ago self.old.timers now)
             (held_at self.old.held protocol n)))
             1 (2 ^ 16) result }
     {
@@ -270,9 +274,9 @@ impl Bindings {
 
 impl Bindings {
     ghost use Rattle.std.specs.{List.IsDistinct, Map.{keys_of, values_of}};
-    ghost use Rattle.napt_rules.specs.Prelude.{taken};
+    ghost use Rattle.napt_rules.specs.Prelude.{live_and_held};
     ghost use Rattle.napt_binding.specs.Slots.{AreDistinct};
-    ghost use Rattle.napt_table.specs.{Holdings.AreUsedUpTo, Keys.key_eq, Listing.{held_rows, AreRead}};
+    ghost use Rattle.napt_table.specs.{BindingIndexes.AreUsedUpTo, Keys.key_eq, HeldRows.{held_rows, AreRead}};
 
     /// The rows of the bindings that are live at `now` (ns), in no order.
     pub(crate) fn rows(&self, alloc: Global, now: u64) -> Result<Vec<Row>, AllocError>
@@ -286,7 +290,7 @@ impl Bindings {
     /// The bindings that are live or held at `now` (ns), as a state has them, in no order.
     pub(crate) fn left(&self, alloc: Global, now: u64) -> Result<Vec<StateBinding>, AllocError>
         ensures bindings { IfOk result (λ made. made.items
-            ≡ taken self.now.timers now (values_of self.now.held.entries)) }
+            ≡ live_and_held self.now.timers now (values_of self.now.held.entries)) }
         ensures distinct { IfOk result (λ made. All (λ b. AreDistinct b.flows) made.items) }
         ensures unique { OnOk result (IsDistinct key_eq (keys_of self.now.held.entries)) }
         ensures used { AreUsedUpTo self.now.at self.now.held }

@@ -4,8 +4,8 @@ ghost use Rattle.std.specs.Prelude.{◌≡◌, ◌-◌, ◌/◌, ◌%◌, ◌<�
 ghost use Rattle.napt_rules.specs.Prelude.{mixed, protocol_byte, place_in};
 ghost use Rattle.napt_table.specs.Classes.{place_of_class};
 
-use crate::class::Class;
-use napt_config::{Choosing, Seed};
+use crate::candidate_class::CandidateClass;
+use napt_config::{NumberAssignment, Seed};
 use napt_wire::{Endpoint, Protocol};
 use std::hash::{DefaultHasher, Hasher};
 
@@ -35,7 +35,7 @@ fn mixed(seed: Seed, protocol: Protocol, inside: Endpoint) -> u64
 /// The place in a class of the number that is tried first.
 pub(crate) fn place_in_class(
     seed: Option<Seed>,
-    class: Class,
+    class: CandidateClass,
     protocol: Protocol,
     inside: Endpoint,
 ) -> u32
@@ -53,7 +53,7 @@ pub(crate) fn place_in_class(
 
 /// The place in a block of a size of the number that is tried first.
 pub(crate) fn place_in_block(
-    choosing: Choosing,
+    choosing: NumberAssignment,
     size: u16,
     protocol: Protocol,
     inside: Endpoint,

@@ -1,19 +1,19 @@
 //! How many bindings each inside host has over all protocols (RFC 6888, REQ-4).
 
 ghost use Rattle.std.specs.Prelude.{◌≡◌, ℕ, ◌+◌, ◌-◌, ◌^◌, ◌<◌, ◌≤◌, true, cond, Some, OnOk};
-ghost use Rattle.napt_table.specs.Hosts.{held_for};
+ghost use Rattle.napt_table.specs.Hosts.{held_counts_for};
 
-use napt_binding::{Addresses, Binding};
+use napt_binding::{AddressCounts, TableBinding};
 use std::alloc::{AllocError, Global};
 
 /// How many bindings each inside host has, without redirects. Nothing is counted without a quota.
 #[derive(Drop)]
 pub(crate) struct HostCounts {
-    counts: Option<Addresses>,
+    counts: Option<AddressCounts>,
 }
 
 impl HostCounts {
-    ghost use Rattle.napt_table.specs.Counts.{are_counted, count_in, place_of};
+    ghost use Rattle.napt_table.specs.Counts.{are_counted, count_in, host_place};
 
     /// No host has any. It takes no memory.
     pub(crate) fn new(alloc: Global, counted: bool) -> HostCounts
@@ -21,7 +21,7 @@ impl HostCounts {
         ensures none { (host : ℕ) → count_in result host ≡ 0 }
     {
         let counts = if counted {
-            Some(Addresses::new(alloc))
+            Some(AddressCounts::new(alloc))
         } else {
             None
         };
@@ -32,7 +32,7 @@ impl HostCounts {
     pub(crate) fn reserve(&mut self) -> Result<(), AllocError>
         ensures counted { are_counted self.new ≡ are_counted self.old }
         ensures counts { (host : ℕ) → count_in self.new host ≡ count_in self.old host }
-        ensures room { OnOk result (0 < place_of self.new) }
+        ensures room { OnOk result (0 < host_place self.new) }
     {
         match &mut self.counts {
             Some(counts) => counts.reserve(),
@@ -51,12 +51,12 @@ impl HostCounts {
     }
 
     /// Counts the binding, for whose host there is room. A redirect does not count.
-    pub(crate) fn put(&mut self, binding: &Binding)
-        requires room { 0 < place_of self.old }
+    pub(crate) fn put(&mut self, binding: &TableBinding)
+        requires room { 0 < host_place self.old }
         requires fits { count_in self.old binding.now.row.inside.address + 1 < 2 ^ 64 }
         ensures counted { are_counted self.new ≡ are_counted self.old }
         ensures counts { are_counted self.old ≡ true →
-            (host : ℕ) → count_in self.new host ≡ count_in self.old host + cond {A = ℕ} (held_for host (Some binding.now)) 1 0 }
+            (host : ℕ) → count_in self.new host ≡ count_in self.old host + cond {A = ℕ} (held_counts_for host (Some binding.now)) 1 0 }
     {
         match &mut self.counts {
             Some(counts) if !binding.row.is_fixed() => counts.put(binding.row.inside().address),
@@ -65,11 +65,11 @@ impl HostCounts {
     }
 
     /// Counts it no longer.
-    pub(crate) fn take(&mut self, binding: &Binding)
+    pub(crate) fn take(&mut self, binding: &TableBinding)
         ensures counted { are_counted self.new ≡ are_counted self.old }
         ensures counts { (host : ℕ) →
-            count_in self.new host ≡ count_in self.old host - cond {A = ℕ} (held_for host (Some binding.now)) 1 0 }
-        ensures room { place_of self.old ≤ place_of self.new }
+            count_in self.new host ≡ count_in self.old host - cond {A = ℕ} (held_counts_for host (Some binding.now)) 1 0 }
+        ensures room { host_place self.old ≤ host_place self.new }
     {
         match &mut self.counts {
             Some(counts) if !binding.row.is_fixed() => counts.take(binding.row.inside().address),

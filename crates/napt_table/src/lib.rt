@@ -6,24 +6,24 @@
 ghost use Rattle.std.specs.Prelude.{◌≡◌, ℕ, List};
 ghost use Rattle.napt_table.specs.{QuotaKept.PlayedKeepsQuota, Tables.{TablesShareNothing, TablesAreNumbered}};
 
-mod beginning;
 mod bindings;
-mod class;
-mod event;
+mod candidate_class;
 mod first_place;
 mod host_counts;
 mod numbers;
 mod rows;
 mod table;
+mod table_builder;
+mod table_event;
 
-pub use class::Class;
-pub use napt_binding::{Binding, Flow, Flows, Inbound, Marks};
+pub use candidate_class::CandidateClass;
+pub use napt_binding::{Flow, Flows, InboundRules, SessionMarks, TableBinding};
 pub use napt_collections::Due;
 pub use napt_laws::{
     candidates_are_the_class, no_host_exceeds_its_quota, opening_is_sound, rows_are_in_order,
     steps_are_local, steps_leave_taken, steps_stay_sound,
 };
-pub use napt_rules::{Received, Row, Sent};
+pub use napt_rules::{InboundPacket, OutboundPacket, Row};
 pub use numbers::Numbers;
 pub use table::Table;
 

@@ -2,15 +2,15 @@
 //! sections 8 and 9; RFC 5508, section 3.1; RFC 7422, section 2).
 
 ghost use Rattle.std.specs.Prelude.{◌≡◌, ℕ, ◌+◌, ◌-◌, ◌*◌, ◌/◌, ◌^◌, ◌<◌, ◌≤◌, ◌==◌, true, false, not, ◌&&◌, ◌||◌, find, IfOk, IfSome, Bool};
-ghost use Rattle.napt_config.specs.Rules.{IsBlock};
+ghost use Rattle.napt_config.specs.Rules.{IsPortBlock};
 ghost use Rattle.napt_rules.specs.Prelude.{block_from, candidates, candidates_in_class, candidates_in_block};
-ghost use Rattle.napt_collections.specs.Sets.{IsFirstAbsent};
-ghost use Rattle.napt_table.specs.{Classes.{from_place, IsSearched}, Places.{place_of, is_used}};
+ghost use Rattle.napt_collections.specs.BitSets.{IsFirstAbsent};
+ghost use Rattle.napt_table.specs.{Classes.{from_place, IsSearched}, Places.{number_place_in_map, is_used}};
 
-use crate::class::{Class, class_in_block, class_of, class_of_block};
+use crate::candidate_class::{CandidateClass, class_in_block, class_of, class_of_block};
 use crate::first_place::{place_in_block, place_in_class};
-use napt_collections::Bits;
-use napt_config::{Block, Choosing};
+use napt_collections::BitSet;
+use napt_config::{NumberAssignment, PortBlock};
 use napt_wire::{Endpoint, Protocol};
 use std::alloc::{AllocError, Global};
 use std::marker::Model;
@@ -23,20 +23,20 @@ use std::marker::Model;
 #[derive(Drop)]
 pub struct Numbers {
     protocol: Protocol,
-    places: Bits,
+    places: BitSet,
 }
 
 impl Model for Numbers {
-    ghost use Rattle.napt_table.specs.Places.{Used};
+    ghost use Rattle.napt_table.specs.Places.{UsedPlaces};
 
-    ghost Value = { Used };
+    ghost Value = { UsedPlaces };
 
     ghost view = { λ numbers. record { protocol = numbers.protocol; places = numbers.places } };
 }
 
 /// The place of a number among the bits: even numbers first, then odd ones.
 fn place_of(number: u16) -> u16
-    ensures { result ≡ place_of number }
+    ensures { result ≡ number_place_in_map number }
 {
     (number % 2) * 32_768 + number / 2
 }
@@ -48,7 +48,7 @@ fn least_of(from: u32, end: u32, even: Option<u32>, odd: Option<u32>) -> Option<
     requires odd { IfSome odd (λ place. (32768 ≤ place) × (place < 65536)) }
     ensures { (used : ℕ → Bool) → IsFirstAbsent used ((from + 1) / 2) ((end + 1) / 2) even →
         IsFirstAbsent used (32768 + from / 2) (32768 + end / 2) odd →
-        IsFirstAbsent (λ number. used (place_of number)) from end result }
+        IsFirstAbsent (λ number. used (number_place_in_map number)) from end result }
 {
     let _ = (from, end);
     match (even, odd) {
@@ -68,7 +68,7 @@ impl Numbers {
     {
         Ok(Numbers {
             protocol,
-            places: Bits::new(alloc)?,
+            places: BitSet::new(alloc)?,
         })
     }
 
@@ -82,8 +82,13 @@ impl Numbers {
     /// The external number for an inside endpoint, of a host with this block or none: the first of its candidates that is
     /// free; `None` if all are in use. Without a block that is the number itself, or if numbers are random that at the place
     /// of a hash, else the next free one of its class, wrapping around (RFC 4787, REQ-3 and REQ-4).
-    pub fn choose(&self, choosing: Choosing, block: Option<Block>, inside: Endpoint) -> Option<u16>
-        requires { IfSome block IsBlock }
+    pub fn choose(
+        &self,
+        choosing: NumberAssignment,
+        block: Option<PortBlock>,
+        inside: Endpoint,
+    ) -> Option<u16>
+        requires { IfSome block IsPortBlock }
         ensures { result ≡ find (λ n. not (is_used self.now n))
             (candidates choosing block self.now.protocol inside) }
     {
@@ -94,7 +99,7 @@ impl Numbers {
     }
 
     /// The first free number of the class of an endpoint's number, from the one that is tried first on.
-    fn choose_in_class(&self, choosing: Choosing, inside: Endpoint) -> Option<u16>
+    fn choose_in_class(&self, choosing: NumberAssignment, inside: Endpoint) -> Option<u16>
         ensures { result ≡ find (λ n. not (is_used self.now n))
             (candidates_in_class choosing self.now.protocol inside) }
     {
@@ -104,8 +109,13 @@ impl Numbers {
     }
 
     /// The first free number of a block, from the one that is tried first on.
-    fn choose_in_block(&self, choosing: Choosing, block: Block, inside: Endpoint) -> Option<u16>
-        requires { IsBlock block }
+    fn choose_in_block(
+        &self,
+        choosing: NumberAssignment,
+        block: PortBlock,
+        inside: Endpoint,
+    ) -> Option<u16>
+        requires { IsPortBlock block }
         ensures { result ≡ find (λ n. not (is_used self.now n))
             (candidates_in_block choosing block self.now.protocol inside) }
     {
@@ -118,8 +128,8 @@ impl Numbers {
     }
 
     /// The first free number of a block, from a place on: of the place's parity, else of the other.
-    fn first_by_parity(&self, block: Block, place: u16) -> Option<u16>
-        requires block { IsBlock block }
+    fn first_by_parity(&self, block: PortBlock, place: u16) -> Option<u16>
+        requires block { IsPortBlock block }
         requires within { place < block.size }
         ensures { result ≡ find (λ n. not (is_used self.now n)) (block_from true block place) }
     {
@@ -131,7 +141,7 @@ impl Numbers {
     }
 
     /// The first free number of a class, from a place of it on, then before that.
-    fn first_of(&self, class: Class, place: u32) -> Option<u16>
+    fn first_of(&self, class: CandidateClass, place: u32) -> Option<u16>
         requires searched { IsSearched class }
         requires some { 0 < class.many }
         requires within { place ≤ class.many }
@@ -145,7 +155,7 @@ impl Numbers {
     }
 
     /// The same of a class of every other number.
-    fn first_of_parity(&self, class: Class, place: u32) -> Option<u16>
+    fn first_of_parity(&self, class: CandidateClass, place: u32) -> Option<u16>
         requires apart { class.apart ≡ 2 }
         requires some { 0 < class.many }
         requires fits { class.least + 2 * class.many ≤ 65537 }
@@ -162,7 +172,7 @@ impl Numbers {
     }
 
     /// The same of a class without gaps.
-    fn first_of_all(&self, class: Class, place: u32) -> Option<u16>
+    fn first_of_all(&self, class: CandidateClass, place: u32) -> Option<u16>
         requires apart { class.apart ≡ 1 }
         requires fits { class.least + class.many ≤ 65536 }
         requires within { place ≤ class.many }

@@ -1,2 +1,2 @@
 pub mod Translators
-pub mod Carried
+pub mod CarriedPackets

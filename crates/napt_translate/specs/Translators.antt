@@ -1,63 +1,63 @@
 -- What contracts see of a translator: its place in the pool, its configuration, and the table of its external address.
 use Rattle.std.specs.Prelude.{◌≡◌, ℕ, ◌<◌, List, length, slice_index, Result}
 use Rattle.napt_wire.specs.declared.{Protocol.Protocol, Flags.Flags, Cause.Cause}
-use Rattle.napt_rules.specs.{Prelude.{granting_of, inbound_of, Out, step_out, In, step_in, sent_of, received_of, Kept, kept_after, State}, declared.Leg.Leg}
-use Rattle.napt_rules.specs.declared.Sent.{Sent}
-use Rattle.napt_config.specs.Rules.{Rules, KeepsRules, block_of}
-use Rattle.napt_table.specs.Tables.{TableState, opened, resumed}
+use Rattle.napt_rules.specs.{Prelude.{assignment_rules, inbound_rules, OutboundEffect, step_out, InboundEffect, step_in, outbound_packet, inbound_packet, LocalState, local_after, State}, declared.Leg.Leg}
+use Rattle.napt_rules.specs.declared.OutboundPacket.{OutboundPacket}
+use Rattle.napt_config.specs.Rules.{Rules, RulesInvariant, block_of}
+use Rattle.napt_table.specs.Tables.{TableModel, initial_table, resumed_table}
 
-pub record TranslatorState : Type 0 where
+pub record TranslatorModel : Type 0 where
   -- the place of its external address in the pool, from 0
   pub index : ℕ
   pub rules : Rules
-  pub table : TableState
+  pub table : TableModel
 
 -- at a place of a configuration's pool, before any leg
-abbrev pub begun : ℕ → Rules → TranslatorState
-begun index rules = record { index = index; rules = rules; table = opened rules (slice_index rules.pool index) }
+abbrev pub initial_translator : ℕ → Rules → TranslatorModel
+initial_translator index rules = record { index = index; rules = rules; table = initial_table rules (slice_index rules.pool index) }
 
 -- where a run goes on from a state
-abbrev pub begun_from : ℕ → Rules → State → TranslatorState
-begun_from index rules state = record {
+abbrev pub resumed_translator : ℕ → Rules → State → TranslatorModel
+resumed_translator index rules state = record {
   index = index;
   rules = rules;
-  table = resumed rules (slice_index rules.pool index) state;
+  table = resumed_table rules (slice_index rules.pool index) state;
 }
 
 -- the table is that of the configuration, at the address of its place
-pub record IsTranslator (state : TranslatorState) : Type 0 where
+pub record IsTranslator (state : TranslatorModel) : Type 0 where
   pub place : state.index < length state.rules.pool
-  pub rules : KeepsRules state.rules
+  pub rules : RulesInvariant state.rules
   pub address : state.table.address ≡ slice_index state.rules.pool state.index
   pub timers : state.table.timers ≡ state.rules.timers
-  pub granting : state.table.granting ≡ granting_of state.rules
-  pub inbound : state.table.inbound ≡ inbound_of state.rules
+  pub granting : state.table.granting ≡ assignment_rules state.rules
+  pub inbound : state.table.inbound ≡ inbound_rules state.rules
 
-abbrev pub kept_of : TableState → Kept
-kept_of table = record { list = table.list; at = table.at }
+abbrev pub local_state : TableModel → LocalState
+local_state table = record { list = table.list; at = table.at }
 
-abbrev pub with_kept : TranslatorState → Kept → TranslatorState
-with_kept state kept = record state { table = record state.table { list = kept.list; at = kept.at } }
+abbrev pub with_local_state : TranslatorModel → LocalState → TranslatorModel
+with_local_state state kept = record state { table = record state.table { list = kept.list; at = kept.at } }
 
 -- what a leg leaves
-abbrev pub left_by : Leg → TranslatorState → TranslatorState
-left_by leg state = with_kept state (kept_after state.rules state.table.address leg (kept_of state.table))
+abbrev pub translator_after : Leg → TranslatorModel → TranslatorModel
+translator_after leg state = with_local_state state (local_after state.rules state.table.address leg (local_state state.table))
 
 -- a packet's step out at a time, and in
-abbrev pub out_at : TranslatorState → ℕ → Protocol → Flags → List ℕ → Out
-out_at state now protocol flags packet = step_out state.rules.timers (granting_of state.rules) state.table.address
-    (sent_of state.rules protocol flags now packet) state.table.list
+abbrev pub outbound_at : TranslatorModel → ℕ → Protocol → Flags → List ℕ → OutboundEffect
+outbound_at state now protocol flags packet = step_out state.rules.timers (assignment_rules state.rules) state.table.address
+    (outbound_packet state.rules protocol flags now packet) state.table.list
 
-abbrev pub in_at : TranslatorState → ℕ → Protocol → Flags → List ℕ → In
-in_at state now protocol flags packet = step_in state.rules.timers (inbound_of state.rules) state.table.address
-    (received_of protocol flags now packet) state.table.list
+abbrev pub inbound_at : TranslatorModel → ℕ → Protocol → Flags → List ℕ → InboundEffect
+inbound_at state now protocol flags packet = step_in state.rules.timers (inbound_rules state.rules) state.table.address
+    (inbound_packet protocol flags now packet) state.table.list
 
 -- a packet went out under the block of its host: its answer, and what it leaves
-pub record GoneOut (packet : Sent) (old new : TranslatorState) (answer : Result ℕ Cause) : Type 0 where
-  pub answered : answer ≡ (step_out old.rules.timers (granting_of old.rules) old.table.address
+pub record TranslateOut (packet : OutboundPacket) (old new : TranslatorModel) (answer : Result ℕ Cause) : Type 0 where
+  pub answered : answer ≡ (step_out old.rules.timers (assignment_rules old.rules) old.table.address
       (record packet { block = block_of old.rules packet.inside.address }) old.table.list).number
-  pub left : new ≡ with_kept old (record {
-    list = (step_out old.rules.timers (granting_of old.rules) old.table.address
+  pub left : new ≡ with_local_state old (record {
+    list = (step_out old.rules.timers (assignment_rules old.rules) old.table.address
         (record packet { block = block_of old.rules packet.inside.address }) old.table.list).list;
     at = packet.now;
   })

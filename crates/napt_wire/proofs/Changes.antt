@@ -2,19 +2,19 @@
 use Rattle.std.proofs.lemmas.{Grind.{common_steps, same_number_lists}, Bool.Decides.nat_tests}
 use Rattle.std.proofs.Common.{◌≡◌, ℕ, zero, suc, ◌+◌, ◌-◌, ◌*◌, ◌/◌, ◌%◌, ◌<◌, ◌≤◌, List, [], ◌∷◌, ◌++◌, length, min, take, drop, set, sum, slice_index, arith, refl, sym, ◌∙◌, ap, length-drop, length-take, length-take-le, length-set, get_or-set_same, get_or-set_other, get_or-drop, get_or-take, take_at}
 use Rattle.std.proofs.{Math.Seq.take-set-lt, lemmas.List.drop-set-add}
-use Rattle.napt_wire.{proofs.Checksums.sum-cons, specs.Prelude.{word_at, long_at, put_word, words, changed, olds, news, Change}}
+use Rattle.napt_wire.{proofs.Checksums.sum-cons, specs.Prelude.{word_at, double_word_at, with_word_at, words, with_changes, old_words, new_words, Change}}
 
-pub length-put_word : (place word : ℕ) (bytes : List ℕ) → length (put_word place word bytes) ≡ length bytes
+pub length-put_word : (place word : ℕ) (bytes : List ℕ) → length (with_word_at place word bytes) ≡ length bytes
 length-put_word place word bytes = simp length-set
 
-pub length-changed : (changes : List Change) (bytes : List ℕ) → length (changed changes bytes) ≡ length bytes
+pub length-changed : (changes : List Change) (bytes : List ℕ) → length (with_changes changes bytes) ≡ length bytes
 length-changed [] bytes = refl
-length-changed (c ∷ changes) bytes = length-changed changes (put_word c.place c.new bytes)
+length-changed (c ∷ changes) bytes = length-changed changes (with_word_at c.place c.new bytes)
     ∙ length-put_word c.place c.new bytes
 
-pub changed-append : (xs ys : List Change) (bytes : List ℕ) → changed (xs ++ ys) bytes ≡ changed ys (changed xs bytes)
+pub changed-append : (xs ys : List Change) (bytes : List ℕ) → with_changes (xs ++ ys) bytes ≡ with_changes ys (with_changes xs bytes)
 changed-append [] ys bytes = refl
-changed-append (c ∷ xs) ys bytes = changed-append xs ys (put_word c.place c.new bytes)
+changed-append (c ∷ xs) ys bytes = changed-append xs ys (with_word_at c.place c.new bytes)
 
 -- the word at a place has no byte of a range
 abbrev pub IsClear : ℕ → ℕ → ℕ → Type 0
@@ -88,37 +88,37 @@ edits-append below above low high bytes (c ∷ xs) ys l a h even p q = (
 
 -- a byte that is not of the word stays
 pub slice_index-put_word_other : (place word i : ℕ) (bytes : List ℕ) → IsClear i 1 place →
-    slice_index (put_word place word bytes) i ≡ slice_index bytes i
+    slice_index (with_word_at place word bytes) i ≡ slice_index bytes i
 slice_index-put_word_other place word i bytes clear =
     get_or-set_other (set bytes place (word / 256)) (place + 1) i (word % 256) 0 (λ e. omega arith)
     ∙ get_or-set_other bytes place i (word / 256) 0 (λ e. omega arith)
 
 pub word_at-put_word_other : (place word i : ℕ) (bytes : List ℕ) → IsClear i 2 place →
-    word_at i (put_word place word bytes) ≡ word_at i bytes
+    word_at i (with_word_at place word bytes) ≡ word_at i bytes
 word_at-put_word_other place word i bytes clear = grind (arith, common_steps, nat_tests, slice_index-put_word_other)
 
 -- what was written is read
 pub word_at-put_word : (place word : ℕ) (bytes : List ℕ) → place + 2 ≤ length bytes →
-    word_at place (put_word place word bytes) ≡ word
+    word_at place (with_word_at place word bytes) ≡ word
 word_at-put_word place word bytes h =
     grind (arith, common_steps, nat_tests, get_or-set_other, get_or-set_same, length-set)
 
 pub word-stays : (i : ℕ) (changes : List Change) (bytes : List ℕ) → AreClear i 2 changes →
-    word_at i (changed changes bytes) ≡ word_at i bytes
+    word_at i (with_changes changes bytes) ≡ word_at i bytes
 word-stays i [] bytes clear = refl
 word-stays i (c ∷ changes) bytes clear =
-    word-stays i changes (put_word c.place c.new bytes) clear.1
+    word-stays i changes (with_word_at c.place c.new bytes) clear.1
     ∙ word_at-put_word_other c.place c.new i bytes clear.0
 
 pub byte-stays : (i : ℕ) (changes : List Change) (bytes : List ℕ) → AreClear i 1 changes →
-    slice_index (changed changes bytes) i ≡ slice_index bytes i
+    slice_index (with_changes changes bytes) i ≡ slice_index bytes i
 byte-stays i [] bytes clear = refl
 byte-stays i (c ∷ changes) bytes clear =
-    byte-stays i changes (put_word c.place c.new bytes) clear.1
+    byte-stays i changes (with_word_at c.place c.new bytes) clear.1
     ∙ slice_index-put_word_other c.place c.new i bytes clear.0
 
 pub slice_index-changed : (low high i : ℕ) (changes : List Change) (bytes : List ℕ) → AreWithin low high changes →
-    (low < i + 1 → i < high → ⊥) → slice_index (changed changes bytes) i ≡ slice_index bytes i
+    (low < i + 1 → i < high → ⊥) → slice_index (with_changes changes bytes) i ≡ slice_index bytes i
 slice_index-changed low high i changes bytes within out =
     byte-stays i changes bytes (clear-within low high i 1 changes within out)
 
@@ -128,10 +128,10 @@ Stands [] bytes = Unit {0}
 Stands (c ∷ changes) bytes = (word_at c.place bytes ≡ c.new) × Stands changes bytes
 
 pub stands-edits : (low high : ℕ) (old : List ℕ) (changes : List Change) (bytes : List ℕ) →
-    AreEdits low high old changes → high ≤ length bytes → Stands changes (changed changes bytes)
+    AreEdits low high old changes → high ≤ length bytes → Stands changes (with_changes changes bytes)
 stands-edits low high old [] bytes edits fits = tt
 stands-edits low high old (c ∷ changes) bytes edits fits =
-    let next : List ℕ = put_word c.place c.new bytes in (
+    let next : List ℕ = with_word_at c.place c.new bytes in (
       word-stays c.place changes next edits.4 ∙ word_at-put_word c.place c.new bytes (omega arith),
       stands-edits low high old changes next edits.5 (omega (arith, length-put_word c.place c.new bytes)),
     )
@@ -151,7 +151,7 @@ pub record IsWritten (low : ℕ) (changes : List Change) (bytes after : List ℕ
   pub stays : (i : ℕ) → low ≤ i → AreClear i 1 changes → slice_index after i ≡ slice_index bytes i
 
 pub written-edits : (low high : ℕ) (changes : List Change) (bytes : List ℕ) → AreEdits low high bytes changes →
-    high ≤ length bytes → IsWritten low changes bytes (changed changes bytes)
+    high ≤ length bytes → IsWritten low changes bytes (with_changes changes bytes)
 written-edits low high changes bytes edits fits = record {
   stands = stands-edits low high bytes changes bytes edits fits;
   stays = λ i h clear. byte-stays i changes bytes clear;
@@ -162,7 +162,7 @@ pub word-same : (low i : ℕ) (changes : List Change) (bytes after : List ℕ) �
 word-same low i changes bytes after w h clear = grind (arith, common_steps, nat_tests, clear-part)
 
 pub long-same : (low i : ℕ) (changes : List Change) (bytes after : List ℕ) → IsWritten low changes bytes after →
-    low ≤ i → AreClear i 4 changes → long_at i after ≡ long_at i bytes
+    low ≤ i → AreClear i 4 changes → double_word_at i after ≡ double_word_at i bytes
 long-same low i changes bytes after w h clear =
     rw (
       word-same low i changes bytes after w h (clear-part i 4 i 2 changes (omega arith) (omega arith) clear),
@@ -186,20 +186,20 @@ slice_index-part at n i bytes h = get_or-take n (drop at bytes) i 0 h ∙ get_or
 
 -- a part that has none of the words stays
 pub part-changed_other : (at n low high : ℕ) (changes : List Change) (bytes : List ℕ) → AreWithin low high changes →
-    (low < at + n → at < high → ⊥) → part at n (changed changes bytes) ≡ part at n bytes
+    (low < at + n → at < high → ⊥) → part at n (with_changes changes bytes) ≡ part at n bytes
 part-changed_other at n low high changes bytes within out =
     let long = length-changed changes bytes in
-    same_number_lists (part at n (changed changes bytes)) (part at n bytes) (simp (length-take, length-drop, long) refl)
+    same_number_lists (part at n (with_changes changes bytes)) (part at n bytes) (simp (length-take, length-drop, long) refl)
     (λ k h.
-    let below : k < min n (length (drop at (changed changes bytes))) = simp length-take at h in
-    slice_index-part at n k (changed changes bytes) (omega (arith, below))
+    let below : k < min n (length (drop at (with_changes changes bytes))) = simp length-take at h in
+    slice_index-part at n k (with_changes changes bytes) (omega (arith, below))
     ∙ byte-stays (at + k) changes bytes (clear-within low high (at + k) 1 changes within (λ a b.
     out (omega (arith, below)) (omega arith)))
     ∙ sym (slice_index-part at n k bytes (omega (arith, below))))
 
 -- a word of a part is replaced
-drop-put_word : (at j word : ℕ) (bytes : List ℕ) → drop at (put_word (at + j) word bytes)
-    ≡ put_word j word (drop at bytes)
+drop-put_word : (at j word : ℕ) (bytes : List ℕ) → drop at (with_word_at (at + j) word bytes)
+    ≡ with_word_at j word (drop at bytes)
 drop-put_word at j word bytes =
     let next : at + j + 1 ≡ at + (j + 1) = omega arith in
     rw (
@@ -208,16 +208,16 @@ drop-put_word at j word bytes =
       drop-set-add at bytes j (word / 256),
     ) refl
 
-pub part-put_word : (at n j word : ℕ) (bytes : List ℕ) → j + 2 ≤ n → part at n (put_word (at + j) word bytes)
-    ≡ put_word j word (part at n bytes)
+pub part-put_word : (at n j word : ℕ) (bytes : List ℕ) → j + 2 ≤ n → part at n (with_word_at (at + j) word bytes)
+    ≡ with_word_at j word (part at n bytes)
 part-put_word at n j word bytes fits =
     rw drop-put_word
     (take-set-lt n (set (drop at bytes) j (word / 256)) (j + 1) (word % 256) (omega arith)
     ∙ ap (λ (xs : List ℕ). set xs (j + 1) (word % 256)) (take-set-lt n (drop at bytes) j (word / 256) (omega arith)))
 
 -- the sum of the words where one of them is replaced
-put_word_further : (a b j word : ℕ) (rest : List ℕ) → put_word (suc (suc j)) word (a ∷ b ∷ rest) ≡ a ∷ b
-    ∷ put_word j word rest
+put_word_further : (a b j word : ℕ) (rest : List ℕ) → with_word_at (suc (suc j)) word (a ∷ b ∷ rest) ≡ a ∷ b
+    ∷ with_word_at j word rest
 put_word_further a b j word rest =
     let next : suc (suc j) + 1 ≡ suc (suc (j + 1)) = omega arith in
     rw next refl
@@ -228,20 +228,20 @@ word_at_further a b j rest =
     rw next refl
 
 pub sum-words-put_word : (k word : ℕ) (bytes : List ℕ) → 2 * k + 2 ≤ length bytes →
-    sum (words (put_word (2 * k) word bytes)) + word_at (2 * k) bytes ≡ sum (words bytes) + word
+    sum (words (with_word_at (2 * k) word bytes)) + word_at (2 * k) bytes ≡ sum (words bytes) + word
 sum-words-put_word k word [] h = absurd (omega arith)
 sum-words-put_word k word (a ∷ []) h = absurd (omega arith)
 sum-words-put_word zero word (a ∷ b ∷ rest) h =
     omega (arith, sum-cons (256 * (word / 256) + word % 256) (words rest), sum-cons (256 * a + b) (words rest))
 sum-words-put_word (suc k) word (a ∷ b ∷ rest) h =
     let further : 2 * suc k ≡ suc (suc (2 * k)) = omega arith in
-    let induct : sum (words (put_word (2 * k) word rest)) + word_at (2 * k) rest ≡ sum (words rest) + word =
+    let induct : sum (words (with_word_at (2 * k) word rest)) + word_at (2 * k) rest ≡ sum (words rest) + word =
     sum-words-put_word k word rest (omega arith) in
     rw (further, put_word_further a b (2 * k) word rest, word_at_further a b (2 * k) rest)
     (omega (
       arith,
       induct,
-      sum-cons (256 * a + b) (words (put_word (2 * k) word rest)),
+      sum-cons (256 * a + b) (words (with_word_at (2 * k) word rest)),
       sum-cons (256 * a + b) (words rest),
     ))
 
@@ -253,7 +253,7 @@ word_at-part at n i bytes h =
 -- edits stay edits where bytes behind them are replaced, or others of them
 pub edits-changed : (low high below above : ℕ) (outer changes : List Change) (bytes : List ℕ) →
     AreWithin low high outer → above ≤ low → AreEdits below above bytes changes →
-    AreEdits below above (changed outer bytes) changes
+    AreEdits below above (with_changes outer bytes) changes
 edits-changed low high below above outer [] bytes within out edits = tt
 edits-changed low high below above outer (c ∷ changes) bytes within out edits =
     grind (
@@ -267,7 +267,7 @@ edits-changed low high below above outer (c ∷ changes) bytes within out edits 
     )
 
 edits-put_word : (low high : ℕ) (c : Change) (changes : List Change) (bytes : List ℕ) → AreClear c.place 2 changes →
-    AreEdits low high bytes changes → AreEdits low high (put_word c.place c.new bytes) changes
+    AreEdits low high bytes changes → AreEdits low high (with_word_at c.place c.new bytes) changes
 edits-put_word low high c [] bytes clear edits = tt
 edits-put_word low high c (d ∷ changes) bytes clear edits =
     grind (
@@ -282,33 +282,33 @@ edits-put_word low high c (d ∷ changes) bytes clear edits =
 -- the sum of a part's words where some of them are replaced
 pub sum-part-changed : (at n : ℕ) (changes : List Change) (bytes : List ℕ) → at + n ≤ length bytes →
     AreEdits at (at + n) bytes changes →
-    sum (words (part at n (changed changes bytes))) + sum (olds changes) ≡ sum (words (part at n bytes))
-    + sum (news changes)
+    sum (words (part at n (with_changes changes bytes))) + sum (old_words changes) ≡ sum (words (part at n bytes))
+    + sum (new_words changes)
 sum-part-changed at n [] bytes there edits = refl
 sum-part-changed at n (c ∷ changes) bytes there edits =
     let k : ℕ = (c.place - at) / 2 in
     let here : c.place ≡ at + 2 * k = omega (arith, edits.0, edits.2) in
     let fits : 2 * k + 2 ≤ n = omega (arith, here, edits.1) in
-    let after : List ℕ = put_word c.place c.new bytes in
+    let after : List ℕ = with_word_at c.place c.new bytes in
     let long : length (part at n bytes) ≡ n = length-take-le n (drop at bytes) (omega (arith, length-drop at bytes)) in
-    let one : part at n after ≡ put_word (2 * k) c.new (part at n bytes) =
-    ap (λ (p : ℕ). part at n (put_word p c.new bytes)) here ∙ part-put_word at n (2 * k) c.new bytes fits in
+    let one : part at n after ≡ with_word_at (2 * k) c.new (part at n bytes) =
+    ap (λ (p : ℕ). part at n (with_word_at p c.new bytes)) here ∙ part-put_word at n (2 * k) c.new bytes fits in
     let stood : word_at (2 * k) (part at n bytes) ≡ c.old =
     word_at-part at n (2 * k) bytes fits ∙ ap (λ (p : ℕ). word_at p bytes) (sym here) ∙ sym edits.3 in
-    let single : sum (words (put_word (2 * k) c.new (part at n bytes))) + word_at (2 * k) (part at n bytes)
+    let single : sum (words (with_word_at (2 * k) c.new (part at n bytes))) + word_at (2 * k) (part at n bytes)
     ≡ sum (words (part at n bytes)) + c.new =
     sum-words-put_word k c.new (part at n bytes) (omega (arith, long, fits)) in
-    let whole : sum (words (part at n after)) ≡ sum (words (put_word (2 * k) c.new (part at n bytes))) =
+    let whole : sum (words (part at n after)) ≡ sum (words (with_word_at (2 * k) c.new (part at n bytes))) =
     ap (λ (xs : List ℕ). sum (words xs)) one in
-    let rest : sum (words (part at n (changed changes after))) + sum (olds changes) ≡ sum (words (part at n after))
-    + sum (news changes) =
+    let rest : sum (words (part at n (with_changes changes after))) + sum (old_words changes) ≡ sum (words (part at n after))
+    + sum (new_words changes) =
     sum-part-changed at n changes after (omega (arith, there, length-put_word c.place c.new bytes))
     (edits-put_word at (at + n) c changes bytes edits.4 edits.5) in
-    omega (arith, rest, whole, single, stood, sum-cons c.old (olds changes), sum-cons c.new (news changes))
+    omega (arith, rest, whole, single, stood, sum-cons c.old (old_words changes), sum-cons c.new (new_words changes))
 
 -- what a vector holds whose bytes were written to
 pub vec-changed : (items written : List ℕ) (len : ℕ) (changes : List Change) → length items ≡ len →
-    written ≡ changed changes items →
-    take len (written ++ drop (length written) items) ≡ changed changes items
+    written ≡ with_changes changes items →
+    take len (written ++ drop (length written) items) ≡ with_changes changes items
 vec-changed items written len changes long is =
     take_at written (drop (length written) items) len (ap length is ∙ length-changed changes items ∙ long) ∙ is

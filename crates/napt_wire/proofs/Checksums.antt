@@ -1,7 +1,7 @@
 -- Updates of a checksum, one after another.
 use Rattle.std.proofs.{lemmas.{Grind.common_steps, Bool.Decides.nat_tests}, Common.{◌≡◌, ℕ, ◌+◌, ◌%◌, ◌<◌, List, [], ◌∷◌, ◌++◌, arith, sum, bit_and}}
 use Rattle.std.proofs.lemmas.{List.{map-append, Sums.{sum_by-cons, sum_by-append}}, Nat.and_mask}
-use Rattle.napt_wire.specs.Prelude.{canon, olds, news, Change}
+use Rattle.napt_wire.specs.Prelude.{canon, old_words, new_words, Change}
 
 pub sum-cons : (x : ℕ) (xs : List ℕ) → sum (x ∷ xs) ≡ x + sum xs
 sum-cons x xs = sum_by-cons (λ (n : ℕ). n) x xs
@@ -36,14 +36,14 @@ canon-less check old new = omega arith
 
 -- the updates of a rewrite are one, of all its words
 pub canon_all : (check : ℕ) (a b h : List Change) →
-    canon (canon (canon check (olds h) (news h)) (olds a) (news a)) (olds b) (news b)
-    ≡ canon check (olds (a ++ b ++ h)) (news (a ++ b ++ h))
+    canon (canon (canon check (old_words h) (new_words h)) (old_words a) (new_words a)) (old_words b) (new_words b)
+    ≡ canon check (old_words (a ++ b ++ h)) (new_words (a ++ b ++ h))
 unfolding canon
 canon_all check a b h = grind (arith, common_steps, nat_tests, map-append, sum-append)
 
 -- three updates of one word each are one
 pub canon_three : (check : ℕ) (x y z : Change) →
     canon (canon (canon check (x.old ∷ []) (x.new ∷ [])) (y.old ∷ []) (y.new ∷ [])) (z.old ∷ []) (z.new ∷ [])
-    ≡ canon check (olds (x ∷ y ∷ z ∷ [])) (news (x ∷ y ∷ z ∷ []))
+    ≡ canon check (old_words (x ∷ y ∷ z ∷ [])) (new_words (x ∷ y ∷ z ∷ []))
 unfolding canon
 canon_three check x y z = omega arith

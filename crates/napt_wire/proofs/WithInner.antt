@@ -4,19 +4,19 @@ use Rattle.std.proofs.Common.{◌≡◌, ℕ, ◌+◌, ◌-◌, ◌%◌, ◌≤�
 use Rattle.std.proofs.{lemmas.{Bool.{or_parts, Decides.nat_tests}, List.map-append}, Math.Seq.take-length}
 use Rattle.napt_wire.proofs.Changes.{IsWritten, byte-stays, written-front, written-edits, AreWithin, AreEdits, AreClear, Stands, clear-within, clear-append, clear-part, stands-append, stands-edits, edits-higher, part, within-edits, edits-append, word-stays, changed-append, part-changed_other, sum-part-changed}
 use Rattle.napt_wire.proofs.Checksums.{sum-append, sum-cons}
-use Rattle.napt_wire.proofs.Ends.{address-edits, address-within, end-edits, there-of_within, other_clear, end-clear, end_address, address_stands, address_same}
-use Rattle.napt_wire.proofs.Readings.{AllPass, Passes, room_of, passes_of_read}
+use Rattle.napt_wire.proofs.EndReplacement.{address-edits, address-within, end-edits, there-of_within, other_clear, end-clear, end_address, address_stands, address_same}
+use Rattle.napt_wire.proofs.ReadingChecks.{AllPass, Passes, room_of, passes_of_read}
 use Rattle.napt_wire.proofs.WithEnd.{Carries, KeepsBody, KeepsHeader, written_keeps_body, header_keeps, end_keeps_header, first_byte, same_form, same_start, passes_kept, residue_zero, zero_residue}
-use Rattle.napt_wire.specs.Prelude.{word_at, long_at, words, canon, address, header_length, transport, form_at, inner_at, inner, kind, kind_of, is_error, CanCarry, reading, message_checks, error_checks, has_bad_inner, is_quoted, has_zero_port, change, changed, olds, news, address_changes, end_changes, reverted_changes, inner_end, outer_end, IsFound, body_of, quoted_of, HasHeaders, AreThere, Body, Quoted, Side, Way, Outgoing, Incoming, Endpoint, Change, Form, Source, Destination}
-use Rattle.napt_wire.specs.declared.form.Form.TheVariants.{Error}
+use Rattle.napt_wire.specs.Prelude.{word_at, double_word_at, words, canon, address, header_length, transport_start, form_at, inner_datagram_start, inner, kind, kind_of, is_error, CanCarry, reading, message_checks, error_checks, has_bad_inner, is_quotable, has_zero_port, word_change, with_changes, old_words, new_words, address_changes, end_changes, reverted_changes, inner_end, outer_end, BodyIsFound, body_of, quoted_of, HasHeaders, AreWordsThere, Body, Quoted, Side, Way, Outgoing, Incoming, Endpoint, Change, TransportForm, Source, Destination}
+use Rattle.napt_wire.specs.declared.transport_form.TransportForm.TheVariants.{Error}
 use Rattle.napt_wire.specs.declared.packet.Body.TheVariants as bodies
 
 -- the datagram at a place may be quoted
 pub record GoodInner (side : Side) (at : ℕ) (bytes : List ℕ) : Type 0 where
   pub passes : has_bad_inner side at bytes ≡ false
   pub long : nat_lt (header_length at bytes) 20 ≡ false
-  pub room : nat_lt (length bytes) (transport at bytes + 8) ≡ false
-  pub quoted : not (is_quoted side (form_at at bytes)) ≡ false
+  pub room : nat_lt (length bytes) (transport_start at bytes + 8) ≡ false
+  pub quoted : not (is_quotable side (form_at at bytes)) ≡ false
   pub ours : not (address at Source bytes == address 0 Destination bytes) ≡ false
 
 good_inner : (side : Side) (at : ℕ) (bytes : List ℕ) → has_bad_inner side at bytes ≡ false → GoodInner side at bytes
@@ -27,7 +27,7 @@ pub inner_room : (side : Side) (at : ℕ) (bytes : List ℕ) → GoodInner side 
 inner_room side at bytes good = grind (arith, common_steps, nat_tests)
 
 pub long-stays : (place : ℕ) (changes : List Change) (bytes : List ℕ) → AreClear place 4 changes →
-    long_at place (changed changes bytes) ≡ long_at place bytes
+    double_word_at place (with_changes changes bytes) ≡ double_word_at place bytes
 long-stays place changes bytes clear = grind (arith, common_steps, nat_tests, word-stays, clear-part)
 
 -- the ICMP checksum stays right
@@ -44,9 +44,9 @@ sum-map-append f xs c = ap sum (map-append f xs (c ∷ [])) ∙ sum-append (map 
 pub record PassesError (side : Side) (bytes : List ℕ) : Type 0 where
   pub passes : Passes side bytes
   pub form_is : form_at 0 bytes ≡ Error
-  pub right : sum (words (drop (transport 0 bytes) bytes)) % 65535 ≡ 0
-  pub inner_good : GoodInner side (inner_at bytes) bytes
-  pub ports : has_zero_port (form_at (inner_at bytes) bytes) (transport (inner_at bytes) bytes) bytes ≡ false
+  pub right : sum (words (drop (transport_start 0 bytes) bytes)) % 65535 ≡ 0
+  pub inner_good : GoodInner side (inner_datagram_start bytes) bytes
+  pub ports : has_zero_port (form_at (inner_datagram_start bytes) bytes) (transport_start (inner_datagram_start bytes) bytes) bytes ≡ false
 
 pub passes_error : (side : Side) (bytes : List ℕ) → Passes side bytes → form_at 0 bytes ≡ Error → PassesError side bytes
 passes_error side bytes p form_is = grind (arith, common_steps, nat_tests, residue_zero, good_inner)
@@ -61,10 +61,10 @@ number_same a b h = grind (arith, nat_tests)
 pub record KeepsError (side : Side) (old new : List ℕ) : Type 0 where
   pub passes : Passes side new
   pub same_form : form_at 0 new ≡ form_at 0 old
-  pub same_start : transport 0 new ≡ transport 0 old
-  pub inner_form : form_at (inner_at old) new ≡ form_at (inner_at old) old
-  pub inner_start : transport (inner_at old) new ≡ transport (inner_at old) old
-  pub inner_room : HasHeaders (inner_at old) new
+  pub same_start : transport_start 0 new ≡ transport_start 0 old
+  pub inner_form : form_at (inner_datagram_start old) new ≡ form_at (inner_datagram_start old) old
+  pub inner_start : transport_start (inner_datagram_start old) new ≡ transport_start (inner_datagram_start old) old
+  pub inner_room : HasHeaders (inner_datagram_start old) new
 
 whole_part : (begin n : ℕ) (bytes : List ℕ) → begin + n ≡ length bytes → part begin n bytes ≡ drop begin bytes
 whole_part begin n bytes h =
@@ -74,22 +74,22 @@ whole_part begin n bytes h =
 -- an error whose quoted datagram gets an end back
 module _ (side : Side) (way : Way) (new : Endpoint) (bytes : List ℕ) (p : PassesError side bytes) where
   abbrev at : ℕ
-  at = inner_at bytes
+  at = inner_datagram_start bytes
 
   abbrev message : ℕ
-  message = transport 0 bytes
+  message = transport_start 0 bytes
 
   abbrev quoted : List Change
   quoted = end_changes at (inner_end way) new bytes
 
   abbrev check : Change
-  check = change bytes (message + 2) (canon (word_at (message + 2) bytes) (olds quoted) (news quoted))
+  check = word_change bytes (message + 2) (canon (word_at (message + 2) bytes) (old_words quoted) (new_words quoted))
 
   abbrev outer : List Change
   outer = address_changes 0 (outer_end way) new.address bytes
 
   abbrev after : List ℕ
-  after = changed (reverted_changes way new bytes) bytes
+  after = with_changes (reverted_changes way new bytes) bytes
 
   room : HasHeaders 0 bytes
   room = room_of side bytes p.passes
@@ -149,16 +149,16 @@ module _ (side : Side) (way : Way) (new : Endpoint) (bytes : List ℕ) (p : Pass
   pub outer_address : address 0 (outer_end way) after ≡ new.address
   outer_address = address_stands 0 (outer_end way) new.address bytes after outer-stands.1
 
-  pub quoted-part : (begin size : ℕ) → at ≤ begin → part begin size after ≡ part begin size (changed quoted bytes)
+  pub quoted-part : (begin size : ℕ) → at ≤ begin → part begin size after ≡ part begin size (with_changes quoted bytes)
   unfolding reverted_changes
   quoted-part begin size behind =
       ap (part begin size) (changed-append quoted (check ∷ outer) bytes)
-      ∙ part-changed_other begin size 0 (message + 4) (check ∷ outer) (changed quoted bytes) outer-within (omega arith)
+      ∙ part-changed_other begin size 0 (message + 4) (check ∷ outer) (with_changes quoted bytes) outer-within (omega arith)
 
-  outer_last : after ≡ changed outer (changed (quoted ++ check ∷ []) bytes)
+  outer_last : after ≡ with_changes outer (with_changes (quoted ++ check ∷ []) bytes)
   unfolding reverted_changes
   outer_last = changed-append quoted (check ∷ outer) bytes
-      ∙ sym (ap (changed outer) (changed-append quoted (check ∷ []) bytes))
+      ∙ sym (ap (with_changes outer) (changed-append quoted (check ∷ []) bytes))
 
   -- the error's own header, and the one that it quotes
   own_header : KeepsHeader 0 bytes after
@@ -177,7 +177,7 @@ module _ (side : Side) (way : Way) (new : Endpoint) (bytes : List ℕ) (p : Pass
         ∙ (end_keeps_header at (inner_end way) new bytes within).right;
   }
 
-  inner_start : transport at after ≡ transport at bytes
+  inner_start : transport_start at after ≡ transport_start at bytes
   inner_start = same_start at bytes after inner_header
 
   -- the ICMP checksum stays right
@@ -186,15 +186,15 @@ module _ (side : Side) (way : Way) (new : Endpoint) (bytes : List ℕ) (p : Pass
       let n : ℕ = length bytes - message in
       let all : message + n ≡ length bytes = omega (arith, room.transport_start) in
       let list : List Change = quoted ++ check ∷ [] in
-      let total : sum (words (part message n (changed list bytes))) + sum (olds list)
-      ≡ sum (words (part message n bytes)) + sum (news list) =
+      let total : sum (words (part message n (with_changes list bytes))) + sum (old_words list)
+      ≡ sum (words (part message n bytes)) + sum (new_words list) =
       sum-part-changed message n list bytes (omega arith) (rw all message-edits) in
       ap (λ (xs : List ℕ). sum (words xs) % 65535)
       (sym (whole_part message n after (all ∙ sym own_header.long)) ∙ ap (part message n) outer_last
-      ∙ part-changed_other message n 10 20 outer (changed list bytes)
+      ∙ part-changed_other message n 10 20 outer (with_changes list bytes)
       (address-within 0 (outer_end way) new.address bytes) (omega (arith, room.header)))
-      ∙ icmp_residue _ _ (word_at (message + 2) bytes) (olds quoted) (news quoted)
-      (ap (λ (s : ℕ). sum (words (part message n (changed list bytes))) + s)
+      ∙ icmp_residue _ _ (word_at (message + 2) bytes) (old_words quoted) (new_words quoted)
+      (ap (λ (s : ℕ). sum (words (part message n (with_changes list bytes))) + s)
       (sym (sum-map-append (λ (d : Change). d.old) quoted check))
       ∙ total ∙ ap (λ (s : ℕ). sum (words (part message n bytes)) + s)
       (sum-map-append (λ (d : Change). d.new) quoted check))
@@ -223,9 +223,9 @@ module _ (side : Side) (way : Way) (new : Endpoint) (bytes : List ℕ) (p : Pass
       (clear-within 10 20 message 1 outer (address-within 0 (outer_end way) new.address bytes)
       (omega (arith, room.header)))) in
       let body : KeepsBody (form_at 0 bytes) message bytes after = rw p.form_is (type, refl) in
-      let inner_body : KeepsBody (form_at at bytes) (transport at bytes) bytes after =
+      let inner_body : KeepsBody (form_at at bytes) (transport_start at bytes) bytes after =
       written_keeps_body at (inner_end way) new bytes after within quoted-written carries p.ports in
-      let start_is : transport 0 after ≡ message = same_start 0 bytes after own_header in
+      let start_is : transport_start 0 after ≡ message = same_start 0 bytes after own_header in
       let inner_form : form_at at after ≡ form_at at bytes = same_form at bytes after inner_header inner_body in
       let errors : AllPass (error_checks side after) =
       rw start_is (
@@ -240,7 +240,7 @@ module _ (side : Side) (way : Way) (new : Endpoint) (bytes : List ℕ) (p : Pass
       ) in
       record {
         passes = passes_kept side bytes after p.passes own_header body
-            (subst (λ (f : Form). AllPass (message_checks f side after)) (sym p.form_is) errors);
+            (subst (λ (f : TransportForm). AllPass (message_checks f side after)) (sym p.form_is) errors);
         same_form = same_form 0 bytes after own_header body;
         same_start = start_is;
         inner_form = inner_form;
@@ -253,33 +253,33 @@ module _ (side : Side) (way : Way) (new : Endpoint) (bytes : List ℕ) (p : Pass
 
 -- the quoted datagram's source stays the error's destination
 ours_kept : (side : Side) (way : Way) (new : Endpoint) (bytes : List ℕ) (p : PassesError side bytes) →
-    (let after : List ℕ = changed (reverted_changes way new bytes) bytes in
-    address (inner_at bytes) Source after ≡ address 0 Destination after)
+    (let after : List ℕ = with_changes (reverted_changes way new bytes) bytes in
+    address (inner_datagram_start bytes) Source after ≡ address 0 Destination after)
 ours_kept side Incoming new bytes p =
-    end_address (inner_at bytes) Source new bytes _ (quoted-written side Incoming new bytes p).stands
+    end_address (inner_datagram_start bytes) Source new bytes _ (quoted-written side Incoming new bytes p).stands
     ∙ sym (outer_address side Incoming new bytes p)
 ours_kept side Outgoing new bytes p =
-    address_same (inner_at bytes) Destination new bytes _ (inner_room side (inner_at bytes) bytes p.inner_good)
+    address_same (inner_datagram_start bytes) Destination new bytes _ (inner_room side (inner_datagram_start bytes) bytes p.inner_good)
     (quoted-written side Outgoing new bytes p)
-    ∙ same_number (address (inner_at bytes) Source bytes) (address 0 Destination bytes) p.inner_good.ours
+    ∙ same_number (address (inner_datagram_start bytes) Source bytes) (address 0 Destination bytes) p.inner_good.ours
     ∙ sym (long-stays 16 (reverted_changes Outgoing new bytes) bytes (error-clear side Outgoing new bytes p 16 4
     (omega arith) (other_clear 0 Source new.address bytes)))
 
 pub error_kept : (side : Side) (way : Way) (new : Endpoint) (bytes : List ℕ) → PassesError side bytes →
-    Carries (form_at (inner_at bytes) bytes) new.number →
-    KeepsError side bytes (changed (reverted_changes way new bytes) bytes)
+    Carries (form_at (inner_datagram_start bytes) bytes) new.number →
+    KeepsError side bytes (with_changes (reverted_changes way new bytes) bytes)
 error_kept side way new bytes p = kept_with side way new bytes p (ours_kept side way new bytes p)
 
 -- every word that is replaced is there
 pub error_there : (side : Side) (way : Way) (new : Endpoint) (bytes : List ℕ) → PassesError side bytes →
-    AreThere (reverted_changes way new bytes) bytes
+    AreWordsThere (reverted_changes way new bytes) bytes
 error_there side way new bytes p =
     there-of_within 0 (reverted_changes way new bytes) bytes
     (within-edits 0 (length bytes) 0 (length bytes) bytes (reverted_changes way new bytes) (omega arith) (omega arith)
     (error-edits side way new bytes p))
 
 -- what the caller says of an error, and of its number
-error_form : (form : Form) (bytes : List ℕ) → is_error (kind_of form bytes) ≡ true → form ≡ Error
+error_form : (form : TransportForm) (bytes : List ℕ) → is_error (kind_of form bytes) ≡ true → form ≡ Error
 error_form form bytes h = grind (arith, common_steps, nat_tests)
 
 pub error_of : (bytes : List ℕ) → is_error (kind bytes) ≡ true → form_at 0 bytes ≡ Error
@@ -291,31 +291,31 @@ unfolding kind
 is_error_of bytes h = rw h refl
 
 pub carries_inner : (bytes : List ℕ) (number : ℕ) → form_at 0 bytes ≡ Error → CanCarry (kind bytes) number →
-    Carries (form_at (inner_at bytes) bytes) number
+    Carries (form_at (inner_datagram_start bytes) bytes) number
 unfolding kind inner
 carries_inner bytes number e h = rw e at h
 
 -- the body of an error says where what it quotes stands
-body_error : (form : Form) (bytes : List ℕ) (quoted : Quoted) → body_of form bytes ≡ bodies.Error quoted →
+body_error : (form : TransportForm) (bytes : List ℕ) (quoted : Quoted) → body_of form bytes ≡ bodies.Error quoted →
     (form ≡ Error) × (quoted ≡ quoted_of bytes)
 body_error form bytes quoted h = grind (arith, common_steps, nat_tests)
 
-pub quoted_form : (bytes : List ℕ) (start : ℕ) (body : Body) (quoted : Quoted) → IsFound bytes start body →
+pub quoted_form : (bytes : List ℕ) (start : ℕ) (body : Body) (quoted : Quoted) → BodyIsFound bytes start body →
     body ≡ bodies.Error quoted → (form_at 0 bytes ≡ Error) × (quoted ≡ quoted_of bytes)
 quoted_form bytes start body quoted found h = body_error (form_at 0 bytes) bytes quoted (sym found.body_is ∙ h)
 
-pub not_error : (bytes : List ℕ) (start : ℕ) (body : Body) → IsFound bytes start body → form_at 0 bytes ≡ Error →
+pub not_error : (bytes : List ℕ) (start : ℕ) (body : Body) → BodyIsFound bytes start body → form_at 0 bytes ≡ Error →
     ((quoted : Quoted) → body ≡ bodies.Error quoted → ⊥) → ⊥
-not_error bytes start body found e h = h (quoted_of bytes) (found.body_is ∙ ap (λ (f : Form). body_of f bytes) e)
+not_error bytes start body found e h = h (quoted_of bytes) (found.body_is ∙ ap (λ (f : TransportForm). body_of f bytes) e)
 
 pub error_found : (side : Side) (start : ℕ) (body : Body) (old new : List ℕ) →
-    IsFound old start body → form_at 0 old ≡ Error → KeepsError side old new → IsFound new start body
+    BodyIsFound old start body → form_at 0 old ≡ Error → KeepsError side old new → BodyIsFound new start body
 error_found side start body old new found form_is keeps = grind (arith, common_steps, nat_tests)
 
 -- all of that for a packet that the caller knows to be an error
 pub error_kept_of : (side : Side) (way : Way) (new : Endpoint) (bytes : List ℕ) → is_error (kind bytes) ≡ true →
     CanCarry (kind bytes) new.number → reading side bytes ≡ Ok bytes →
-    KeepsError side bytes (changed (reverted_changes way new bytes) bytes)
+    KeepsError side bytes (with_changes (reverted_changes way new bytes) bytes)
 error_kept_of side way new bytes error number h =
     error_kept side way new bytes (passes_error side bytes (passes_of_read side bytes bytes h) (error_of bytes error))
     (carries_inner bytes new.number (error_of bytes error) number)

@@ -9,12 +9,12 @@ abbrev pub word_at : ℕ → List ℕ → ℕ
 word_at place bytes = 256 * slice_index bytes place + slice_index bytes (place + 1)
 
 -- the 32-bit number at a place
-abbrev pub long_at : ℕ → List ℕ → ℕ
-long_at place bytes = 65536 * word_at place bytes + word_at (place + 2) bytes
+abbrev pub double_word_at : ℕ → List ℕ → ℕ
+double_word_at place bytes = 65536 * word_at place bytes + word_at (place + 2) bytes
 
 -- the bytes with a 16-bit number written at a place
-abbrev pub put_word : ℕ → ℕ → List ℕ → List ℕ
-put_word place word bytes = slice_set (slice_set bytes place (word / 256)) (place + 1) (word % 256)
+abbrev pub with_word_at : ℕ → ℕ → List ℕ → List ℕ
+with_word_at place word bytes = slice_set (slice_set bytes place (word / 256)) (place + 1) (word % 256)
 
 -- the bytes as 16-bit words, an odd last byte padded with a zero byte (RFC 1071 section 4.1)
 abbrev pub words : List ℕ → List ℕ

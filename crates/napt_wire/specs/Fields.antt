@@ -1,9 +1,9 @@
 -- The fields of a datagram that begins at a place `at`: a packet's own at 0, and the one that an ICMP
--- error quotes at `inner_at`. Layouts of RFC 791 section 3.1, RFC 768, RFC 9293 section 3.1 and RFC 792.
+-- error quotes at `inner_datagram_start`. Layouts of RFC 791 section 3.1, RFC 768, RFC 9293 section 3.1 and RFC 792.
 use Rattle.std.specs.Prelude.{ℕ, ◌+◌, ◌*◌, ◌/◌, ◌<◌, Bool, true, false, not, List, bit_and, Option, Some, None, ◌==◌, if◌then◌else◌}
-use Rattle.napt_wire.specs.{Bytes.{byte_at, word_at, long_at}, declared.{Endpoint.Endpoint, Flags.Flags, Inner.Inner, Kind.Kind, Protocol.Protocol, Way.Way}}
-use Rattle.napt_wire.specs.declared.{Way.TheVariants.{Outgoing, Incoming}, form.{Form.{Form, TheVariants.{Udp, Tcp, Request, Reply, Error}}, End.End}}
-use Rattle.napt_wire.specs.declared.form.End.TheVariants.{Source, Destination}
+use Rattle.napt_wire.specs.{Bytes.{byte_at, word_at, double_word_at}, declared.{Endpoint.Endpoint, Flags.Flags, Inner.Inner, Kind.Kind, Protocol.Protocol, Way.Way}}
+use Rattle.napt_wire.specs.declared.{Way.TheVariants.{Outgoing, Incoming}, transport_form.{TransportForm.{TransportForm, TheVariants.{Udp, Tcp, Request, Reply, Error}}, DatagramEnd.DatagramEnd}}
+use Rattle.napt_wire.specs.declared.transport_form.DatagramEnd.TheVariants.{Source, Destination}
 use Rattle.napt_wire.specs.declared.Kind.TheVariants as kinds
 use Rattle.napt_wire.specs.declared.Protocol.TheVariants as protocols
 
@@ -22,35 +22,35 @@ abbrev pub fragment_offset : ℕ → List ℕ → ℕ
 fragment_offset at bytes = bit_and (word_at (at + 6) bytes) 8191
 
 -- more fragments follow
-abbrev pub has_more : ℕ → List ℕ → Bool
-has_more at bytes = not (bit_and (word_at (at + 6) bytes) 8192 == 0)
+abbrev pub has_more_fragments : ℕ → List ℕ → Bool
+has_more_fragments at bytes = not (bit_and (word_at (at + 6) bytes) 8192 == 0)
 
 abbrev pub protocol_number : ℕ → List ℕ → ℕ
 protocol_number at bytes = byte_at (at + 9) bytes
 
-abbrev pub address_place : End → ℕ
+abbrev pub address_place : DatagramEnd → ℕ
 address_place Source = 12
 address_place Destination = 16
 
-abbrev pub address : ℕ → End → List ℕ → ℕ
-address at end bytes = long_at (at + address_place end) bytes
+abbrev pub address : ℕ → DatagramEnd → List ℕ → ℕ
+address at end bytes = double_word_at (at + address_place end) bytes
 
 -- where the transport header begins
-abbrev pub transport : ℕ → List ℕ → ℕ
-transport at bytes = at + header_length at bytes
+abbrev pub transport_start : ℕ → List ℕ → ℕ
+transport_start at bytes = at + header_length at bytes
 
 -- the form of an ICMP message, by its type
-abbrev pub icmp_form : ℕ → Form
+abbrev pub icmp_form : ℕ → TransportForm
 icmp_form type = if type == 8 then Request else (if type == 0 then Reply else Error)
 
-unfoldable pub form_at : ℕ → List ℕ → Form
+unfoldable pub form_at : ℕ → List ℕ → TransportForm
 form_at at bytes =
     if protocol_number at bytes == 17 then Udp
-    else (if protocol_number at bytes == 6 then Tcp else icmp_form (byte_at (transport at bytes) bytes))
+    else (if protocol_number at bytes == 6 then Tcp else icmp_form (byte_at (transport_start at bytes) bytes))
 
 -- where in a transport header an end has its number, a port or an identifier, if it has one: the
 -- identifier of an echo belongs to the host that sent the request
-abbrev pub number_place : Form → End → Option ℕ
+abbrev pub number_place : TransportForm → DatagramEnd → Option ℕ
 number_place Udp Source = Some 0
 number_place Udp Destination = Some 2
 number_place Tcp Source = Some 0
@@ -65,10 +65,10 @@ number_at start None bytes = 0
 number_at start (Some place) bytes = word_at (start + place) bytes
 
 -- an end of the datagram at a place
-abbrev pub end_at : ℕ → End → List ℕ → Endpoint
+abbrev pub end_at : ℕ → DatagramEnd → List ℕ → Endpoint
 end_at at end bytes = record {
   address = address at end bytes;
-  number = number_at (transport at bytes) (number_place (form_at at bytes) end) bytes;
+  number = number_at (transport_start at bytes) (number_place (form_at at bytes) end) bytes;
 }
 
 unfoldable pub source : List ℕ → Endpoint
@@ -87,13 +87,13 @@ flags_of bits = record {
 }
 
 unfoldable pub flags : List ℕ → Flags
-flags bytes = flags_of (byte_at (transport 0 bytes + 13) bytes)
+flags bytes = flags_of (byte_at (transport_start 0 bytes + 13) bytes)
 
 -- where the datagram begins that an ICMP error is about
-abbrev pub inner_at : List ℕ → ℕ
-inner_at bytes = transport 0 bytes + 8
+abbrev pub inner_datagram_start : List ℕ → ℕ
+inner_datagram_start bytes = transport_start 0 bytes + 8
 
-abbrev pub protocol_of : Form → Protocol
+abbrev pub protocol_of : TransportForm → Protocol
 protocol_of Udp = protocols.Udp
 protocol_of Tcp = protocols.Tcp
 protocol_of _ = protocols.Icmp
@@ -107,10 +107,10 @@ inner_of at bytes = record {
 }
 
 unfoldable pub inner : List ℕ → Inner
-inner bytes = inner_of (inner_at bytes) bytes
+inner bytes = inner_of (inner_datagram_start bytes) bytes
 
 -- the kind of a packet whose transport header is of a form
-abbrev pub kind_of : Form → List ℕ → Kind
+abbrev pub kind_of : TransportForm → List ℕ → Kind
 kind_of Udp bytes = kinds.Udp
 kind_of Tcp bytes = kinds.Tcp (flags bytes)
 kind_of Error bytes = kinds.ErrorOf (inner bytes)

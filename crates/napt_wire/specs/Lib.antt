@@ -4,8 +4,8 @@ pub mod Fields
 pub mod Reading
 pub mod Rewriting
 pub mod Packet
-pub mod Right
-pub mod Rewrite
+pub mod TransportChecksum
+pub mod HeaderRewrite
 pub mod Header
 pub mod Laws
 pub mod Prelude

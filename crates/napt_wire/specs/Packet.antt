@@ -1,7 +1,7 @@
 -- What a packet keeps of its bytes.
 use Rattle.std.specs.Prelude.{◌≡◌, ℕ, List, Ok}
-use Rattle.napt_wire.specs.{Fields.{transport, form_at, flags, inner_at}, Reading.reading, declared.{Side.Side, form.Form.Form}}
-use Rattle.napt_wire.specs.declared.{form.Form.TheVariants.{Udp, Tcp, Request, Reply, Error}, packet.{Body.Body, Quoted.Quoted}}
+use Rattle.napt_wire.specs.{Fields.{transport_start, form_at, flags, inner_datagram_start}, Reading.reading, declared.{Side.Side, transport_form.TransportForm.TransportForm}}
+use Rattle.napt_wire.specs.declared.{transport_form.TransportForm.TheVariants.{Udp, Tcp, Request, Reply, Error}, packet.{Body.Body, Quoted.Quoted}}
 use Rattle.napt_wire.specs.declared.packet.Body.TheVariants as bodies
 
 -- the bytes read as this packet, on arrival from one of the sides
@@ -11,12 +11,12 @@ IsPacket bytes = (side : Side) × (reading side bytes ≡ Ok bytes)
 -- what is kept of the datagram that an ICMP error quotes
 abbrev pub quoted_of : List ℕ → Quoted
 quoted_of bytes = record {
-  form = form_at (inner_at bytes) bytes;
-  start = transport (inner_at bytes) bytes;
+  form = form_at (inner_datagram_start bytes) bytes;
+  start = transport_start (inner_datagram_start bytes) bytes;
 }
 
 -- the body of a packet whose transport header is of a form
-abbrev pub body_of : Form → List ℕ → Body
+abbrev pub body_of : TransportForm → List ℕ → Body
 body_of Udp bytes = bodies.Udp
 body_of Tcp bytes = bodies.Tcp (flags bytes)
 body_of Request bytes = bodies.Request
@@ -24,7 +24,7 @@ body_of Reply bytes = bodies.Reply
 body_of Error bytes = bodies.Error (quoted_of bytes)
 
 -- the form of a body's transport header
-abbrev pub form_of : Body → Form
+abbrev pub form_of : Body → TransportForm
 form_of bodies.Udp = Udp
 form_of (bodies.Tcp flags) = Tcp
 form_of bodies.Request = Request
@@ -32,11 +32,11 @@ form_of bodies.Reply = Reply
 form_of (bodies.Error quoted) = Error
 
 -- what is kept of a datagram is what its bytes say: where its transport header begins, and its body
-pub record IsFound (bytes : List ℕ) (start : ℕ) (body : Body) : Type 0 where
-  pub start_is : start ≡ transport 0 bytes
+pub record BodyIsFound (bytes : List ℕ) (start : ℕ) (body : Body) : Type 0 where
+  pub start_is : start ≡ transport_start 0 bytes
   pub body_is : body ≡ body_of (form_at 0 bytes) bytes
 
 -- the bytes read as a packet, and what is kept of them is what they say
-pub record IsKept (bytes : List ℕ) (start : ℕ) (body : Body) : Type 0 where
+pub record PacketInvariant (bytes : List ℕ) (start : ℕ) (body : Body) : Type 0 where
   pub reads : IsPacket bytes
-  pub found : IsFound bytes start body
+  pub found : BodyIsFound bytes start body

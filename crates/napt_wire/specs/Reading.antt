@@ -1,20 +1,20 @@
 -- Reading a packet: the checks in order. The first that fails names the cause.
 use Rattle.std.specs.Prelude.{ℕ, ◌+◌, ◌*◌, ◌/◌, Bool, true, false, not, ◌&&◌, ◌||◌, List, [], ◌∷◌, ◌++◌, length, take, drop, Option, Some, None, Result, Ok, Err, nat_lt, ◌==◌, if◌then◌else◌}
 use Rattle.napt_wire.specs.{Bytes.{byte_at, word_at, words}, Checksum.is_right}
-use Rattle.napt_wire.specs.Fields.{version, header_length, total_length, fragment_offset, has_more, protocol_number, transport, form_at, address, inner_at}
+use Rattle.napt_wire.specs.Fields.{version, header_length, total_length, fragment_offset, has_more_fragments, protocol_number, transport_start, form_at, address, inner_datagram_start}
 use Rattle.napt_wire.specs.declared.Cause.{Cause, TheVariants.{Truncated, NotIpv4, BadHeader, BadChecksum, Fragment, Unsupported, BadInner, BadPort}}
-use Rattle.napt_wire.specs.declared.{Side.{Side, TheVariants.{Inside, Outside}}, form.Form.{Form, TheVariants.{Udp, Tcp, Request, Reply, Error}}}
-use Rattle.napt_wire.specs.declared.form.End.TheVariants.{Source, Destination}
+use Rattle.napt_wire.specs.declared.{Side.{Side, TheVariants.{Inside, Outside}}, transport_form.TransportForm.{TransportForm, TheVariants.{Udp, Tcp, Request, Reply, Error}}}
+use Rattle.napt_wire.specs.declared.transport_form.DatagramEnd.TheVariants.{Source, Destination}
 
 -- the header of the datagram at a place
 abbrev pub header : ℕ → List ℕ → List ℕ
 header at bytes = take (header_length at bytes) (drop at bytes)
 
 -- ICMP, TCP or UDP
-abbrev pub is_known : ℕ → Bool
-is_known protocol = protocol == 1 || protocol == 6 || protocol == 17
+abbrev pub is_known_protocol : ℕ → Bool
+is_known_protocol protocol = protocol == 1 || protocol == 6 || protocol == 17
 
-abbrev pub has_ports : Form → Bool
+abbrev pub has_ports : TransportForm → Bool
 has_ports Udp = true
 has_ports Tcp = true
 has_ports _ = false
@@ -22,7 +22,7 @@ has_ports _ = false
 -- the transport header of a form cannot be: UDP's length field is below 8 or above the bytes that are
 -- there (RFC 768), TCP's data offset is below 5 or points past them (RFC 9293 section 3.1), or they are
 -- fewer than the header of the form has (8 for ICMP, RFC 792)
-abbrev pub has_bad_transport : Form → List ℕ → Bool
+abbrev pub has_bad_transport : TransportForm → List ℕ → Bool
 has_bad_transport Udp payload =
     nat_lt (length payload) 8 || nat_lt (word_at 4 payload) 8 || nat_lt (length payload) (word_at 4 payload)
 has_bad_transport Tcp payload =
@@ -32,22 +32,22 @@ has_bad_transport _ payload = nat_lt (length payload) 8
 
 -- ICMP messages that are translated (RFC 792): destination unreachable, time exceeded and parameter
 -- problem; an echo request from inside, and an echo reply from outside
-abbrev pub is_translated : Side → Form → ℕ → Bool
-is_translated side Udp type = true
-is_translated side Tcp type = true
-is_translated Inside Request type = true
-is_translated Outside Reply type = true
-is_translated side Error type = type == 3 || type == 11 || type == 12
-is_translated _ _ type = false
+abbrev pub is_translated_message : Side → TransportForm → ℕ → Bool
+is_translated_message side Udp type = true
+is_translated_message side Tcp type = true
+is_translated_message Inside Request type = true
+is_translated_message Outside Reply type = true
+is_translated_message side Error type = type == 3 || type == 11 || type == 12
+is_translated_message _ _ type = false
 
 -- the datagram that an error quotes went the other way: its echo is a request where the error comes
 -- from outside, and a reply where it comes from inside
-abbrev pub is_quoted : Side → Form → Bool
-is_quoted side Udp = true
-is_quoted side Tcp = true
-is_quoted Outside Request = true
-is_quoted Inside Reply = true
-is_quoted _ _ = false
+abbrev pub is_quotable : Side → TransportForm → Bool
+is_quotable side Udp = true
+is_quotable side Tcp = true
+is_quotable Outside Request = true
+is_quotable Inside Reply = true
+is_quotable _ _ = false
 
 -- the datagram at a place, which an error quotes, is bad (RFC 5508 section 4): too little of it is there,
 -- it is damaged, it is no first fragment, or it isn't one that the receiver of the error sent
@@ -56,15 +56,15 @@ has_bad_inner side at bytes =
     nat_lt (length bytes) (at + 20)
     || not (version at bytes == 4)
     || nat_lt (header_length at bytes) 20
-    || nat_lt (length bytes) (transport at bytes + 8)
+    || nat_lt (length bytes) (transport_start at bytes + 8)
     || not (is_right (words (header at bytes)))
     || not (fragment_offset at bytes == 0)
-    || not (is_known (protocol_number at bytes))
-    || not (is_quoted side (form_at at bytes))
+    || not (is_known_protocol (protocol_number at bytes))
+    || not (is_quotable side (form_at at bytes))
     || not (address at Source bytes == address 0 Destination bytes)
 
 -- a transport header of a form has ports, and one of them is 0
-abbrev pub has_zero_port : Form → ℕ → List ℕ → Bool
+abbrev pub has_zero_port : TransportForm → ℕ → List ℕ → Bool
 has_zero_port form start bytes = has_ports form && (word_at start bytes == 0 || word_at (start + 2) bytes == 0)
 
 -- the checks on the bytes that came, each with the cause where it fails: what the IPv4 header says of
@@ -81,28 +81,28 @@ length_checks bytes =
 abbrev pub header_checks : List ℕ → List (Bool × Cause)
 header_checks bytes =
     (not (is_right (words (header 0 bytes))), BadChecksum)
-    ∷ (has_more 0 bytes || not (fragment_offset 0 bytes == 0), Fragment)
-    ∷ (not (is_known (protocol_number 0 bytes)), Unsupported) ∷ []
+    ∷ (has_more_fragments 0 bytes || not (fragment_offset 0 bytes == 0), Fragment)
+    ∷ (not (is_known_protocol (protocol_number 0 bytes)), Unsupported) ∷ []
 
 -- an error's checksum, which is over the whole ICMP message (RFC 792), what it quotes, and the ports there
 abbrev pub error_checks : Side → List ℕ → List (Bool × Cause)
 error_checks side bytes =
-    (not (is_right (words (drop (transport 0 bytes) bytes))), BadChecksum)
-    ∷ (has_bad_inner side (inner_at bytes) bytes, BadInner)
-    ∷ (has_zero_port (form_at (inner_at bytes) bytes) (transport (inner_at bytes) bytes) bytes, BadPort) ∷ []
+    (not (is_right (words (drop (transport_start 0 bytes) bytes))), BadChecksum)
+    ∷ (has_bad_inner side (inner_datagram_start bytes) bytes, BadInner)
+    ∷ (has_zero_port (form_at (inner_datagram_start bytes) bytes) (transport_start (inner_datagram_start bytes) bytes) bytes, BadPort) ∷ []
 
 -- the checks on a message of a form behind the two on its header: those of an error, or the ports
-abbrev pub message_checks : Form → Side → List ℕ → List (Bool × Cause)
-message_checks Udp side bytes = (has_zero_port (form_at 0 bytes) (transport 0 bytes) bytes, BadPort) ∷ []
-message_checks Tcp side bytes = (has_zero_port (form_at 0 bytes) (transport 0 bytes) bytes, BadPort) ∷ []
+abbrev pub message_checks : TransportForm → Side → List ℕ → List (Bool × Cause)
+message_checks Udp side bytes = (has_zero_port (form_at 0 bytes) (transport_start 0 bytes) bytes, BadPort) ∷ []
+message_checks Tcp side bytes = (has_zero_port (form_at 0 bytes) (transport_start 0 bytes) bytes, BadPort) ∷ []
 message_checks Error side bytes = error_checks side bytes
 message_checks _ side bytes = []
 
 -- the transport header, the type of an ICMP message, and the message
 abbrev pub body_checks : Side → List ℕ → List (Bool × Cause)
 body_checks side bytes =
-    (has_bad_transport (form_at 0 bytes) (drop (transport 0 bytes) bytes), BadHeader)
-    ∷ (not (is_translated side (form_at 0 bytes) (byte_at (transport 0 bytes) bytes)), Unsupported)
+    (has_bad_transport (form_at 0 bytes) (drop (transport_start 0 bytes) bytes), BadHeader)
+    ∷ (not (is_translated_message side (form_at 0 bytes) (byte_at (transport_start 0 bytes) bytes)), Unsupported)
     ∷ message_checks (form_at 0 bytes) side bytes
 
 -- the cause of the first check that fails

@@ -1,25 +1,25 @@
 -- The rewritten packet (RFC 3022 sections 4.1 to 4.3, RFC 5508 section 4): an address and a number are
 -- replaced, and each checksum that covers them, all at once. All other bytes stay.
 use Rattle.std.specs.Prelude.{ℕ, ◌+◌, ◌/◌, ◌%◌, List, [], ◌∷◌, ◌++◌, length, map, Option, Some, None, nat_le, if◌then◌else◌}
-use Rattle.napt_wire.specs.{Bytes.{word_at, put_word}, Checksum.{canon, canon_udp}}
-use Rattle.napt_wire.specs.{Fields.{address, address_place, transport, form_at, number_place, end_at, inner_at}, declared.{Endpoint.Endpoint, Way.Way}}
-use Rattle.napt_wire.specs.declared.{Way.TheVariants.{Outgoing, Incoming}, form.{Form.{Form, TheVariants.{Udp, Tcp, Error}}, End.End}}
-use Rattle.napt_wire.specs.declared.{form.End.TheVariants.{Source, Destination}, rewrite.Change.Change}
+use Rattle.napt_wire.specs.{Bytes.{word_at, with_word_at}, Checksum.{canon, canon_udp}}
+use Rattle.napt_wire.specs.{Fields.{address, address_place, transport_start, form_at, number_place, end_at, inner_datagram_start}, declared.{Endpoint.Endpoint, Way.Way}}
+use Rattle.napt_wire.specs.declared.{Way.TheVariants.{Outgoing, Incoming}, transport_form.{TransportForm.{TransportForm, TheVariants.{Udp, Tcp, Error}}, DatagramEnd.DatagramEnd}}
+use Rattle.napt_wire.specs.declared.{transport_form.DatagramEnd.TheVariants.{Source, Destination}, header_rewrite.Change.Change}
 
 -- the word at a place becomes another
-abbrev pub change : List ℕ → ℕ → ℕ → Change
-change bytes place new = record { place = place; old = word_at place bytes; new = new }
+abbrev pub word_change : List ℕ → ℕ → ℕ → Change
+word_change bytes place new = record { place = place; old = word_at place bytes; new = new }
 
-abbrev pub olds : List Change → List ℕ
-olds changes = map (λ (c : Change). c.old) changes
+abbrev pub old_words : List Change → List ℕ
+old_words changes = map (λ (c : Change). c.old) changes
 
-abbrev pub news : List Change → List ℕ
-news changes = map (λ (c : Change). c.new) changes
+abbrev pub new_words : List Change → List ℕ
+new_words changes = map (λ (c : Change). c.new) changes
 
 -- the bytes with the words replaced
-abbrev pub changed : List Change → List ℕ → List ℕ
-changed [] bytes = bytes
-changed (c ∷ changes) bytes = changed changes (put_word c.place c.new bytes)
+abbrev pub with_changes : List Change → List ℕ → List ℕ
+with_changes [] bytes = bytes
+with_changes (c ∷ changes) bytes = with_changes changes (with_word_at c.place c.new bytes)
 
 -- the two words of an address, and the three that a TCP or UDP checksum covers of an end: its address
 -- by the pseudo-header, and its port
@@ -30,52 +30,52 @@ abbrev pub end_words : Endpoint → List ℕ
 end_words end = end.address / 65536 ∷ end.address % 65536 ∷ end.number ∷ []
 
 -- an address of the datagram at a place is replaced, and the IP checksum, which covers it
-abbrev pub address_changes : ℕ → End → ℕ → List ℕ → List Change
+abbrev pub address_changes : ℕ → DatagramEnd → ℕ → List ℕ → List Change
 address_changes at end new bytes =
-    change bytes (at + 10) (canon (word_at (at + 10) bytes) (address_words (address at end bytes)) (address_words new))
-    ∷ change bytes (at + address_place end) (new / 65536)
-    ∷ change bytes (at + address_place end + 2) (new % 65536) ∷ []
+    word_change bytes (at + 10) (canon (word_at (at + 10) bytes) (address_words (address at end bytes)) (address_words new))
+    ∷ word_change bytes (at + address_place end) (new / 65536)
+    ∷ word_change bytes (at + address_place end + 2) (new % 65536) ∷ []
 
 -- The transport checksum of a form, in a transport header that begins at `start`, where an end becomes
 -- another. An ICMP checksum covers the identifier alone. A TCP checksum is written only where it is there,
 -- as in a whole segment: an error may quote less.
-abbrev pub checksum_changes : Form → ℕ → Endpoint → Endpoint → List ℕ → List Change
+abbrev pub checksum_changes : TransportForm → ℕ → Endpoint → Endpoint → List ℕ → List Change
 checksum_changes Udp start old new bytes =
-    change bytes (start + 6) (canon_udp (word_at (start + 6) bytes) (end_words old) (end_words new)) ∷ []
+    word_change bytes (start + 6) (canon_udp (word_at (start + 6) bytes) (end_words old) (end_words new)) ∷ []
 checksum_changes Tcp start old new bytes =
     if nat_le (start + 18) (length bytes)
-    then change bytes (start + 16) (canon (word_at (start + 16) bytes) (end_words old) (end_words new)) ∷ []
+    then word_change bytes (start + 16) (canon (word_at (start + 16) bytes) (end_words old) (end_words new)) ∷ []
     else []
 checksum_changes Error start old new bytes = []
 checksum_changes _ start old new bytes =
-    change bytes (start + 2) (canon (word_at (start + 2) bytes) (old.number ∷ []) (new.number ∷ [])) ∷ []
+    word_change bytes (start + 2) (canon (word_at (start + 2) bytes) (old.number ∷ []) (new.number ∷ [])) ∷ []
 
 -- the number of an end is replaced, if it has one, and the transport checksum that covers it
-abbrev pub number_changes : Option ℕ → Form → ℕ → Endpoint → Endpoint → List ℕ → List Change
+abbrev pub number_changes : Option ℕ → TransportForm → ℕ → Endpoint → Endpoint → List ℕ → List Change
 number_changes None form start old new bytes = []
 number_changes (Some place) form start old new bytes =
-    change bytes (start + place) new.number ∷ checksum_changes form start old new bytes
+    word_change bytes (start + place) new.number ∷ checksum_changes form start old new bytes
 
 -- an end of the datagram at a place becomes another
-unfoldable pub end_changes : ℕ → End → Endpoint → List ℕ → List Change
+unfoldable pub end_changes : ℕ → DatagramEnd → Endpoint → List ℕ → List Change
 end_changes at end new bytes =
-    number_changes (number_place (form_at at bytes) end) (form_at at bytes) (transport at bytes)
+    number_changes (number_place (form_at at bytes) end) (form_at at bytes) (transport_start at bytes)
     (end_at at end bytes) new bytes
     ++ address_changes at end new.address bytes
 
 unfoldable pub with_source : Endpoint → List ℕ → List ℕ
-with_source source bytes = changed (end_changes 0 Source source bytes) bytes
+with_source source bytes = with_changes (end_changes 0 Source source bytes) bytes
 
 unfoldable pub with_destination : Endpoint → List ℕ → List ℕ
-with_destination destination bytes = changed (end_changes 0 Destination destination bytes) bytes
+with_destination destination bytes = with_changes (end_changes 0 Destination destination bytes) bytes
 
 -- the end of the quoted datagram that is inside the translator, and the end of the error
 -- itself that is translated with it
-abbrev pub inner_end : Way → End
+abbrev pub inner_end : Way → DatagramEnd
 inner_end Incoming = Source
 inner_end Outgoing = Destination
 
-abbrev pub outer_end : Way → End
+abbrev pub outer_end : Way → DatagramEnd
 outer_end Incoming = Destination
 outer_end Outgoing = Source
 
@@ -83,11 +83,11 @@ outer_end Outgoing = Source
 -- its ICMP checksum, which covers each word of the quoted datagram that is replaced.
 unfoldable pub reverted_changes : Way → Endpoint → List ℕ → List Change
 reverted_changes way end bytes =
-    let quoted : List Change = end_changes (inner_at bytes) (inner_end way) end bytes in
-    let checksum : ℕ = transport 0 bytes + 2 in
+    let quoted : List Change = end_changes (inner_datagram_start bytes) (inner_end way) end bytes in
+    let checksum : ℕ = transport_start 0 bytes + 2 in
     quoted
-    ++ change bytes checksum (canon (word_at checksum bytes) (olds quoted) (news quoted))
+    ++ word_change bytes checksum (canon (word_at checksum bytes) (old_words quoted) (new_words quoted))
     ∷ address_changes 0 (outer_end way) end.address bytes
 
 unfoldable pub reverted : Way → Endpoint → List ℕ → List ℕ
-reverted way end bytes = changed (reverted_changes way end bytes) bytes
+reverted way end bytes = with_changes (reverted_changes way end bytes) bytes

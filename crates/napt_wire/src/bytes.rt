@@ -1,7 +1,7 @@
 //! Big-endian numbers in bytes.
 
 ghost use Rattle.std.specs.Prelude.{◌≡◌, ◌+◌, ◌≤◌, length};
-ghost use Rattle.napt_wire.specs.Bytes.{word_at, long_at, put_word};
+ghost use Rattle.napt_wire.specs.Bytes.{word_at, double_word_at, with_word_at};
 
 use byteorder::{BigEndian, ByteOrder};
 
@@ -16,7 +16,7 @@ pub(crate) fn read_word(bytes: &[u8], place: usize) -> u16
 /// The 32-bit number at a place.
 pub(crate) fn read_long(bytes: &[u8], place: usize) -> u32
     requires { place + 4 ≤ length bytes.now }
-    ensures { result ≡ long_at place bytes.now }
+    ensures { result ≡ double_word_at place bytes.now }
 {
     BigEndian::read_u32(&bytes[place..])
 }
@@ -24,7 +24,7 @@ pub(crate) fn read_long(bytes: &[u8], place: usize) -> u32
 /// Writes a 16-bit number at a place.
 pub(crate) fn write_word(bytes: &mut [u8], place: usize, word: u16)
     requires { place + 2 ≤ length bytes.old }
-    ensures { bytes.new ≡ put_word place word bytes.old }
+    ensures { bytes.new ≡ with_word_at place word bytes.old }
 {
     BigEndian::write_u16(&mut bytes[place..], word);
 }

@@ -4,7 +4,7 @@ ghost use Rattle.std.specs.Prelude.{◌≡◌, ◌+◌, ◌≤◌, ◌<◌, ◌^
 ghost use Rattle.napt_wire.specs.{Fields.{address_place, end_at, inner_of, number_place}, Header.IsHeader};
 
 use crate::bytes::{read_long, read_word};
-use crate::form::{End, Form};
+use crate::transport_form::{DatagramEnd, TransportForm};
 use crate::{Endpoint, Inner};
 
 /// The headers of a datagram in the bytes of a packet: the packet's own, or those that an ICMP error quotes.
@@ -15,12 +15,12 @@ pub(crate) struct Header {
     /// Where the transport header begins.
     pub(crate) start: usize,
     /// The form of the transport header.
-    pub(crate) form: Form,
+    pub(crate) form: TransportForm,
 }
 
 impl Header {
     /// Where an end has its address.
-    pub(crate) fn address_place(self, end: End) -> usize
+    pub(crate) fn address_place(self, end: DatagramEnd) -> usize
         requires { self.at + 20 < 2 ^ 64 }
         ensures { result ≡ self.at + address_place end }
     {
@@ -28,7 +28,7 @@ impl Header {
     }
 
     /// Where an end has its number, if it has one.
-    pub(crate) fn number_place(self, end: End) -> Option<usize>
+    pub(crate) fn number_place(self, end: DatagramEnd) -> Option<usize>
         requires { self.start + 8 < 2 ^ 64 }
         ensures place { result ≡ option_map (λ offset. self.start + offset)
             (number_place self.form end) }
@@ -42,7 +42,7 @@ impl Header {
 
     /// An end of the datagram.
     #[inline(always)]
-    pub(crate) fn end(self, bytes: &[u8], end: End) -> Endpoint
+    pub(crate) fn end(self, bytes: &[u8], end: DatagramEnd) -> Endpoint
         requires { IsHeader self.at self bytes.now }
         ensures { result ≡ end_at self.at end bytes.now }
     {
@@ -61,8 +61,8 @@ impl Header {
     {
         Inner {
             protocol: self.form.protocol(),
-            source: self.end(bytes, End::Source),
-            destination: self.end(bytes, End::Destination),
+            source: self.end(bytes, DatagramEnd::Source),
+            destination: self.end(bytes, DatagramEnd::Destination),
         }
     }
 }

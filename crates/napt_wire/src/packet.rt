@@ -1,14 +1,14 @@
 //! A packet that was read.
 
 ghost use Rattle.std.specs.Prelude.{◌≡◌, List, ℕ, false, true, Ok, Err, IfOk, IfErr, ◌<◌, ◌^◌, length};
-ghost use Rattle.napt_wire.specs.{Fields.{source, destination, end_at, inner_at, kind, local_end, remote_end, is_error, CanCarry}, Reading.reading};
-ghost use Rattle.napt_wire.specs.{Rewriting.{changed, end_changes, with_source, with_destination, reverted}, Packet.{IsPacket, form_of, quoted_of}};
-ghost use Rattle.napt_wire.specs.{Header.IsHeader, Right.transport_right, declared.Side.Side};
+ghost use Rattle.napt_wire.specs.{Fields.{source, destination, end_at, inner_datagram_start, kind, local_end, remote_end, is_error, CanCarry}, Reading.reading};
+ghost use Rattle.napt_wire.specs.{Rewriting.{with_changes, end_changes, with_source, with_destination, reverted}, Packet.{IsPacket, form_of, quoted_of}};
+ghost use Rattle.napt_wire.specs.{Header.IsHeader, TransportChecksum.transport_right, declared.Side.Side};
 
-use crate::form::{End, Form};
 use crate::header::Header;
+use crate::header_rewrite::ErrorRewrite;
 use crate::reading::read_datagram;
-use crate::rewrite::ErrorRewrite;
+use crate::transport_form::{DatagramEnd, TransportForm};
 use crate::{Cause, Endpoint, Flags, Kind, Side, Way};
 use std::marker::Model;
 
@@ -25,7 +25,7 @@ pub(crate) enum Body {
 /// The transport header of the datagram that an ICMP error quotes: its form, and where in the error it begins.
 #[derive(Clone, Copy)]
 pub(crate) struct Quoted {
-    pub(crate) form: Form,
+    pub(crate) form: TransportForm,
     pub(crate) start: u16,
 }
 
@@ -41,13 +41,13 @@ pub struct Packet {
 
 impl Model for Packet {
     ghost use Rattle.std.specs.Prelude.{ℕ, List};
-    ghost use Rattle.napt_wire.specs.Packet.{IsKept};
+    ghost use Rattle.napt_wire.specs.Packet.{PacketInvariant};
 
     ghost Value = { List ℕ };
 
     ghost view = { λ p. p.bytes.items };
 
-    ghost invariant = { λ p. IsKept p.bytes.items p.start p.body };
+    ghost invariant = { λ p. PacketInvariant p.bytes.items p.start p.body };
 }
 
 impl Packet {
@@ -98,7 +98,7 @@ impl Packet {
         ensures carried { is_error (kind self.now) ≡ false →
             CanCarry (kind self.now) result.number }
     {
-        self.end(End::Source)
+        self.end(DatagramEnd::Source)
     }
 
     /// Where the packet goes. An echo request and an ICMP error have the number 0.
@@ -106,7 +106,7 @@ impl Packet {
     pub fn destination(&self) -> Endpoint
         ensures { result ≡ destination self.now }
     {
-        self.end(End::Destination)
+        self.end(DatagramEnd::Destination)
     }
 
     /// What the packet is.
@@ -161,7 +161,7 @@ impl Packet {
         // A transport checksum that is there with all that it covers is right exactly if it was before.
         ensures right { transport_right 0 self.new ≡ transport_right 0 self.old }
     {
-        self.set_end(End::Source, source);
+        self.set_end(DatagramEnd::Source, source);
     }
 
     /// Replaces the destination, and each checksum that covers it (RFC 3022 sections 4.1 and 4.2). In an echo
@@ -177,7 +177,7 @@ impl Packet {
         // A transport checksum that is there with all that it covers is right exactly if it was before.
         ensures right { transport_right 0 self.new ≡ transport_right 0 self.old }
     {
-        self.set_end(End::Destination, destination);
+        self.set_end(DatagramEnd::Destination, destination);
     }
 
     /// Restores an end of the datagram that an ICMP error quotes. On the way in, its source becomes `end`, and
@@ -192,8 +192,8 @@ impl Packet {
             ≡ Ok self.new }
         // The same holds for the quoted datagram's; its IP checksum, the error's own and the ICMP checksum stay
         // right, since the packet reads.
-        ensures right { transport_right (inner_at self.old) self.new
-            ≡ transport_right (inner_at self.old) self.old }
+        ensures right { transport_right (inner_datagram_start self.old) self.new
+            ≡ transport_right (inner_datagram_start self.old) self.old }
     {
         let Body::Error(quoted) = self.body else {
             unreachable!();
@@ -218,7 +218,7 @@ impl Packet {
     fn quoted_header(&self, quoted: Quoted) -> Header
         requires error { is_error (kind self.now) ≡ true }
         requires quoted { quoted ≡ quoted_of self.now }
-        ensures { IsHeader (inner_at self.now) result self.now }
+        ensures { IsHeader (inner_datagram_start self.now) result self.now }
     {
         Header {
             at: usize::from(self.start) + 8,
@@ -229,7 +229,7 @@ impl Packet {
 
     /// An end of the packet.
     #[inline(always)]
-    fn end(&self, end: End) -> Endpoint
+    fn end(&self, end: DatagramEnd) -> Endpoint
         ensures value { result ≡ end_at 0 end self.now }
         ensures reads { IsPacket self.now }
     {
@@ -238,10 +238,10 @@ impl Packet {
 
     /// Replaces an end, and each checksum that covers it.
     #[inline(always)]
-    fn set_end(&mut self, end: End, new: Endpoint)
+    fn set_end(&mut self, end: DatagramEnd, new: Endpoint)
         requires plain { is_error (kind self.old) ≡ false }
         requires number { CanCarry (kind self.old) new.number }
-        ensures value { self.new ≡ changed (end_changes 0 end new self.old) self.old }
+        ensures value { self.new ≡ with_changes (end_changes 0 end new self.old) self.old }
         ensures reads { (side : Side) → reading side self.old ≡ Ok self.old → reading side self.new
             ≡ Ok self.new }
         ensures right { transport_right 0 self.new ≡ transport_right 0 self.old }
@@ -253,15 +253,15 @@ impl Packet {
 
 impl Body {
     /// What the transport header is.
-    fn form(self) -> Form
+    fn form(self) -> TransportForm
         ensures { result ≡ form_of self }
     {
         match self {
-            Body::Udp => Form::Udp,
-            Body::Tcp(_) => Form::Tcp,
-            Body::Request => Form::Request,
-            Body::Reply => Form::Reply,
-            Body::Error(_) => Form::Error,
+            Body::Udp => TransportForm::Udp,
+            Body::Tcp(_) => TransportForm::Tcp,
+            Body::Request => TransportForm::Request,
+            Body::Reply => TransportForm::Reply,
+            Body::Error(_) => TransportForm::Error,
         }
     }
 }

@@ -2,16 +2,16 @@
 
 ghost use Rattle.std.specs.{Prelude.{◌≡◌, ◌+◌, ◌≤◌, ◌||◌, ◌==◌, not, length, drop, take, is_none, Ok, Err, IfOk, IfErr, IfSome, Some, None}, Result.result_err};
 ghost use Rattle.napt_wire.specs.{Bytes.words, Checksum.is_right};
-ghost use Rattle.napt_wire.specs.Fields.{flags_of, form_at, fragment_offset, has_more, header_length, inner_at, total_length, transport};
-ghost use Rattle.napt_wire.specs.Packet.{IsFound, body_of, quoted_of};
-ghost use Rattle.napt_wire.specs.Reading.{body_checks, error_checks, has_bad_inner, has_bad_transport, has_zero_port, header_checks, is_known, is_quoted, is_translated, length_checks, reading, refusal};
+ghost use Rattle.napt_wire.specs.Fields.{flags_of, form_at, fragment_offset, has_more_fragments, header_length, inner_datagram_start, total_length, transport_start};
+ghost use Rattle.napt_wire.specs.Packet.{BodyIsFound, body_of, quoted_of};
+ghost use Rattle.napt_wire.specs.Reading.{body_checks, error_checks, has_bad_inner, has_bad_transport, has_zero_port, header_checks, is_known_protocol, is_quotable, is_translated_message, length_checks, reading, refusal};
 ghost use Rattle.napt_wire.specs.Header.{IsHeader};
 
 use crate::bytes::{read_long, read_word};
 use crate::checksum::is_right;
-use crate::form::Form;
 use crate::header::Header;
 use crate::packet::{Body, Quoted};
+use crate::transport_form::TransportForm;
 use crate::{Cause, Flags, Side};
 
 /// What reading found in the bytes.
@@ -29,7 +29,7 @@ pub(crate) fn read_datagram(side: Side, bytes: &[u8]) -> Result<Found, Cause>
     ensures ok { IfOk result (λ found. reading side bytes.now ≡ Ok (take found.length bytes.now)) }
     ensures length { IfOk result (λ found. found.length ≡ total_length 0 bytes.now) }
     ensures found { IfOk result (λ found.
-        IsFound (take found.length bytes.now) found.start found.body) }
+        BodyIsFound (take found.length bytes.now) found.start found.body) }
     ensures cause { IfErr result (λ cause. reading side bytes.now ≡ Err cause) }
 {
     let length = read_length(bytes)?;
@@ -83,7 +83,7 @@ fn read_header(bytes: &[u8]) -> Result<u8, Cause>
     requires long { 20 ≤ header_length 0 bytes.now }
     requires there { header_length 0 bytes.now ≤ length bytes.now }
     ensures checks { result_err result ≡ refusal (header_checks bytes.now) }
-    ensures start { IfOk result (λ start. start ≡ transport 0 bytes.now) }
+    ensures start { IfOk result (λ start. start ≡ transport_start 0 bytes.now) }
 {
     let start = read_header_length(bytes, 0);
     if !is_right(&bytes[..usize::from(start)]) {
@@ -101,7 +101,7 @@ fn read_header(bytes: &[u8]) -> Result<u8, Cause>
 /// Whether a datagram is a fragment: more follow, or its offset is not 0.
 fn is_fragment(bytes: &[u8]) -> bool
     requires { 20 ≤ length bytes.now }
-    ensures { result ≡ (has_more 0 bytes.now || not (fragment_offset 0 bytes.now == 0)) }
+    ensures { result ≡ (has_more_fragments 0 bytes.now || not (fragment_offset 0 bytes.now == 0)) }
 {
     let word = read_word(bytes, 6);
     word & 0x2000 != 0 || word & 0x1fff != 0
@@ -109,7 +109,7 @@ fn is_fragment(bytes: &[u8]) -> bool
 
 /// Whether a protocol is ICMP, TCP or UDP.
 fn is_known(protocol: u8) -> bool
-    ensures { result ≡ is_known protocol }
+    ensures { result ≡ is_known_protocol protocol }
 {
     protocol == 1 || protocol == 6 || protocol == 17
 }
@@ -120,14 +120,14 @@ fn read_body(side: Side, bytes: &[u8], start: usize) -> Result<Body, Cause>
     requires long { 20 ≤ start }
     requires there { start ≤ length bytes.now }
     requires small { length bytes.now ≤ 65535 }
-    requires start { start ≡ transport 0 bytes.now }
+    requires start { start ≡ transport_start 0 bytes.now }
     ensures checks { result_err result ≡ refusal (body_checks side bytes.now) }
     ensures body { IfOk result (λ body. body ≡ body_of (form_at 0 bytes.now) bytes.now) }
 {
     if bytes.len() < start + 8 {
         return Err(Cause::BadHeader);
     }
-    let form = Form::of(bytes, 0, start);
+    let form = TransportForm::of(bytes, 0, start);
     if has_bad_transport(form, &bytes[start..]) {
         return Err(Cause::BadHeader);
     }
@@ -138,11 +138,11 @@ fn read_body(side: Side, bytes: &[u8], start: usize) -> Result<Body, Cause>
         return Err(Cause::BadPort);
     }
     match form {
-        Form::Udp => Ok(Body::Udp),
-        Form::Tcp => Ok(Body::Tcp(read_flags(bytes[start + 13]))),
-        Form::Request => Ok(Body::Request),
-        Form::Reply => Ok(Body::Reply),
-        Form::Error => match read_quoted(side, bytes, start) {
+        TransportForm::Udp => Ok(Body::Udp),
+        TransportForm::Tcp => Ok(Body::Tcp(read_flags(bytes[start + 13]))),
+        TransportForm::Request => Ok(Body::Request),
+        TransportForm::Reply => Ok(Body::Reply),
+        TransportForm::Error => match read_quoted(side, bytes, start) {
             Ok(quoted) => Ok(Body::Error(quoted)),
             Err(cause) => Err(cause),
         },
@@ -150,46 +150,47 @@ fn read_body(side: Side, bytes: &[u8], start: usize) -> Result<Body, Cause>
 }
 
 /// Whether a transport header is too short, or its length field is impossible.
-fn has_bad_transport(form: Form, payload: &[u8]) -> bool
+fn has_bad_transport(form: TransportForm, payload: &[u8]) -> bool
     requires { 8 ≤ length payload.now }
     ensures { result ≡ has_bad_transport form payload.now }
 {
     match form {
-        Form::Udp => {
+        TransportForm::Udp => {
             let length = usize::from(read_word(payload, 4));
             length < 8 || payload.len() < length
         }
-        Form::Tcp => {
+        TransportForm::Tcp => {
             if payload.len() < 20 {
                 return true;
             }
             let offset = usize::from(payload[12] >> 4);
             offset < 5 || payload.len() < 4 * offset
         }
-        Form::Request | Form::Reply | Form::Error => false,
+        TransportForm::Request | TransportForm::Reply | TransportForm::Error => false,
     }
 }
 
 /// Whether a message of this form and ICMP type from a side is translated.
-fn is_translated(side: Side, form: Form, icmp_type: u8) -> bool
-    ensures { result ≡ is_translated side form icmp_type }
+fn is_translated(side: Side, form: TransportForm, icmp_type: u8) -> bool
+    ensures { result ≡ is_translated_message side form icmp_type }
 {
     match (form, side) {
-        (Form::Udp | Form::Tcp, _) => true,
-        (Form::Request, Side::Inside) | (Form::Reply, Side::Outside) => true,
-        (Form::Request, Side::Outside) | (Form::Reply, Side::Inside) => false,
-        (Form::Error, _) => icmp_type == 3 || icmp_type == 11 || icmp_type == 12,
+        (TransportForm::Udp | TransportForm::Tcp, _) => true,
+        (TransportForm::Request, Side::Inside) | (TransportForm::Reply, Side::Outside) => true,
+        (TransportForm::Request, Side::Outside) | (TransportForm::Reply, Side::Inside) => false,
+        (TransportForm::Error, _) => icmp_type == 3 || icmp_type == 11 || icmp_type == 12,
     }
 }
 
 /// Whether the transport header at `start` has a port that is 0.
-fn has_zero_port(bytes: &[u8], start: usize, form: Form) -> bool
+fn has_zero_port(bytes: &[u8], start: usize, form: TransportForm) -> bool
     requires { start + 8 ≤ length bytes.now }
     ensures { result ≡ has_zero_port form start bytes.now }
 {
     match form {
-        Form::Udp | Form::Tcp => read_word(bytes, start) == 0 || read_word(bytes, start + 2) == 0,
-        Form::Request | Form::Reply | Form::Error => false,
+        TransportForm::Udp | TransportForm::Tcp => read_word(bytes, start) == 0
+            || read_word(bytes, start + 2) == 0,
+        TransportForm::Request | TransportForm::Reply | TransportForm::Error => false,
     }
 }
 
@@ -210,7 +211,7 @@ fn read_quoted(side: Side, bytes: &[u8], start: usize) -> Result<Quoted, Cause>
     requires long { 20 ≤ start }
     requires there { start + 8 ≤ length bytes.now }
     requires small { length bytes.now ≤ 65535 }
-    requires start { start ≡ transport 0 bytes.now }
+    requires start { start ≡ transport_start 0 bytes.now }
     ensures checks { result_err result ≡ refusal (error_checks side bytes.now) }
     ensures quoted { IfOk result (λ quoted. quoted ≡ quoted_of bytes.now) }
 {
@@ -251,7 +252,7 @@ fn read_inner(side: Side, bytes: &[u8], at: usize) -> Option<Header>
     if read_word(bytes, at + 6) & 0x1fff != 0 || !is_known(bytes[at + 9]) {
         return None;
     }
-    let form = Form::of(bytes, at, start);
+    let form = TransportForm::of(bytes, at, start);
     if !is_quoted(side, form) || read_long(bytes, at + 12) != read_long(bytes, 16) {
         return None;
     }
@@ -259,13 +260,13 @@ fn read_inner(side: Side, bytes: &[u8], at: usize) -> Option<Header>
 }
 
 /// Whether an error from a side may quote a datagram of this form.
-fn is_quoted(side: Side, form: Form) -> bool
-    ensures { result ≡ is_quoted side form }
+fn is_quoted(side: Side, form: TransportForm) -> bool
+    ensures { result ≡ is_quotable side form }
 {
     match (form, side) {
-        (Form::Udp | Form::Tcp, _) => true,
-        (Form::Request, Side::Outside) | (Form::Reply, Side::Inside) => true,
-        (Form::Request, Side::Inside) | (Form::Reply, Side::Outside) => false,
-        (Form::Error, _) => false,
+        (TransportForm::Udp | TransportForm::Tcp, _) => true,
+        (TransportForm::Request, Side::Outside) | (TransportForm::Reply, Side::Inside) => true,
+        (TransportForm::Request, Side::Inside) | (TransportForm::Reply, Side::Outside) => false,
+        (TransportForm::Error, _) => false,
     }
 }

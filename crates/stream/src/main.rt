@@ -1,19 +1,19 @@
 //! The program `stream`: what `napt` does, but as the packets come in, and in bounded memory.
 #![tactic(auto)]
 
-mod counted;
+mod counted_device;
 mod counting_gate;
 mod manual;
-mod over;
 mod program;
 mod progress;
+mod stream_run;
 
-use napt_program::{Call, Streams};
+use napt_program::{ProgramCall, StandardStreams};
 use std::process::ExitCode;
 
 fn main(rt: HostRuntime) -> ExitCode {
-    let streams = Streams::open_now(&rt);
-    let call = Call::of(&rt, streams, manual::OWN.name);
+    let streams = StandardStreams::open_now(&rt);
+    let call = ProgramCall::of(&rt, streams, manual::OWN.name);
     match call.as_called(&rt, manual::INSTALLED.name) {
         Ok(call) => call.ended(&rt, &program::serve(&rt, streams, call)),
         Err(stop) => call.ended(&rt, &Err(stop)),

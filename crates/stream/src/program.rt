@@ -2,16 +2,16 @@
 //! them.
 
 ghost use Rattle.std.specs.Prelude.{◌≡◌, IfErr, OnOk, map, string_bytes};
-ghost use Rattle.napt_program.specs.{CommandLine.{files_with_log, line_with_log}, Command.{IsLineStop, IsRunStop, IsTaken, IsUnderOpenGate}};
+ghost use Rattle.napt_program.specs.{CommandLine.{files_with_log, line_with_log}, Command.{IsLineStop, IsRunStop, LineIsTaken, IsStopUnderOpenGate}};
 
-use crate::counted::Counted;
+use crate::counted_device::CountedDevice;
 use crate::counting_gate::CountingGate;
 use crate::manual::{INSTALLED, OWN};
-use crate::over::{CaptureDevices, Run};
-use crate::progress::Progress;
+use crate::progress::ProgressReport;
+use crate::stream_run::{CaptureDevices, StreamRun};
 use napt_program::{
-    Call, Devices, Host, MEMORY, Opened, OptionsWithLog, Stop, Streams, answer_line, open,
-    parse_words_with_log, words,
+    MEMORY, OptionsWithLog, ProgramCall, ProgramHost, RunDevices, RunResources, StandardStreams,
+    Stop, answer_line, open, parse_words_with_log, words,
 };
 use std::alloc::Global;
 use std::sync::Arc;
@@ -23,21 +23,25 @@ use std::time::Clock;
 /// Fails, before any capture is opened, if the arguments are not understood, if memory runs out for them, if a standard
 /// stream that stands for a file is closed, or if the configuration is refused; after that, if a file cannot be opened or
 /// created, or if the run fails. A shut gate is never reported.
-pub fn serve<R: Host + Clock>(rt: &R, streams: Streams, call: Call) -> Result<(), Stop>
-    ensures { IfErr result IsUnderOpenGate }
+pub fn serve<R: ProgramHost + Clock>(
+    rt: &R,
+    streams: StandardStreams,
+    call: ProgramCall,
+) -> Result<(), Stop>
+    ensures { IfErr result IsStopUnderOpenGate }
 {
     serve_words(rt, streams, call, words(rt)?)
 }
 
 /// The same for these arguments, the program's name first: if it succeeds, they were understood, and it fails only by
 /// what they name.
-pub fn serve_words<R: Host + Clock>(
+pub fn serve_words<R: ProgramHost + Clock>(
     rt: &R,
-    streams: Streams,
-    call: Call,
+    streams: StandardStreams,
+    call: ProgramCall,
     words: Vec<String>,
 ) -> Result<(), Stop>
-    ensures taken { OnOk result (IsTaken (line_with_log (map string_bytes words.items))) }
+    ensures taken { OnOk result (LineIsTaken (line_with_log (map string_bytes words.items))) }
     ensures stop { IfErr result
         (IsLineStop streams (line_with_log (map string_bytes words.items))) }
 {
@@ -48,15 +52,15 @@ pub fn serve_words<R: Host + Clock>(
 }
 
 /// Runs over all that the options name, and saves the state that the run leaves, if it is to be saved.
-fn run<R: Host + Clock>(
+fn run<R: ProgramHost + Clock>(
     rt: &R,
-    streams: Streams,
-    call: Call,
+    streams: StandardStreams,
+    call: ProgramCall,
     options: &OptionsWithLog,
 ) -> Result<(), Stop>
     ensures { IfErr result (IsRunStop streams (files_with_log options.now)) }
 {
-    let Opened {
+    let RunResources {
         config,
         state,
         kept,
@@ -64,18 +68,18 @@ fn run<R: Host + Clock>(
         log,
         save,
     } = open(rt, streams, options)?;
-    let Devices {
+    let RunDevices {
         inside,
         outside,
         mut outputs,
     } = devices;
     let gate = gate(rt.alloc(), config.pool().len())?;
-    let progress = Progress::of(rt, again(&gate)?, call);
+    let progress = ProgressReport::of(rt, again(&gate)?, call);
     let mut captures = CaptureDevices {
-        inside: Counted::over(inside, &progress),
-        outside: Counted::over(outside, &progress),
+        inside: CountedDevice::over(inside, &progress),
+        outside: CountedDevice::over(outside, &progress),
     };
-    let run = Run {
+    let run = StreamRun {
         options,
         config: &config,
         state: &state,

@@ -1,7 +1,7 @@
 //! How far a run is, for people at a terminal.
 
 use crate::counting_gate::CountingGate;
-use napt_program::Call;
+use napt_program::ProgramCall;
 use std::cell::Cell;
 use std::sync::Arc;
 use std::time::{Clock, Instant};
@@ -14,20 +14,20 @@ const EACH: u64 = 1_000;
 
 /// How many packets were read up to a time.
 #[derive(Clone, Copy)]
-struct Mark {
+struct ProgressMark {
     millis: u64,
     packets: u64,
 }
 
-impl Mark {
+impl ProgressMark {
     /// Before the first packet.
-    const BEGIN: Mark = Mark {
+    const BEGIN: ProgressMark = ProgressMark {
         millis: 0,
         packets: 0,
     };
 
     /// How many packets a second were read since an earlier one.
-    fn rate_since(self, earlier: Mark) -> u64 {
+    fn rate_since(self, earlier: ProgressMark) -> u64 {
         let packets = self.packets.saturating_sub(earlier.packets);
         let millis = self.millis.saturating_sub(earlier.millis);
         packets.saturating_mul(1_000) / millis.max(1)
@@ -36,7 +36,7 @@ impl Mark {
 
 /// How far a run is, in one line on standard error that replaces the one before.
 #[derive(Drop)]
-pub struct Progress<'r, R> {
+pub struct ProgressReport<'r, R> {
     rt: &'r R,
     name: &'static str,
     gate: Arc<CountingGate>,
@@ -44,31 +44,31 @@ pub struct Progress<'r, R> {
     began: Option<Instant>,
     packets: Cell<u64>,
     /// What the last line said; the beginning if there was none.
-    told: Cell<Mark>,
+    told: Cell<ProgressMark>,
 }
 
-impl<'r, R> Progress<'r, R> {
+impl<'r, R> ProgressReport<'r, R> {
     /// Whether progress is reported.
     pub fn is_told(&self) -> bool {
         self.began.is_some()
     }
 }
 
-impl<'r, R: Eprint + Clock> Progress<'r, R> {
+impl<'r, R: Eprint + Clock> ProgressReport<'r, R> {
     /// Of a run that begins now. If no terminal is there, nothing is reported.
-    pub fn of(rt: &'r R, gate: Arc<CountingGate>, call: Call) -> Progress<'r, R> {
+    pub fn of(rt: &'r R, gate: Arc<CountingGate>, call: ProgramCall) -> ProgressReport<'r, R> {
         let began = if call.at_terminal {
             Instant::now(rt).ok()
         } else {
             None
         };
-        Progress {
+        ProgressReport {
             rt,
             name: call.name,
             gate,
             began,
             packets: Cell::new(0),
-            told: Cell::new(Mark::BEGIN),
+            told: Cell::new(ProgressMark::BEGIN),
         }
     }
 
@@ -87,7 +87,7 @@ impl<'r, R: Eprint + Clock> Progress<'r, R> {
         if now.millis < FIRST_AFTER || now.millis.saturating_sub(told.millis) < EACH {
             return;
         }
-        let Mark { packets, .. } = now;
+        let ProgressMark { packets, .. } = now;
         let rate = now.rate_since(told);
         let (name, bindings) = (self.name, self.gate.bindings());
         let _ = eprint!(self.rt;
@@ -104,8 +104,8 @@ impl<'r, R: Eprint + Clock> Progress<'r, R> {
         let Some(now) = self.mark() else {
             return;
         };
-        let Mark { packets, millis } = now;
-        let (seconds, rate) = (millis / 1_000, now.rate_since(Mark::BEGIN));
+        let ProgressMark { packets, millis } = now;
+        let (seconds, rate) = (millis / 1_000, now.rate_since(ProgressMark::BEGIN));
         let (name, bindings) = (self.name, self.gate.bindings());
         let _ = eprintln!(self.rt;
             "\r{name}: {packets} packets in {seconds} s, {rate} a second, {bindings} bindings    "
@@ -113,9 +113,9 @@ impl<'r, R: Eprint + Clock> Progress<'r, R> {
     }
 
     /// How far the run is now; none if progress is not reported, or the clock fails.
-    fn mark(&self) -> Option<Mark> {
+    fn mark(&self) -> Option<ProgressMark> {
         let elapsed = self.began?.elapsed(self.rt).ok()?;
-        Some(Mark {
+        Some(ProgressMark {
             millis: u64::try_from(elapsed.as_millis()).ok()?,
             packets: self.packets.get(),
         })

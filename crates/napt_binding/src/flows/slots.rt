@@ -4,13 +4,13 @@ ghost use Rattle.std.specs.Prelude.{◌≡◌, ◌≢◌, ◌<◌, ◌≤◌, �
 ghost use Rattle.std.specs.List.{list_any};
 ghost use Rattle.napt_rules.specs.declared.Flow.{Flow};
 ghost use Rattle.napt_rules.specs.Life as life;
-ghost use Rattle.napt_binding.specs.{Ends.last_end, Slots.{somes, Stands, NoneUsedAfter, EachOf, IsFirstUsed, IsLatest, is_recent_time}};
+ghost use Rattle.napt_binding.specs.{Ends.last_end, Slots.{standing_flows, IsInSlot, NoneUsedAfter, EachOfRow, IsFirstUsed, IsLatest, is_recent_time}};
 ghost use Rattle.napt_binding.specs.Slots as slots;
 
 use crate::idle_timers::IdleTimers;
 use crate::life::{end_after, is_recent, last_moment};
 use crate::session::is_established;
-use napt_collections::{Links, put_before, take_out};
+use napt_collections::{Links, link_before, unlink};
 use napt_rules::Flow;
 use std::alloc::{AllocError, Global};
 use std::marker::Model;
@@ -30,22 +30,22 @@ const ENDS: usize = 3;
 /// The flows of a row are linked in the order in which they were last used. No flow is used before the latest, so a use
 /// puts it at the end of its row: a call looks at the flow, its neighbours and the ends of rows alone.
 #[derive(Drop)]
-pub(crate) struct Slots {
+pub(crate) struct FlowSlots {
     flows: Vec<Option<Flow>>,
     /// Those of the ends of the rows, and then those of each slot with a flow.
     links: Vec<Links>,
 }
 
-impl Model for Slots {
-    ghost use Rattle.napt_binding.specs.SlotsShown.{Shown};
+impl Model for FlowSlots {
+    ghost use Rattle.napt_binding.specs.SlotsModels.{FlowSlotsModel};
 
-    ghost Value = { Shown };
+    ghost Value = { FlowSlotsModel };
 
-    ghost use Rattle.napt_binding.specs.Timed.{shown, AreTimed};
+    ghost use Rattle.napt_binding.specs.TimedLinks.{shown_flow, AreLinksTimed};
 
-    ghost view = { shown };
+    ghost view = { shown_flow };
 
-    ghost invariant = { λ it. AreTimed it.flows.items it.links.items };
+    ghost invariant = { λ it. AreLinksTimed it.flows.items it.links.items };
 }
 
 /// The row of the flow.
@@ -97,9 +97,9 @@ fn end_of_time(latest: Option<u64>, seconds: u64) -> u128
     }
 }
 
-impl Slots {
+impl FlowSlots {
     /// No slots.
-    pub(crate) fn new(alloc: Global) -> Result<Slots, AllocError>
+    pub(crate) fn new(alloc: Global) -> Result<FlowSlots, AllocError>
         ensures { IfOk result (λ made. made.slots ≡ []) }
     {
         let mut links = Vec::new(alloc);
@@ -115,7 +115,7 @@ impl Slots {
             before: 1,
             after: 2,
         })?;
-        Ok(Slots {
+        Ok(FlowSlots {
             flows: Vec::new(alloc),
             links,
         })
@@ -130,8 +130,8 @@ impl Slots {
 
     /// The flow in the slot.
     pub(crate) fn get(&self, place: usize) -> Option<Flow>
-        ensures stands { IfSome result (λ flow. Stands self.now.slots place flow) }
-        ensures found { (flow : Flow) → Stands self.now.slots place flow → result ≡ Some flow }
+        ensures stands { IfSome result (λ flow. IsInSlot self.now.slots place flow) }
+        ensures found { (flow : Flow) → IsInSlot self.now.slots place flow → result ≡ Some flow }
     {
         *self.flows.get(place)?
     }
@@ -151,7 +151,7 @@ impl Slots {
     /// Appends a slot with the flow, for which there is room; returns its place.
     pub(crate) fn put(&mut self, flow: Flow) -> usize
         requires room { 0 < self.old.room }
-        requires rising { NoneUsedAfter (somes self.old.slots) flow.last }
+        requires rising { NoneUsedAfter (standing_flows self.old.slots) flow.last }
         ensures place { result ≡ length self.old.slots }
         ensures fits { result + 1 < 2 ^ 64 }
         ensures slots { self.new.slots ≡ self.old.slots ++ Some flow ∷ [] }
@@ -162,7 +162,7 @@ impl Slots {
             before: 0,
             after: 0,
         });
-        put_before(&mut self.links, (place + ENDS) as u32, row_of(flow) + 1);
+        link_before(&mut self.links, (place + ENDS) as u32, row_of(flow) + 1);
         place
     }
 
@@ -175,25 +175,25 @@ impl Slots {
         if self.flows[place].is_none() {
             return;
         }
-        take_out(&mut self.links, (place + ENDS) as u32);
+        unlink(&mut self.links, (place + ENDS) as u32);
         self.flows[place] = None;
     }
 
     /// Fills an empty slot.
     fn fill(&mut self, place: usize, flow: Flow)
         requires empty { slice_get self.old.slots place ≡ Some None }
-        requires rising { NoneUsedAfter (somes self.old.slots) flow.last }
+        requires rising { NoneUsedAfter (standing_flows self.old.slots) flow.last }
         ensures slots { self.new.slots ≡ slice_set self.old.slots place (Some flow) }
         ensures room { self.new.room ≡ self.old.room }
     {
-        put_before(&mut self.links, (place + ENDS) as u32, row_of(flow) + 1);
+        link_before(&mut self.links, (place + ENDS) as u32, row_of(flow) + 1);
         self.flows[place] = Some(flow);
     }
 
     /// Changes the flow in a slot.
     pub(crate) fn change(&mut self, place: usize, flow: Flow)
         requires within { place < length self.old.slots }
-        requires rising { NoneUsedAfter (somes self.old.slots) flow.last }
+        requires rising { NoneUsedAfter (standing_flows self.old.slots) flow.last }
         ensures slots { self.new.slots ≡ slice_set self.old.slots place (Some flow) }
         ensures room { self.new.room ≡ self.old.room }
     {
@@ -203,10 +203,10 @@ impl Slots {
 
     /// The flow at a node, with its place; none at an end of a row.
     fn flow_at(&self, node: u32) -> Option<(usize, Flow)>
-        ensures some { IfSome result (λ found. Stands self.now.slots found.0 found.1
+        ensures some { IfSome result (λ found. IsInSlot self.now.slots found.0 found.1
             × (found.0 + 3 ≡ node)) }
         ensures none { IfNone result ((place : ℕ) (flow : Flow) →
-            Stands self.now.slots place flow → place + 3 ≢ node) }
+            IsInSlot self.now.slots place flow → place + 3 ≢ node) }
     {
         let place = (node as usize).checked_sub(ENDS)?;
         Some((place, self.get(place)?))
@@ -232,9 +232,9 @@ impl Slots {
     fn outlived_place(&self, row: u32, now: u64, seconds: u64) -> Option<usize>
         requires row { row < 2 }
         requires few { seconds ≤ 1_000_000_000 }
-        ensures some { IfSome result (λ place. (flow : Flow) × Stands self.now.slots place flow
+        ensures some { IfSome result (λ place. (flow : Flow) × IsInSlot self.now.slots place flow
             × (slots.row_of flow ≡ row) × (life.is_recent now flow.last seconds ≡ false)) }
-        ensures none { IfNone result (EachOf row self.now.slots
+        ensures none { IfNone result (EachOfRow row self.now.slots
             (λ flow. life.is_recent now flow.last seconds ≡ true)) }
     {
         let (place, flow) = self.first_used(row)?;
@@ -247,9 +247,9 @@ impl Slots {
 
     /// A place of a dead TCP flow. It takes two looks.
     pub(crate) fn dead_place(&self, timers: IdleTimers, now: u64) -> Option<usize>
-        ensures some { IfSome result (λ place. (flow : Flow) × Stands self.now.slots place flow
+        ensures some { IfSome result (λ place. (flow : Flow) × IsInSlot self.now.slots place flow
             × (life.is_live_flow timers now flow ≡ false)) }
-        ensures none { IfNone result ((place : ℕ) (flow : Flow) → Stands self.now.slots place flow →
+        ensures none { IfNone result ((place : ℕ) (flow : Flow) → IsInSlot self.now.slots place flow →
             life.is_live_flow timers now flow ≡ true) }
     {
         match self.outlived_place(ESTABLISHED, now, timers.seconds.established) {
@@ -260,7 +260,7 @@ impl Slots {
 
     /// Whether one of the TCP flows is live. It takes two looks.
     pub(crate) fn has_live(&self, timers: IdleTimers, now: u64) -> bool
-        ensures { result ≡ list_any (life.is_live_flow timers now) (somes self.now.slots) }
+        ensures { result ≡ list_any (life.is_live_flow timers now) (standing_flows self.now.slots) }
     {
         is_some_recent(self.latest(ESTABLISHED), now, timers.seconds.established)
             || is_some_recent(self.latest(OTHERS), now, timers.seconds.transitory)
@@ -269,12 +269,12 @@ impl Slots {
     /// The last moment at which one of these TCP flows is live, or the greatest time if that is earlier; one is live
     /// now. It takes two looks.
     pub(crate) fn last_moment(&self, timers: IdleTimers, now: u64) -> u64
-        requires live { list_any (life.is_live_flow timers now) (somes self.now.slots) ≡ true }
+        requires live { list_any (life.is_live_flow timers now) (standing_flows self.now.slots) ≡ true }
         ensures later { now ≤ result }
         ensures lives { (t : ℕ) → t ≤ result → list_any (life.is_live_flow timers t)
-            (somes self.now.slots) ≡ true }
+            (standing_flows self.now.slots) ≡ true }
         ensures far { (t : ℕ) → t < 2 ^ 64 → list_any (life.is_live_flow timers t)
-            (somes self.now.slots) ≡ true → t ≤ result }
+            (standing_flows self.now.slots) ≡ true → t ≤ result }
     {
         let established = last_moment_of(self.latest(ESTABLISHED), now, timers.seconds.established);
         established.max(last_moment_of(self.latest(OTHERS), now, timers.seconds.transitory))
@@ -282,7 +282,7 @@ impl Slots {
 
     /// When the last of the TCP flows ends, in ns; 0 if there is none. It takes two looks.
     pub(crate) fn last_end(&self, timers: IdleTimers) -> u128
-        ensures { result ≡ last_end timers (somes self.now.slots) }
+        ensures { result ≡ last_end timers (standing_flows self.now.slots) }
     {
         let established = end_of_time(self.latest(ESTABLISHED), timers.seconds.established);
         established.max(end_of_time(self.latest(OTHERS), timers.seconds.transitory))

@@ -1,6 +1,6 @@
 //! Captures that are read and written.
 
-use crate::Stop;
+use crate::CallFault;
 use crate::play::line::{Line, tell};
 use napt_capture::{LARGEST_RECORD, Record, Watched, read_capture, write_capture};
 
@@ -8,7 +8,7 @@ use napt_capture::{LARGEST_RECORD, Record, Watched, read_capture, write_capture}
 const TIMES_END: u64 = 4_294_967_296_000_000_000;
 
 /// `read_capture BYTES`
-pub(crate) fn tell_read<R: Print>(line: &mut Line<'_, R>) -> Result<(), Stop> {
+pub(crate) fn tell_read<R: Print>(line: &mut Line<'_, R>) -> Result<(), CallFault> {
     let bytes = line.bytes()?;
     tell(
         line.rt,
@@ -17,11 +17,11 @@ pub(crate) fn tell_read<R: Print>(line: &mut Line<'_, R>) -> Result<(), Stop> {
 }
 
 /// `write_capture TIME BYTES`: the text of a capture of that record.
-pub(crate) fn tell_written<R: Print>(line: &mut Line<'_, R>) -> Result<(), Stop> {
+pub(crate) fn tell_written<R: Print>(line: &mut Line<'_, R>) -> Result<(), CallFault> {
     let time = line.number()?;
     let bytes = line.bytes()?;
     if time >= TIMES_END || bytes.len() > LARGEST_RECORD as usize {
-        return Err(Stop::Unsent);
+        return Err(CallFault::Unsent);
     }
     let original = bytes.len() as u32;
     let record = Record {
@@ -32,5 +32,5 @@ pub(crate) fn tell_written<R: Print>(line: &mut Line<'_, R>) -> Result<(), Stop>
     let mut text = Watched::new(Vec::new(line.alloc));
     let answer = write_capture(&mut text, &[record]);
     let text = text.into_inner();
-    println!(line.rt; "{answer:?} {text:?}").map_err(|_| Stop::File)
+    println!(line.rt; "{answer:?} {text:?}").map_err(|_| CallFault::File)
 }

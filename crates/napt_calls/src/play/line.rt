@@ -1,7 +1,7 @@
 //! A line of standard input: its words, and the line that answers it.
 
-use crate::Stop;
-use napt_config::Block;
+use crate::CallFault;
+use napt_config::PortBlock;
 use napt_wire::{Endpoint, Flags, Protocol, Side, Way};
 use std::alloc::Global;
 use std::fmt::Debug;
@@ -16,8 +16,8 @@ pub(crate) struct Line<'a, R> {
 }
 
 /// Answers with what `{:?}` shows.
-pub(crate) fn tell<R: Print, T: Debug>(rt: &R, answer: &T) -> Result<(), Stop> {
-    println!(rt; "{answer:?}").map_err(|_| Stop::File)
+pub(crate) fn tell<R: Print, T: Debug>(rt: &R, answer: &T) -> Result<(), CallFault> {
+    println!(rt; "{answer:?}").map_err(|_| CallFault::File)
 }
 
 impl<'a, R> Line<'a, R> {
@@ -29,24 +29,24 @@ impl<'a, R> Line<'a, R> {
         }
     }
 
-    pub(crate) fn word(&mut self) -> Result<&'a str, Stop> {
-        self.rest.next().ok_or(Stop::Usage)
+    pub(crate) fn word(&mut self) -> Result<&'a str, CallFault> {
+        self.rest.next().ok_or(CallFault::Usage)
     }
 
-    pub(crate) fn number(&mut self) -> Result<u64, Stop> {
-        self.word()?.parse::<u64>().map_err(|_| Stop::Usage)
+    pub(crate) fn number(&mut self) -> Result<u64, CallFault> {
+        self.word()?.parse::<u64>().map_err(|_| CallFault::Usage)
     }
 
-    pub(crate) fn long(&mut self) -> Result<u32, Stop> {
-        self.word()?.parse::<u32>().map_err(|_| Stop::Usage)
+    pub(crate) fn long(&mut self) -> Result<u32, CallFault> {
+        self.word()?.parse::<u32>().map_err(|_| CallFault::Usage)
     }
 
-    pub(crate) fn short(&mut self) -> Result<u16, Stop> {
-        self.word()?.parse::<u16>().map_err(|_| Stop::Usage)
+    pub(crate) fn short(&mut self) -> Result<u16, CallFault> {
+        self.word()?.parse::<u16>().map_err(|_| CallFault::Usage)
     }
 
     /// An address and a number.
-    pub(crate) fn endpoint(&mut self) -> Result<Endpoint, Stop> {
+    pub(crate) fn endpoint(&mut self) -> Result<Endpoint, CallFault> {
         Ok(Endpoint {
             address: self.long()?,
             number: self.short()?,
@@ -54,7 +54,7 @@ impl<'a, R> Line<'a, R> {
     }
 
     /// Those of the letters F, S, R and A that are in a word; `-` has none.
-    pub(crate) fn flags(&mut self) -> Result<Flags, Stop> {
+    pub(crate) fn flags(&mut self) -> Result<Flags, CallFault> {
         let word = self.word()?;
         Ok(Flags {
             fin: word.contains('F'),
@@ -65,45 +65,45 @@ impl<'a, R> Line<'a, R> {
     }
 
     /// The first number and the size of a block, if there are more words.
-    pub(crate) fn block(&mut self) -> Result<Option<Block>, Stop> {
+    pub(crate) fn block(&mut self) -> Result<Option<PortBlock>, CallFault> {
         let Ok(first) = self.short() else {
             return Ok(None);
         };
         let size = self.short()?;
-        Ok(Some(Block { first, size }))
+        Ok(Some(PortBlock { first, size }))
     }
 
-    pub(crate) fn protocol(&mut self) -> Result<Protocol, Stop> {
+    pub(crate) fn protocol(&mut self) -> Result<Protocol, CallFault> {
         match self.word()? {
             "icmp" => Ok(Protocol::Icmp),
             "tcp" => Ok(Protocol::Tcp),
             "udp" => Ok(Protocol::Udp),
-            _ => Err(Stop::Usage),
+            _ => Err(CallFault::Usage),
         }
     }
 
-    pub(crate) fn side(&mut self) -> Result<Side, Stop> {
+    pub(crate) fn side(&mut self) -> Result<Side, CallFault> {
         match self.word()? {
             "inside" => Ok(Side::Inside),
             "outside" => Ok(Side::Outside),
-            _ => Err(Stop::Usage),
+            _ => Err(CallFault::Usage),
         }
     }
 
-    pub(crate) fn way(&mut self) -> Result<Way, Stop> {
+    pub(crate) fn way(&mut self) -> Result<Way, CallFault> {
         match self.word()? {
             "outgoing" => Ok(Way::Outgoing),
             "incoming" => Ok(Way::Incoming),
-            _ => Err(Stop::Usage),
+            _ => Err(CallFault::Usage),
         }
     }
 
     /// All words that are left, a byte each.
-    pub(crate) fn bytes(&mut self) -> Result<Vec<u8>, Stop> {
+    pub(crate) fn bytes(&mut self) -> Result<Vec<u8>, CallFault> {
         let mut bytes = Vec::new(self.alloc);
         for word in self.rest.by_ref() {
-            let byte = word.parse::<u8>().map_err(|_| Stop::Usage)?;
-            bytes.push(byte).map_err(|_| Stop::Call)?;
+            let byte = word.parse::<u8>().map_err(|_| CallFault::Usage)?;
+            bytes.push(byte).map_err(|_| CallFault::Call)?;
         }
         Ok(bytes)
     }

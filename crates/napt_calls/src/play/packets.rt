@@ -1,12 +1,12 @@
 //! Packets, and the two ways to repair a checksum.
 
-use crate::Stop;
+use crate::CallFault;
 use crate::play::line::{Line, tell};
 use napt_wire::{Endpoint, Kind, Packet, Way, fix_check, fix_check_udp};
 
 /// `read SIDE BYTES`: tells what the current packet is from now on, with both ends, or why the bytes are refused, with the bytes
 /// that came back.
-pub(crate) fn read<R: Print>(line: &mut Line<'_, R>) -> Result<Option<Packet>, Stop> {
+pub(crate) fn read<R: Print>(line: &mut Line<'_, R>) -> Result<Option<Packet>, CallFault> {
     let side = line.side()?;
     match Packet::read(side, line.bytes()?) {
         Ok(packet) => {
@@ -15,11 +15,11 @@ pub(crate) fn read<R: Print>(line: &mut Line<'_, R>) -> Result<Option<Packet>, S
                 packet.source(),
                 packet.destination(),
             );
-            println!(line.rt; "{kind:?} {source:?} {destination:?}").map_err(|_| Stop::File)?;
+            println!(line.rt; "{kind:?} {source:?} {destination:?}").map_err(|_| CallFault::File)?;
             Ok(Some(packet))
         }
         Err((cause, bytes)) => {
-            println!(line.rt; "{cause:?} {bytes:?}").map_err(|_| Stop::File)?;
+            println!(line.rt; "{cause:?} {bytes:?}").map_err(|_| CallFault::File)?;
             Ok(None)
         }
     }
@@ -31,7 +31,7 @@ pub(crate) fn answer<R: Print>(
     line: &mut Line<'_, R>,
     packet: &mut Packet,
     call: &str,
-) -> Result<(), Stop> {
+) -> Result<(), CallFault> {
     match call {
         "local_end" => return tell(line.rt, &packet.local_end(line.way()?)),
         "remote_end" => return tell(line.rt, &packet.remote_end(line.way()?)),
@@ -43,36 +43,36 @@ pub(crate) fn answer<R: Print>(
     tell(line.rt, &packet.bytes())
 }
 
-fn set_source(packet: &mut Packet, end: Endpoint) -> Result<(), Stop> {
+fn set_source(packet: &mut Packet, end: Endpoint) -> Result<(), CallFault> {
     match packet.kind() {
         Kind::Udp if end.number != 0 => packet.set_source(end),
         Kind::Tcp(_) if end.number != 0 => packet.set_source(end),
         Kind::Echo => packet.set_source(end),
-        _ => return Err(Stop::Unsent),
+        _ => return Err(CallFault::Unsent),
     }
     Ok(())
 }
 
-fn set_destination(packet: &mut Packet, end: Endpoint) -> Result<(), Stop> {
+fn set_destination(packet: &mut Packet, end: Endpoint) -> Result<(), CallFault> {
     match packet.kind() {
         Kind::Udp if end.number != 0 => packet.set_destination(end),
         Kind::Tcp(_) if end.number != 0 => packet.set_destination(end),
         Kind::Echo => packet.set_destination(end),
-        _ => return Err(Stop::Unsent),
+        _ => return Err(CallFault::Unsent),
     }
     Ok(())
 }
 
-fn revert_inner(packet: &mut Packet, way: Way, end: Endpoint) -> Result<(), Stop> {
+fn revert_inner(packet: &mut Packet, way: Way, end: Endpoint) -> Result<(), CallFault> {
     match packet.kind() {
         Kind::ErrorOf(_) if end.number != 0 => packet.revert_inner(way, end),
-        _ => return Err(Stop::Unsent),
+        _ => return Err(CallFault::Unsent),
     }
     Ok(())
 }
 
 /// `fix_check CHECK OLD NEW` or `fix_check_udp CHECK OLD NEW`
-pub(crate) fn tell_check<R: Print>(line: &mut Line<'_, R>, call: &str) -> Result<(), Stop> {
+pub(crate) fn tell_check<R: Print>(line: &mut Line<'_, R>, call: &str) -> Result<(), CallFault> {
     let (check, old, new) = (line.short()?, line.short()?, line.short()?);
     let fixed = if call == "fix_check" {
         fix_check(check, old, new)

@@ -1,11 +1,11 @@
 //! Configurations, and what they say of hosts and of external numbers.
 
-use crate::Stop;
+use crate::CallFault;
 use crate::play::line::{Line, tell};
 use napt_config::Config;
 
 /// `settings TEXT`: reads a configuration, and tells what refuses it, if anything.
-pub(crate) fn read<R: Print>(line: &mut Line<'_, R>) -> Result<Option<Config>, Stop> {
+pub(crate) fn read<R: Print>(line: &mut Line<'_, R>) -> Result<Option<Config>, CallFault> {
     let text = line.bytes()?;
     let (config, fault) = match Config::read(line.alloc, &text) {
         Ok(config) => (Some(config), None),
@@ -19,13 +19,13 @@ pub(crate) fn read<R: Print>(line: &mut Line<'_, R>) -> Result<Option<Config>, S
 pub(crate) fn made<R: Print>(
     line: &Line<'_, R>,
     config: Option<&Config>,
-) -> Result<Option<Config>, Stop> {
+) -> Result<Option<Config>, CallFault> {
     let made = match config {
         Some(config) => config.copy(line.alloc),
         None => Config::built_in(line.alloc),
     };
-    println!(line.rt; "made").map_err(|_| Stop::File)?;
-    Ok(Some(made.map_err(|_| Stop::Call)?))
+    println!(line.rt; "made").map_err(|_| CallFault::File)?;
+    Ok(Some(made.map_err(|_| CallFault::Call)?))
 }
 
 /// A call on the current configuration.
@@ -33,7 +33,7 @@ pub(crate) fn answer<R: Print>(
     line: &mut Line<'_, R>,
     config: &Config,
     call: &str,
-) -> Result<(), Stop> {
+) -> Result<(), CallFault> {
     match call {
         "is_inside" => tell(line.rt, &config.is_inside(line.long()?)),
         "pair" => tell(line.rt, &config.pair(line.long()?)),
@@ -53,6 +53,6 @@ pub(crate) fn answer<R: Print>(
         "block" => tell(line.rt, &config.block()),
         "host_count" => tell(line.rt, &config.host_count()),
         "redirects" => tell(line.rt, &config.redirects()),
-        _ => Err(Stop::Usage),
+        _ => Err(CallFault::Usage),
     }
 }

@@ -1,23 +1,23 @@
 //! The table of one external address.
 
 ghost use Rattle.std.specs.Prelude.{◌≡◌, ◌≤◌, true, IfSome};
-ghost use Rattle.napt_config.specs.Rules.{IsBlock};
+ghost use Rattle.napt_config.specs.Rules.{IsPortBlock};
 ghost use Rattle.napt_rules.specs.Prelude.{IsNumber};
 
-use crate::Stop;
+use crate::CallFault;
 use crate::play::line::{Line, tell};
-use napt_config::{Block, Config};
-use napt_table::{Sent, Table};
+use napt_config::{Config, PortBlock};
+use napt_table::{OutboundPacket, Table};
 use napt_wire::Protocol;
 
 /// `table ADDRESS CONFIGURATION`: a table of that address, behind a box: a function that owns one as it stands takes minutes to
 /// prove.
-pub(crate) fn begun<R: Print>(line: &mut Line<'_, R>) -> Result<Box<Table>, Stop> {
+pub(crate) fn begun<R: Print>(line: &mut Line<'_, R>) -> Result<Box<Table>, CallFault> {
     let address = line.long()?;
-    let config = Config::read(line.alloc, &line.bytes()?).map_err(|_| Stop::Config)?;
-    let table = Table::new(line.alloc, address, &config).map_err(|_| Stop::Call)?;
-    println!(line.rt; "begun").map_err(|_| Stop::File)?;
-    Box::new(line.alloc, table).map_err(|_| Stop::Call)
+    let config = Config::read(line.alloc, &line.bytes()?).map_err(|_| CallFault::Config)?;
+    let table = Table::new(line.alloc, address, &config).map_err(|_| CallFault::Call)?;
+    println!(line.rt; "begun").map_err(|_| CallFault::File)?;
+    Box::new(line.alloc, table).map_err(|_| CallFault::Call)
 }
 
 /// A call on the current table; `count` tells how many bindings `bindings` lists.
@@ -25,10 +25,10 @@ pub(crate) fn answer<R: Print>(
     line: &mut Line<'_, R>,
     table: &mut Table,
     call: &str,
-) -> Result<(), Stop> {
+) -> Result<(), CallFault> {
     let now = line.number()?;
     if now < table.at() {
-        return Err(Stop::Unsent);
+        return Err(CallFault::Unsent);
     }
     let (rt, alloc) = (line.rt, line.alloc);
     match call {
@@ -44,19 +44,19 @@ pub(crate) fn answer<R: Print>(
         }
         _ => {}
     }
-    let rows = table.bindings(alloc, now).map_err(|_| Stop::Call)?;
+    let rows = table.bindings(alloc, now).map_err(|_| CallFault::Call)?;
     match call {
         "bindings" => tell(rt, &rows),
         "count" => tell(rt, &rows.len()),
-        _ => Err(Stop::Usage),
+        _ => Err(CallFault::Usage),
     }
 }
 
 /// Whether there is no block, or an even number of numbers from an even one on, behind those below 1024.
-fn keeps_block(block: Option<Block>) -> bool
-    ensures { result ≡ true → IfSome block IsBlock }
+fn keeps_block(block: Option<PortBlock>) -> bool
+    ensures { result ≡ true → IfSome block IsPortBlock }
 {
-    let Some(Block { first, size }) = block else {
+    let Some(PortBlock { first, size }) = block else {
         return true;
     };
     let end = u32::from(first) + u32::from(size);
@@ -74,10 +74,10 @@ pub(crate) fn is_number(protocol: Protocol, number: u16) -> bool
 }
 
 /// `outbound NOW PROTOCOL INSIDE REMOTE FLAGS`, and the first number and the size of the block of the inside host, if it has one.
-fn outbound<R: Print>(line: &mut Line<'_, R>, table: &mut Table, now: u64) -> Result<(), Stop>
+fn outbound<R: Print>(line: &mut Line<'_, R>, table: &mut Table, now: u64) -> Result<(), CallFault>
     requires { table.old.at ≤ now }
 {
-    let sent = Sent {
+    let sent = OutboundPacket {
         now,
         protocol: line.protocol()?,
         inside: line.endpoint()?,
@@ -86,14 +86,14 @@ fn outbound<R: Print>(line: &mut Line<'_, R>, table: &mut Table, now: u64) -> Re
         block: line.block()?,
     };
     if !keeps_block(sent.block) || !is_number(sent.protocol, sent.inside.number) {
-        return Err(Stop::Unsent);
+        return Err(CallFault::Unsent);
     }
     let answer = table.outbound_of(line.alloc, sent);
-    tell(line.rt, &answer.map_err(|_| Stop::Call)?)
+    tell(line.rt, &answer.map_err(|_| CallFault::Call)?)
 }
 
 /// `inbound NOW PROTOCOL NUMBER REMOTE FLAGS`
-fn inbound<R: Print>(line: &mut Line<'_, R>, table: &mut Table, now: u64) -> Result<(), Stop>
+fn inbound<R: Print>(line: &mut Line<'_, R>, table: &mut Table, now: u64) -> Result<(), CallFault>
     requires { table.old.at ≤ now }
 {
     let (protocol, external) = (line.protocol()?, line.short()?);

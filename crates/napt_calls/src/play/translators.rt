@@ -1,6 +1,6 @@
 //! The translators of a pool, and the sides of a packet.
 
-use crate::Stop;
+use crate::CallFault;
 use crate::play::line::{Line, tell};
 use napt_config::Config;
 use napt_translate::{Answer, End, Leg, Translator, onward, route};
@@ -14,26 +14,26 @@ pub(crate) struct Translators {
 }
 
 /// `translators CONFIGURATION`
-pub(crate) fn begun<R: Print>(line: &mut Line<'_, R>) -> Result<Translators, Stop> {
+pub(crate) fn begun<R: Print>(line: &mut Line<'_, R>) -> Result<Translators, CallFault> {
     let alloc = line.alloc;
-    let config = Config::read(alloc, &line.bytes()?).map_err(|_| Stop::Config)?;
+    let config = Config::read(alloc, &line.bytes()?).map_err(|_| CallFault::Config)?;
     let mut all = Vec::new(alloc);
     for index in 0..16u32 {
         if (index as usize) < config.pool().len() {
-            let own = config.copy(alloc).map_err(|_| Stop::Call)?;
-            let translator = Translator::new(alloc, index, own).map_err(|_| Stop::Call)?;
-            all.push(translator).map_err(|_| Stop::Call)?;
+            let own = config.copy(alloc).map_err(|_| CallFault::Call)?;
+            let translator = Translator::new(alloc, index, own).map_err(|_| CallFault::Call)?;
+            all.push(translator).map_err(|_| CallFault::Call)?;
         }
     }
-    println!(line.rt; "begun").map_err(|_| Stop::File)?;
+    println!(line.rt; "begun").map_err(|_| CallFault::File)?;
     Ok(Translators { config, all })
 }
 
 impl Translators {
     /// The translator at the place that the next word says.
-    fn at<R>(&mut self, line: &mut Line<'_, R>) -> Result<&mut Translator, Stop> {
+    fn at<R>(&mut self, line: &mut Line<'_, R>) -> Result<&mut Translator, CallFault> {
         let place = line.short()?;
-        self.all.get_mut(usize::from(place)).ok_or(Stop::Usage)
+        self.all.get_mut(usize::from(place)).ok_or(CallFault::Usage)
     }
 
     /// `route SIDE`, of the current packet
@@ -41,7 +41,7 @@ impl Translators {
         &self,
         line: &mut Line<'_, R>,
         packet: &Packet,
-    ) -> Result<(), Stop> {
+    ) -> Result<(), CallFault> {
         tell(line.rt, &route(&self.config, line.side()?, packet))
     }
 
@@ -50,7 +50,7 @@ impl Translators {
         &self,
         line: &Line<'_, R>,
         packet: &Packet,
-    ) -> Result<(), Stop> {
+    ) -> Result<(), CallFault> {
         tell(line.rt, &onward(&self.config, packet))
     }
 
@@ -59,7 +59,7 @@ impl Translators {
         &mut self,
         line: &mut Line<'_, R>,
         packet: Packet,
-    ) -> Result<Option<Packet>, Stop> {
+    ) -> Result<Option<Packet>, CallFault> {
         let translator = self.at(line)?;
         let leg = Leg {
             number: line.number()?,
@@ -69,34 +69,34 @@ impl Translators {
         };
         let answer = translator
             .translate(line.alloc, leg)
-            .map_err(|_| Stop::Call)?;
+            .map_err(|_| CallFault::Call)?;
         tell_end(line.rt, answer)
     }
 
     /// `rows PLACE NOW`: the bindings of a translator.
-    pub(crate) fn tell_rows<R: Print>(&mut self, line: &mut Line<'_, R>) -> Result<(), Stop> {
+    pub(crate) fn tell_rows<R: Print>(&mut self, line: &mut Line<'_, R>) -> Result<(), CallFault> {
         let translator = self.at(line)?;
         let rows = translator
             .bindings(line.alloc, line.number()?)
-            .map_err(|_| Stop::Call)?;
+            .map_err(|_| CallFault::Call)?;
         tell(line.rt, &rows)
     }
 }
 
 /// Tells the number of a leg and how it ends, and hands on the packet that leaves.
-fn tell_end<R: Print>(rt: &R, answer: Answer) -> Result<Option<Packet>, Stop> {
+fn tell_end<R: Print>(rt: &R, answer: Answer) -> Result<Option<Packet>, CallFault> {
     let Answer { number, end } = answer;
-    print!(rt; "{number} ").map_err(|_| Stop::File)?;
+    print!(rt; "{number} ").map_err(|_| CallFault::File)?;
     let (told, packet) = match end {
         End::ToOutside(packet) => (print!(rt; "ToOutside"), packet),
         End::ToInside(packet) => (print!(rt; "ToInside"), packet),
         End::Onward(place, packet) => (print!(rt; "Onward {place}"), packet),
         End::Dropped(cause) => {
-            println!(rt; "Dropped {cause:?}").map_err(|_| Stop::File)?;
+            println!(rt; "Dropped {cause:?}").map_err(|_| CallFault::File)?;
             return Ok(None);
         }
     };
-    told.map_err(|_| Stop::File)?;
-    println!(rt; " {:?}", packet.bytes()).map_err(|_| Stop::File)?;
+    told.map_err(|_| CallFault::File)?;
+    println!(rt; " {:?}", packet.bytes()).map_err(|_| CallFault::File)?;
     Ok(Some(packet))
 }

@@ -3,10 +3,10 @@
 
 ghost use Rattle.std.specs.Prelude.{◌<◌};
 
-use crate::refused::left::{Asked, counted, looked_at};
+use crate::refused::remainders::{GateCounter, counted, looked_at};
 use crate::refused::run::{INSIDE, OUTSIDE, configuration, end_of_run};
-use crate::refused::{End, System};
-use napt_capture::{CaptureFault, Faulty, Plan, Trouble, Watched};
+use crate::refused::{CallResult, System};
+use napt_capture::{CaptureFault, FaultPlan, Faulty, InjectedFault, Watched};
 use napt_config::Config;
 use napt_records::{Fault, Which};
 use napt_run::{run_captures, run_streams};
@@ -24,7 +24,7 @@ const MOST_CALLS: u64 = 200;
 
 /// A device of the run.
 #[derive(Clone, Copy, PartialEq, Eq)]
-enum Device {
+enum RefusingDevice {
     Inside,
     Outside,
     ToOutside,
@@ -35,18 +35,18 @@ enum Device {
 /// The call of a device that goes wrong, counted from 1; none where it is 0.
 #[derive(Clone, Copy)]
 struct Refusal {
-    device: Device,
+    device: RefusingDevice,
     call: u64,
-    trouble: Trouble,
+    trouble: InjectedFault,
 }
 
 impl Refusal {
     /// What a device does.
-    fn plan(self, device: Device) -> Plan
+    fn plan(self, device: RefusingDevice) -> FaultPlan
         ensures { 0 < result.most }
     {
         let call = if self.device == device { self.call } else { 0 };
-        Plan {
+        FaultPlan {
             most: AT_ONCE,
             call,
             trouble: self.trouble,
@@ -56,7 +56,7 @@ impl Refusal {
 
 /// What a run answers and writes.
 #[derive(Drop)]
-struct Made {
+struct CallOutput {
     answer: Result<(), Fault>,
     to_outside: Vec<u8>,
     to_inside: Vec<u8>,
@@ -69,12 +69,12 @@ fn make_run(
     config: &Config,
     are_whole: bool,
     refusal: Refusal,
-    gate: Arc<Asked>,
-) -> Result<Made, End> {
+    gate: Arc<GateCounter>,
+) -> Result<CallOutput, CallResult> {
     let alloc = rt.alloc();
     macro_rules! on {
         ($device:ident, $text:expr) => {
-            Faulty::new(Watched::new($text), refusal.plan(Device::$device))
+            Faulty::new(Watched::new($text), refusal.plan(RefusingDevice::$device))
         };
     }
     let mut inside = on!(Inside, INSIDE.as_slice());
@@ -94,7 +94,7 @@ fn make_run(
     } else {
         answer_of!(run_streams)
     };
-    Ok(Made {
+    Ok(CallOutput {
         answer,
         to_outside: to_outside.into_inner().into_inner(),
         to_inside: to_inside.into_inner().into_inner(),
@@ -104,9 +104,9 @@ fn make_run(
 
 /// No call goes wrong.
 const NONE: Refusal = Refusal {
-    device: Device::Inside,
+    device: RefusingDevice::Inside,
     call: 0,
-    trouble: Trouble::Fails,
+    trouble: InjectedFault::Fails,
 };
 
 /// Makes the run, and looks at what it leaves.
@@ -115,7 +115,7 @@ fn tried(
     config: &Config,
     are_whole: bool,
     refusal: Refusal,
-) -> Result<Made, End> {
+) -> Result<CallOutput, CallResult> {
     let (counts, gate) = counted(rt.alloc())?;
     let run = make_run(rt, config, are_whole, refusal, gate);
     looked_at(rt, &counts, run)
@@ -123,7 +123,7 @@ fn tried(
 
 /// The run, and what it leaves: outputs that are whole. Where memory or a thread was refused they are empty after whole captures, and
 /// else begin as the whole ones.
-pub(crate) fn ended(rt: &impl System, are_whole: bool) -> Result<(), End> {
+pub(crate) fn ended(rt: &impl System, are_whole: bool) -> Result<(), CallResult> {
     let config = configuration(rt.alloc())?;
     let run = tried(rt, &config, are_whole, NONE)?;
     // a packet to the outside, two to inside hosts
@@ -131,27 +131,27 @@ pub(crate) fn ended(rt: &impl System, are_whole: bool) -> Result<(), End> {
     let most = if are_whole { (0, 0) } else { whole };
     match run.answer {
         Ok(()) if written == whole && !run.report.is_empty() => Ok(()),
-        Ok(()) => Err(End::Wrong("other outputs")),
+        Ok(()) => Err(CallResult::Wrong("other outputs")),
         Err(_) if written.0 > most.0 || written.1 > most.1 || !run.report.is_empty() => {
-            Err(End::Wrong("too much is written"))
+            Err(CallResult::Wrong("too much is written"))
         }
-        Err(Fault::Capture(_, CaptureFault::Memory)) => Err(End::Memory),
+        Err(Fault::Capture(_, CaptureFault::Memory)) => Err(CallResult::Memory),
         Err(Fault::Run(fault)) => Err(end_of_run(fault)),
-        Err(_) => Err(End::Wrong("another fault")),
+        Err(_) => Err(CallResult::Wrong("another fault")),
     }
 }
 
 /// Refuses each call of each device in turn, while the captures come: no thread is left, each output begins as that of the whole run, and
 /// the fault names the device, and how much of an output is written.
-pub(crate) fn devices_ended(rt: &impl System) -> Result<(), End> {
+pub(crate) fn devices_ended(rt: &impl System) -> Result<(), CallResult> {
     let config = configuration(rt.alloc())?;
     let whole = tried(rt, &config, false, NONE)?;
     for device in [
-        Device::Inside,
-        Device::Outside,
-        Device::ToOutside,
-        Device::ToInside,
-        Device::Report,
+        RefusingDevice::Inside,
+        RefusingDevice::Outside,
+        RefusingDevice::ToOutside,
+        RefusingDevice::ToInside,
+        RefusingDevice::Report,
     ] {
         sweep(rt, &config, device, &whole)?;
     }
@@ -159,13 +159,18 @@ pub(crate) fn devices_ended(rt: &impl System) -> Result<(), End> {
 }
 
 /// Refuses each call of a device in turn.
-fn sweep(rt: &impl System, config: &Config, device: Device, whole: &Made) -> Result<(), End> {
+fn sweep(
+    rt: &impl System,
+    config: &Config,
+    device: RefusingDevice,
+    whole: &CallOutput,
+) -> Result<(), CallResult> {
     for call in 1..MOST_CALLS {
         let mut is_over = false;
-        for trouble in [Trouble::Fails, Trouble::TakesNone] {
+        for trouble in [InjectedFault::Fails, InjectedFault::TakesNone] {
             // a capture that ends earlier is another capture
-            let is_source = matches!(device, Device::Inside | Device::Outside);
-            if is_source && trouble == Trouble::TakesNone {
+            let is_source = matches!(device, RefusingDevice::Inside | RefusingDevice::Outside);
+            if is_source && trouble == InjectedFault::TakesNone {
                 continue;
             }
             let refusal = Refusal {
@@ -174,47 +179,50 @@ fn sweep(rt: &impl System, config: &Config, device: Device, whole: &Made) -> Res
                 trouble,
             };
             let run = tried(rt, config, false, refusal)?;
-            is_over = is_over || trouble == Trouble::Fails && run.answer == Ok(());
+            is_over = is_over || trouble == InjectedFault::Fails && run.answer == Ok(());
             judge(device, &run, whole)?;
         }
         if is_over {
             return Ok(());
         }
     }
-    Err(End::Wrong("a device has no end of calls"))
+    Err(CallResult::Wrong("a device has no end of calls"))
 }
 
 /// Whether a run in which one call of a device went wrong ended as it should.
-fn judge(device: Device, run: &Made, whole: &Made) -> Result<(), End> {
+fn judge(device: RefusingDevice, run: &CallOutput, whole: &CallOutput) -> Result<(), CallResult> {
     let begins = whole.to_outside.starts_with(&run.to_outside)
         && whole.to_inside.starts_with(&run.to_inside)
         && whole.report.starts_with(&run.report);
     if !begins {
-        return Err(End::Wrong("an output is no front"));
+        return Err(CallResult::Wrong("an output is no front"));
     }
     let is_right = match (run.answer, device) {
         (Ok(()), _) => is_whole(run, whole),
-        (Err(Fault::Capture(side, CaptureFault::Read)), Device::Inside) => side == Side::Inside,
-        (Err(Fault::Capture(side, CaptureFault::Read)), Device::Outside) => side == Side::Outside,
-        (Err(Fault::Write(Which::Outside, fault)), Device::ToOutside) => {
+        (Err(Fault::Capture(side, CaptureFault::Read)), RefusingDevice::Inside) => side
+            == Side::Inside,
+        (Err(Fault::Capture(side, CaptureFault::Read)), RefusingDevice::Outside) => side
+            == Side::Outside,
+        (Err(Fault::Write(Which::Outside, fault)), RefusingDevice::ToOutside) => {
             fault.written == run.to_outside.len() as u64
         }
-        (Err(Fault::Write(Which::Inside, fault)), Device::ToInside) => {
+        (Err(Fault::Write(Which::Inside, fault)), RefusingDevice::ToInside) => {
             fault.written == run.to_inside.len() as u64
         }
-        (Err(Fault::Write(Which::Report, fault)), Device::Report) => {
+        (Err(Fault::Write(Which::Report, fault)), RefusingDevice::Report) => {
             fault.written == run.report.len() as u64
         }
         _ => false,
     };
     match is_right {
-        true if run.report.is_empty() || device == Device::Report || run.answer == Ok(()) => Ok(()),
-        true => Err(End::Wrong("a report is begun")),
-        false => Err(End::Wrong("another fault")),
+        true if run.report.is_empty() || device == RefusingDevice::Report || run.answer == Ok(()) =>
+            Ok(()),
+        true => Err(CallResult::Wrong("a report is begun")),
+        false => Err(CallResult::Wrong("another fault")),
     }
 }
 
-fn is_whole(run: &Made, whole: &Made) -> bool {
+fn is_whole(run: &CallOutput, whole: &CallOutput) -> bool {
     run.to_outside.len() == whole.to_outside.len()
         && run.to_inside.len() == whole.to_inside.len()
         && run.report.len() == whole.report.len()

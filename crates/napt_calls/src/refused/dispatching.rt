@@ -1,24 +1,24 @@
 //! Inputs that are dispatched to a pool.
 
 ghost use Rattle.std.specs.Prelude.{◌≡◌, length, vec_len, IfOk};
-ghost use Rattle.napt_config.specs.Rules.{KeepsRules};
-ghost use Rattle.napt_dispatch.specs.Dispatch.{started};
+ghost use Rattle.napt_config.specs.Rules.{RulesInvariant};
+ghost use Rattle.napt_dispatch.specs.Dispatch.{started_translators};
 
-use crate::refused::left::{Asked, counted, looked_at};
+use crate::refused::remainders::{GateCounter, counted, looked_at};
 use crate::refused::run::{configuration, end_of_run, inputs};
-use crate::refused::{End, System};
+use crate::refused::{CallResult, System};
 use napt_config::Config;
 use napt_pool::{Pool, PoolFault};
-use napt_run::{Input, Untold, Worker, dispatch};
+use napt_run::{Input, NoTrace, Worker, dispatch};
 use napt_translate::Translator;
 use std::alloc::{AllocError, Global};
 use std::marker::PhantomData;
 use std::sync::Arc;
 
 /// The workers of all external addresses before any leg, in the order of the pool.
-fn workers(alloc: Global, config: &Config) -> Result<Vec<Worker<Untold>>, AllocError>
-    ensures kept { KeepsRules config.now }
-    ensures made { IfOk result (λ made. made.items ≡ started config.now (length config.now.pool)) }
+fn workers(alloc: Global, config: &Config) -> Result<Vec<Worker<NoTrace>>, AllocError>
+    ensures kept { RulesInvariant config.now }
+    ensures made { IfOk result (λ made. made.items ≡ started_translators config.now (length config.now.pool)) }
     ensures many { IfOk result (λ made. vec_len made ≡ length config.now.pool) }
 {
     let many = config.pool().len() as u32;
@@ -38,29 +38,29 @@ fn dispatched(
     rt: &impl System,
     config: &Config,
     inputs: &[Input],
-    gate: Arc<Asked>,
-) -> Result<(), End> {
+    gate: Arc<GateCounter>,
+) -> Result<(), CallResult> {
     let alloc = rt.alloc();
     let machines = workers(alloc, config)?;
     if inputs.len() != 3 {
-        return Err(End::Wrong("other inputs"));
+        return Err(CallResult::Wrong("other inputs"));
     }
     let mut pool = match Pool::start(rt, alloc, machines, config.ring(), gate) {
         Ok(pool) => pool,
-        Err(PoolFault::Memory | PoolFault::NoThread) => return Err(End::Before),
-        Err(_) => return Err(End::Wrong("another fault")),
+        Err(PoolFault::Memory | PoolFault::NoThread) => return Err(CallResult::Before),
+        Err(_) => return Err(CallResult::Wrong("another fault")),
     };
     let answer = dispatch(rt, alloc, &mut pool, config, inputs);
     let closed = pool.close(rt, alloc);
     let (outcomes, legs) = answer.map_err(end_of_run)?;
     match closed {
         Ok(_) if outcomes.len() == 3 && legs.as_slice() == [1, 3].as_slice() => Ok(()),
-        Err(PoolFault::Memory) => Err(End::After),
-        _ => Err(End::Wrong("another run")),
+        Err(PoolFault::Memory) => Err(CallResult::After),
+        _ => Err(CallResult::Wrong("another run")),
     }
 }
 
-pub(crate) fn ended(rt: &impl System) -> Result<(), End> {
+pub(crate) fn ended(rt: &impl System) -> Result<(), CallResult> {
     let alloc = rt.alloc();
     let (config, inputs) = (configuration(alloc)?, inputs(alloc)?);
     let (counts, gate) = counted(alloc)?;

@@ -1,10 +1,10 @@
 //! A pool that is started, filled and closed.
 
 ghost use Rattle.std.specs.Prelude.{◌≡◌, ◌<◌, IfOk, length, vec_len};
-ghost use Rattle.napt_pool.specs.Pools.{starts};
+ghost use Rattle.napt_pool.specs.Pools.{initial_machines};
 
-use crate::refused::left::{Asked, Counts, counted, looked_at};
-use crate::refused::{End, System};
+use crate::refused::remainders::{Counts, GateCounter, counted, looked_at};
+use crate::refused::{CallResult, System};
 use napt_pool::{Ended, Gate, Machine, Pool, PoolFault};
 use std::alloc::{AllocError, Global};
 use std::sync::Arc;
@@ -56,8 +56,8 @@ fn machines(alloc: Global, counts: &Arc<Counts>) -> Result<Vec<Echo>, AllocError
 
 /// Offers a worker as many items as it may owe answers, and says whether it took them.
 fn fill<G: Gate>(alloc: Global, pool: &mut Pool<Echo, G>, w: u32) -> bool
-    requires { w < length (starts pool.old) }
-    ensures { length (starts pool.new) ≡ length (starts pool.old) }
+    requires { w < length (initial_machines pool.old) }
+    ensures { length (initial_machines pool.new) ≡ length (initial_machines pool.old) }
 {
     let first = pool.offer(alloc, w, 7).is_ok();
     let second = pool.offer(alloc, w, 8).is_ok();
@@ -75,16 +75,20 @@ fn are_whole(ended: &[Ended<Echo>]) -> bool {
 }
 
 /// What a fault of the pool comes to.
-fn end_of(fault: PoolFault) -> End {
+fn end_of(fault: PoolFault) -> CallResult {
     match fault {
-        PoolFault::Memory => End::Memory,
-        PoolFault::NoThread => End::NoThread,
-        _ => End::Wrong("another fault"),
+        PoolFault::Memory => CallResult::Memory,
+        PoolFault::NoThread => CallResult::NoThread,
+        _ => CallResult::Wrong("another fault"),
     }
 }
 
 /// Starts a pool, fills it and closes it.
-fn filled_and_closed(rt: &impl System, counts: &Arc<Counts>, gate: Arc<Asked>) -> Result<(), End> {
+fn filled_and_closed(
+    rt: &impl System,
+    counts: &Arc<Counts>,
+    gate: Arc<GateCounter>,
+) -> Result<(), CallResult> {
     let alloc = rt.alloc();
     let machines = machines(alloc, counts)?;
     let mut pool = Pool::start(rt, alloc, machines, 2, gate).map_err(end_of)?;
@@ -93,12 +97,12 @@ fn filled_and_closed(rt: &impl System, counts: &Arc<Counts>, gate: Arc<Asked>) -
     let third = fill(alloc, &mut pool, 2);
     match pool.close(rt, alloc) {
         Ok(ended) if first && second && third && are_whole(&ended) => Ok(()),
-        Ok(_) => Err(End::Wrong("other answers")),
+        Ok(_) => Err(CallResult::Wrong("other answers")),
         Err(fault) => Err(end_of(fault)),
     }
 }
 
-pub(crate) fn ended(rt: &impl System) -> Result<(), End> {
+pub(crate) fn ended(rt: &impl System) -> Result<(), CallResult> {
     let (counts, gate) = counted(rt.alloc())?;
     let came = filled_and_closed(rt, &counts, gate);
     looked_at(rt, &counts, came)

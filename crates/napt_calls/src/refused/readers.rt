@@ -1,6 +1,6 @@
 //! A capture and a configuration that are read.
 
-use crate::refused::End;
+use crate::refused::CallResult;
 use napt_capture::{CaptureFault, Watched, read_capture};
 use napt_config::{Config, ConfigFault};
 use std::alloc::Global;
@@ -38,20 +38,20 @@ inside = "10.0.0.2:53"
 external = 53
 "#;
 
-pub(crate) fn capture_ended(alloc: Global) -> Result<(), End> {
+pub(crate) fn capture_ended(alloc: Global) -> Result<(), CallResult> {
     match read_capture(alloc, &mut Watched::new(CAPTURE.as_slice())) {
         Ok(capture) if capture.records.len() == 2 && !capture.cut => Ok(()),
-        Ok(_) => Err(End::Wrong("another capture")),
-        Err(CaptureFault::Memory) => Err(End::Memory),
-        Err(_) => Err(End::Wrong("another fault")),
+        Ok(_) => Err(CallResult::Wrong("another capture")),
+        Err(CaptureFault::Memory) => Err(CallResult::Memory),
+        Err(_) => Err(CallResult::Wrong("another fault")),
     }
 }
 
-pub(crate) fn configuration_ended(alloc: Global) -> Result<(), End> {
+pub(crate) fn configuration_ended(alloc: Global) -> Result<(), CallResult> {
     match Config::read(alloc, CONFIGURATION.as_bytes()) {
         Ok(config) if config.pool().len() == 2 && config.redirects().len() == 2 => Ok(()),
-        Ok(_) => Err(End::Wrong("another configuration")),
-        Err(ConfigFault::Memory) => Err(End::Memory),
-        Err(_) => Err(End::Wrong("another fault")),
+        Ok(_) => Err(CallResult::Wrong("another configuration")),
+        Err(ConfigFault::Memory) => Err(CallResult::Memory),
+        Err(_) => Err(CallResult::Wrong("another fault")),
     }
 }

@@ -1,8 +1,8 @@
 //! Two captures, one of each side; runs over their inputs through two external addresses, on workers and on one thread; and these inputs,
 //! merged.
 
-use crate::refused::left::{counted, looked_at};
-use crate::refused::{End, System};
+use crate::refused::remainders::{counted, looked_at};
+use crate::refused::{CallResult, System};
 use napt_capture::{Record, Watched, read_capture};
 use napt_config::Config;
 use napt_pool::PoolFault;
@@ -36,29 +36,29 @@ pub(crate) const OUTSIDE: [u8; 68] = [
 ];
 
 /// What a fault of a run comes to.
-pub(crate) fn end_of_run(fault: RunFault) -> End {
+pub(crate) fn end_of_run(fault: RunFault) -> CallResult {
     match fault {
-        RunFault::Memory | RunFault::Pool(PoolFault::Memory) => End::Memory,
-        RunFault::Pool(PoolFault::NoThread) => End::NoThread,
-        _ => End::Wrong("another fault"),
+        RunFault::Memory | RunFault::Pool(PoolFault::Memory) => CallResult::Memory,
+        RunFault::Pool(PoolFault::NoThread) => CallResult::NoThread,
+        _ => CallResult::Wrong("another fault"),
     }
 }
 
 /// The configuration, before the call.
-pub(crate) fn configuration(alloc: Global) -> Result<Config, End> {
-    Config::read(alloc, CONFIGURATION.as_bytes()).map_err(|_| End::Before)
+pub(crate) fn configuration(alloc: Global) -> Result<Config, CallResult> {
+    Config::read(alloc, CONFIGURATION.as_bytes()).map_err(|_| CallResult::Before)
 }
 
 /// The records of a capture, before the call.
-fn records(alloc: Global, capture: &[u8]) -> Result<Vec<Record>, End> {
-    let capture = read_capture(alloc, &mut Watched::new(capture)).map_err(|_| End::Before)?;
+fn records(alloc: Global, capture: &[u8]) -> Result<Vec<Record>, CallResult> {
+    let capture = read_capture(alloc, &mut Watched::new(capture)).map_err(|_| CallResult::Before)?;
     Ok(capture.records)
 }
 
 /// The merged inputs, before the call.
-pub(crate) fn inputs(alloc: Global) -> Result<Vec<Input>, End> {
+pub(crate) fn inputs(alloc: Global) -> Result<Vec<Input>, CallResult> {
     let (inside, outside) = (records(alloc, &INSIDE)?, records(alloc, &OUTSIDE)?);
-    merge(alloc, inside, outside).map_err(|_| End::Before)
+    merge(alloc, inside, outside).map_err(|_| CallResult::Before)
 }
 
 /// Whether an input is a packet of 28 bytes that came from a side at a time, in seconds, the latest so far.
@@ -80,33 +80,33 @@ fn are_merged(inputs: &[Input]) -> bool {
 }
 
 /// The records of both captures are merged.
-pub(crate) fn merge_ended(alloc: Global) -> Result<(), End> {
+pub(crate) fn merge_ended(alloc: Global) -> Result<(), CallResult> {
     let (inside, outside) = (records(alloc, &INSIDE)?, records(alloc, &OUTSIDE)?);
     match merge(alloc, inside, outside) {
         Ok(inputs) if are_merged(&inputs) => Ok(()),
-        Ok(_) => Err(End::Wrong("other inputs")),
-        Err(_) => Err(End::Memory),
+        Ok(_) => Err(CallResult::Wrong("other inputs")),
+        Err(_) => Err(CallResult::Memory),
     }
 }
 
 /// The run on one thread.
-pub(crate) fn plain_ended(alloc: Global) -> Result<(), End> {
+pub(crate) fn plain_ended(alloc: Global) -> Result<(), CallResult> {
     let (config, inputs) = (configuration(alloc)?, inputs(alloc)?);
     match run_plain(alloc, &config, &inputs) {
         Ok(run) if run.bindings.len() == 2 => Ok(()),
-        Ok(_) => Err(End::Wrong("another run")),
+        Ok(_) => Err(CallResult::Wrong("another run")),
         Err(fault) => Err(end_of_run(fault)),
     }
 }
 
 /// The run over workers.
-pub(crate) fn workers_ended(rt: &impl System) -> Result<(), End> {
+pub(crate) fn workers_ended(rt: &impl System) -> Result<(), CallResult> {
     let alloc = rt.alloc();
     let (config, inputs) = (configuration(alloc)?, inputs(alloc)?);
     let (counts, gate) = counted(alloc)?;
     let came = match run_workers(rt, alloc, &config, &inputs, gate) {
         Ok(run) if run.bindings.len() == 2 && run.outcomes.len() == 3 => Ok(()),
-        Ok(_) => Err(End::Wrong("another run")),
+        Ok(_) => Err(CallResult::Wrong("another run")),
         Err(fault) => Err(end_of_run(fault)),
     };
     looked_at(rt, &counts, came)

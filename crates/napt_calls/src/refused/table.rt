@@ -1,7 +1,7 @@
 //! Packets that go out through a table.
 
 use crate::play::is_number;
-use crate::refused::End;
+use crate::refused::CallResult;
 use napt_config::Config;
 use napt_table::{Row, Table};
 use napt_wire::{Endpoint, Flags, Protocol};
@@ -21,7 +21,7 @@ const PACKETS: u16 = 60;
 
 /// What a packet is to the table.
 #[derive(Clone, Copy)]
-pub(crate) enum Kind {
+pub(crate) enum TableCall {
     /// Each is the first of its host.
     Bindings,
     /// Each but the first of its protocol is of a binding that is there, to another remote.
@@ -32,7 +32,7 @@ pub(crate) enum Kind {
 
 /// A packet that goes out, at a time in ns.
 #[derive(Clone, Copy)]
-struct Packet {
+struct TablePacket {
     now: u64,
     protocol: Protocol,
     inside: Endpoint,
@@ -42,7 +42,7 @@ struct Packet {
 
 /// The packet of a kind at a place in the order, one of each protocol in turn: from 10.0.0.0:5000 and on, to 198.51.100.0:53 and
 /// on.
-fn packet_of(kind: Kind, place: u16) -> Packet {
+fn packet_of(kind: TableCall, place: u16) -> TablePacket {
     let round = place / 3;
     let protocol = match place % 3 {
         0 => Protocol::Udp,
@@ -50,11 +50,11 @@ fn packet_of(kind: Kind, place: u16) -> Packet {
         _ => Protocol::Icmp,
     };
     let (host, remote, seconds) = match kind {
-        Kind::Bindings => (round, 0, u64::from(place)),
-        Kind::Flows => (0, round, u64::from(place)),
-        Kind::Ends => (round % 4, 0, 100 * u64::from(round) + u64::from(place % 3)),
+        TableCall::Bindings => (round, 0, u64::from(place)),
+        TableCall::Flows => (0, round, u64::from(place)),
+        TableCall::Ends => (round % 4, 0, 100 * u64::from(round) + u64::from(place % 3)),
     };
-    Packet {
+    TablePacket {
         now: seconds.saturating_mul(SECOND),
         protocol,
         inside: Endpoint {
@@ -75,8 +75,8 @@ fn packet_of(kind: Kind, place: u16) -> Packet {
 }
 
 /// Sends the packet: the external number; none where the packet is refused, or may not be sent.
-fn send(alloc: Global, table: &mut Table, packet: Packet) -> Result<Option<u16>, AllocError> {
-    let Packet {
+fn send(alloc: Global, table: &mut Table, packet: TablePacket) -> Result<Option<u16>, AllocError> {
+    let TablePacket {
         now,
         protocol,
         inside,
@@ -91,7 +91,7 @@ fn send(alloc: Global, table: &mut Table, packet: Packet) -> Result<Option<u16>,
 }
 
 /// Whether an answer to the packet comes in, where its external number is that of its inside endpoint.
-fn is_answered(table: &mut Table, packet: Packet) -> bool {
+fn is_answered(table: &mut Table, packet: TablePacket) -> bool {
     if packet.now < table.at() {
         return false;
     }
@@ -117,7 +117,7 @@ fn rows_at(alloc: Global, table: &Table, times: &[u64]) -> Result<Vec<Row>, Allo
 }
 
 /// Sends the packet, and looks at the table where it is refused.
-fn step(alloc: Global, table: &mut Table, packet: Packet) -> Result<(), End> {
+fn step(alloc: Global, table: &mut Table, packet: TablePacket) -> Result<(), CallResult> {
     let at = table.at();
     let lasts = match packet.protocol {
         Protocol::Icmp => 60,
@@ -129,11 +129,11 @@ fn step(alloc: Global, table: &mut Table, packet: Packet) -> Result<(), End> {
     let before = rows_at(alloc, table, &times)?;
     match send(alloc, table, packet) {
         Ok(Some(number)) if number == packet.inside.number => Ok(()),
-        Ok(_) => Err(End::Wrong("another answer")),
+        Ok(_) => Err(CallResult::Wrong("another answer")),
         Err(_) => {
-            let after = rows_at(alloc, table, &times).map_err(|_| End::After)?;
+            let after = rows_at(alloc, table, &times).map_err(|_| CallResult::After)?;
             if before.as_slice() != after.as_slice() {
-                return Err(End::Wrong("the list is changed"));
+                return Err(CallResult::Wrong("the list is changed"));
             }
             Err(sent_again(alloc, table, packet))
         }
@@ -141,24 +141,24 @@ fn step(alloc: Global, table: &mut Table, packet: Packet) -> Result<(), End> {
 }
 
 /// What a refused packet comes to: no answer to it comes in, until it is sent again and passes.
-fn sent_again(alloc: Global, table: &mut Table, packet: Packet) -> End {
+fn sent_again(alloc: Global, table: &mut Table, packet: TablePacket) -> CallResult {
     if is_answered(table, packet) {
-        return End::Wrong("a refused packet is answered");
+        return CallResult::Wrong("a refused packet is answered");
     }
     match send(alloc, table, packet) {
         Ok(Some(number)) if number == packet.inside.number && is_answered(table, packet) => {
-            End::Memory
+            CallResult::Memory
         }
-        _ => End::Wrong("it does not pass when it is sent again"),
+        _ => CallResult::Wrong("it does not pass when it is sent again"),
     }
 }
 
 /// Sends all packets of the kind.
-pub(crate) fn ended(alloc: Global, kind: Kind) -> Result<(), End> {
-    let config = Config::read(alloc, CONFIGURATION.as_bytes()).map_err(|_| End::Before)?;
+pub(crate) fn ended(alloc: Global, kind: TableCall) -> Result<(), CallResult> {
+    let config = Config::read(alloc, CONFIGURATION.as_bytes()).map_err(|_| CallResult::Before)?;
     let table = Table::new(alloc, EXTERNAL, &config)?;
     // behind a box: a function that owns a table as it stands takes minutes to prove
-    let mut table = Box::new(alloc, table).map_err(|_| End::Before)?;
+    let mut table = Box::new(alloc, table).map_err(|_| CallResult::Before)?;
     for place in 0..PACKETS {
         step(alloc, &mut table, packet_of(kind, place))?;
     }

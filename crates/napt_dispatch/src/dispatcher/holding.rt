@@ -1,18 +1,18 @@
 //! What is held for a worker and what it owes, and the progress of the inputs.
 
 ghost use Rattle.std.specs.Prelude.{◌≡◌, ◌↔◌, ◌^◌, ◌<◌, true, false, [], length, IsOk, OnOk};
-ghost use Rattle.napt_dispatch.specs.{Windows.progress_in, Standing.{Noted, Resolves, waits, IsDone}};
+ghost use Rattle.napt_dispatch.specs.{RunProgresses.progress_in, DispatcherInvariants.{NoteAnswerPost, Resolves, queue_waits, DispatcherIsDone}};
 
 use crate::dispatcher::Dispatcher;
-use crate::dispatcher::progress::Progress;
+use crate::dispatcher::progress::InputProgress;
 use crate::faults::ImpossibleAnswer;
-use napt_sequential::{Telling, Told};
+use napt_sequential::{LegTrace, TracedAnswer};
 use napt_translate::{Answer, End, Leg};
 use napt_wire::Way;
 
 /// A leg, or a placeholder for one, that was not offered to its worker yet.
 #[derive(Drop)]
-pub(crate) enum Pending {
+pub(crate) enum PendingLeg {
     Ready(Leg),
     /// A placeholder for the second leg of the input with this number (RFC 4787, REQ-9). The answer to the first leg decides
     /// whether there is a second one.
@@ -21,7 +21,7 @@ pub(crate) enum Pending {
 
 /// What is held first behind the legs of a worker's next message.
 #[derive(Clone, Copy)]
-pub(crate) enum Front {
+pub(crate) enum QueueHead {
     Nothing,
     FirstLeg,
     /// A placeholder for the second leg of the input with this number.
@@ -30,47 +30,47 @@ pub(crate) enum Front {
 
 /// A leg that was offered to a worker and is not answered yet.
 #[derive(Clone, Copy)]
-pub(crate) struct Owed {
+pub(crate) struct AwaitedLeg {
     pub(crate) way: Way,
     /// The time of the leg, in ns.
     pub(crate) now: u64,
 }
 
-impl<P: Telling> Dispatcher<P> {
+impl<P: LegTrace> Dispatcher<P> {
     /// Returns whether there is nothing to put into a message: nothing is held, or the placeholder held first waits.
-    pub(super) fn waits(&self, front: Front) -> bool
-        ensures { result ≡ waits (progress_in self.now.progress) front }
+    pub(super) fn waits(&self, front: QueueHead) -> bool
+        ensures { result ≡ queue_waits (progress_in self.now.progress) front }
     {
         match front {
-            Front::Nothing => true,
-            Front::FirstLeg => false,
-            Front::FirstPlace(number) => self.progress.is_unknown(number),
+            QueueHead::Nothing => true,
+            QueueHead::FirstLeg => false,
+            QueueHead::FirstPlace(number) => self.progress.is_unknown(number),
         }
     }
 
     /// Takes out the second leg for a placeholder that does not wait, if its input has one.
-    pub(super) fn second_leg(&mut self, front: Front) -> Option<Leg>
-        requires { waits (progress_in self.old.progress) front ≡ false }
+    pub(super) fn second_leg(&mut self, front: QueueHead) -> Option<Leg>
+        requires { queue_waits (progress_in self.old.progress) front ≡ false }
         ensures same { self.new.queues ≡ self.old.queues }
         ensures resolves { Resolves front self.old.progress result self.new.progress }
     {
         match front {
-            Front::Nothing | Front::FirstLeg => None,
-            Front::FirstPlace(number) => self.progress.second_leg(number),
+            QueueHead::Nothing | QueueHead::FirstLeg => None,
+            QueueHead::FirstPlace(number) => self.progress.second_leg(number),
         }
     }
 
     /// Notes an answer taken from worker `w`. Fails if an incoming leg goes onward, or if no such answer is awaited.
     #[inline(always)]
-    pub(super) fn note(&mut self, w: u32, told: Told<P>) -> Result<(), ImpossibleAnswer>
+    pub(super) fn note(&mut self, w: u32, told: TracedAnswer<P>) -> Result<(), ImpossibleAnswer>
         requires { w < length self.old.queues }
         ensures many { OnOk result (length self.new.queues ≡ length self.old.queues) }
-        ensures noted { OnOk result (Noted P.tells w told self.old self.new) }
+        ensures noted { OnOk result (NoteAnswerPost P.tells w told self.old self.new) }
     {
         let Some(owed) = self.queues.note_answer(w) else {
             return Err(ImpossibleAnswer);
         };
-        let Told {
+        let TracedAnswer {
             answer: Answer { number, end },
             passage,
         } = told;
@@ -81,13 +81,13 @@ impl<P: Telling> Dispatcher<P> {
             return Err(ImpossibleAnswer);
         };
         self.progress
-            .write(number, Progress::Answered(owed, end, first, second))?;
+            .write(number, InputProgress::Answered(owed, end, first, second))?;
         Ok(())
     }
 
     /// Returns whether nothing is held, and every worker has answered every leg.
     pub(super) fn is_done(&self) -> bool
-        ensures { (result ≡ true) ↔ IsDone self.now }
+        ensures { (result ≡ true) ↔ DispatcherIsDone self.now }
     {
         self.queues.none_held() && self.queues.none_owed()
     }

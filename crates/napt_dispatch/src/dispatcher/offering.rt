@@ -1,25 +1,25 @@
 //! Offering legs to the workers, many in one message.
 
 ghost use Rattle.std.specs.Prelude.{◌≡◌, ◌⊎◌, ◌+◌, ◌<◌, ◌≤◌, ◌++◌, true, length, slice_set, vec_len, IfOk, IfErr, OnOk, OnErr, MatchBool};
-ghost use Rattle.napt_pool.specs.Pools.{starts, accepts, takes, capacity_of};
-ghost use Rattle.napt_dispatch.specs.{Dispatch.{of_worker, IsDispatchFault}, QueueStates.queue_of};
-ghost use Rattle.napt_dispatch.specs.Standing.{waits_behind, IsSizedFor, ContinuesOr, Readies, HasOffered, HasOfferedAll, OffersOnlyTo};
+ghost use Rattle.napt_pool.specs.Pools.{initial_machines, accepted_items, taken_answers, capacity_of};
+ghost use Rattle.napt_dispatch.specs.{Dispatch.{of_worker, IsDispatchFault}, WorkerQueues.queue_of};
+ghost use Rattle.napt_dispatch.specs.DispatcherInvariants.{waits_behind, IsSizedFor, ContinuesOr, ReadyLegsPost, HasOffered, HasOfferedAll, OffersOnlyTo};
 
 use crate::Worker;
 use crate::dispatcher::Dispatcher;
 use crate::faults::ImpossibleAnswer;
-use napt_pool::{Answered, Batch, Gate, OfferRefused, Pool};
-use napt_sequential::{RunFault, Telling, Told};
+use napt_pool::{AnsweredBatch, Batch, Gate, OfferRefused, Pool};
+use napt_sequential::{LegTrace, RunFault, TracedAnswer};
 use napt_translate::Leg;
 use std::alloc::{AllocError, Global};
 
-impl<P: Telling> Dispatcher<P> {
+impl<P: LegTrace> Dispatcher<P> {
     /// Puts what is held first for worker `w` behind the legs of its next message, or removes a placeholder without a leg. Returns
     /// `false` if neither is possible.
     fn ready_next(&mut self, w: u32) -> Result<bool, AllocError>
         requires { w < length self.old.queues }
         ensures many { OnOk result (length self.new.queues ≡ length self.old.queues) }
-        ensures readies { OnOk result (Readies P.tells w self.old self.new) }
+        ensures readies { OnOk result (ReadyLegsPost P.tells w self.old self.new) }
         ensures went { IfOk result (λ went. MatchBool went
             (length (queue_of self.new.queues w).held < length (queue_of self.old.queues w).held)
             (waits_behind self.new w ≡ true)) }
@@ -38,7 +38,7 @@ impl<P: Telling> Dispatcher<P> {
     fn ready_all(&mut self, w: u32, most: usize) -> Result<(), AllocError>
         requires { w < length self.old.queues }
         ensures many { OnOk result (length self.new.queues ≡ length self.old.queues) }
-        ensures readies { OnOk result (Readies P.tells w self.old self.new) }
+        ensures readies { OnOk result (ReadyLegsPost P.tells w self.old self.new) }
         ensures all { OnOk result ((waits_behind self.new w ≡ true)
             ⊎ (most ≤ length (queue_of self.new.queues w).ready)) }
     {
@@ -59,7 +59,7 @@ impl<P: Telling> Dispatcher<P> {
         pool: &mut Pool<Worker<P>, G>,
         w: u32,
     ) -> Result<(), RunFault>
-        requires place { w < length (starts pool.old) }
+        requires place { w < length (initial_machines pool.old) }
         requires sized { IsSizedFor pool.old self.old }
         ensures state { ContinuesOr P.tells G.is_open pool.old self.old pool.new self.new result }
         ensures alone { OnOk result (OffersOnlyTo w pool.old self.old pool.new self.new) }
@@ -71,7 +71,7 @@ impl<P: Telling> Dispatcher<P> {
         if count == 0 {
             return Ok(());
         }
-        let Answered { answers, spent } = self.vectors.take();
+        let AnsweredBatch { answers, spent } = self.vectors.take();
         let legs = self.queues.offer_ready(w, count, spent)?;
         send(self.alloc, pool, w, legs, answers)?;
         Ok(())
@@ -95,22 +95,22 @@ impl<P: Telling> Dispatcher<P> {
 }
 
 /// Offers legs to worker `w` in one message, with room for an answer to each.
-fn send<P: Telling, G: Gate>(
+fn send<P: LegTrace, G: Gate>(
     alloc: Global,
     pool: &mut Pool<Worker<P>, G>,
     w: u32,
     legs: Vec<Leg>,
-    room: Vec<Told<P>>,
+    room: Vec<TracedAnswer<P>>,
 ) -> Result<(), RunFault>
-    requires place { w < length (starts pool.old) }
-    requires fits { length (of_worker (accepts pool.old) w) + vec_len legs
-        ≤ length (of_worker (takes pool.old) w) + capacity_of pool.old }
-    ensures starts { starts pool.new ≡ starts pool.old }
+    requires place { w < length (initial_machines pool.old) }
+    requires fits { length (of_worker (accepted_items pool.old) w) + vec_len legs
+        ≤ length (of_worker (taken_answers pool.old) w) + capacity_of pool.old }
+    ensures starts { initial_machines pool.new ≡ initial_machines pool.old }
     ensures capacity { capacity_of pool.new ≡ capacity_of pool.old }
-    ensures takes { takes pool.new ≡ takes pool.old }
-    ensures accepted { OnOk result (accepts pool.new ≡ slice_set (accepts pool.old) w
-        (of_worker (accepts pool.old) w ++ legs.items)) }
-    ensures refused { OnErr result (accepts pool.new ≡ accepts pool.old) }
+    ensures takes { taken_answers pool.new ≡ taken_answers pool.old }
+    ensures accepted { OnOk result (accepted_items pool.new ≡ slice_set (accepted_items pool.old) w
+        (of_worker (accepted_items pool.old) w ++ legs.items)) }
+    ensures refused { OnErr result (accepted_items pool.new ≡ accepted_items pool.old) }
     ensures fault { IfErr result (IsDispatchFault G.is_open) }
 {
     let mut room = room;

@@ -2,31 +2,31 @@
 
 ghost use Rattle.std.specs.Prelude.{◌≡◌, ◌+◌, ◌<◌, ◌≤◌, ◌∷◌, ◌++◌, [], Bool, length, slice_get, Ok, Err, Some, None, IfOk, IfErr, IfSome, OnOk};
 ghost use Rattle.napt_wire.specs.{declared.Side.TheVariants.Inside as InsideSide, Fields.destination, Packet.IsPacket, Reading.reading};
-ghost use Rattle.napt_config.specs.Rules.{KeepsRules, place_of};
+ghost use Rattle.napt_config.specs.Rules.{RulesInvariant, pool_place};
 ghost use Rattle.napt_rules.specs.Prelude.{way_from, served_at, admission_as};
-ghost use Rattle.napt_dispatch.specs.{declared.dispatcher.holding.Pending.TheVariants.Ready, Dispatch.IsDispatchFault};
-ghost use Rattle.napt_dispatch.specs.{QueueStates.{AllHold, many_held, only_at, place_at}, Windows.{progress_in, refused, IsUnmarked, IsWritten}};
-ghost use Rattle.napt_dispatch.specs.Standing.{journal_of, Admits};
+ghost use Rattle.napt_dispatch.specs.{declared.dispatcher.holding.PendingLeg.TheVariants.Ready, Dispatch.IsDispatchFault};
+ghost use Rattle.napt_dispatch.specs.{WorkerQueues.{AllHold, many_held, only_at, lane_at}, RunProgresses.{progress_in, progress_refused, IsUnmarked, ProgressIsWritten}};
+ghost use Rattle.napt_dispatch.specs.DispatcherInvariants.{journal_of, Admits};
 ghost use Rattle.napt_sequential.specs.declared.passage.Passage.TheVariants.{Nothing as NoPassage};
 
 use crate::dispatcher::Dispatcher;
-use crate::dispatcher::holding::Pending;
-use crate::dispatcher::progress::Progress;
+use crate::dispatcher::holding::PendingLeg;
+use crate::dispatcher::progress::InputProgress;
 use crate::faults::ImpossibleAnswer;
 use napt_config::Config;
-use napt_sequential::{Input, RunFault, Telling, places_stand_for_legs, right_answers, way_from};
+use napt_sequential::{Input, LegTrace, RunFault, places_stand_for_legs, right_answers, way_from};
 use napt_translate::{Leg, onward, route};
 use napt_wire::{Cause, Packet, Side};
 use std::alloc::AllocError;
 
-impl<P: Telling> Dispatcher<P> {
+impl<P: LegTrace> Dispatcher<P> {
     /// Holds a placeholder at worker `to`, if there is one, for the second leg of the input with this number.
     fn hold_place(&mut self, to: Option<u32>, number: u64) -> Result<(), AllocError>
         requires to { IfSome to (λ v. v < length self.old.queues) }
         requires room { many_held self.old.queues < 65536 }
         requires open { IsUnmarked number self.old.progress }
         ensures many { length self.new.queues ≡ length self.old.queues }
-        ensures placed { OnOk result (AllHold (place_at number to)
+        ensures placed { OnOk result (AllHold (lane_at number to)
             self.old.queues self.new.queues) }
         ensures progress { progress_in self.new.progress ≡ progress_in self.old.progress }
         ensures journal { journal_of self.new.progress ≡ journal_of self.old.progress }
@@ -35,7 +35,7 @@ impl<P: Telling> Dispatcher<P> {
             None => Ok(()),
             Some(v) => {
                 self.progress.note_place(number);
-                self.queues.hold(v, Pending::Place(number))
+                self.queues.hold(v, PendingLeg::Place(number))
             }
         }
     }
@@ -49,24 +49,25 @@ impl<P: Telling> Dispatcher<P> {
         requires open { IsUnmarked leg.number self.old.progress }
         ensures many { length self.new.queues ≡ length self.old.queues }
         ensures placed { OnOk result (AllHold (λ v. only_at w (Ready leg ∷ []) v
-            ++ place_at leg.number to v) self.old.queues self.new.queues) }
+            ++ lane_at leg.number to v) self.old.queues self.new.queues) }
         ensures progress { OnOk result (progress_in self.new.progress
             ≡ progress_in self.old.progress) }
         ensures journal { OnOk result (journal_of self.new.progress
             ≡ journal_of self.old.progress) }
     {
         let number = leg.number;
-        self.queues.hold(w, Pending::Ready(leg))?;
+        self.queues.hold(w, PendingLeg::Ready(leg))?;
         self.hold_place(to, number)
     }
 
     /// Notes that the input with this number is dropped at a time in ns and has no leg.
     fn note_dropped(&mut self, number: u64, now: u64, cause: Cause) -> Result<(), ImpossibleAnswer>
         ensures same { self.new.queues ≡ self.old.queues }
-        ensures noted { OnOk result (IsWritten number (refused (P.tells NoPassage) now cause)
+        ensures noted { OnOk result (ProgressIsWritten number (progress_refused (P.tells NoPassage) now cause)
             self.old.progress self.new.progress) }
     {
-        self.progress.write(number, Progress::refused(now, cause))?;
+        self.progress
+            .write(number, InputProgress::refused(now, cause))?;
         Ok(())
     }
 
@@ -80,7 +81,7 @@ impl<P: Telling> Dispatcher<P> {
         now: u64,
         input: Input,
     ) -> Result<Option<u32>, RunFault>
-        requires keeps { KeepsRules config.now }
+        requires keeps { RulesInvariant config.now }
         requires sized { length self.old.queues ≡ length config.now.pool }
         requires room { many_held self.old.queues + 2 ≤ 65536 }
         requires open { IsUnmarked number self.old.progress }
@@ -119,9 +120,9 @@ impl<P: Telling> Dispatcher<P> {
 #[inline(always)]
 fn second_place(config: &Config, side: Side, packet: &Packet) -> Option<u32>
     ensures some { IfSome result (λ place. (side ≡ InsideSide)
-        × (place_of config.now (destination packet.now).address ≡ Some place)) }
+        × (pool_place config.now (destination packet.now).address ≡ Some place)) }
     ensures none { result ≡ None → side ≡ InsideSide →
-        place_of config.now (destination packet.now).address ≡ None }
+        pool_place config.now (destination packet.now).address ≡ None }
     ensures reads { IsPacket packet.now }
 {
     // called for its clause alone: the packet is one
@@ -136,7 +137,7 @@ fn second_place(config: &Config, side: Side, packet: &Packet) -> Option<u32>
 /// dropped.
 #[inline(always)]
 fn read_and_route(config: &Config, side: Side, bytes: Vec<u8>) -> Result<(u32, Packet), Cause>
-    requires keeps { KeepsRules config.now }
+    requires keeps { RulesInvariant config.now }
     ensures admitted { IfOk result (λ first.
         (admission_as config.now side (reading side bytes.items)
         ≡ Ok first.1) × (slice_get config.now.pool first.0

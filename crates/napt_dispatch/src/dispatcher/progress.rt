@@ -2,37 +2,37 @@
 
 ghost use Rattle.std.specs.Prelude.{◌≡◌, true, false, Some};
 ghost use Rattle.napt_sequential.specs.declared.passage.Passage.TheVariants.{Nothing as NoPassage};
-ghost use Rattle.napt_dispatch.specs.{Standing.IsSecondOf, Windows.{has_ended, departed_in, passages_after, refused, is_unknown}};
+ghost use Rattle.napt_dispatch.specs.{DispatcherInvariants.IsSecondOf, RunProgresses.{has_ended, departed_in, passages_after, progress_refused, is_unknown}};
 
-use crate::departures::Departed;
-use crate::dispatcher::holding::Owed;
-use napt_sequential::{Outcome, Telling};
+use crate::dispatcher::holding::AwaitedLeg;
+use crate::outcome_sink::InputResult;
+use napt_sequential::{LegTrace, Outcome};
 use napt_translate::{End, Leg};
 use napt_wire::{Cause, Way};
 use std::mem;
 
 /// The progress of an input.
 #[derive(Drop)]
-pub(crate) enum Progress<P> {
+pub(crate) enum InputProgress<P> {
     /// The answer to the first leg, which goes this way, is awaited.
     Awaited(Way),
     /// The answer to the second leg is awaited. This is told of the first.
     Returning(P),
     /// The answer to the last leg, as it came, and what is told of the first leg and of the second. If the answer is onward, the
     /// packet enters again by a second leg.
-    Answered(Owed, End, P, P),
+    Answered(AwaitedLeg, End, P, P),
 }
 
-impl<P: Telling> Progress<P> {
+impl<P: LegTrace> InputProgress<P> {
     /// The progress of an input that is dropped at a time in ns and has no leg.
-    pub(crate) fn refused(now: u64, cause: Cause) -> Progress<P>
-        ensures { result ≡ refused (P.tells NoPassage) now cause }
+    pub(crate) fn refused(now: u64, cause: Cause) -> InputProgress<P>
+        ensures { result ≡ progress_refused (P.tells NoPassage) now cause }
     {
-        let none = Owed {
+        let none = AwaitedLeg {
             way: Way::Incoming,
             now,
         };
-        Progress::Answered(none, End::Dropped(cause), P::none(), P::none())
+        InputProgress::Answered(none, End::Dropped(cause), P::none(), P::none())
     }
 
     /// Returns what is told of the first leg and of the second, once this is told of a leg that goes this way. `None` if no
@@ -42,9 +42,9 @@ impl<P: Telling> Progress<P> {
         ensures { result ≡ passages_after (P.tells NoPassage) self.now way passage }
     {
         match (self, way) {
-            (Progress::Awaited(Way::Outgoing), Way::Outgoing)
-            | (Progress::Awaited(Way::Incoming), Way::Incoming) => Some((passage, P::none())),
-            (Progress::Returning(first), Way::Incoming) => Some((*first, passage)),
+            (InputProgress::Awaited(Way::Outgoing), Way::Outgoing)
+            | (InputProgress::Awaited(Way::Incoming), Way::Incoming) => Some((passage, P::none())),
+            (InputProgress::Returning(first), Way::Incoming) => Some((*first, passage)),
             _ => None,
         }
     }
@@ -54,10 +54,10 @@ impl<P: Telling> Progress<P> {
         ensures { result ≡ has_ended self.now }
     {
         match self {
-            Progress::Awaited(_)
-            | Progress::Returning(_)
-            | Progress::Answered(_, End::Onward(..), _, _) => false,
-            Progress::Answered(..) => true,
+            InputProgress::Awaited(_)
+            | InputProgress::Returning(_)
+            | InputProgress::Answered(_, End::Onward(..), _, _) => false,
+            InputProgress::Answered(..) => true,
         }
     }
 
@@ -66,18 +66,18 @@ impl<P: Telling> Progress<P> {
         ensures { result ≡ is_unknown (Some self.now) }
     {
         match self {
-            Progress::Awaited(_) | Progress::Returning(_) => true,
-            Progress::Answered(owed, ..) => matches!(owed.way, Way::Incoming),
+            InputProgress::Awaited(_) | InputProgress::Returning(_) => true,
+            InputProgress::Answered(owed, ..) => matches!(owed.way, Way::Incoming),
         }
     }
 
     /// Returns what the input came to, which is known.
     #[inline(always)]
-    pub(crate) fn into_departed(self) -> Departed<P>
+    pub(crate) fn into_departed(self) -> InputResult<P>
         requires { has_ended self ≡ true }
         ensures { departed_in self ≡ Some result }
     {
-        let Progress::Answered(Owed { now, .. }, end, first, second) = self else {
+        let InputProgress::Answered(AwaitedLeg { now, .. }, end, first, second) = self else {
             unreachable!();
         };
         let outcome = match end {
@@ -86,7 +86,7 @@ impl<P: Telling> Progress<P> {
             End::Dropped(cause) => Outcome::Dropped(cause),
             End::Onward(..) => unreachable!(),
         };
-        Departed {
+        InputResult {
             outcome,
             now,
             first,
@@ -100,12 +100,12 @@ impl<P: Telling> Progress<P> {
 pub(crate) struct OpenInput<P> {
     /// The arrival time, in ns.
     pub(crate) time: u64,
-    pub(crate) progress: Progress<P>,
+    pub(crate) progress: InputProgress<P>,
     /// Whether a placeholder is held for the second leg. The outcome does not leave while there is one.
     pub(crate) has_place: bool,
 }
 
-impl<P: Telling> OpenInput<P> {
+impl<P: LegTrace> OpenInput<P> {
     /// Takes out the second leg (RFC 4787, REQ-9) of the input with this number, if it has one. Notes that the placeholder is
     /// gone.
     pub(crate) fn second_leg(&mut self, number: u64) -> Option<Leg>
@@ -113,13 +113,13 @@ impl<P: Telling> OpenInput<P> {
         ensures { IsSecondOf number self.old self.new result }
     {
         self.has_place = false;
-        let was = mem::replace(&mut self.progress, Progress::Awaited(Way::Incoming));
-        let Progress::Answered(owed, end, first, second) = was else {
+        let was = mem::replace(&mut self.progress, InputProgress::Awaited(Way::Incoming));
+        let InputProgress::Answered(owed, end, first, second) = was else {
             unreachable!();
         };
         match end {
             End::Onward(_, packet) => {
-                self.progress = Progress::Returning(first);
+                self.progress = InputProgress::Returning(first);
                 Some(Leg {
                     number,
                     now: owed.now,
@@ -128,7 +128,7 @@ impl<P: Telling> OpenInput<P> {
                 })
             }
             end => {
-                self.progress = Progress::Answered(owed, end, first, second);
+                self.progress = InputProgress::Answered(owed, end, first, second);
                 None
             }
         }

@@ -1,27 +1,27 @@
 //! Reading the inputs in their order.
 
 ghost use Rattle.std.specs.Prelude.{◌≡◌, ◌<◌, ◌≤◌, ◌/◌, ◌%◌, ◌==◌, cond, true, [], length, Some, None, IfErr, IfSome, OnOk, MatchResult};
-ghost use Rattle.napt_config.specs.Rules.{KeepsRules};
-ghost use Rattle.napt_pool.specs.Pools.{starts};
-ghost use Rattle.napt_sequential.specs.Inputs.{Hands};
-ghost use Rattle.napt_dispatch.specs.Passing.{LetsGoUnlessFault, Serves, Begins, ReadsToEnd, ReadsAll, ReadsHalted};
-ghost use Rattle.napt_dispatch.specs.Standing.{IsSizedFor, ContinuesOr, HasRoom, HaltsBy};
+ghost use Rattle.napt_config.specs.Rules.{RulesInvariant};
+ghost use Rattle.napt_pool.specs.Pools.{initial_machines};
+ghost use Rattle.napt_sequential.specs.Inputs.{NextInputPost};
+ghost use Rattle.napt_dispatch.specs.RunsThrough.{LetsGoUnlessFault, ReadInputPost, RunThroughStart, ReadsToEnd, ReadsAll, ReadsHalted};
+ghost use Rattle.napt_dispatch.specs.DispatcherInvariants.{IsSizedFor, ContinuesOr, DispatcherHasRoom, DispatcherHalts};
 
 use crate::Worker;
-use crate::departures::Departures;
 use crate::dispatcher::Dispatcher;
-use crate::dispatcher::taking::Until;
+use crate::dispatcher::taking::StopCondition;
 use crate::faults::DispatchFault;
+use crate::outcome_sink::OutcomeSink;
 use napt_config::Config;
 use napt_pool::{Gate, Pool};
-use napt_sequential::{Arrivals, Input, RunFault, Telling, way_from};
+use napt_sequential::{Input, InputSource, LegTrace, RunFault, way_from};
 use std::sync::Wait;
 
 /// The number of inputs between two looks at a worker's answers. The workers take turns. A look may fetch a cache line that
 /// another processor wrote, so fewer looks cost less.
 const LOOK_EACH: u64 = 64;
 
-impl<P: Telling> Dispatcher<P> {
+impl<P: LegTrace> Dispatcher<P> {
     /// Returns worker `place` again, if there is one and the legs held for it are due as a message.
     #[inline(always)]
     fn due(&self, place: Option<u32>) -> Option<u32>
@@ -43,7 +43,7 @@ impl<P: Telling> Dispatcher<P> {
         pool: &mut Pool<Worker<P>, G>,
         worker: Option<u32>,
     ) -> Result<(), RunFault>
-        requires place { IfSome worker (λ w. w < length (starts pool.old)) }
+        requires place { IfSome worker (λ w. w < length (initial_machines pool.old)) }
         requires sized { IsSizedFor pool.old self.old }
         ensures { ContinuesOr P.tells G.is_open pool.old self.old pool.new self.new result }
     {
@@ -63,13 +63,13 @@ impl<P: Telling> Dispatcher<P> {
         now: u64,
         input: Input,
     ) -> Result<(), RunFault>
-        requires keeps { KeepsRules config.now }
-        requires count { length (starts pool.old) ≡ length config.now.pool }
+        requires keeps { RulesInvariant config.now }
+        requires count { length (initial_machines pool.old) ≡ length config.now.pool }
         requires sized { IsSizedFor pool.old self.old }
-        requires room { HasRoom self.old }
-        ensures serves { OnOk result (Serves P.tells config.now now input pool.old self.old
+        requires room { DispatcherHasRoom self.old }
+        ensures serves { OnOk result (ReadInputPost P.tells config.now now input pool.old self.old
             pool.new self.new) }
-        ensures fault { IfErr result (HaltsBy G.is_open pool.old pool.new) }
+        ensures fault { IfErr result (DispatcherHalts G.is_open pool.old pool.new) }
     {
         let number = self.progress.expect(input.time, way_from(input.side))?;
         let place = self.admit(config, number, now, input)?;
@@ -82,7 +82,7 @@ impl<P: Telling> Dispatcher<P> {
 
     /// Makes room for one more input. If a device is asked for it, lets every outcome leave and settles them first.
     #[inline(always)]
-    fn make_ready<R: Wait, G: Gate, D: Departures<Told = P>>(
+    fn make_ready<R: Wait, G: Gate, D: OutcomeSink<Told = P>>(
         &mut self,
         rt: &R,
         pool: &mut Pool<Worker<P>, G>,
@@ -92,7 +92,7 @@ impl<P: Telling> Dispatcher<P> {
         requires sized { IsSizedFor pool.old self.old }
         ensures state { LetsGoUnlessFault P.tells G.is_open D.takes D.fails
             pool.old self.old departures.old pool.new self.new departures.new result }
-        ensures room { OnOk result (HasRoom self.new) }
+        ensures room { OnOk result (DispatcherHasRoom self.new) }
         ensures left { asks_device ≡ true → OnOk result ((self.new.progress.under_way ≡ [])
             × D.is_settled departures.new) }
     {
@@ -102,13 +102,13 @@ impl<P: Telling> Dispatcher<P> {
         if !self.progress.take_told() && self.has_room() {
             return Ok(());
         }
-        self.go_on_until(rt, pool, departures, Until::Room)
+        self.go_on_until(rt, pool, departures, StopCondition::Room)
     }
 
     /// Returns the next input, which may use the buffer of a packet that has left. A device is asked for it only if every
     /// outcome has left and is settled; the departures are passed for that clause alone.
     #[inline(always)]
-    fn next_input<A: Arrivals, D: Departures<Told = P>>(
+    fn next_input<A: InputSource, D: OutcomeSink<Told = P>>(
         &mut self,
         arrivals: &mut A,
         _departures: &D,
@@ -116,14 +116,14 @@ impl<P: Telling> Dispatcher<P> {
         requires settled { A.asks arrivals.old → (self.old.progress.under_way ≡ [])
             × D.is_settled _departures.now }
         ensures same { self.new ≡ self.old }
-        ensures hands { Hands A.hands A.ends arrivals.old result arrivals.new }
+        ensures hands { NextInputPost A.hands A.ends arrivals.old result arrivals.new }
     {
         let spare = self.progress.spare();
         arrivals.next(spare)
     }
 
     /// Reads the inputs in their order until their end or a fault, and takes answers in between. Their bytes are moved.
-    fn read_all<R: Wait, G: Gate, A: Arrivals, D: Departures<Told = P>>(
+    fn read_all<R: Wait, G: Gate, A: InputSource, D: OutcomeSink<Told = P>>(
         &mut self,
         rt: &R,
         pool: &mut Pool<Worker<P>, G>,
@@ -131,7 +131,7 @@ impl<P: Telling> Dispatcher<P> {
         arrivals: &mut A,
         departures: &mut D,
     ) -> Result<EndOfInputs<A::Fault>, DispatchFault<D::Fault>>
-        requires { Begins config.now pool.old self.old }
+        requires { RunThroughStart config.now pool.old self.old }
         ensures { MatchResult result
             (ReadsToEnd P.tells config.now A.hands A.ends D.takes D.fails D.is_settled pool.old
             self.old arrivals.old departures.old pool.new self.new arrivals.new departures.new)
@@ -156,7 +156,7 @@ impl<P: Telling> Dispatcher<P> {
     }
 
     /// Reads the inputs until their end or a fault, and lets every outcome leave.
-    pub(super) fn pass_all<R: Wait, G: Gate, A: Arrivals, D: Departures<Told = P>>(
+    pub(super) fn pass_all<R: Wait, G: Gate, A: InputSource, D: OutcomeSink<Told = P>>(
         &mut self,
         rt: &R,
         pool: &mut Pool<Worker<P>, G>,
@@ -164,7 +164,7 @@ impl<P: Telling> Dispatcher<P> {
         arrivals: &mut A,
         departures: &mut D,
     ) -> Result<EndOfInputs<A::Fault>, DispatchFault<D::Fault>>
-        requires { Begins config.now pool.old self.old }
+        requires { RunThroughStart config.now pool.old self.old }
         ensures { MatchResult result
             (ReadsAll P.tells config.now A.hands A.ends D.takes D.fails D.is_settled pool.old
             self.old arrivals.old departures.old pool.new self.new arrivals.new departures.new)

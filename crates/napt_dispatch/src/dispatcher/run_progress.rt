@@ -3,15 +3,15 @@
 ghost use Rattle.std.specs.Prelude.{◌≡◌, ◌↔◌, ◌⊎◌, ◌+◌, ◌^◌, ◌<◌, ◌≤◌, Bool, [], length, slice_get, true, false, IfOk, IfErr, IfSome, OnOk, OnErr, MatchOption, MatchResult};
 ghost use Rattle.napt_sequential.specs.declared.{fault.RunFault.TheVariants.Memory, passage.Passage.TheVariants.Nothing as NoPassage};
 ghost use Rattle.napt_dispatch.specs.Dispatch.{IsDispatchFault};
-ghost use Rattle.napt_dispatch.specs.Windows.{progress_in, marks_in, expecting, is_unknown, FirstMayLeave, IsWritten, IsMarked, Leaves};
-ghost use Rattle.napt_dispatch.specs.{Passing.{HandsOver, FailsOver}, Standing.{IsSecond, AnswersTo}};
+ghost use Rattle.napt_dispatch.specs.RunProgresses.{progress_in, marks_in, progress_expecting, is_unknown, FirstMayLeave, ProgressIsWritten, InputIsMarked, FirstInputLeaves};
+ghost use Rattle.napt_dispatch.specs.{RunsThrough.{HandOverOk, HandOverErr}, DispatcherInvariants.{IsSecond, AnswersTo}};
 
-use crate::departures::{Departed, Departures};
-use crate::dispatcher::progress::{OpenInput, Progress};
-use crate::dispatcher::spares::Spares;
+use crate::dispatcher::buffer_pool::BufferPool;
+use crate::dispatcher::progress::{InputProgress, OpenInput};
 use crate::faults::ImpossibleAnswer;
+use crate::outcome_sink::{InputResult, OutcomeSink};
 use http_server::Log;
-use napt_sequential::{RunFault, Telling};
+use napt_sequential::{LegTrace, RunFault};
 use napt_translate::Leg;
 use napt_wire::Way;
 use std::alloc::Global;
@@ -30,9 +30,9 @@ pub(crate) struct RunProgress<P> {
     first: u64,
     under_way: VecDeque<OpenInput<P>>,
     /// What has left. It takes no memory: only proofs read it.
-    past: Log<u64, Departed<P>>,
+    past: Log<u64, InputResult<P>>,
     /// The buffers of packets that have left.
-    spares: Spares,
+    spares: BufferPool,
     /// Whether the progress of an input was set for whose second leg a placeholder is held.
     is_freed: bool,
     /// Whether an outcome may have become ready to leave.
@@ -41,9 +41,9 @@ pub(crate) struct RunProgress<P> {
 
 impl<P> Model for RunProgress<P> {
     ghost use Rattle.std.specs.Prelude.{◌≡◌, ◌+◌, ◌<◌, ◌≤◌, ◌^◌, length};
-    ghost use Rattle.napt_dispatch.specs.Windows.{Window};
+    ghost use Rattle.napt_dispatch.specs.RunProgresses.{RunProgressModel};
 
-    ghost Value = { Window P };
+    ghost Value = { RunProgressModel P };
 
     ghost view = { λ all. record {
       left = all.past.items;
@@ -55,7 +55,7 @@ impl<P> Model for RunProgress<P> {
         × (all.first + length all.under_way.items < 2 ^ 64)) };
 }
 
-impl<P: Telling> RunProgress<P> {
+impl<P: LegTrace> RunProgress<P> {
     /// The progress before the first input.
     pub(crate) fn new(alloc: Global) -> RunProgress<P>
         ensures left { result.left ≡ [] }
@@ -65,7 +65,7 @@ impl<P: Telling> RunProgress<P> {
             first: 0,
             under_way: VecDeque::new(alloc),
             past: Log::new(),
-            spares: Spares::new(alloc),
+            spares: BufferPool::new(alloc),
             is_freed: false,
             is_told: false,
         }
@@ -106,7 +106,7 @@ impl<P: Telling> RunProgress<P> {
     pub(crate) fn expect(&mut self, time: u64, way: Way) -> Result<u64, RunFault>
         requires { length self.old.under_way < 131072 }
         ensures number { IfOk result (λ number. number ≡ length (progress_in self.old)) }
-        ensures expecting { OnOk result (self.new ≡ expecting time way self.old) }
+        ensures expecting { OnOk result (self.new ≡ progress_expecting time way self.old) }
         ensures unchanged { OnErr result (self.new ≡ self.old) }
         ensures fault { (open_gate : Bool) → IfErr result (IsDispatchFault open_gate) }
         ensures last { IfErr result (λ fault. (fault ≡ Memory)
@@ -118,7 +118,7 @@ impl<P: Telling> RunProgress<P> {
         }
         let next = OpenInput {
             time,
-            progress: Progress::Awaited(way),
+            progress: InputProgress::Awaited(way),
             has_place: false,
         };
         match self.under_way.push_back(next) {
@@ -152,9 +152,9 @@ impl<P: Telling> RunProgress<P> {
     pub(crate) fn write(
         &mut self,
         number: u64,
-        progress: Progress<P>,
+        progress: InputProgress<P>,
     ) -> Result<(), ImpossibleAnswer>
-        ensures ok { OnOk result (IsWritten number progress self.old self.new) }
+        ensures ok { OnOk result (ProgressIsWritten number progress self.old self.new) }
         ensures marks { marks_in self.new ≡ marks_in self.old }
         ensures err { IfErr result (λ _.
             is_unknown (slice_get (progress_in self.old) number) ≡ true) }
@@ -199,7 +199,7 @@ impl<P: Telling> RunProgress<P> {
     /// Notes that a placeholder is held for the second leg of the input with this number.
     pub(crate) fn note_place(&mut self, number: u64)
         requires { length self.old.left ≤ number }
-        ensures { IsMarked number true self.old self.new }
+        ensures { InputIsMarked number true self.old self.new }
     {
         if let Some(place) = self.place_of(number) {
             self.under_way[place].has_place = true;
@@ -240,9 +240,9 @@ impl<P: Telling> RunProgress<P> {
 
     /// Takes out what the first open input, which may leave, came to, with its arrival time.
     #[inline(always)]
-    fn take_first(&mut self) -> (u64, Departed<P>)
+    fn take_first(&mut self) -> (u64, InputResult<P>)
         requires { FirstMayLeave self.old.under_way }
-        ensures { Leaves result self.old self.new }
+        ensures { FirstInputLeaves result self.old self.new }
     {
         let Some(OpenInput { time, progress, .. }) = self.under_way.pop_front() else {
             unreachable!();
@@ -254,14 +254,14 @@ impl<P: Telling> RunProgress<P> {
     }
 
     /// Lets the outcomes of the first open inputs leave, up to the first that may not leave yet.
-    pub(crate) fn hand_over<D: Departures<Told = P>>(
+    pub(crate) fn hand_over<D: OutcomeSink<Told = P>>(
         &mut self,
         departures: &mut D,
     ) -> Result<(), D::Fault>
         ensures all { OnOk result (¬ FirstMayLeave self.new.under_way) }
         ensures handed { MatchResult result
-            (λ _. HandsOver D.takes departures.old self.old departures.new self.new)
-            (FailsOver D.takes D.fails departures.old self.old departures.new self.new) }
+            (λ _. HandOverOk D.takes departures.old self.old departures.new self.new)
+            (HandOverErr D.takes D.fails departures.old self.old departures.new self.new) }
     {
         while self.may_leave() {
             let (time, departed) = self.take_first();

@@ -1,34 +1,38 @@
 //! Taking the answers of the workers, and letting the outcomes leave.
 
 ghost use Rattle.std.specs.Prelude.{◌≡◌, ◌↔◌, ◌+◌, ◌⊎◌, ◌^◌, ◌<◌, [], length, true, IfOk, IfSome, OnOk};
-ghost use Rattle.napt_pool.specs.Pools.{starts};
-ghost use Rattle.napt_dispatch.specs.{Passing.LetsGoUnlessFault, QueueStates.many_owed};
-ghost use Rattle.napt_dispatch.specs.Standing.{IsSizedFor, ContinuesOr, NotesAll, HasTaken, HasOffered, HasOfferedAll, HasRoom, HasReached, IsDone};
+ghost use Rattle.napt_pool.specs.Pools.{initial_machines};
+ghost use Rattle.napt_dispatch.specs.{RunsThrough.LetsGoUnlessFault, WorkerQueues.many_owed};
+ghost use Rattle.napt_dispatch.specs.DispatcherInvariants.{IsSizedFor, ContinuesOr, NoteAnswersPost, HasTaken, HasOffered, HasOfferedAll, DispatcherHasRoom, HasReached, DispatcherIsDone};
 
 use crate::Worker;
-use crate::departures::Departures;
 use crate::dispatcher::Dispatcher;
 use crate::faults::{DispatchFault, ImpossibleAnswer};
-use napt_pool::{Answered, Backoff, Gate, Pool, Taken};
-use napt_sequential::{RunFault, Telling, Told};
+use crate::outcome_sink::OutcomeSink;
+use napt_pool::{AnsweredBatch, Backoff, Gate, Pool, TakenAnswers};
+use napt_sequential::{LegTrace, RunFault, TracedAnswer};
 use napt_translate::Leg;
 use std::sync::Wait;
 
 /// The state up to which a dispatcher goes on without reading an input.
 #[derive(Clone, Copy)]
-pub(super) enum Until {
+pub(super) enum StopCondition {
     /// One more input may be read.
     Room,
     /// Nothing is held, and every worker has answered every leg.
     Done,
 }
 
-impl<P: Telling> Dispatcher<P> {
+impl<P: LegTrace> Dispatcher<P> {
     /// Notes answers of worker `w` in their order, and takes them out.
-    fn note_each(&mut self, w: u32, answers: &mut Vec<Told<P>>) -> Result<(), ImpossibleAnswer>
+    fn note_each(
+        &mut self,
+        w: u32,
+        answers: &mut Vec<TracedAnswer<P>>,
+    ) -> Result<(), ImpossibleAnswer>
         requires { w < length self.old.queues }
         ensures many { OnOk result (length self.new.queues ≡ length self.old.queues) }
-        ensures noted { OnOk result (NotesAll P.tells w answers.old.items self.old self.new) }
+        ensures noted { OnOk result (NoteAnswersPost P.tells w answers.old.items self.old self.new) }
         ensures fewer { OnOk result (many_owed self.new.queues + length answers.old.items
             ≡ many_owed self.old.queues) }
     {
@@ -42,11 +46,11 @@ impl<P: Telling> Dispatcher<P> {
     fn note_all(
         &mut self,
         w: u32,
-        answered: Answered<Leg, Told<P>>,
+        answered: AnsweredBatch<Leg, TracedAnswer<P>>,
     ) -> Result<bool, ImpossibleAnswer>
         requires { w < length self.old.queues }
         ensures many { OnOk result (length self.new.queues ≡ length self.old.queues) }
-        ensures noted { OnOk result (NotesAll P.tells w answered.answers.items self.old self.new) }
+        ensures noted { OnOk result (NoteAnswersPost P.tells w answered.answers.items self.old self.new) }
         ensures told { IfOk result (HasTaken self.old self.new) }
     {
         let mut answered = answered;
@@ -65,18 +69,18 @@ impl<P: Telling> Dispatcher<P> {
         pool: &mut Pool<Worker<P>, G>,
         w: u32,
     ) -> Result<bool, RunFault>
-        requires place { w < length (starts pool.old) }
+        requires place { w < length (initial_machines pool.old) }
         requires sized { IsSizedFor pool.old self.old }
         ensures state { ContinuesOr P.tells G.is_open pool.old self.old pool.new self.new result }
         ensures told { IfOk result (HasTaken self.old self.new) }
     {
         match pool.take_all(rt, self.alloc, w)? {
             None => Ok(false),
-            Some(Taken::One(answer)) => {
+            Some(TakenAnswers::One(answer)) => {
                 self.note(w, answer)?;
                 Ok(true)
             }
-            Some(Taken::All(answered)) => Ok(self.note_all(w, answered)?),
+            Some(TakenAnswers::All(answered)) => Ok(self.note_all(w, answered)?),
         }
     }
 
@@ -87,7 +91,7 @@ impl<P: Telling> Dispatcher<P> {
         pool: &mut Pool<Worker<P>, G>,
         w: u32,
     ) -> Result<bool, RunFault>
-        requires place { w < length (starts pool.old) }
+        requires place { w < length (initial_machines pool.old) }
         requires sized { IsSizedFor pool.old self.old }
         ensures state { ContinuesOr P.tells G.is_open pool.old self.old pool.new self.new result }
         ensures told { IfOk result (HasTaken self.old self.new) }
@@ -165,7 +169,7 @@ impl<P: Telling> Dispatcher<P> {
     }
 
     /// Lets the outcomes of the first inputs leave, up to the first input that has not ended. Only the contract uses the pool.
-    fn hand_over<G: Gate, D: Departures<Told = P>>(
+    fn hand_over<G: Gate, D: OutcomeSink<Told = P>>(
         &mut self,
         pool: &Pool<Worker<P>, G>,
         departures: &mut D,
@@ -182,28 +186,28 @@ impl<P: Telling> Dispatcher<P> {
 
     /// Returns whether one more input may be read: there is room for it and for two more legs or placeholders.
     pub(super) fn has_room(&self) -> bool
-        ensures { (result ≡ true) ↔ HasRoom self.now }
+        ensures { (result ≡ true) ↔ DispatcherHasRoom self.now }
     {
         self.queues.has_room() && self.progress.has_room()
     }
 
     /// Returns whether a state is reached.
-    fn has_reached(&self, until: Until) -> bool
+    fn has_reached(&self, until: StopCondition) -> bool
         ensures { (result ≡ true) ↔ HasReached until self.now }
     {
         match until {
-            Until::Room => self.has_room(),
-            Until::Done => self.is_done(),
+            StopCondition::Room => self.has_room(),
+            StopCondition::Done => self.is_done(),
         }
     }
 
     /// Takes answers, offers legs and lets outcomes leave until a state is reached.
-    pub(super) fn go_on_until<R: Wait, G: Gate, D: Departures<Told = P>>(
+    pub(super) fn go_on_until<R: Wait, G: Gate, D: OutcomeSink<Told = P>>(
         &mut self,
         rt: &R,
         pool: &mut Pool<Worker<P>, G>,
         departures: &mut D,
-        until: Until,
+        until: StopCondition,
     ) -> Result<(), DispatchFault<D::Fault>>
         requires sized { IsSizedFor pool.old self.old }
         ensures state { LetsGoUnlessFault P.tells G.is_open D.takes D.fails
@@ -221,7 +225,7 @@ impl<P: Telling> Dispatcher<P> {
     }
 
     /// Goes on until every outcome has left, and settles them.
-    pub(super) fn settle<R: Wait, G: Gate, D: Departures<Told = P>>(
+    pub(super) fn settle<R: Wait, G: Gate, D: OutcomeSink<Told = P>>(
         &mut self,
         rt: &R,
         pool: &mut Pool<Worker<P>, G>,
@@ -230,13 +234,13 @@ impl<P: Telling> Dispatcher<P> {
         requires sized { IsSizedFor pool.old self.old }
         ensures state { LetsGoUnlessFault P.tells G.is_open D.takes D.fails
             pool.old self.old departures.old pool.new self.new departures.new result }
-        ensures done { OnOk result (IsDone self.new) }
+        ensures done { OnOk result (DispatcherIsDone self.new) }
         ensures left { OnOk result (self.new.progress.under_way ≡ []) }
         ensures few { OnOk result (length self.new.progress.left < 2 ^ 64) }
-        ensures room { OnOk result (HasRoom self.new) }
+        ensures room { OnOk result (DispatcherHasRoom self.new) }
         ensures settled { OnOk result (D.is_settled departures.new) }
     {
-        self.go_on_until(rt, pool, departures, Until::Done)?;
+        self.go_on_until(rt, pool, departures, StopCondition::Done)?;
         self.check_left()?;
         match departures.settle() {
             Ok(()) => Ok(()),
@@ -253,7 +257,7 @@ impl<P: Telling> Dispatcher<P> {
         pool: &mut Pool<Worker<P>, G>,
         w: u32,
     ) -> Result<(), RunFault>
-        requires place { w < length (starts pool.old) }
+        requires place { w < length (initial_machines pool.old) }
         requires sized { IsSizedFor pool.old self.old }
         ensures state { ContinuesOr P.tells G.is_open pool.old self.old pool.new self.new result }
         ensures offered { OnOk result (HasOffered pool.new self.new w) }

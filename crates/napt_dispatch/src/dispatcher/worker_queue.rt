@@ -1,11 +1,11 @@
 //! The queues of one worker.
 
 ghost use Rattle.std.specs.Prelude.{◌≡◌, ◌+◌, ◌≤◌, ◌∷◌, ◌++◌, Bool, List, [], length, map, take, drop, vec_len, IfOk, IfErr, OnOk, OnErr, MatchOption};
-ghost use Rattle.napt_rules.specs.Prelude.{Act};
-ghost use Rattle.napt_dispatch.specs.{Dispatch.IsDispatchFault, Standing.{MovesLegs, turned}};
-ghost use Rattle.napt_dispatch.specs.QueueStates.{Holds, count_held, front_of, owed_of, readied, unused, with_offers};
+ghost use Rattle.napt_rules.specs.Prelude.{LegAct};
+ghost use Rattle.napt_dispatch.specs.{Dispatch.IsDispatchFault, DispatcherInvariants.{MovesLegs, turned_legs}};
+ghost use Rattle.napt_dispatch.specs.WorkerQueues.{HoldPost, held_legs_count, front_of, owed_of, queue_readied, unused_queue, with_offers};
 
-use crate::dispatcher::holding::{Front, Owed, Pending};
+use crate::dispatcher::holding::{AwaitedLeg, PendingLeg, QueueHead};
 use crate::faults::ImpossibleAnswer;
 use napt_sequential::RunFault;
 use napt_translate::Leg;
@@ -23,17 +23,17 @@ pub(crate) struct WorkerQueue {
     /// The number of legs offered to the worker.
     offered: u64,
     /// The legs that the worker has not answered yet, oldest first.
-    owed: VecDeque<Owed>,
+    owed: VecDeque<AwaitedLeg>,
     /// The first legs not offered yet, oldest first: those of the next message.
     ready: Vec<Leg>,
     /// The legs and placeholders behind these, oldest first.
-    held: VecDeque<Pending>,
+    held: VecDeque<PendingLeg>,
 }
 
 impl Model for WorkerQueue {
-    ghost use Rattle.napt_dispatch.specs.QueueStates.{QueueState};
+    ghost use Rattle.napt_dispatch.specs.WorkerQueues.{WorkerQueueModel};
 
-    ghost Value = { QueueState };
+    ghost Value = { WorkerQueueModel };
 
     ghost view = { λ queue. record {
       offered = queue.offered;
@@ -46,7 +46,7 @@ impl Model for WorkerQueue {
 impl WorkerQueue {
     /// Empty queues, before the first offer.
     pub(crate) fn new(alloc: Global) -> WorkerQueue
-        ensures { result ≡ unused }
+        ensures { result ≡ unused_queue }
     {
         WorkerQueue {
             offered: 0,
@@ -66,25 +66,25 @@ impl WorkerQueue {
     /// Holds a leg or a placeholder behind everything held. A leg is one of the next message, unless something is held behind
     /// that, or it has as many as it may.
     #[inline(always)]
-    pub(crate) fn hold(&mut self, held: Pending) -> Result<(), AllocError>
-        ensures ok { OnOk result (Holds (held ∷ []) self.old self.new) }
+    pub(crate) fn hold(&mut self, held: PendingLeg) -> Result<(), AllocError>
+        ensures ok { OnOk result (HoldPost (held ∷ []) self.old self.new) }
         ensures err { OnErr result (self.new ≡ self.old) }
     {
         match held {
-            Pending::Ready(leg) => {
+            PendingLeg::Ready(leg) => {
                 if self.held.len() > 0 || self.ready.len() >= MOST_READY {
-                    return self.hold_behind(Pending::Ready(leg));
+                    return self.hold_behind(PendingLeg::Ready(leg));
                 }
                 self.ready.push(leg)?;
                 Ok(())
             }
-            Pending::Place(number) => self.hold_behind(Pending::Place(number)),
+            PendingLeg::Place(number) => self.hold_behind(PendingLeg::Place(number)),
         }
     }
 
     /// Holds a leg or a placeholder behind everything held, and not in the next message.
     #[inline(never)]
-    fn hold_behind(&mut self, held: Pending) -> Result<(), AllocError>
+    fn hold_behind(&mut self, held: PendingLeg) -> Result<(), AllocError>
         ensures ok { OnOk result (self.new
             ≡ record self.old { held = self.old.held ++ held ∷ [] }) }
         ensures err { OnErr result (self.new ≡ self.old) }
@@ -94,25 +94,25 @@ impl WorkerQueue {
     }
 
     /// Returns what is held first behind the legs of the next message.
-    pub(crate) fn front(&self) -> Front
+    pub(crate) fn front(&self) -> QueueHead
         ensures { result ≡ front_of self.now.held }
     {
         match self.held.front() {
-            None => Front::Nothing,
-            Some(Pending::Ready(_)) => Front::FirstLeg,
-            Some(Pending::Place(number)) => Front::FirstPlace(*number),
+            None => QueueHead::Nothing,
+            Some(PendingLeg::Ready(_)) => QueueHead::FirstLeg,
+            Some(PendingLeg::Place(number)) => QueueHead::FirstPlace(*number),
         }
     }
 
     /// Puts the first leg behind those of the next message there too. Where a placeholder is first, `second` stands for it.
     pub(crate) fn ready_first(&mut self, second: Option<Leg>) -> Result<(), AllocError>
-        ensures readied { OnOk result (self.new ≡ readied second self.old) }
-        ensures fewer { count_held self.new ≤ count_held self.old }
+        ensures readied { OnOk result (self.new ≡ queue_readied second self.old) }
+        ensures fewer { held_legs_count self.new ≤ held_legs_count self.old }
     {
         let leg = match self.held.pop_front() {
             None => None,
-            Some(Pending::Ready(leg)) => Some(leg),
-            Some(Pending::Place(_)) => second,
+            Some(PendingLeg::Ready(leg)) => Some(leg),
+            Some(PendingLeg::Place(_)) => second,
         };
         if let Some(leg) = leg {
             self.ready.push(leg)?;
@@ -137,7 +137,7 @@ impl WorkerQueue {
 
     /// Returns the number of legs and placeholders held.
     pub(crate) fn many_held(&self) -> usize
-        ensures { result ≡ count_held self.now }
+        ensures { result ≡ held_legs_count self.now }
     {
         self.ready.len() + self.held.len()
     }
@@ -150,7 +150,7 @@ impl WorkerQueue {
         ensures offers { IfOk result (λ legs. self.new ≡ with_offers legs.items self.old) }
         ensures first { IfOk result (λ legs. legs.items ≡ take count self.old.ready) }
         ensures len { IfOk result (λ legs. vec_len legs ≡ count) }
-        ensures kept { OnErr result (count_held self.new ≡ count_held self.old) }
+        ensures kept { OnErr result (held_legs_count self.new ≡ held_legs_count self.old) }
         ensures fault { (open_gate : Bool) → IfErr result (IsDispatchFault open_gate) }
     {
         let Some(offered) = self.offered.checked_add(count as u64) else {
@@ -169,7 +169,7 @@ impl WorkerQueue {
     }
 
     /// Takes out the oldest leg not answered yet, if there is one.
-    pub(crate) fn note_answer(&mut self) -> Option<Owed>
+    pub(crate) fn note_answer(&mut self) -> Option<AwaitedLeg>
         ensures first { MatchOption result (self.old.owed ≡ [])
             (λ owed. self.old.owed ≡ owed ∷ self.new.owed) }
         ensures else_same { self.new ≡ record self.old { owed = self.new.owed } }
@@ -186,11 +186,11 @@ impl WorkerQueue {
 }
 
 /// Notes legs as not answered yet.
-fn note_owed(owed: &mut VecDeque<Owed>, legs: &[Leg]) -> Result<(), AllocError>
+fn note_owed(owed: &mut VecDeque<AwaitedLeg>, legs: &[Leg]) -> Result<(), AllocError>
     ensures { OnOk result (owed.new.items ≡ owed.old.items ++ map owed_of legs.now) }
 {
     for leg in legs {
-        owed.push_back(Owed {
+        owed.push_back(AwaitedLeg {
             way: leg.way,
             now: leg.now,
         })?;
@@ -200,22 +200,22 @@ fn note_owed(owed: &mut VecDeque<Owed>, legs: &[Leg]) -> Result<(), AllocError>
 
 /// Moves the legs that are held first behind those that are ready, up to the first placeholder, or until `most` are ready.
 fn move_legs(
-    held: &mut VecDeque<Pending>,
+    held: &mut VecDeque<PendingLeg>,
     ready: &mut Vec<Leg>,
     most: usize,
 ) -> Result<(), AllocError>
-    ensures legs { (acts : List Act) → turned acts ready.new.items held.new.items
-        ≡ turned acts ready.old.items held.old.items }
+    ensures legs { (acts : List LegAct) → turned_legs acts ready.new.items held.new.items
+        ≡ turned_legs acts ready.old.items held.old.items }
     ensures count { length ready.new.items + length held.new.items
         ≡ length ready.old.items + length held.old.items }
     ensures shorter { length held.new.items ≤ length held.old.items }
 {
     while ready.len() < most {
-        let Some(Pending::Ready(_)) = held.front() else {
+        let Some(PendingLeg::Ready(_)) = held.front() else {
             return Ok(());
         };
         ready.reserve(1)?;
-        let Some(Pending::Ready(leg)) = held.pop_front() else {
+        let Some(PendingLeg::Ready(leg)) = held.pop_front() else {
             unreachable!();
         };
         ready.push_reserved(leg);

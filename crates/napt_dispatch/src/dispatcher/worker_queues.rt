@@ -1,10 +1,10 @@
 //! The queues of all workers.
 
 ghost use Rattle.std.specs.Prelude.{◌≡◌, ◌↔◌, ◌+◌, ◌<◌, ◌≤◌, ℕ, Bool, [], ◌∷◌, length, replicate, take, true, vec_len, IfOk, IfErr, OnOk, MatchOption};
-ghost use Rattle.napt_dispatch.specs.{Dispatch.IsDispatchFault, Standing.MovesLegsAt};
-ghost use Rattle.napt_dispatch.specs.QueueStates.{AllHold, AnswersAt, count_held, counts_in, front_of, many_held, only_at, queue_of, readied, unused, with_offers, with_queue};
+ghost use Rattle.napt_dispatch.specs.{Dispatch.IsDispatchFault, DispatcherInvariants.MovesLegsAt};
+ghost use Rattle.napt_dispatch.specs.WorkerQueues.{AllHold, AnswersAt, held_legs_count, counts_in, front_of, many_held, only_at, queue_of, queue_readied, unused_queue, with_offers, with_queue};
 
-use crate::dispatcher::holding::{Front, Owed, Pending};
+use crate::dispatcher::holding::{AwaitedLeg, PendingLeg, QueueHead};
 use crate::dispatcher::worker_queue::WorkerQueue;
 use napt_sequential::RunFault;
 use napt_translate::Leg;
@@ -25,20 +25,20 @@ pub(crate) struct WorkerQueues {
 
 impl Model for WorkerQueues {
     ghost use Rattle.std.specs.Prelude.{List};
-    ghost use Rattle.napt_dispatch.specs.QueueStates.{QueueState, AreCounted};
+    ghost use Rattle.napt_dispatch.specs.WorkerQueues.{WorkerQueueModel, AreQueuesCounted};
 
-    ghost Value = { List QueueState };
+    ghost Value = { List WorkerQueueModel };
 
     ghost view = { λ all. all.queues.items };
 
-    ghost invariant = { λ all. AreCounted all.many all.queues.items };
+    ghost invariant = { λ all. AreQueuesCounted all.many all.queues.items };
 }
 
 impl WorkerQueues {
     /// Empty queues for a number of workers.
     pub(crate) fn new(alloc: Global, workers: u32) -> Result<WorkerQueues, AllocError>
         requires { 0 < workers }
-        ensures { IfOk result (λ all. all ≡ replicate workers unused) }
+        ensures { IfOk result (λ all. all ≡ replicate workers unused_queue) }
     {
         let mut queues = Vec::with_capacity(alloc, workers as usize)?;
         for _ in 0..workers {
@@ -64,7 +64,7 @@ impl WorkerQueues {
 
     /// Holds a leg or a placeholder for worker `w`, behind everything held for it.
     #[inline(always)]
-    pub(crate) fn hold(&mut self, w: u32, held: Pending) -> Result<(), AllocError>
+    pub(crate) fn hold(&mut self, w: u32, held: PendingLeg) -> Result<(), AllocError>
         requires place { w < length self.old }
         requires room { many_held self.old < 65536 }
         ensures many { length self.new ≡ length self.old }
@@ -78,7 +78,7 @@ impl WorkerQueues {
     }
 
     /// Returns what is held first for worker `w`, behind the legs of its next message.
-    pub(crate) fn front(&self, w: u32) -> Front
+    pub(crate) fn front(&self, w: u32) -> QueueHead
         requires { w < length self.now }
         ensures { result ≡ front_of (queue_of self.now w).held }
     {
@@ -90,7 +90,7 @@ impl WorkerQueues {
     pub(crate) fn ready_first(&mut self, w: u32, second: Option<Leg>) -> Result<(), AllocError>
         requires { w < length self.old }
         ensures many { length self.new ≡ length self.old }
-        ensures readied { OnOk result (self.new ≡ with_queue w (readied second) self.old) }
+        ensures readied { OnOk result (self.new ≡ with_queue w (queue_readied second) self.old) }
     {
         let queue = &mut self.queues[w as usize];
         let before = queue.many_held();
@@ -145,21 +145,21 @@ impl WorkerQueues {
     /// Returns the number of legs and placeholders held for worker `w`.
     pub(crate) fn many_held(&self, w: u32) -> usize
         requires { w < length self.now }
-        ensures { result ≡ count_held (queue_of self.now w) }
+        ensures { result ≡ held_legs_count (queue_of self.now w) }
     {
         self.queues[w as usize].many_held()
     }
 
     /// Returns whether nothing is held for any worker.
     pub(crate) fn none_held(&self) -> bool
-        ensures { (result ≡ true) ↔ ((w : ℕ) → count_held (queue_of self.now w) ≡ 0) }
+        ensures { (result ≡ true) ↔ ((w : ℕ) → held_legs_count (queue_of self.now w) ≡ 0) }
     {
         self.many == 0
     }
 
     /// Takes out the oldest leg that worker `w` has not answered yet, if there is one.
     #[inline(always)]
-    pub(crate) fn note_answer(&mut self, w: u32) -> Option<Owed>
+    pub(crate) fn note_answer(&mut self, w: u32) -> Option<AwaitedLeg>
         requires { w < length self.old }
         ensures many { length self.new ≡ length self.old }
         ensures first { MatchOption result ((queue_of self.old w).owed ≡ [])

@@ -2,7 +2,7 @@
 
 use crate::picture::axis::Axis;
 use crate::picture::frame::{draw_axis, draw_lanes, draw_legend, draw_page, name_at};
-use crate::picture::layout::{Bar, CauseRow, Layout, Mark, MarkKind, Packets};
+use crate::picture::layout::{Bar, CauseRow, Layout, LayoutMark, MarkKind, PacketRow};
 use crate::picture::scene::{BindingKind, Scene};
 use crate::picture::shapes::{
     Area, Point, draw_area, draw_words, open_words, push_escaped, push_moment,
@@ -122,7 +122,7 @@ fn draw_marks(text: &mut String, layout: &Layout<'_>) -> Result<(), AllocError> 
 }
 
 /// The end of a mark, with a title that gives its packets and times.
-fn end_mark(text: &mut String, axis: Axis, packets: Packets) -> Result<(), AllocError> {
+fn end_mark(text: &mut String, axis: Axis, packets: PacketRow) -> Result<(), AllocError> {
     text.push_str("><title>")?;
     match packets.many {
         1 => text.push_str("at ")?,
@@ -137,7 +137,7 @@ fn end_mark(text: &mut String, axis: Axis, packets: Packets) -> Result<(), Alloc
 }
 
 /// A stroke at the upper edge of a bar, or at its lower edge.
-fn draw_stroke(text: &mut String, mark: Mark) -> Result<(), AllocError> {
+fn draw_stroke(text: &mut String, mark: LayoutMark) -> Result<(), AllocError> {
     let (line, way) = match mark.kind {
         MarkKind::Into => (BAR_TOP + BAR_HEIGHT + 2, "v-5"),
         _ => (BAR_TOP - 2, "v5"),
@@ -151,7 +151,7 @@ fn draw_stroke(text: &mut String, mark: Mark) -> Result<(), AllocError> {
 }
 
 /// Opens a cross; a title may follow before its end.
-fn draw_cross(text: &mut String, mark: Mark) -> Result<(), AllocError> {
+fn draw_cross(text: &mut String, mark: LayoutMark) -> Result<(), AllocError> {
     let (left, line) = (mark.column.saturating_sub(4), mark.top.saturating_add(6));
     write!(
         text,
@@ -160,7 +160,7 @@ fn draw_cross(text: &mut String, mark: Mark) -> Result<(), AllocError> {
 }
 
 /// Opens an arrow from one bar into another, or a loop if it is the same bar.
-fn draw_hairpin(text: &mut String, mark: Mark) -> Result<(), AllocError> {
+fn draw_hairpin(text: &mut String, mark: LayoutMark) -> Result<(), AllocError> {
     write!(text, "<path class=\"hairpin\" d=\"M{} ", mark.column)?;
     let above = mark.top.saturating_add(BAR_TOP);
     let below = above.saturating_add(BAR_HEIGHT);

@@ -3,12 +3,13 @@
 
 use crate::picture::axis::{Axis, BIN_WIDTH, HEAD, LEFT};
 use crate::picture::frame::{
-    LANE_PAD, Lane, NAME_END, draw_axis, draw_lane, draw_lanes, draw_legend, draw_level, draw_page,
+    AddressLane, LANE_PAD, NAME_END, draw_axis, draw_lane, draw_lanes, draw_legend, draw_level,
+    draw_page,
 };
-use crate::picture::lives::{LiveBin, Lives, Share, lives_of};
+use crate::picture::lives::{BinShare, LiveBin, Lives, lives_of};
 use crate::picture::scene::Scene;
 use crate::picture::shapes::{Area, Point, open_area, open_words, push_moment, push_time};
-use crate::picture::tallies::{Tally, tallies_of};
+use crate::picture::tallies::{CauseTally, tallies_of};
 use std::alloc::{AllocError, Global};
 
 /// The words above the lanes, without the time of a bar, which follows.
@@ -32,7 +33,7 @@ const PAD: u64 = 6;
 
 /// Some neighbouring bins.
 #[derive(Clone, Copy)]
-struct Run {
+struct CountRun {
     first: usize,
     many: usize,
 }
@@ -71,19 +72,23 @@ fn lanes_of(
     top: u64,
     height: u64,
     many: usize,
-) -> Result<(Vec<Lane>, u64), AllocError> {
+) -> Result<(Vec<AddressLane>, u64), AllocError> {
     let mut lanes = Vec::new(alloc);
     let mut top = top;
     for _ in 0..many {
         let bottom = top.saturating_add(height);
-        lanes.push(Lane { top, bottom })?;
+        lanes.push(AddressLane { top, bottom })?;
         top = bottom;
     }
     Ok((lanes, top))
 }
 
 /// The lanes of packets, with their total and the most in a bar.
-fn draw_rows(text: &mut String, tallies: &[Tally<'_>], lanes: &[Lane]) -> Result<(), AllocError> {
+fn draw_rows(
+    text: &mut String,
+    tallies: &[CauseTally<'_>],
+    lanes: &[AddressLane],
+) -> Result<(), AllocError> {
     for (tally, lane) in tallies.iter().zip(lanes) {
         draw_lane(text, tally.name, *lane)?;
         open_words(text, "most", below_name(*lane))?;
@@ -93,7 +98,7 @@ fn draw_rows(text: &mut String, tallies: &[Tally<'_>], lanes: &[Lane]) -> Result
 }
 
 /// Where the words below the name of a lane end.
-fn below_name(lane: Lane) -> Point {
+fn below_name(lane: AddressLane) -> Point {
     Point {
         column: NAME_END,
         line: lane.top.saturating_add(30),
@@ -104,7 +109,7 @@ fn draw_lives(
     text: &mut String,
     axis: Axis,
     lives: &[Lives],
-    lanes: &[Lane],
+    lanes: &[AddressLane],
 ) -> Result<(), AllocError> {
     for (lives, lane) in lives.iter().zip(lanes.iter()) {
         open_words(text, "most", below_name(*lane))?;
@@ -117,8 +122,12 @@ fn draw_lives(
 }
 
 /// The share of an address's fullest class, beside the foot of its lane.
-fn draw_share(text: &mut String, lane: Lane, share: Option<Share>) -> Result<(), AllocError> {
-    let Some(Share { class, millionths }) = share else {
+fn draw_share(
+    text: &mut String,
+    lane: AddressLane,
+    share: Option<BinShare>,
+) -> Result<(), AllocError> {
+    let Some(BinShare { class, millionths }) = share else {
         return Ok(());
     };
     let at = Point {
@@ -131,7 +140,7 @@ fn draw_share(text: &mut String, lane: Lane, share: Option<Share>) -> Result<(),
 }
 
 /// Lines through a lane at its highest bar, which is for `most`, and at half of that, with the number there.
-fn draw_scale(text: &mut String, lane: Lane, most: u64) -> Result<(), AllocError> {
+fn draw_scale(text: &mut String, lane: AddressLane, most: u64) -> Result<(), AllocError> {
     let half = most / 2;
     if half == 0 {
         return Ok(());
@@ -148,8 +157,8 @@ fn draw_scale(text: &mut String, lane: Lane, most: u64) -> Result<(), AllocError
 }
 
 /// The line of a bar's top for `number`, in a lane whose highest bar is for `most`.
-fn height_line(lane: Lane, number: u64, most: u64) -> u64 {
-    let run = Run { first: 0, many: 1 };
+fn height_line(lane: AddressLane, number: u64, most: u64) -> u64 {
+    let run = CountRun { first: 0, many: 1 };
     bar_of(lane, run, number, most).top
 }
 
@@ -158,11 +167,11 @@ fn draw_live_bins(
     text: &mut String,
     axis: Axis,
     lives: &Lives,
-    lane: Lane,
+    lane: AddressLane,
 ) -> Result<(), AllocError> {
     for (first, bin) in lives.bins.iter().enumerate() {
         if bin.most > 0 && !lives.goes_on(first) {
-            let run = Run {
+            let run = CountRun {
                 first,
                 many: lives.same_from(first),
             };
@@ -179,7 +188,7 @@ fn draw_live_bins(
 }
 
 /// The bar of a run of bins for `number`, in a lane whose highest bar is for `most`.
-fn bar_of(lane: Lane, run: Run, number: u64, most: u64) -> Area {
+fn bar_of(lane: AddressLane, run: CountRun, number: u64, most: u64) -> Area {
     let floor = lane.bottom.saturating_sub(LANE_PAD);
     let full = floor.saturating_sub(lane.top).saturating_sub(PAD);
     let height = (full.saturating_mul(number) / most.max(1)).max(1);
@@ -192,7 +201,7 @@ fn bar_of(lane: Lane, run: Run, number: u64, most: u64) -> Area {
 }
 
 /// The times of a run of bins, to begin its title.
-fn open_title(text: &mut String, axis: Axis, run: Run) -> Result<(), AllocError> {
+fn open_title(text: &mut String, axis: Axis, run: CountRun) -> Result<(), AllocError> {
     text.push_str("><title>")?;
     push_moment(text, axis, axis.start_of(run.first))?;
     text.push_str(" to ")?;
@@ -207,8 +216,8 @@ fn open_title(text: &mut String, axis: Axis, run: Run) -> Result<(), AllocError>
 fn draw_tallies(
     text: &mut String,
     axis: Axis,
-    tallies: &[Tally<'_>],
-    lanes: &[Lane],
+    tallies: &[CauseTally<'_>],
+    lanes: &[AddressLane],
 ) -> Result<(), AllocError> {
     for (tally, lane) in tallies.iter().zip(lanes) {
         draw_tally(text, axis, tally, *lane)?;
@@ -220,12 +229,12 @@ fn draw_tallies(
 fn draw_tally(
     text: &mut String,
     axis: Axis,
-    tally: &Tally<'_>,
-    lane: Lane,
+    tally: &CauseTally<'_>,
+    lane: AddressLane,
 ) -> Result<(), AllocError> {
     for (first, many) in tally.bins.iter().enumerate() {
         if *many > 0 {
-            let run = Run { first, many: 1 };
+            let run = CountRun { first, many: 1 };
             open_area(text, tally.class, bar_of(lane, run, *many, tally.most))?;
             open_title(text, axis, run)?;
             writeln!(text, "{many}</title></rect>")?;

@@ -55,7 +55,7 @@ pub const NAME_END: u64 = LEFT - 10;
 
 /// The lines where a lane begins and ends.
 #[derive(Clone, Copy)]
-pub struct Lane {
+pub struct AddressLane {
     pub top: u64,
     pub bottom: u64,
 }
@@ -94,7 +94,11 @@ pub fn draw_legend(text: &mut String, lines: &[&str]) -> Result<(), AllocError> 
     Ok(())
 }
 
-pub fn draw_lanes(text: &mut String, names: &[String], lanes: &[Lane]) -> Result<(), AllocError> {
+pub fn draw_lanes(
+    text: &mut String,
+    names: &[String],
+    lanes: &[AddressLane],
+) -> Result<(), AllocError> {
     for (name, lane) in names.iter().zip(lanes.iter()) {
         draw_lane(text, name, *lane)?;
     }
@@ -102,7 +106,7 @@ pub fn draw_lanes(text: &mut String, names: &[String], lanes: &[Lane]) -> Result
 }
 
 /// A lane with its name at its top.
-pub fn draw_lane(text: &mut String, name: &str, lane: Lane) -> Result<(), AllocError> {
+pub fn draw_lane(text: &mut String, name: &str, lane: AddressLane) -> Result<(), AllocError> {
     let height = lane.bottom.saturating_sub(lane.top);
     let area = Area {
         left: LEFT,

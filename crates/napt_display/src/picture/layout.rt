@@ -1,8 +1,8 @@
 //! Where the bars, packets and drops of a picture are, in pixels.
 
 use crate::picture::axis::{Axis, HEAD, LEFT, RIGHT};
-use crate::picture::frame::Lane;
-use crate::picture::scene::{BindingKind, DrawnBinding, Pass, Scene};
+use crate::picture::frame::AddressLane;
+use crate::picture::scene::{BindingKind, DrawnBinding, DrawnPacket, Scene};
 use std::alloc::{AllocError, Global};
 use std::collections::BTreeMap;
 
@@ -54,7 +54,7 @@ pub enum MarkKind {
 
 /// The mark of a packet in the picture. Packets at one place share a mark.
 #[derive(Clone, Copy, PartialEq, Eq, PartialOrd, Ord)]
-pub struct Mark {
+pub struct LayoutMark {
     pub kind: MarkKind,
     pub column: u64,
     pub top: u64,
@@ -64,7 +64,7 @@ pub struct Mark {
 
 /// The packets of a mark: how many, and the times of the first and the last of them.
 #[derive(Clone, Copy)]
-pub struct Packets {
+pub struct PacketRow {
     pub many: u64,
     pub first: u64,
     pub last: u64,
@@ -82,13 +82,13 @@ pub struct CauseRow {
 pub struct Layout<'a> {
     pub axis: Axis,
     /// One for each lane of the scene.
-    pub lanes: Vec<Lane>,
+    pub lanes: Vec<AddressLane>,
     /// The bars, lane by lane.
     pub bars: Vec<Bar<'a>>,
     /// The top of the row of each cause, and how many of the shown packets were dropped for it.
     pub causes: Vec<CauseRow>,
     /// The packets of each mark.
-    pub marks: BTreeMap<Mark, Packets>,
+    pub marks: BTreeMap<LayoutMark, PacketRow>,
     /// The line below all lanes and rows.
     pub bottom: u64,
     /// The tops of the bars, by the places of their bindings.
@@ -186,7 +186,7 @@ impl<'a> Layout<'a> {
         let rows = ROW.saturating_mul((taken.len() as u64).max(1));
         let bottom = top.saturating_add(rows).saturating_add(PAD + PAD);
         self.bottom = bottom;
-        self.lanes.push(Lane { top, bottom })?;
+        self.lanes.push(AddressLane { top, bottom })?;
         Ok(())
     }
 
@@ -202,7 +202,7 @@ impl<'a> Layout<'a> {
         Ok(())
     }
 
-    fn add_marks(&mut self, passes: &[Pass]) -> Result<(), AllocError> {
+    fn add_marks(&mut self, passes: &[DrawnPacket]) -> Result<(), AllocError> {
         for pass in passes {
             if self.axis.has(pass.clock) {
                 self.add_pass(*pass)?;
@@ -212,7 +212,7 @@ impl<'a> Layout<'a> {
     }
 
     /// The marks of a packet that was dropped, went out through a binding, came in through one, or did both.
-    fn add_pass(&mut self, pass: Pass) -> Result<(), AllocError> {
+    fn add_pass(&mut self, pass: DrawnPacket) -> Result<(), AllocError> {
         let out = self.top_of(pass.out);
         let into = self.top_of(pass.into);
         let dropped = self.count_drop(pass.dropped);
@@ -229,7 +229,7 @@ impl<'a> Layout<'a> {
     fn add_arrow(&mut self, clock: u64, top: u64, into: u64) -> Result<(), AllocError> {
         let column = self.column_beside(self.axis.column_of(clock), (top, into));
         self.arrows.insert(column, (top, into))?;
-        let mark = Mark {
+        let mark = LayoutMark {
             kind: MarkKind::Hairpin,
             column,
             top,
@@ -256,7 +256,7 @@ impl<'a> Layout<'a> {
         let Some(top) = top else {
             return Ok(());
         };
-        let mark = Mark {
+        let mark = LayoutMark {
             kind,
             column: self.axis.column_of(clock),
             top,
@@ -266,8 +266,8 @@ impl<'a> Layout<'a> {
     }
 
     /// One more packet of a mark; those before it came earlier.
-    fn count_packet(&mut self, mark: Mark, clock: u64) -> Result<(), AllocError> {
-        let packets = self.marks.entry(mark)?.or_insert(Packets {
+    fn count_packet(&mut self, mark: LayoutMark, clock: u64) -> Result<(), AllocError> {
+        let packets = self.marks.entry(mark)?.or_insert(PacketRow {
             many: 0,
             first: clock,
             last: clock,

@@ -21,23 +21,23 @@ pub struct LiveBin {
 pub struct Lives {
     pub bins: Vec<LiveBin>,
     /// How many are live.
-    pub live: Level,
+    pub live: LiveLevel,
     /// How many are live with a number of each class.
-    levels: BTreeMap<NumberClass, Level>,
+    levels: BTreeMap<NumberClass, LiveLevel>,
     /// Since when as many are live as now.
     since: u64,
 }
 
 /// How many bindings are live now, and were at one moment of the time shown at most.
 #[derive(Clone, Copy, Default)]
-pub struct Level {
+pub struct LiveLevel {
     now: u64,
     pub most: u64,
 }
 
 /// How much of a class of numbers is in use at one moment at most.
 #[derive(Clone, Copy)]
-pub struct Share {
+pub struct BinShare {
     /// The name of the class.
     pub class: &'static str,
     pub millionths: u64,
@@ -45,7 +45,7 @@ pub struct Share {
 
 /// A moment at which a binding, by its place, begins or ends. At equal moments ends come before beginnings.
 #[derive(Clone, Copy, PartialEq, Eq, PartialOrd, Ord)]
-struct Turn {
+struct LiveTurn {
     moment: u64,
     kind: TurnKind,
     place: usize,
@@ -81,7 +81,7 @@ pub fn lives_of(
 
 /// The turns of all bindings that are shown.
 fn add_turns(
-    turns: &mut Vec<Turn>,
+    turns: &mut Vec<LiveTurn>,
     axis: Axis,
     bindings: &[DrawnBinding],
 ) -> Result<(), AllocError> {
@@ -94,13 +94,13 @@ fn add_turns(
             true => (axis.start, TurnKind::Stands),
             false => (binding.made, TurnKind::Begins),
         };
-        turns.push(Turn {
+        turns.push(LiveTurn {
             moment,
             kind,
             place,
         })?;
         if !is_redirect && axis.has(binding.end) {
-            turns.push(Turn {
+            turns.push(LiveTurn {
                 moment: binding.end,
                 kind: TurnKind::Ends,
                 place,
@@ -115,7 +115,7 @@ fn follow(
     all: &mut Vec<Lives>,
     axis: Axis,
     bindings: &[DrawnBinding],
-    turns: &[Turn],
+    turns: &[LiveTurn],
 ) -> Result<(), AllocError> {
     for turn in turns {
         if let Some(binding) = bindings.get(turn.place)
@@ -140,13 +140,13 @@ impl Lives {
     fn new(alloc: Global, axis: Axis) -> Result<Lives, AllocError> {
         Ok(Lives {
             bins: vec![in alloc; LiveBin::default(); BINS]?,
-            live: Level::default(),
+            live: LiveLevel::default(),
             levels: BTreeMap::new(alloc),
             since: axis.start,
         })
     }
 
-    fn take_turn(&mut self, axis: Axis, turn: Turn) {
+    fn take_turn(&mut self, axis: Axis, turn: LiveTurn) {
         self.hold(axis, turn.moment);
         self.live.take(turn.kind);
         if let Some(bin) = self.bins.get_mut(axis.bin_of(turn.moment)) {
@@ -165,21 +165,21 @@ impl Lives {
         class: Option<NumberClass>,
     ) -> Result<(), AllocError> {
         if let Some(class) = class {
-            let level = self.levels.entry(class)?.or_insert(Level::default());
+            let level = self.levels.entry(class)?.or_insert(LiveLevel::default());
             level.take(kind);
         }
         Ok(())
     }
 
     /// The class of which the greatest share is in use at one moment, if any is.
-    pub fn fullest(&self) -> Option<Share> {
+    pub fn fullest(&self) -> Option<BinShare> {
         let mut fullest = None;
         let mut most = 0;
         for (class, level) in &self.levels {
             let millionths = level.most.saturating_mul(1_000_000) / class.size.max(1);
             if most < millionths {
                 most = millionths;
-                fullest = Some(Share {
+                fullest = Some(BinShare {
                     class: class.name,
                     millionths,
                 });
@@ -221,7 +221,7 @@ impl Lives {
     }
 }
 
-impl Level {
+impl LiveLevel {
     fn take(&mut self, kind: TurnKind) {
         self.now = match kind {
             TurnKind::Ends => self.now.saturating_sub(1),

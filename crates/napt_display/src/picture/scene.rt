@@ -17,7 +17,7 @@ pub struct Scene {
     /// The names of the rows of causes for which packets were dropped.
     pub causes: Vec<String>,
     /// The packets, in the order of their times.
-    pub passes: Vec<Pass>,
+    pub passes: Vec<DrawnPacket>,
 }
 
 /// Numbers of which a binding takes any.
@@ -62,7 +62,7 @@ pub struct DrawnBinding {
 
 /// What a packet did, with the places of bindings and of causes in the scene, from 0.
 #[derive(Clone, Copy)]
-pub struct Pass {
+pub struct DrawnPacket {
     /// Its time, in ns.
     pub clock: u64,
     /// The binding that it went out through.

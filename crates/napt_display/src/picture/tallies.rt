@@ -1,12 +1,12 @@
 //! How many packets there are, in bins of the time shown.
 
 use crate::picture::axis::{Axis, BINS};
-use crate::picture::scene::{Pass, Scene};
+use crate::picture::scene::{DrawnPacket, Scene};
 use std::alloc::{AllocError, Global};
 
 /// How many packets of a kind there are in each bin.
 #[derive(Drop)]
-pub struct Tally<'a> {
+pub struct CauseTally<'a> {
     pub name: &'a str,
     /// The class of its bars.
     pub class: &'static str,
@@ -22,19 +22,19 @@ pub fn tallies_of<'a>(
     alloc: Global,
     axis: Axis,
     scene: &'a Scene,
-) -> Result<Vec<Tally<'a>>, AllocError> {
+) -> Result<Vec<CauseTally<'a>>, AllocError> {
     let mut tallies = Vec::new(alloc);
-    tallies.push(Tally::new(alloc, "packets", "all")?)?;
-    tallies.push(Tally::new(alloc, "hairpins", "hairpins")?)?;
+    tallies.push(CauseTally::new(alloc, "packets", "all")?)?;
+    tallies.push(CauseTally::new(alloc, "hairpins", "hairpins")?)?;
     for name in &scene.causes {
-        tallies.push(Tally::new(alloc, name, "drops")?)?;
+        tallies.push(CauseTally::new(alloc, name, "drops")?)?;
     }
     count(&mut tallies, axis, &scene.passes);
     tallies.retain(|tally| tally.all > 0 || tally.class != "hairpins");
     Ok(tallies)
 }
 
-fn count(tallies: &mut [Tally<'_>], axis: Axis, passes: &[Pass]) {
+fn count(tallies: &mut [CauseTally<'_>], axis: Axis, passes: &[DrawnPacket]) {
     for pass in passes {
         if axis.has(pass.clock) {
             count_pass(tallies, axis.bin_of(pass.clock), *pass);
@@ -43,7 +43,7 @@ fn count(tallies: &mut [Tally<'_>], axis: Axis, passes: &[Pass]) {
 }
 
 /// One more packet in a bin.
-fn count_pass(tallies: &mut [Tally<'_>], bin: usize, pass: Pass) {
+fn count_pass(tallies: &mut [CauseTally<'_>], bin: usize, pass: DrawnPacket) {
     let is_hairpin = pass.out.is_some() && pass.into.is_some();
     let dropped = pass.dropped.map(|place| place.saturating_add(2));
     for place in [Some(0), is_hairpin.then_some(1), dropped] {
@@ -55,9 +55,13 @@ fn count_pass(tallies: &mut [Tally<'_>], bin: usize, pass: Pass) {
     }
 }
 
-impl<'a> Tally<'a> {
-    fn new(alloc: Global, name: &'a str, class: &'static str) -> Result<Tally<'a>, AllocError> {
-        Ok(Tally {
+impl<'a> CauseTally<'a> {
+    fn new(
+        alloc: Global,
+        name: &'a str,
+        class: &'static str,
+    ) -> Result<CauseTally<'a>, AllocError> {
+        Ok(CauseTally {
             name,
             class,
             bins: vec![in alloc; 0u64; BINS]?,

@@ -8,7 +8,7 @@ use std::alloc::{AllocError, Global};
 
 /// The call of split that makes of a capture what napt reads.
 #[derive(Clone, Copy)]
-pub struct Splitting<'a> {
+pub struct SplitAdvice<'a> {
     /// What split is called: `./split`, or `napt-split` where it is installed.
     pub command: &'a str,
     /// The path of the capture; none if it has none.
@@ -19,12 +19,12 @@ pub struct Splitting<'a> {
 
 /// What some bytes seem to be.
 #[derive(Clone, Copy)]
-enum Form {
+enum FileForm {
     Empty,
     Pcapng,
     Gzip,
     /// A libpcap capture of this spelling and link type.
-    Pcap(Spelling, u32),
+    Pcap(CaptureSpelling, u32),
     /// It could not be read.
     Unread,
     /// None of these, or a libpcap capture that ends within its header.
@@ -33,7 +33,7 @@ enum Form {
 
 /// The four spellings of a libpcap capture: the order of its bytes, and its unit of time.
 #[derive(Clone, Copy)]
-struct Spelling {
+struct CaptureSpelling {
     order: &'static str,
     unit: &'static str,
 }
@@ -46,35 +46,35 @@ fn first_four(bytes: &[u8]) -> [u8; 4] {
     }
 }
 
-fn form_of(bytes: &[u8], fault: CaptureFault) -> Form {
+fn form_of(bytes: &[u8], fault: CaptureFault) -> FileForm {
     if fault == CaptureFault::Read {
-        return Form::Unread;
+        return FileForm::Unread;
     }
     if bytes.is_empty() {
-        return Form::Empty;
+        return FileForm::Empty;
     }
     match first_four(bytes) {
-        [0x0a, 0x0d, 0x0d, 0x0a] => Form::Pcapng,
-        [0x1f, 0x8b, _, _] => Form::Gzip,
+        [0x0a, 0x0d, 0x0d, 0x0a] => FileForm::Pcapng,
+        [0x1f, 0x8b, _, _] => FileForm::Gzip,
         [0xd4, 0xc3, 0xb2, 0xa1] => pcap(bytes, false, "microseconds"),
         [0x4d, 0x3c, 0xb2, 0xa1] => pcap(bytes, false, "nanoseconds"),
         [0xa1, 0xb2, 0xc3, 0xd4] => pcap(bytes, true, "microseconds"),
         [0xa1, 0xb2, 0x3c, 0x4d] => pcap(bytes, true, "nanoseconds"),
-        _ => Form::Unknown,
+        _ => FileForm::Unknown,
     }
 }
 
 /// A libpcap capture, with its link type at 20.
-fn pcap(bytes: &[u8], is_big: bool, unit: &'static str) -> Form {
+fn pcap(bytes: &[u8], is_big: bool, unit: &'static str) -> FileForm {
     let link = match bytes.get(20..24) {
         Some(rest) => first_four(rest),
-        None => return Form::Unknown,
+        None => return FileForm::Unknown,
     };
     let (order, link) = match is_big {
         true => ("big-endian", u32::from_be_bytes(link)),
         false => ("little-endian", u32::from_le_bytes(link)),
     };
-    Form::Pcap(Spelling { order, unit }, link)
+    FileForm::Pcap(CaptureSpelling { order, unit }, link)
 }
 
 /// The name of a link type whose headers split cuts.
@@ -100,7 +100,7 @@ pub fn capture_reasons(
     alloc: Global,
     bytes: &[u8],
     fault: CaptureFault,
-    splitting: Splitting<'_>,
+    splitting: SplitAdvice<'_>,
 ) -> Result<Vec<Reason>, AllocError>
     ensures { IfOk result (λ reasons. 2 ≤ vec_len reasons) }
 {
@@ -114,24 +114,24 @@ pub fn capture_reasons(
 fn add_form(
     alloc: Global,
     reasons: &mut Vec<Reason>,
-    form: Form,
-    splitting: Splitting<'_>,
+    form: FileForm,
+    splitting: SplitAdvice<'_>,
 ) -> Result<(), AllocError>
     ensures { OnOk result (vec_len reasons.old + 1 ≤ vec_len reasons.new) }
 {
     add(reasons, "it is", form_text(alloc, form))?;
     match form {
-        Form::Empty | Form::Unread => Ok(()),
-        Form::Unknown => {
+        FileForm::Empty | FileForm::Unread => Ok(()),
+        FileForm::Unknown => {
             let command = splitting.command;
             let text = format!(in alloc;
                 "save it as pcap or pcapng; {command} makes of it what napt reads"
             );
             add(reasons, "do", text)
         }
-        Form::Pcapng => add_split(alloc, reasons, splitting, "in.pcapng"),
-        Form::Gzip => add_split(alloc, reasons, splitting, "in.pcap.gz"),
-        Form::Pcap(_, link) => match link_name(link) {
+        FileForm::Pcapng => add_split(alloc, reasons, splitting, "in.pcapng"),
+        FileForm::Gzip => add_split(alloc, reasons, splitting, "in.pcap.gz"),
+        FileForm::Pcap(_, link) => match link_name(link) {
             Some(_) => add_split(alloc, reasons, splitting, "in.pcap"),
             None => Ok(()),
         },
@@ -142,12 +142,12 @@ fn add_form(
 fn add_split(
     alloc: Global,
     reasons: &mut Vec<Reason>,
-    splitting: Splitting<'_>,
+    splitting: SplitAdvice<'_>,
     other: &str,
 ) -> Result<(), AllocError>
     ensures { OnOk result (vec_len reasons.old ≤ vec_len reasons.new) }
 {
-    let Splitting {
+    let SplitAdvice {
         command,
         inside,
         ..
@@ -160,19 +160,19 @@ fn add_split(
 }
 
 /// A form in words.
-fn form_text(alloc: Global, form: Form) -> Result<String, AllocError> {
+fn form_text(alloc: Global, form: FileForm) -> Result<String, AllocError> {
     match form {
-        Form::Empty => String::from_str(alloc, "empty"),
-        Form::Pcapng => String::from_str(alloc, "pcapng"),
-        Form::Gzip => String::from_str(alloc, "compressed by gzip"),
-        Form::Unread => String::from_str(alloc, "a folder, or a file or device that failed"),
-        Form::Unknown => String::from_str(alloc, "no capture that is known here"),
-        Form::Pcap(spelling, link) => pcap_text(alloc, spelling, link),
+        FileForm::Empty => String::from_str(alloc, "empty"),
+        FileForm::Pcapng => String::from_str(alloc, "pcapng"),
+        FileForm::Gzip => String::from_str(alloc, "compressed by gzip"),
+        FileForm::Unread => String::from_str(alloc, "a folder, or a file or device that failed"),
+        FileForm::Unknown => String::from_str(alloc, "no capture that is known here"),
+        FileForm::Pcap(spelling, link) => pcap_text(alloc, spelling, link),
     }
 }
 
-fn pcap_text(alloc: Global, spelling: Spelling, link: u32) -> Result<String, AllocError> {
-    let Spelling { order, unit } = spelling;
+fn pcap_text(alloc: Global, spelling: CaptureSpelling, link: u32) -> Result<String, AllocError> {
+    let CaptureSpelling { order, unit } = spelling;
     match link_name(link) {
         Some(name) => {
             format!(in alloc; "a libpcap capture of {name} (link type {link}), {order}, {unit}")

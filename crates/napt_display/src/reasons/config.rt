@@ -2,10 +2,10 @@
 
 ghost use Rattle.std.specs.Prelude.{◌≤◌, ◌+◌, IfOk, OnOk, vec_len};
 
-use crate::reasons::expected::{expected_at, shape_of};
-use crate::reasons::part::{ListEntry, Place, Refused};
+use crate::reasons::expected_words::{expected_at, shape_of};
+use crate::reasons::part::{ConfigPlace, ListEntry, RefusedEntry};
 use crate::reasons::reason::{Reason, add};
-use crate::reasons::room::Room;
+use crate::reasons::room::BlockRoom;
 use crate::reasons::spelling::{line_of_name, meant, name_of};
 use napt_config::ConfigFault;
 use std::alloc::{AllocError, Global};
@@ -43,7 +43,7 @@ fn add_for_text(
     match toml::table_from_str(alloc, text) {
         Ok(table) => add_for_table(
             reasons,
-            Refused {
+            RefusedEntry {
                 alloc,
                 text,
                 table: &table,
@@ -81,7 +81,7 @@ fn line_of(text: &str, place: usize) -> usize {
 }
 
 /// Adds why a table is refused: the place with its reasons, or the fault in words if it has no place.
-fn add_for_table(reasons: &mut Vec<Reason>, refused: Refused<'_>) -> Result<(), AllocError>
+fn add_for_table(reasons: &mut Vec<Reason>, refused: RefusedEntry<'_>) -> Result<(), AllocError>
     ensures { OnOk result (vec_len reasons.old + 1 ≤ vec_len reasons.new) }
 {
     match refused.place()? {
@@ -91,7 +91,7 @@ fn add_for_table(reasons: &mut Vec<Reason>, refused: Refused<'_>) -> Result<(), 
 }
 
 /// Adds the fault in words.
-fn add_why(reasons: &mut Vec<Reason>, refused: Refused<'_>) -> Result<(), AllocError>
+fn add_why(reasons: &mut Vec<Reason>, refused: RefusedEntry<'_>) -> Result<(), AllocError>
     ensures { OnOk result (vec_len reasons.old + 1 ≤ vec_len reasons.new) }
 {
     let fault = refused.fault;
@@ -100,8 +100,8 @@ fn add_why(reasons: &mut Vec<Reason>, refused: Refused<'_>) -> Result<(), AllocE
 
 fn add_for_place<'t>(
     reasons: &mut Vec<Reason>,
-    refused: Refused<'t>,
-    place: Place<'t>,
+    refused: RefusedEntry<'t>,
+    place: ConfigPlace<'t>,
 ) -> Result<(), AllocError>
     ensures { OnOk result (vec_len reasons.old + 1 ≤ vec_len reasons.new) }
 {
@@ -124,12 +124,15 @@ fn add_for_place<'t>(
 }
 
 /// Whether the value at a place is a seed, or was meant to be one: it is not shown.
-fn is_secret(alloc: Global, place: Place<'_>) -> Result<bool, AllocError> {
+fn is_secret(alloc: Global, place: ConfigPlace<'_>) -> Result<bool, AllocError> {
     Ok(name_of(place) == "seed" || meant(alloc, place)? == Some("seed"))
 }
 
 /// What there is room for, if the fault is a block that is too large.
-fn room_of<'t>(refused: Refused<'t>, place: Place<'t>) -> Result<Option<Room>, AllocError> {
+fn room_of<'t>(
+    refused: RefusedEntry<'t>,
+    place: ConfigPlace<'t>,
+) -> Result<Option<BlockRoom>, AllocError> {
     if refused.fault != ConfigFault::BlockTooLarge {
         return Ok(None);
     }
@@ -137,7 +140,7 @@ fn room_of<'t>(refused: Refused<'t>, place: Place<'t>) -> Result<Option<Room>, A
         return Ok(None);
     };
     match refused.unblocked()? {
-        Some(config) => Ok(Some(Room::of(&config, *size))),
+        Some(config) => Ok(Some(BlockRoom::of(&config, *size))),
         None => Ok(None),
     }
 }
@@ -145,8 +148,8 @@ fn room_of<'t>(refused: Refused<'t>, place: Place<'t>) -> Result<Option<Room>, A
 /// Adds the line of an unknown name, and the name that was meant, if they are found.
 fn add_spelling<'t>(
     reasons: &mut Vec<Reason>,
-    refused: Refused<'t>,
-    place: Place<'t>,
+    refused: RefusedEntry<'t>,
+    place: ConfigPlace<'t>,
 ) -> Result<(), AllocError>
     ensures { OnOk result (vec_len reasons.old ≤ vec_len reasons.new) }
 {
@@ -163,8 +166,8 @@ fn add_spelling<'t>(
 /// Adds the other entry that a fault is about, if there is one.
 fn add_other<'t>(
     reasons: &mut Vec<Reason>,
-    refused: Refused<'t>,
-    place: Place<'t>,
+    refused: RefusedEntry<'t>,
+    place: ConfigPlace<'t>,
 ) -> Result<(), AllocError>
     ensures { OnOk result (vec_len reasons.old ≤ vec_len reasons.new) }
 {
@@ -175,7 +178,7 @@ fn add_other<'t>(
 }
 
 /// Another entry as `redirect[0]`, with its value if that is a text.
-fn other_text<'t>(refused: Refused<'t>, other: ListEntry<'t>) -> Result<String, AllocError> {
+fn other_text<'t>(refused: RefusedEntry<'t>, other: ListEntry<'t>) -> Result<String, AllocError> {
     let ListEntry { key, at } = other;
     match refused.other_value(other) {
         Some(Value::String(text)) => format!(in refused.alloc; "{key}[{at}], {text:?}"),
@@ -184,7 +187,7 @@ fn other_text<'t>(refused: Refused<'t>, other: ListEntry<'t>) -> Result<String, 
 }
 
 /// A place as `redirect[2].external`.
-fn place_text(alloc: Global, place: Place<'_>) -> Result<String, AllocError> {
+fn place_text(alloc: Global, place: ConfigPlace<'_>) -> Result<String, AllocError> {
     let key = place.key;
     match (place.entry, place.field) {
         (None, None) => format!(in alloc; "{key}"),
@@ -204,7 +207,7 @@ fn value_text(alloc: Global, value: Option<&Value>) -> Result<String, AllocError
 }
 
 /// What was expected at a place, if that adds to the fault.
-fn expected(fault: ConfigFault, place: Place<'_>) -> Option<&'static str> {
+fn expected(fault: ConfigFault, place: ConfigPlace<'_>) -> Option<&'static str> {
     let field = place.field.unwrap_or("");
     match fault {
         ConfigFault::Missing if place.key == "numbers" => Some("a `seed` with `random`"),

@@ -30,7 +30,7 @@ fn fields_of(key: &str) -> &'static [&'static str] {
 }
 
 /// The names that are known at a place: a configuration's keys, or the fields of a key.
-pub fn known_names(place: Place<'_>) -> &'static [&'static str] {
+pub fn known_names(place: ConfigPlace<'_>) -> &'static [&'static str] {
     match place.field {
         Some(_) => fields_of(place.key),
         None => KEYS,
@@ -39,49 +39,49 @@ pub fn known_names(place: Place<'_>) -> &'static [&'static str] {
 
 /// The names of a table that are not left out.
 #[derive(Clone, Copy)]
-enum Kept<'t> {
+enum KeptEntry<'t> {
     Alone(&'t str),
     /// The first names in the order they are checked.
     First(&'static [&'static str]),
 }
 
-impl<'t> Kept<'t> {
+impl<'t> KeptEntry<'t> {
     /// The names up to the one at a place.
-    fn up_to(names: &'static [&'static str], place: usize) -> Kept<'t> {
-        Kept::First(names.get(..place.saturating_add(1)).unwrap_or(names))
+    fn up_to(names: &'static [&'static str], place: usize) -> KeptEntry<'t> {
+        KeptEntry::First(names.get(..place.saturating_add(1)).unwrap_or(names))
     }
 
     fn has(self, name: &str) -> bool {
         match self {
-            Kept::Alone(kept) => kept == name,
-            Kept::First(kept) => kept.iter().any(|other| *other == name),
+            KeptEntry::Alone(kept) => kept == name,
+            KeptEntry::First(kept) => kept.iter().any(|other| *other == name),
         }
     }
 }
 
 /// Removes from a table what is not kept.
-fn keep(table: &mut Table, kept: Kept<'_>) {
+fn keep(table: &mut Table, kept: KeptEntry<'_>) {
     table.retain(|name, _| kept.has(name.as_str()));
 }
 
 /// A part of a configuration.
 #[derive(Clone, Copy)]
-struct Part<'t> {
-    keys: Kept<'t>,
+struct ConfigPart<'t> {
+    keys: KeptEntry<'t>,
     /// The last of its keys.
     key: &'t str,
     /// The last entry of the key's list; if absent, the list is whole.
     entry: Option<usize>,
     /// The fields of that entry, or of the table at the key; if absent, all.
-    fields: Option<Kept<'t>>,
+    fields: Option<KeptEntry<'t>>,
     /// Entries of a list up to this one are left out; if absent, none is.
     left_out: Option<ListEntry<'t>>,
 }
 
-impl<'t> Part<'t> {
+impl<'t> ConfigPart<'t> {
     /// All that is at these keys, of which this is the last.
-    fn of(keys: Kept<'t>, key: &'t str) -> Part<'t> {
-        Part {
+    fn of(keys: KeptEntry<'t>, key: &'t str) -> ConfigPart<'t> {
+        ConfigPart {
             keys,
             key,
             entry: None,
@@ -100,7 +100,7 @@ pub struct ListEntry<'t> {
 
 /// A place in a configuration.
 #[derive(Clone, Copy)]
-pub struct Place<'t> {
+pub struct ConfigPlace<'t> {
     pub key: &'t str,
     /// The entry of the key's list, from 0.
     pub entry: Option<usize>,
@@ -112,16 +112,16 @@ pub struct Place<'t> {
 
 /// A refused text, its table, and its fault.
 #[derive(Clone, Copy)]
-pub struct Refused<'t> {
+pub struct RefusedEntry<'t> {
     pub alloc: Global,
     pub text: &'t str,
     pub table: &'t Table,
     pub fault: ConfigFault,
 }
 
-impl<'t> Refused<'t> {
+impl<'t> RefusedEntry<'t> {
     /// The place with the fault: a key, with its entry and its field as far as they can be found.
-    pub fn place(self) -> Result<Option<Place<'t>>, AllocError> {
+    pub fn place(self) -> Result<Option<ConfigPlace<'t>>, AllocError> {
         match self.key()? {
             Some(part) => Ok(Some(self.place_in(part)?)),
             None => Ok(None),
@@ -129,7 +129,7 @@ impl<'t> Refused<'t> {
     }
 
     /// The part of the first key that has the fault.
-    fn key(self) -> Result<Option<Part<'t>>, AllocError> {
+    fn key(self) -> Result<Option<ConfigPart<'t>>, AllocError> {
         match self.fault {
             ConfigFault::UnknownKey => self.unknown_key(),
             _ => self.known_key(),
@@ -137,9 +137,9 @@ impl<'t> Refused<'t> {
     }
 
     /// The place with the fault of a key's part. An unknown key is a place itself, whatever its value.
-    fn place_in(self, part: Part<'t>) -> Result<Place<'t>, AllocError> {
+    fn place_in(self, part: ConfigPart<'t>) -> Result<ConfigPlace<'t>, AllocError> {
         if !KEYS.iter().any(|key| *key == part.key) {
-            return Ok(Place {
+            return Ok(ConfigPlace {
                 key: part.key,
                 entry: None,
                 field: None,
@@ -147,8 +147,8 @@ impl<'t> Refused<'t> {
             });
         }
         let entry = self.entry(part)?;
-        let part = Part { entry, ..part };
-        Ok(Place {
+        let part = ConfigPart { entry, ..part };
+        Ok(ConfigPlace {
             key: part.key,
             entry,
             field: self.field(part)?,
@@ -157,7 +157,7 @@ impl<'t> Refused<'t> {
     }
 
     /// The field that has the fault of a part. A fault of two entries, or of a whole key, is in no field.
-    fn field(self, part: Part<'_>) -> Result<Option<&'t str>, AllocError> {
+    fn field(self, part: ConfigPart<'_>) -> Result<Option<&'t str>, AllocError> {
         match self.fault {
             ConfigFault::UnknownKey => self.unknown_field(part),
             ConfigFault::Missing => Ok(self.missing_field(part)),
@@ -168,7 +168,7 @@ impl<'t> Refused<'t> {
     }
 
     /// Whether a part has the fault, as `Config::read` reads it. The pool is checked with a prefix, so that none is missing.
-    fn is_in(self, part: Part<'_>) -> Result<bool, AllocError> {
+    fn is_in(self, part: ConfigPart<'_>) -> Result<bool, AllocError> {
         let mut table = self.kept(part.keys)?;
         if narrow(&mut table, part).is_none() {
             return Ok(false);
@@ -179,12 +179,12 @@ impl<'t> Refused<'t> {
 
     /// The configuration of its pool and its prefixes alone, if they are allowed.
     pub fn unblocked(self) -> Result<Option<Config>, AllocError> {
-        let table = self.kept(Kept::First(BEFORE_BLOCKS))?;
+        let table = self.kept(KeptEntry::First(BEFORE_BLOCKS))?;
         Ok(self.read("", &table)?.ok())
     }
 
     /// What is kept of its table.
-    fn kept(self, kept: Kept<'_>) -> Result<Table, AllocError> {
+    fn kept(self, kept: KeptEntry<'_>) -> Result<Table, AllocError> {
         let Ok(mut table) = toml::table_from_str(self.alloc, self.text) else {
             return Err(AllocError);
         };
@@ -202,9 +202,9 @@ impl<'t> Refused<'t> {
     }
 
     /// The part up to the first key that has the fault.
-    fn known_key(self) -> Result<Option<Part<'t>>, AllocError> {
+    fn known_key(self) -> Result<Option<ConfigPart<'t>>, AllocError> {
         for (at, key) in KEYS.iter().enumerate() {
-            let part = Part::of(Kept::up_to(KEYS, at), *key);
+            let part = ConfigPart::of(KeptEntry::up_to(KEYS, at), *key);
             let is_meant = match (self.fault, *key) {
                 (ConfigFault::PoolInside, "pool") => false,
                 (ConfigFault::Missing, "numbers") => !self.table.contains_key("seed"),
@@ -218,9 +218,9 @@ impl<'t> Refused<'t> {
     }
 
     /// The first key of the table that is unknown, or has an unknown key inside.
-    fn unknown_key(self) -> Result<Option<Part<'t>>, AllocError> {
+    fn unknown_key(self) -> Result<Option<ConfigPart<'t>>, AllocError> {
         for key in self.table.keys() {
-            let part = Part::of(Kept::Alone(key.as_str()), key.as_str());
+            let part = ConfigPart::of(KeptEntry::Alone(key.as_str()), key.as_str());
             if self.is_in(part)? {
                 return Ok(Some(part));
             }
@@ -230,14 +230,14 @@ impl<'t> Refused<'t> {
 
     /// The entry of the key's list that has the fault: the last of the fewest that have it. A list that is too long, or
     /// that may not be there, has no such entry.
-    fn entry(self, part: Part<'_>) -> Result<Option<usize>, AllocError> {
+    fn entry(self, part: ConfigPart<'_>) -> Result<Option<usize>, AllocError> {
         let many = match self.fault {
             ConfigFault::TooMany | ConfigFault::PairWithBlock => 0,
             _ => entry_count(self.table, part.key),
         };
         for at in 0..many {
             let entry = Some(at);
-            if self.is_in(Part { entry, ..part })? {
+            if self.is_in(ConfigPart { entry, ..part })? {
                 return Ok(entry);
             }
         }
@@ -245,13 +245,13 @@ impl<'t> Refused<'t> {
     }
 
     /// The other entry of a part's fault: without it, and those before it, the fault goes away.
-    fn other(self, part: Part<'t>) -> Result<Option<ListEntry<'t>>, AllocError> {
+    fn other(self, part: ConfigPart<'t>) -> Result<Option<ListEntry<'t>>, AllocError> {
         let Some(key) = self.other_key(part.key) else {
             return Ok(None);
         };
         for at in 0..entry_count(self.table, key) {
             let left_out = Some(ListEntry { key, at });
-            if !self.is_in(Part { left_out, ..part })? {
+            if !self.is_in(ConfigPart { left_out, ..part })? {
                 return Ok(left_out);
             }
         }
@@ -270,11 +270,11 @@ impl<'t> Refused<'t> {
     }
 
     /// The first field that has the fault, with those checked before it.
-    fn known_field(self, part: Part<'_>) -> Result<Option<&'t str>, AllocError> {
+    fn known_field(self, part: ConfigPart<'_>) -> Result<Option<&'t str>, AllocError> {
         let names = fields_of(part.key);
         for (at, name) in names.iter().enumerate() {
-            let fields = Some(Kept::up_to(names, at));
-            if self.is_in(Part { fields, ..part })? {
+            let fields = Some(KeptEntry::up_to(names, at));
+            if self.is_in(ConfigPart { fields, ..part })? {
                 return Ok(Some(*name));
             }
         }
@@ -282,13 +282,13 @@ impl<'t> Refused<'t> {
     }
 
     /// The first field that is unknown.
-    fn unknown_field(self, part: Part<'_>) -> Result<Option<&'t str>, AllocError> {
+    fn unknown_field(self, part: ConfigPart<'_>) -> Result<Option<&'t str>, AllocError> {
         let Some(Value::Table(table)) = value_at(self.table, part.key, part.entry) else {
             return Ok(None);
         };
         for name in table.keys() {
-            let fields = Some(Kept::Alone(name.as_str()));
-            if self.is_in(Part { fields, ..part })? {
+            let fields = Some(KeptEntry::Alone(name.as_str()));
+            if self.is_in(ConfigPart { fields, ..part })? {
                 return Ok(Some(name.as_str()));
             }
         }
@@ -296,14 +296,14 @@ impl<'t> Refused<'t> {
     }
 
     /// The first field that is missing.
-    fn missing_field(self, part: Part<'_>) -> Option<&'t str> {
+    fn missing_field(self, part: ConfigPart<'_>) -> Option<&'t str> {
         let value = value_at(self.table, part.key, part.entry);
         let names = fields_of(part.key);
         names.iter().find(|name| !has_field(value, **name)).copied()
     }
 
     /// The value at a place.
-    pub fn value(self, place: Place<'t>) -> Option<&'t Value> {
+    pub fn value(self, place: ConfigPlace<'t>) -> Option<&'t Value> {
         let value = value_at(self.table, place.key, place.entry)?;
         match place.field {
             Some(name) => field_of(value, name),
@@ -318,7 +318,7 @@ impl<'t> Refused<'t> {
 }
 
 /// Removes the entries and fields that are not in a part; returns `None` if their place is missing.
-fn narrow(table: &mut Table, part: Part<'_>) -> Option<()> {
+fn narrow(table: &mut Table, part: ConfigPart<'_>) -> Option<()> {
     if part.entry.is_some() || part.fields.is_some() {
         narrow_key(table, part)?;
     }
@@ -329,7 +329,7 @@ fn narrow(table: &mut Table, part: Part<'_>) -> Option<()> {
 }
 
 /// The same for the last key, except its first entries.
-fn narrow_key(table: &mut Table, part: Part<'_>) -> Option<()> {
+fn narrow_key(table: &mut Table, part: ConfigPart<'_>) -> Option<()> {
     let value = table.get_mut(part.key)?;
     let value = match part.entry {
         Some(at) => last_entry(value, at)?,

@@ -14,7 +14,7 @@ const MOST_ADDRESSES: u64 = 16;
 
 /// What blocks of a size are to be made of.
 #[derive(Clone, Copy)]
-pub struct Room {
+pub struct BlockRoom {
     hosts: u64,
     addresses: u64,
     size: u64,
@@ -26,10 +26,10 @@ fn parts(whole: u64, size: u64) -> u64 {
     whole.saturating_add(size.saturating_sub(1)) / size
 }
 
-impl Room {
+impl BlockRoom {
     /// For the hosts and addresses of a configuration, and blocks of this size.
-    pub fn of(config: &Config, size: i64) -> Room {
-        Room {
+    pub fn of(config: &Config, size: i64) -> BlockRoom {
+        BlockRoom {
             hosts: config.host_count(),
             addresses: config.pool().len() as u64,
             size: u64::try_from(size).unwrap_or(LEAST_BLOCK),

@@ -1,6 +1,6 @@
 //! An unknown name: its line, and the name that was meant.
 
-use crate::reasons::part::{Place, known_names};
+use crate::reasons::part::{ConfigPlace, known_names};
 use std::alloc::{AllocError, Global};
 use strsim::levenshtein;
 
@@ -8,12 +8,12 @@ use strsim::levenshtein;
 const NEAR: usize = 2;
 
 /// The name of a place: that of its field, else its key.
-pub fn name_of<'t>(place: Place<'t>) -> &'t str {
+pub fn name_of<'t>(place: ConfigPlace<'t>) -> &'t str {
     place.field.unwrap_or(place.key)
 }
 
 /// The known name that was meant at a place: the first of the nearest ones, if it is near.
-pub fn meant(alloc: Global, place: Place<'_>) -> Result<Option<&'static str>, AllocError> {
+pub fn meant(alloc: Global, place: ConfigPlace<'_>) -> Result<Option<&'static str>, AllocError> {
     let mut found = None;
     let mut least = NEAR + 1;
     for known in known_names(place) {
@@ -28,7 +28,7 @@ pub fn meant(alloc: Global, place: Place<'_>) -> Result<Option<&'static str>, Al
 
 /// The line of a text, from 1, with the name of a place, if it is found: with a value, or as the head of a table. A
 /// field is looked for after the head of its table.
-pub fn line_of_name(text: &str, place: Place<'_>) -> Option<usize> {
+pub fn line_of_name(text: &str, place: ConfigPlace<'_>) -> Option<usize> {
     let behind = match place.field {
         Some(_) => head_line(text, place.key, place.entry.unwrap_or(0))?.saturating_add(1),
         None => 0,

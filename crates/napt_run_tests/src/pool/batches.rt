@@ -3,10 +3,10 @@
 
 use super::checked::CheckedPool;
 use super::rounds::{Keepers, keepers};
-use super::watch::{Echo, REFUSED, Says, Watch, so_far};
+use super::watch::{Echo, GateAnswer, REFUSED, Watch, so_far};
 use super::watched::{Watched, make_watched};
 use crate::calls::TestRuntime;
-use napt_pool::{Answered, Batch, OfferRefused, PoolFault, Taken};
+use napt_pool::{AnsweredBatch, Batch, OfferRefused, PoolFault, TakenAnswers};
 use std::alloc::{AllocError, Global};
 use std::process::Abort;
 use std::test::Fail;
@@ -33,9 +33,9 @@ fn numbers(rt: &impl TestRuntime, from: u64, count: u64) -> Result<Batch<u64, u6
 }
 
 /// The answers to the next batch, which come together.
-fn together(rt: &impl Abort, pool: &mut Keepers<impl TestRuntime>) -> Answered<u64, u64> {
+fn together(rt: &impl Abort, pool: &mut Keepers<impl TestRuntime>) -> AnsweredBatch<u64, u64> {
     match pool.take_all_soon(0) {
-        Ok(Some(Taken::All(answered))) => Some(answered),
+        Ok(Some(TakenAnswers::All(answered))) => Some(answered),
         _ => None,
     }
     .expect(rt, "the answers of a batch")
@@ -44,7 +44,7 @@ fn together(rt: &impl Abort, pool: &mut Keepers<impl TestRuntime>) -> Answered<u
 /// The next answer, which comes alone.
 fn alone(pool: &mut Keepers<impl TestRuntime>) -> Option<u64> {
     match pool.take_all_soon(0) {
-        Ok(Some(Taken::One(answer))) => Some(answer),
+        Ok(Some(TakenAnswers::One(answer))) => Some(answer),
         _ => None,
     }
 }
@@ -72,7 +72,7 @@ fn batches_and_items_are_answered_in_order(rt: HostRuntime) -> Result<(), Fail> 
     for count in 1..5 {
         assert_eq!(rt; alone(&mut pool), Some(count));
     }
-    let Answered { answers, spent } = together(&rt, &mut pool);
+    let AnsweredBatch { answers, spent } = together(&rt, &mut pool);
     assert_eq!(rt; answers.as_slice(), [5, 6].as_slice());
     assert!(rt; spent.is_empty() && spent.capacity() >= 2);
     assert!(rt; matches!(pool.take_all(0), Ok(None)));
@@ -167,7 +167,7 @@ fn until_stopped(
 fn gate_is_shut_in_a_batch(rt: HostRuntime) -> Result<(), Fail> {
     for shut in 0..4u64 {
         let four = numbers(&rt, 0, 4)?;
-        let Watched { mut pool, watch } = make_watched(&rt, &[false], Says::NoFrom(shut))?;
+        let Watched { mut pool, watch } = make_watched(&rt, &[false], GateAnswer::NoFrom(shut))?;
         pool.give_all(0, four);
         let count = until_stopped(&mut pool, PoolFault::GateShut(0));
         let begun = watch.begun(0);
@@ -183,7 +183,7 @@ fn gate_is_shut_in_a_batch(rt: HostRuntime) -> Result<(), Fail> {
 fn gate_is_shut_to_a_batch(rt: HostRuntime) -> Result<(), Fail> {
     let alloc = rt.alloc();
     let one = batch(&rt, alloc, &[7])?;
-    let watch = Watch::new(alloc, 1, Says::NoFrom(0), false)?;
+    let watch = Watch::new(alloc, 1, GateAnswer::NoFrom(0), false)?;
     let machines = Echo::several(alloc, &watch, &[false])?;
     let mut pool = CheckedPool::start(&rt, machines, 1, watch)?;
     pool.give_all(0, one);
@@ -195,7 +195,7 @@ fn gate_is_shut_to_a_batch(rt: HostRuntime) -> Result<(), Fail> {
 #[test]
 fn memory_is_refused_in_a_batch(rt: HostRuntime) -> Result<(), Fail> {
     let four = batch(&rt, rt.alloc(), &[0, 1, REFUSED, 3])?;
-    let Watched { mut pool, watch: _ } = make_watched(&rt, &[false], Says::Yes)?;
+    let Watched { mut pool, watch: _ } = make_watched(&rt, &[false], GateAnswer::Yes)?;
     pool.give_all(0, four);
     let count = until_stopped(&mut pool, PoolFault::Memory);
     pool.assert_close_tells(PoolFault::Memory);

@@ -1,11 +1,11 @@
 //! A pool for tests, whose calls check what their caller owes.
 
 ghost use Rattle.std.specs.Prelude.{◌≡◌, length};
-ghost use Rattle.napt_pool.specs.Pools.{starts};
+ghost use Rattle.napt_pool.specs.Pools.{initial_machines};
 
 use super::MOST_LOOKS;
 use crate::calls::TestRuntime;
-use napt_pool::{Batch, Ended, Gate, Machine, OfferRefused, Pool, PoolFault, Taken};
+use napt_pool::{Batch, Ended, Gate, Machine, OfferRefused, Pool, PoolFault, TakenAnswers};
 use std::sync::Arc;
 use std::thread;
 
@@ -15,7 +15,7 @@ pub(crate) struct CheckedPool<R, M: Machine, G: Gate> {
     rt: R,
     pool: Pool<M, G>,
     workers: u32,
-    ghost many: { length (starts pool) ≡ workers },
+    ghost many: { length (initial_machines pool) ≡ workers },
 }
 
 /// What a call takes, once that is there; nothing where it has not come for long.
@@ -108,7 +108,10 @@ impl<R: TestRuntime, M: Machine, G: Gate> CheckedPool<R, M, G> {
 }
 
 /// What `take_all` gives.
-type TakenOr<M> = Result<Option<Taken<<M as Machine>::Item, <M as Machine>::Answer>>, PoolFault>;
+type TakenOr<M> = Result<
+    Option<TakenAnswers<<M as Machine>::Item, <M as Machine>::Answer>>,
+    PoolFault,
+>;
 
 impl<R: TestRuntime, M: Machine, G: Gate + Send + Sync + Drop + 'static> CheckedPool<R, M, G> {
     /// Starts a thread for each of 1 to 16 machines, with rings for 1 to 4,096 items.

@@ -9,7 +9,7 @@ use std::thread;
 
 /// What a gate answers.
 #[derive(Clone, Copy)]
-pub(crate) enum Says {
+pub(crate) enum GateAnswer {
     /// Always yes.
     Yes,
     /// No to one worker.
@@ -28,7 +28,7 @@ pub(crate) fn so_far(count: &AtomicU64) -> u64 {
 /// A gate, and the counts of a pool.
 #[derive(Drop)]
 pub(crate) struct Watch {
-    says: Says,
+    says: GateAnswer,
     /// Whether each step waits a while for all other machines to begin one of the same number.
     is_barrier: bool,
     /// How many steps each machine has begun.
@@ -50,7 +50,7 @@ impl Watch {
     pub(crate) fn new(
         alloc: Global,
         count: usize,
-        says: Says,
+        says: GateAnswer,
         is_barrier: bool,
     ) -> Result<Arc<Watch>, AllocError> {
         let mut steps = Vec::new(alloc);
@@ -113,10 +113,10 @@ impl Gate for Watch {
         }
         let asks = self.asks.fetch_add(1, Ordering::SeqCst);
         match self.says {
-            Says::Yes => true,
-            Says::NoTo(shut) => worker != shut,
-            Says::NoFirst => asks % 2 == 1,
-            Says::NoFrom(first) => turn < first,
+            GateAnswer::Yes => true,
+            GateAnswer::NoTo(shut) => worker != shut,
+            GateAnswer::NoFirst => asks % 2 == 1,
+            GateAnswer::NoFrom(first) => turn < first,
         }
     }
 

@@ -2,7 +2,7 @@
 
 use super::batches::batch;
 use super::checked::CheckedPool;
-use super::watch::{Echo, Says, Watch, so_far};
+use super::watch::{Echo, GateAnswer, Watch, so_far};
 use crate::calls::TestRuntime;
 use napt_pool::{OpenGate, PoolFault};
 use std::sync::Arc;
@@ -19,7 +19,7 @@ pub(super) struct Watched<R> {
 pub(super) fn make_watched<R: TestRuntime>(
     rt: &R,
     refuse: &[bool],
-    says: Says,
+    says: GateAnswer,
 ) -> Result<Watched<R>, Fail> {
     let alloc = rt.alloc();
     let watch = Watch::new(alloc, refuse.len(), says, false)?;
@@ -33,7 +33,7 @@ pub(super) fn make_watched<R: TestRuntime>(
 /// Three items for each worker, whatever the gate: each of the steps saw all other workers in a step of the same number.
 fn step_together(rt: &impl TestRuntime, workers: u32, refuse: &[bool]) -> Result<(), Fail> {
     let alloc = rt.alloc();
-    let watch = Watch::new(alloc, refuse.len(), Says::Yes, true)?;
+    let watch = Watch::new(alloc, refuse.len(), GateAnswer::Yes, true)?;
     let machines = Echo::several(alloc, &watch, refuse)?;
     let mut pool = CheckedPool::start(rt, machines, 64, Arc::new(alloc, OpenGate)?)?;
     for item in 0..3 {
@@ -55,7 +55,7 @@ fn steps_meet(rt: HostRuntime) -> Result<(), Fail> {
 /// A worker steps on an item though nobody asks for the answer.
 #[test]
 fn steps_unasked(rt: HostRuntime) -> Result<(), Fail> {
-    let Watched { mut pool, watch } = make_watched(&rt, &[false], Says::Yes)?;
+    let Watched { mut pool, watch } = make_watched(&rt, &[false], GateAnswer::Yes)?;
     pool.give(0, 5);
     let is_seen = watch.is_met(1);
     pool.closed();
@@ -65,7 +65,12 @@ fn steps_unasked(rt: HostRuntime) -> Result<(), Fail> {
 
 /// One worker takes four items in order, one by one or two in a message, asks the gate so often, each time with the number of the steps
 /// that it has made, and shows it the size of its machine after each step.
-fn take_turns(rt: &impl TestRuntime, says: Says, are_batches: bool, asks: u64) -> Result<(), Fail> {
+fn take_turns(
+    rt: &impl TestRuntime,
+    says: GateAnswer,
+    are_batches: bool,
+    asks: u64,
+) -> Result<(), Fail> {
     let alloc = rt.alloc();
     let (first, second) = (batch(rt, alloc, &[7, 8])?, batch(rt, alloc, &[9, 10])?);
     let Watched { mut pool, watch } = make_watched(rt, &[false], says)?;
@@ -89,15 +94,15 @@ fn take_turns(rt: &impl TestRuntime, says: Says, are_batches: bool, asks: u64) -
 #[test]
 fn gate_is_asked_before_each_step(rt: HostRuntime) -> Result<(), Fail> {
     for are_batches in [false, true] {
-        take_turns(&rt, Says::Yes, are_batches, 4)?;
-        take_turns(&rt, Says::NoFirst, are_batches, 8)?;
+        take_turns(&rt, GateAnswer::Yes, are_batches, 4)?;
+        take_turns(&rt, GateAnswer::NoFirst, are_batches, 8)?;
     }
     Ok(())
 }
 
 #[test]
 fn shut_gate_is_asked_a_million_times(rt: HostRuntime) -> Result<(), Fail> {
-    let Watched { mut pool, watch } = make_watched(&rt, &[false; 2], Says::NoTo(1))?;
+    let Watched { mut pool, watch } = make_watched(&rt, &[false; 2], GateAnswer::NoTo(1))?;
     pool.give(1, 5);
     pool.give(1, 6);
     pool.assert_stopped(1, PoolFault::GateShut(1));
@@ -113,7 +118,7 @@ fn least_fault_is_told(rt: HostRuntime) -> Result<(), Fail> {
         (0, [false, true, true], PoolFault::GateShut(0)),
     ];
     for (worker, refuse, fault) in all {
-        let Watched { mut pool, watch } = make_watched(&rt, &refuse, Says::NoTo(worker))?;
+        let Watched { mut pool, watch } = make_watched(&rt, &refuse, GateAnswer::NoTo(worker))?;
         for w in [2, 1, 0] {
             pool.give(w, 5);
         }
@@ -125,7 +130,7 @@ fn least_fault_is_told(rt: HostRuntime) -> Result<(), Fail> {
 
 #[test]
 fn refused_memory_is_told(rt: HostRuntime) -> Result<(), Fail> {
-    let Watched { mut pool, watch: _ } = make_watched(&rt, &[true, false, false], Says::Yes)?;
+    let Watched { mut pool, watch: _ } = make_watched(&rt, &[true, false, false], GateAnswer::Yes)?;
     pool.give(0, 5);
     pool.give(1, 6);
     assert!(rt; pool.take_soon(1) == Ok(Some(6)));
@@ -136,7 +141,7 @@ fn refused_memory_is_told(rt: HostRuntime) -> Result<(), Fail> {
 /// `close` is refused nothing, and drops no machine.
 #[test]
 fn machines_are_dropped(rt: HostRuntime) -> Result<(), Fail> {
-    let Watched { mut pool, watch } = make_watched(&rt, &[false; 3], Says::Yes)?;
+    let Watched { mut pool, watch } = make_watched(&rt, &[false; 3], GateAnswer::Yes)?;
     pool.give(0, 5);
     let ended = pool.closed();
     assert_eq!(rt; so_far(&watch.drops), 0);

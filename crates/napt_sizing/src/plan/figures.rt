@@ -2,12 +2,12 @@
 
 ghost use Rattle.std.specs.Prelude.{◌≡◌, ◌≢◌, ◌↔◌, true};
 
-use crate::plan::fullest::{Fullest, fullest_of};
+use crate::plan::fullest_address::{FullestAddress, fullest_of};
 use crate::plan::keys::Keys;
 use crate::sizes::hosts::percentile;
-use crate::sizes::usage::Usage;
+use crate::sizes::usage::NumberUsage;
 use napt_config::Config;
-use napt_records::Counts;
+use napt_records::OutcomeCounts;
 use napt_wire::Cause;
 use serde::Serialize;
 use std::alloc::{AllocError, Global};
@@ -37,7 +37,7 @@ pub struct Figures {
     pub refused_hosts: usize,
     /// The class of numbers of which the greatest share was used, if any was.
     #[serde(skip)]
-    pub fullest: Option<Fullest>,
+    pub fullest: Option<FullestAddress>,
 }
 
 impl Figures {
@@ -45,8 +45,8 @@ impl Figures {
     pub fn of(
         alloc: Global,
         config: &Config,
-        usage: &Usage,
-        counts: &Counts,
+        usage: &NumberUsage,
+        counts: &OutcomeCounts,
     ) -> Result<Figures, AllocError> {
         let ranked = usage.hosts.ranked(alloc)?;
         Ok(Figures {

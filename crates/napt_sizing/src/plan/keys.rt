@@ -1,6 +1,6 @@
 //! The keys of a configuration that a plan shows.
 
-use napt_config::{Config, Filter, Refresh};
+use napt_config::{Config, Filter, MappingRefresh};
 use serde::Serialize;
 
 /// What a configuration says for each key that a line of a plan has. In CSV the names of the fields are those of their
@@ -38,8 +38,8 @@ impl Keys {
                 Filter::AddressPort => "address-port",
             },
             refresh: match config.refresh() {
-                Refresh::Outbound => "outbound",
-                Refresh::Both => "both",
+                MappingRefresh::Outbound => "outbound",
+                MappingRefresh::Both => "both",
             },
             parity: if choosing.keeps_parity {
                 "kept"

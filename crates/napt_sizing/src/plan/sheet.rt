@@ -12,7 +12,7 @@ use std::io::Write;
 
 /// A line: its fields, whose names are those of the header.
 #[derive(Drop, Serialize)]
-struct Record {
+struct SheetRow {
     configuration: String,
     #[serde(flatten)]
     figures: Figures,
@@ -52,9 +52,9 @@ fn put_lines<W: Write + Drop>(
     writer.flush()
 }
 
-fn record_of(alloc: Global, path: &str, figures: Figures) -> Result<Record, AllocError> {
+fn record_of(alloc: Global, path: &str, figures: Figures) -> Result<SheetRow, AllocError> {
     let fullest = figures.fullest;
-    Ok(Record {
+    Ok(SheetRow {
         configuration: String::from_str(alloc, path)?,
         figures,
         fullest_protocol: fullest.map(|it| protocol_name(it.protocol)),

@@ -2,7 +2,7 @@
 
 use crate::plan::cells::{Cell, NAMES, cells_of, width_of};
 use crate::plan::figures::Figures;
-use crate::plan::fullest::Fullest;
+use crate::plan::fullest_address::FullestAddress;
 use napt_commands::Exit;
 use napt_config::Address;
 use napt_records::protocol_name;
@@ -76,7 +76,7 @@ fn add_cell(text: &mut String, cell: Cell, wide: usize) -> Result<(), AllocError
 }
 
 /// Appends the last column: the class, and how much of it was used.
-fn add_fullest(text: &mut String, fullest: Option<Fullest>) -> Result<(), AllocError> {
+fn add_fullest(text: &mut String, fullest: Option<FullestAddress>) -> Result<(), AllocError> {
     let Some(fullest) = fullest else {
         return text.push_str("  -\n");
     };

@@ -1,22 +1,22 @@
 //! How many bindings each inside host had at once. Redirects do not count, as in a quota.
 
-use crate::sizes::level::Level;
+use crate::sizes::level::PeakLevel;
 use napt_account::Entry;
 use std::alloc::{AllocError, Global};
 use std::collections::BTreeMap;
 
 /// An inside host.
 #[derive(Clone, Copy)]
-pub struct Host {
+pub struct SizedHost {
     pub address: u32,
     /// Its bindings of all protocols.
-    pub bindings: Level,
+    pub bindings: PeakLevel,
 }
 
 /// The inside hosts that had a binding, in the order of their first bindings.
 #[derive(Drop)]
 pub struct Hosts {
-    list: Vec<Host>,
+    list: Vec<SizedHost>,
     /// The index of each in the list.
     places: BTreeMap<u32, usize>,
 }
@@ -44,8 +44,8 @@ impl Hosts {
         let (address, many) = (entry.binding.inside.address, self.list.len());
         let place = *self.places.entry(address)?.or_insert(many);
         if place == many {
-            let bindings = Level::default();
-            self.list.push(Host { address, bindings })?;
+            let bindings = PeakLevel::default();
+            self.list.push(SizedHost { address, bindings })?;
         }
         if let Some(host) = self.list.get_mut(place) {
             host.bindings.rise(entry.made);
@@ -63,7 +63,7 @@ impl Hosts {
     }
 
     /// The hosts, those with the most bindings at once first; at equal numbers the lower address first.
-    pub fn ranked(&self, alloc: Global) -> Result<Vec<Host>, AllocError> {
+    pub fn ranked(&self, alloc: Global) -> Result<Vec<SizedHost>, AllocError> {
         let mut ranked = Vec::from_slice(alloc, &self.list)?;
         ranked.sort_by_key(|host| (u64::MAX - host.bindings.most, host.address))?;
         Ok(ranked)
@@ -72,7 +72,7 @@ impl Hosts {
 
 /// The percentile of bindings at once over ranked hosts: the least number that `percent` of a hundred hosts did not
 /// exceed; 0 if there are no hosts.
-pub fn percentile(ranked: &[Host], percent: u64) -> u64 {
+pub fn percentile(ranked: &[SizedHost], percent: u64) -> u64 {
     let many = ranked.len() as u64;
     let within = many.saturating_mul(percent).saturating_add(99) / 100;
     let place = many.saturating_sub(within) as usize;

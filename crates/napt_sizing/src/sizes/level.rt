@@ -4,13 +4,13 @@ ghost use Rattle.std.specs.Prelude.{◌≡◌, ◌+◌, ◌-◌, ◌^◌, min, m
 
 /// How many there are now, the most there were at once, and when that many were first reached, in ns.
 #[derive(Clone, Copy, Default)]
-pub struct Level {
+pub struct PeakLevel {
     now: u64,
     pub most: u64,
     pub at: u64,
 }
 
-impl Level {
+impl PeakLevel {
     /// One more, from this time on.
     pub fn rise(&mut self, at: u64)
         ensures more { self.new.now ≡ min (self.old.now + 1) (2 ^ 64 - 1) }

@@ -1,6 +1,6 @@
 //! How long bindings lived, from when they were made until they expired.
 
-use napt_account::{Listed, LoggedStep};
+use napt_account::{LogEntry, LogStep};
 
 /// The upper bounds of the spans, in seconds: a span holds the lifetimes up to its bound and above the one before. The
 /// timers of the RFCs are 60, 120, 240, 300 and 7440 seconds.
@@ -21,7 +21,7 @@ pub struct Lifetimes {
 
 impl Lifetimes {
     /// Takes what a packet did.
-    pub fn take(&mut self, step: &LoggedStep) {
+    pub fn take(&mut self, step: &LogStep) {
         for listed in &step.ended {
             self.end(lived(listed));
         }
@@ -40,7 +40,7 @@ impl Lifetimes {
 }
 
 /// For how many ns the binding of an entry lived; 0 if it has no end.
-fn lived(listed: &Listed) -> u64 {
+fn lived(listed: &LogEntry) -> u64 {
     match listed.entry.end {
         Some(end) => {
             let lived = end.saturating_sub(u128::from(listed.entry.made));

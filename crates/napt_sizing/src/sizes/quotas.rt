@@ -32,7 +32,7 @@ pub struct Quota {
 
 /// For whom a binding counts: its host, by its address and its index, and its protocol.
 #[derive(Clone, Copy)]
-pub struct Holder {
+pub struct QuotaHolder {
     pub address: u32,
     pub host: usize,
     pub protocol: Protocol,
@@ -59,7 +59,7 @@ impl Quota {
     }
 
     /// A host that it knows makes a binding. Returns whether it allows that.
-    pub fn make(&mut self, holder: Holder) -> Result<bool, AllocError> {
+    pub fn make(&mut self, holder: QuotaHolder) -> Result<bool, AllocError> {
         let most = self.most;
         if let Some(kept) = self.count_of(holder) {
             if *kept < most {
@@ -72,14 +72,14 @@ impl Quota {
     }
 
     /// A binding that it allowed is gone.
-    pub fn end(&mut self, holder: Holder) {
+    pub fn end(&mut self, holder: QuotaHolder) {
         if let Some(kept) = self.count_of(holder) {
             *kept = kept.saturating_sub(1);
         }
     }
 
     /// The count that a binding is in.
-    fn count_of(&mut self, holder: Holder) -> Option<&mut u16> {
+    fn count_of(&mut self, holder: QuotaHolder) -> Option<&mut u16> {
         let place = match self.scope {
             Scope::Host => holder.host,
             Scope::Protocol => {

@@ -1,6 +1,6 @@
 //! How much of a protocol's numbers is used at an external address.
 
-use crate::sizes::level::Level;
+use crate::sizes::level::PeakLevel;
 use napt_account::Entry;
 use napt_wire::Protocol;
 use std::alloc::{AllocError, Global};
@@ -8,45 +8,45 @@ use std::collections::BTreeMap;
 
 /// A class of external numbers, and its size (RFC 4787, REQ-3 (a) and REQ-4; RFC 5508, section 3.1).
 #[derive(Clone, Copy)]
-pub struct Class {
+pub struct PortClass {
     pub name: &'static str,
     pub many: u64,
 }
 
 /// A port keeps its parity and its side of 1024.
-const PORTS: &[Class] = &[
-    Class {
+const PORTS: &[PortClass] = &[
+    PortClass {
         name: "even ports below 1024",
         many: 511,
     },
-    Class {
+    PortClass {
         name: "odd ports below 1024",
         many: 512,
     },
-    Class {
+    PortClass {
         name: "even ports from 1024 on",
         many: 32_256,
     },
-    Class {
+    PortClass {
         name: "odd ports from 1024 on",
         many: 32_256,
     },
 ];
 
 /// Where parity is free it keeps its side alone (RFC 7857, section 8).
-const SIDES: &[Class] = &[
-    Class {
+const SIDES: &[PortClass] = &[
+    PortClass {
         name: "ports below 1024",
         many: 1023,
     },
-    Class {
+    PortClass {
         name: "ports from 1024 on",
         many: 64_512,
     },
 ];
 
 /// An ICMP identifier may become any other.
-const IDENTIFIERS: &[Class] = &[Class {
+const IDENTIFIERS: &[PortClass] = &[PortClass {
     name: "identifiers",
     many: 65_536,
 }];
@@ -58,11 +58,11 @@ pub struct Space {
     pub protocol: Protocol,
     /// Whether ports keep their parity.
     keeps_parity: bool,
-    pub bindings: Level,
+    pub bindings: PeakLevel,
     /// Hosts with a binding there.
-    pub hosts: Level,
+    pub hosts: PeakLevel,
     /// The bindings of each class, in the order of `classes`.
-    pub used: [Level; 4],
+    pub used: [PeakLevel; 4],
     /// How many each host with one has now.
     now: BTreeMap<u32, u64>,
 }
@@ -74,15 +74,15 @@ impl Space {
             address,
             protocol,
             keeps_parity,
-            bindings: Level::default(),
-            hosts: Level::default(),
-            used: [Level::default(); 4],
+            bindings: PeakLevel::default(),
+            hosts: PeakLevel::default(),
+            used: [PeakLevel::default(); 4],
             now: BTreeMap::new(alloc),
         }
     }
 
     /// The classes of its numbers.
-    pub fn classes(&self) -> &'static [Class] {
+    pub fn classes(&self) -> &'static [PortClass] {
         match self.protocol {
             Protocol::Icmp => IDENTIFIERS,
             Protocol::Tcp | Protocol::Udp if self.keeps_parity => PORTS,
@@ -123,7 +123,7 @@ impl Space {
     }
 
     /// The bindings of its number's class.
-    fn level_of(&mut self, entry: &Entry) -> Option<&mut Level> {
+    fn level_of(&mut self, entry: &Entry) -> Option<&mut PeakLevel> {
         let class = self.class_at(entry.binding.external.number);
         self.used.get_mut(class)
     }

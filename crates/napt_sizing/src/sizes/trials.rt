@@ -1,8 +1,8 @@
 //! The quotas and blocks that are tried on a run.
 
 use crate::sizes::hosts::Hosts;
-use crate::sizes::quotas::{Holder, Quota, Scope};
-use napt_account::Listed;
+use crate::sizes::quotas::{Quota, QuotaHolder, Scope};
+use napt_account::LogEntry;
 use std::alloc::{AllocError, Global};
 use std::collections::BTreeMap;
 
@@ -57,8 +57,8 @@ impl Trials {
     pub fn take(
         &mut self,
         hosts: &Hosts,
-        gone: &[Listed],
-        made: &[Listed],
+        gone: &[LogEntry],
+        made: &[LogEntry],
     ) -> Result<(), AllocError> {
         for listed in gone {
             if let Some(holder) = holder_of(hosts, listed) {
@@ -68,7 +68,7 @@ impl Trials {
         self.make_all(hosts, made)
     }
 
-    fn make_all(&mut self, hosts: &Hosts, made: &[Listed]) -> Result<(), AllocError> {
+    fn make_all(&mut self, hosts: &Hosts, made: &[LogEntry]) -> Result<(), AllocError> {
         for listed in made {
             if let Some(holder) = holder_of(hosts, listed) {
                 self.know(hosts.many())?;
@@ -90,7 +90,7 @@ impl Trials {
     }
 
     /// The binding of a number is made.
-    fn make(&mut self, holder: Holder, number: u64) -> Result<(), AllocError> {
+    fn make(&mut self, holder: QuotaHolder, number: u64) -> Result<(), AllocError> {
         let mut refused = [false; TRIED];
         for (quota, refused) in self.tried.iter_mut().zip(refused.iter_mut()) {
             *refused = !quota.make(holder)?;
@@ -102,7 +102,7 @@ impl Trials {
     }
 
     /// The binding of a number is gone.
-    fn end(&mut self, holder: Holder, number: u64) {
+    fn end(&mut self, holder: QuotaHolder, number: u64) {
         let refused = self.refused.remove(&number).unwrap_or([false; TRIED]);
         for (quota, refused) in self.tried.iter_mut().zip(refused) {
             if !refused {
@@ -113,12 +113,12 @@ impl Trials {
 }
 
 /// For whom the binding of an entry counts; for nobody if it is a redirect.
-fn holder_of(hosts: &Hosts, listed: &Listed) -> Option<Holder> {
+fn holder_of(hosts: &Hosts, listed: &LogEntry) -> Option<QuotaHolder> {
     let binding = listed.entry.binding;
     if binding.fixed {
         return None;
     }
-    Some(Holder {
+    Some(QuotaHolder {
         address: binding.inside.address,
         host: hosts.place_of(binding.inside.address)?,
         protocol: binding.protocol,

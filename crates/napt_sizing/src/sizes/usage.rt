@@ -1,23 +1,23 @@
 //! What was used at once: bindings, external numbers and hosts.
 
 use crate::sizes::hosts::Hosts;
-use crate::sizes::level::Level;
+use crate::sizes::level::PeakLevel;
 use crate::sizes::refusals::Refusals;
 use crate::sizes::spaces::{Space, protocol_place};
-use napt_account::{Entry, Listed, LoggedStep, Shortage};
+use napt_account::{Entry, LogEntry, LogStep, Shortage};
 use napt_config::Config;
 use napt_wire::{Cause, Protocol};
 use std::alloc::{AllocError, Global};
 
 /// What a run used at once so far.
 #[derive(Drop)]
-pub struct Usage {
+pub struct NumberUsage {
     /// One for each external address, in the order of the pool, and for ICMP, TCP and UDP there.
     pub spaces: Vec<Space>,
     /// The inside hosts that had a binding.
     pub hosts: Hosts,
     /// All bindings, redirects included.
-    pub bindings: Level,
+    pub bindings: PeakLevel,
     /// Packets refused a binding for either cause.
     pub refused: Refusals,
     /// Packets refused because their host had reached its quota.
@@ -26,13 +26,17 @@ pub struct Usage {
     pub no_number: Refusals,
 }
 
-impl Usage {
+impl NumberUsage {
     /// That of a run before its first packet, which begins with these redirects.
-    pub fn of(alloc: Global, config: &Config, opening: &[Listed]) -> Result<Usage, AllocError> {
-        let mut usage = Usage {
+    pub fn of(
+        alloc: Global,
+        config: &Config,
+        opening: &[LogEntry],
+    ) -> Result<NumberUsage, AllocError> {
+        let mut usage = NumberUsage {
             spaces: spaces_of(alloc, config)?,
             hosts: Hosts::new(alloc),
-            bindings: Level::default(),
+            bindings: PeakLevel::default(),
             refused: Refusals::new(alloc),
             over_quota: Refusals::new(alloc),
             no_number: Refusals::new(alloc),
@@ -45,8 +49,8 @@ impl Usage {
     pub fn take(
         &mut self,
         config: &Config,
-        gone: &[Listed],
-        step: &LoggedStep,
+        gone: &[LogEntry],
+        step: &LogStep,
     ) -> Result<(), AllocError> {
         self.end(config, gone);
         self.make(config, &step.made)?;
@@ -54,8 +58,8 @@ impl Usage {
     }
 
     /// The bindings of these entries are gone.
-    fn end(&mut self, config: &Config, gone: &[Listed]) {
-        for Listed { entry, .. } in gone {
+    fn end(&mut self, config: &Config, gone: &[LogEntry]) {
+        for LogEntry { entry, .. } in gone {
             self.bindings.fall();
             if let Some(space) = self.space_of(config, entry) {
                 space.end(entry);
@@ -65,8 +69,8 @@ impl Usage {
     }
 
     /// The bindings of these entries are made.
-    fn make(&mut self, config: &Config, made: &[Listed]) -> Result<(), AllocError> {
-        for Listed { entry, .. } in made {
+    fn make(&mut self, config: &Config, made: &[LogEntry]) -> Result<(), AllocError> {
+        for LogEntry { entry, .. } in made {
             self.bindings.rise(entry.made);
             if let Some(space) = self.space_of(config, entry) {
                 space.make(entry)?;

@@ -3,18 +3,18 @@
 
 ghost use Rattle.std.specs.Prelude.{◌≡◌, ◌<◌, ◌^◌, not, Some, None, Ok, Err, OnOk, OnErr, IfOk, IfSome, All, cond, find, slice_get};
 ghost use Rattle.std.specs.Option.{option_copied, option_map, is_some};
-ghost use Rattle.napt_config.specs.Rules.{IsBlock};
+ghost use Rattle.napt_config.specs.Rules.{IsPortBlock};
 ghost use Rattle.napt_wire.specs.declared.Cause.TheVariants.{NoBinding};
-ghost use Rattle.napt_binding.specs.Entering.{entered, left_by};
+ghost use Rattle.napt_binding.specs.Inbounds.{inbound_answer, binding_after_inbound};
 
-use crate::bindings::keys::{ExternalKey, InsideKey, inside_key, key_of};
+use crate::bindings::binding_places::BindingPlaces;
+use crate::bindings::keys::{ExternalNumberKey, InsideKey, inside_key, key_of};
 use crate::bindings::numbers_in_use::NumbersInUse;
-use crate::bindings::places::Places;
 use crate::host_counts::HostCounts;
 use indexmap::IndexMap;
-use napt_binding::{Binding, Flows, IdleTimers, is_live, send, take_in, to_state};
-use napt_config::Block;
-use napt_rules::{Granting, Inbound, Received, Row, Sent, StateBinding};
+use napt_binding::{Flows, IdleTimers, TableBinding, is_live, send, take_in, to_state};
+use napt_config::PortBlock;
+use napt_rules::{AssignmentRules, InboundPacket, InboundRules, OutboundPacket, Row, StateBinding};
 use napt_wire::{Cause, Endpoint, Protocol};
 use std::alloc::{AllocError, Global};
 use std::collections::HashMap;
@@ -26,10 +26,10 @@ use std::marker::Model;
 pub(crate) struct BindingIndex {
     /// The external address.
     address: u32,
-    granting: Granting,
-    by_number: IndexMap<ExternalKey, Binding>,
+    granting: AssignmentRules,
+    by_number: IndexMap<ExternalNumberKey, TableBinding>,
     /// Where in `by_number` a number's binding may be.
-    places: Places,
+    places: BindingPlaces,
     /// The external number for an inside endpoint.
     by_inside: HashMap<InsideKey, u16>,
     /// Those in use by a binding.
@@ -39,11 +39,11 @@ pub(crate) struct BindingIndex {
 }
 
 impl Model for BindingIndex {
-    ghost use Rattle.napt_table.specs.Holdings.{Holdings};
+    ghost use Rattle.napt_table.specs.BindingIndexes.{BindingIndexModel};
 
-    ghost Value = { Holdings };
+    ghost Value = { BindingIndexModel };
 
-    ghost use Rattle.napt_table.specs.HeldShown.{holdings_of, IsHeld};
+    ghost use Rattle.napt_table.specs.HeldModels.{holdings_of, IsHeld};
 
     ghost view = { holdings_of };
 
@@ -51,27 +51,27 @@ impl Model for BindingIndex {
 }
 
 impl BindingIndex {
-    ghost use Rattle.napt_collections.specs.Sets.{IsFirstAbsent};
-    ghost use Rattle.napt_rules.specs.Prelude.{Binding, candidates, reaches};
+    ghost use Rattle.napt_collections.specs.BitSets.{IsFirstAbsent};
+    ghost use Rattle.napt_rules.specs.Prelude.{Binding, candidates, reaches_quota};
     ghost use Rattle.napt_table.specs.Keys.{key_eq, key_of};
-    ghost use Rattle.napt_table.specs.declared.bindings.keys.ExternalKey.{ExternalKey as Key};
-    ghost use Rattle.napt_table.specs.Holdings.{held, held_at, count_all, IsNumberOf, IsNamed, IsAbsent, IsSamePlace, HoldsSame};
+    ghost use Rattle.napt_table.specs.declared.bindings.keys.ExternalNumberKey.{ExternalNumberKey as Key};
+    ghost use Rattle.napt_table.specs.BindingIndexes.{held_binding, held_at, count_all, IsNumberOf, IsNamed, HasNoInside, IsSamePlace, HoldsSame};
 
     /// Nothing is held. It takes memory for the numbers in use.
     pub(crate) fn new(
         alloc: Global,
         address: u32,
-        granting: Granting,
+        granting: AssignmentRules,
     ) -> Result<BindingIndex, AllocError>
         ensures address { IfOk result (λ all. all.address ≡ address) }
         ensures granting { IfOk result (λ all. all.granting ≡ granting) }
-        ensures none { IfOk result (λ all. (key : Key) → held all key ≡ None) }
+        ensures none { IfOk result (λ all. (key : Key) → held_binding all key ≡ None) }
     {
         Ok(BindingIndex {
             address,
             granting,
             by_number: IndexMap::new(alloc),
-            places: Places::new(alloc),
+            places: BindingPlaces::new(alloc),
             by_inside: HashMap::new(alloc),
             numbers: NumbersInUse::new(alloc)?,
             hosts: HostCounts::new(alloc, granting.quota.is_some()),
@@ -98,16 +98,16 @@ impl BindingIndex {
     }
 
     /// The binding with the number.
-    pub(crate) fn get(&self, key: ExternalKey) -> Option<&Binding>
-        ensures { option_copied result ≡ held self.now key }
+    pub(crate) fn get(&self, key: ExternalNumberKey) -> Option<&TableBinding>
+        ensures { option_copied result ≡ held_binding self.now key }
     {
         self.by_number.get(&key)
     }
 
     /// The binding with the number, and its place: the one that was noted, if the binding there has the number.
     #[inline(always)]
-    pub(crate) fn find(&self, key: ExternalKey) -> Option<(usize, &Binding)>
-        ensures value { option_map (λ found. found.1.now) result ≡ held self.now key }
+    pub(crate) fn find(&self, key: ExternalNumberKey) -> Option<(usize, &TableBinding)>
+        ensures value { option_map (λ found. found.1.now) result ≡ held_binding self.now key }
         ensures entry { IfSome result (λ found.
             slice_get self.now.entries found.0 ≡ Some (key, found.1.now)) }
     {
@@ -135,11 +135,11 @@ impl BindingIndex {
     /// has one.
     pub(crate) fn choose(
         &self,
-        block: Option<Block>,
+        block: Option<PortBlock>,
         protocol: Protocol,
         inside: Endpoint,
     ) -> Option<u16>
-        requires { IfSome block IsBlock }
+        requires { IfSome block IsPortBlock }
         ensures { result ≡ find (λ n. not (is_some (held_at self.now protocol n)))
             (candidates self.now.granting.choosing block protocol inside) }
     {
@@ -156,7 +156,7 @@ impl BindingIndex {
 
     /// Whether the host has all the bindings that the quota allows.
     pub(crate) fn reaches(&self, host: u32) -> bool
-        ensures { result ≡ reaches self.now.granting.quota (count_all self.now host) }
+        ensures { result ≡ reaches_quota self.now.granting.quota (count_all self.now host) }
     {
         let Some(quota) = self.granting.quota else {
             return false;
@@ -180,14 +180,14 @@ impl BindingIndex {
     }
 
     /// Adds a binding, for which there is room and whose ends are free.
-    pub(crate) fn insert(&mut self, binding: Binding)
+    pub(crate) fn insert(&mut self, binding: TableBinding)
         requires room { 0 < self.old.room }
         requires at { binding.row.external.address ≡ self.old.address }
-        requires free { held self.old (key_of binding) ≡ None }
-        requires absent { IsAbsent self.old binding.row.protocol binding.row.inside }
+        requires free { held_binding self.old (key_of binding) ≡ None }
+        requires absent { HasNoInside self.old binding.row.protocol binding.row.inside }
         ensures place { IsSamePlace self.old self.new }
-        ensures held { (key : Key) → held self.new key ≡ cond (key_eq (key_of binding) key)
-            (Some binding) (held self.old key) }
+        ensures held { (key : Key) → held_binding self.new key ≡ cond (key_eq (key_of binding) key)
+            (Some binding) (held_binding self.old key) }
     {
         let key = key_of(&binding);
         let inside = inside_key(binding.row.protocol(), binding.row.inside());
@@ -209,10 +209,10 @@ impl BindingIndex {
     }
 
     /// Removes the binding with the number.
-    pub(crate) fn remove(&mut self, key: ExternalKey)
+    pub(crate) fn remove(&mut self, key: ExternalNumberKey)
         ensures place { IsSamePlace self.old self.new }
-        ensures held { (other : Key) → held self.new other ≡ cond (key_eq key other) None
-            (held self.old other) }
+        ensures held { (other : Key) → held_binding self.new other ≡ cond (key_eq key other) None
+            (held_binding self.old other) }
         ensures room { 0 < self.old.room → 0 < self.new.room }
     {
         let Some((place, _, binding)) = self.by_number.swap_remove_full(&key) else {
@@ -231,9 +231,9 @@ impl BindingIndex {
 
 impl BindingIndex {
     ghost use Rattle.napt_rules.specs.Prelude.{Binding};
-    ghost use Rattle.napt_table.specs.Held.{seen};
+    ghost use Rattle.napt_table.specs.HeldLists.{seen_binding};
     ghost use Rattle.napt_table.specs.Keys.{external_key};
-    ghost use Rattle.napt_table.specs.Holdings.{held, held_at, AreUsedUpTo, HoldsSame, ChangesOne, WentOut};
+    ghost use Rattle.napt_table.specs.BindingIndexes.{held_binding, held_at, AreUsedUpTo, HoldsSame, ChangesOne, SendKnownPost};
 
     /// Sends a packet out through the live binding of its inside endpoint, if there is one; returns its number. If
     /// memory is refused nothing that is held changes.
@@ -241,10 +241,10 @@ impl BindingIndex {
         &mut self,
         alloc: Global,
         timers: IdleTimers,
-        packet: Sent,
+        packet: OutboundPacket,
     ) -> Result<Option<u16>, AllocError>
         requires { AreUsedUpTo packet.now self.old }
-        ensures went { IfOk result (WentOut timers packet self.old self.new) }
+        ensures went { IfOk result (SendKnownPost timers packet self.old self.new) }
         ensures refused { OnErr result (HoldsSame self.old self.new) }
     {
         let protocol = packet.protocol;
@@ -252,7 +252,7 @@ impl BindingIndex {
             Some(number) => *number,
             None => return Ok(None),
         };
-        let Some((place, binding)) = self.find(ExternalKey { number, protocol }) else {
+        let Some((place, binding)) = self.find(ExternalNumberKey { number, protocol }) else {
             return Ok(None);
         };
         if !is_live(binding, timers, packet.now) {
@@ -266,10 +266,10 @@ impl BindingIndex {
     }
 
     /// Begins the binding with the number anew, with these flows. Its ends stay.
-    pub(crate) fn renew(&mut self, key: ExternalKey, last: u64, flows: Flows)
+    pub(crate) fn renew(&mut self, key: ExternalNumberKey, last: u64, flows: Flows)
         ensures one { ChangesOne key self.old self.new }
-        ensures left { (b : Binding) → held self.old key ≡ Some b →
-            held self.new key ≡ Some (record b { last = last; flows = flows }) }
+        ensures left { (b : Binding) → held_binding self.old key ≡ Some b →
+            held_binding self.new key ≡ Some (record b { last = last; flows = flows }) }
     {
         let Some((place, _)) = self.find(key) else {
             return;
@@ -286,21 +286,21 @@ impl BindingIndex {
     pub(crate) fn receive(
         &mut self,
         timers: IdleTimers,
-        inbound: Inbound,
-        packet: Received,
+        inbound: InboundRules,
+        packet: InboundPacket,
     ) -> Result<Endpoint, Cause>
         requires { AreUsedUpTo packet.now self.old }
         ensures one { ChangesOne (external_key packet.protocol packet.number) self.old self.new }
-        ensures absent { seen timers packet.now (held_at self.old packet.protocol packet.number)
+        ensures absent { seen_binding timers packet.now (held_at self.old packet.protocol packet.number)
             ≡ None →
             (result ≡ Err NoBinding) × (held_at self.new packet.protocol packet.number
             ≡ held_at self.old packet.protocol packet.number) }
         ensures found { (b : Binding) →
-            seen timers packet.now (held_at self.old packet.protocol packet.number) ≡ Some b →
-            (result ≡ entered inbound packet b)
-            × (held_at self.new packet.protocol packet.number ≡ Some (left_by inbound packet b)) }
+            seen_binding timers packet.now (held_at self.old packet.protocol packet.number) ≡ Some b →
+            (result ≡ inbound_answer inbound packet b)
+            × (held_at self.new packet.protocol packet.number ≡ Some (binding_after_inbound inbound packet b)) }
     {
-        let key = ExternalKey {
+        let key = ExternalNumberKey {
             number: packet.number,
             protocol: packet.protocol,
         };
@@ -321,7 +321,7 @@ impl BindingIndex {
     ghost use Rattle.std.specs.{List.IsDistinct, Map.{keys_of, values_of}};
     ghost use Rattle.napt_rules.specs.Prelude.{purge};
     ghost use Rattle.napt_binding.specs.Slots.{AreDistinct};
-    ghost use Rattle.napt_table.specs.{Keys.key_eq, Listing.{held_rows, AreRead}};
+    ghost use Rattle.napt_table.specs.{Keys.key_eq, HeldRows.{held_rows, AreRead}};
 
     /// The rows of the bindings that are live at `now` (ns), in no order.
     pub(crate) fn rows(

@@ -3,12 +3,12 @@
 ghost use Rattle.std.specs.Prelude.{◌≡◌, ◌<◌, ◌^◌};
 ghost use Rattle.napt_table.specs.Keys.{key_of, inside_key};
 
-use napt_binding::Binding;
+use napt_binding::TableBinding;
 use napt_wire::{Endpoint, Protocol};
 
 /// An external number under its protocol.
 #[derive(Clone, Copy, PartialEq, Eq, PartialOrd, Ord, Hash)]
-pub(crate) struct ExternalKey {
+pub(crate) struct ExternalNumberKey {
     pub(crate) number: u16,
     pub(crate) protocol: Protocol,
 }
@@ -33,11 +33,11 @@ pub(crate) fn inside_key(protocol: Protocol, inside: Endpoint) -> InsideKey
 }
 
 /// The key of the binding's external number.
-pub(crate) fn key_of(binding: &Binding) -> ExternalKey
+pub(crate) fn key_of(binding: &TableBinding) -> ExternalNumberKey
     ensures value { result ≡ key_of binding.now }
     ensures small { result.number < 2 ^ 16 }
 {
-    ExternalKey {
+    ExternalNumberKey {
         number: binding.row.external_number(),
         protocol: binding.row.protocol(),
     }

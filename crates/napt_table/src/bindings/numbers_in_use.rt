@@ -1,11 +1,11 @@
 //! Which external numbers of an address are in use, under each protocol.
 
 ghost use Rattle.std.specs.Prelude.{◌≡◌, ◌^◌, ◌<◌, false, not, ◌&&◌, ◌||◌, find, IfOk, IfSome};
-ghost use Rattle.napt_config.specs.Rules.{IsBlock};
+ghost use Rattle.napt_config.specs.Rules.{IsPortBlock};
 
-use crate::bindings::keys::ExternalKey;
+use crate::bindings::keys::ExternalNumberKey;
 use crate::numbers::Numbers;
-use napt_config::{Block, Choosing};
+use napt_config::{NumberAssignment, PortBlock};
 use napt_wire::{Endpoint, Protocol};
 use std::alloc::{AllocError, Global};
 
@@ -18,11 +18,11 @@ pub(crate) struct NumbersInUse {
 }
 
 impl NumbersInUse {
-    ghost use Rattle.napt_collections.specs.Sets.{IsFirstAbsent};
+    ghost use Rattle.napt_collections.specs.BitSets.{IsFirstAbsent};
     ghost use Rattle.napt_rules.specs.Prelude.{candidates};
     ghost use Rattle.napt_table.specs.Keys.{external_key, key_eq};
-    ghost use Rattle.napt_table.specs.declared.bindings.keys.ExternalKey.{ExternalKey as Key};
-    ghost use Rattle.napt_table.specs.InUse.{is_in_use, AreByProtocol};
+    ghost use Rattle.napt_table.specs.declared.bindings.keys.ExternalNumberKey.{ExternalNumberKey as Key};
+    ghost use Rattle.napt_table.specs.NumbersInUse.{is_in_use, AreByProtocol};
 
     /// None is in use. It takes about 25 KiB, and no other call takes any; `AllocError` if they are refused.
     pub(crate) fn new(alloc: Global) -> Result<NumbersInUse, AllocError>
@@ -40,13 +40,13 @@ impl NumbersInUse {
     /// not in use; `None` if all are.
     pub(crate) fn choose(
         &self,
-        choosing: Choosing,
-        block: Option<Block>,
+        choosing: NumberAssignment,
+        block: Option<PortBlock>,
         protocol: Protocol,
         inside: Endpoint,
     ) -> Option<u16>
         requires by_protocol { AreByProtocol self.now }
-        requires block { IfSome block IsBlock }
+        requires block { IfSome block IsPortBlock }
         ensures { result ≡ find (λ n. not (is_in_use self.now (external_key protocol n)))
             (candidates choosing block protocol inside) }
     {
@@ -71,7 +71,7 @@ impl NumbersInUse {
     }
 
     /// Marks the number as in use, if it is free.
-    pub(crate) fn put(&mut self, key: ExternalKey)
+    pub(crate) fn put(&mut self, key: ExternalNumberKey)
         requires { AreByProtocol self.old }
         ensures by_protocol { AreByProtocol self.new }
         ensures used { (other : Key) → other.number < 2 ^ 16 → is_in_use self.new other
@@ -85,7 +85,7 @@ impl NumbersInUse {
     }
 
     /// Frees the number, if it is in use.
-    pub(crate) fn take(&mut self, key: ExternalKey)
+    pub(crate) fn take(&mut self, key: ExternalNumberKey)
         requires { AreByProtocol self.old }
         ensures by_protocol { AreByProtocol self.new }
         ensures used { (other : Key) → other.number < 2 ^ 16 → is_in_use self.new other

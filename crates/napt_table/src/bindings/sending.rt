@@ -1,26 +1,26 @@
 //! Bindings that begin, and packets that go out through them.
 
 ghost use Rattle.std.specs.{Prelude.{◌≡◌, ◌≤◌, true, false, Some, None, Ok, OnOk, OnErr, IfOk, IfSome, cond}, Option.is_some};
-ghost use Rattle.napt_config.specs.Rules.{IsBlock};
+ghost use Rattle.napt_config.specs.Rules.{IsPortBlock};
 
 use crate::bindings::Bindings;
-use crate::bindings::keys::{ExternalKey, key_of};
-use napt_binding::{Binding, Flows, KeptRow, until};
-use napt_rules::{Row, Sent};
+use crate::bindings::keys::{ExternalNumberKey, key_of};
+use napt_binding::{Flows, PackedRow, TableBinding, until};
+use napt_rules::{OutboundPacket, Row};
 use napt_wire::{Cause, Endpoint, Protocol};
 use std::alloc::{AllocError, Global};
 
 impl Bindings {
     ghost use Rattle.napt_rules.specs.Prelude.{is_live};
     ghost use Rattle.napt_table.specs.Keys.{key_eq, key_of};
-    ghost use Rattle.napt_table.specs.declared.bindings.keys.ExternalKey.{ExternalKey as Key};
-    ghost use Rattle.napt_table.specs.Holdings.{held, IsSamePlace, IsAbsent, IsUsedBy};
-    ghost use Rattle.napt_table.specs.Bindings.{HasRoom, Stands};
+    ghost use Rattle.napt_table.specs.declared.bindings.keys.ExternalNumberKey.{ExternalNumberKey as Key};
+    ghost use Rattle.napt_table.specs.BindingIndexes.{held_binding, IsSamePlace, HasNoInside, IsUsedBy};
+    ghost use Rattle.napt_table.specs.Bindings.{BindingsHaveRoom, BindingsInvariant};
 
     /// Makes room for one more binding of the protocol.
     fn make_room(&mut self, protocol: Protocol) -> Result<(), AllocError>
-        ensures same { Stands self.old self.new }
-        ensures room { OnOk result (HasRoom self.new) }
+        ensures same { BindingsInvariant self.old self.new }
+        ensures room { OnOk result (BindingsHaveRoom self.new) }
     {
         let held = &mut self.held;
         held.reserve(protocol)?;
@@ -29,20 +29,20 @@ impl Bindings {
     }
 
     /// Adds a binding that lives at a time not before the hold, for which there is room and whose ends are free.
-    fn insert(&mut self, binding: Binding, from: u64)
-        requires room { HasRoom self.old }
+    fn insert(&mut self, binding: TableBinding, from: u64)
+        requires room { BindingsHaveRoom self.old }
         requires from { from ≤ self.old.at }
         requires live { is_live self.old.timers from binding ≡ true }
         requires loose { binding.row.fixed ≡ false }
         requires at { binding.row.external.address ≡ self.old.held.address }
-        requires free { held self.old.held (key_of binding) ≡ None }
-        requires absent { IsAbsent self.old.held binding.row.protocol binding.row.inside }
+        requires free { held_binding self.old.held (key_of binding) ≡ None }
+        requires absent { HasNoInside self.old.held binding.row.protocol binding.row.inside }
         requires used { IsUsedBy self.old.at binding }
         ensures timers { self.new.timers ≡ self.old.timers }
         ensures at { self.new.at ≡ self.old.at }
         ensures place { IsSamePlace self.old.held self.new.held }
-        ensures held { (key : Key) → held self.new.held key ≡ cond (key_eq (key_of binding) key)
-            (Some binding) (held self.old.held key) }
+        ensures held { (key : Key) → held_binding self.new.held key ≡ cond (key_eq (key_of binding) key)
+            (Some binding) (held_binding self.old.held key) }
     {
         let key = key_of(&binding);
         let end = until(&binding, self.timers, from);
@@ -56,27 +56,27 @@ impl Bindings {
 impl Bindings {
     ghost use Rattle.std.specs.Prelude.{[]};
     ghost use Rattle.napt_wire.specs.declared.Way.TheVariants.{Outgoing as WayOut};
-    ghost use Rattle.napt_rules.specs.Prelude.{Binding, change_first, is_live, hold_ago, live_flows, is_flow_of, used, with_flow};
-    ghost use Rattle.napt_table.specs.Held.{seen};
+    ghost use Rattle.napt_rules.specs.Prelude.{Binding, change_first, is_live, hold_ago, live_flows, is_flow_of, flow_after, with_flow};
+    ghost use Rattle.napt_table.specs.HeldLists.{seen_binding};
     ghost use Rattle.napt_table.specs.Keys.{key_eq, key_of};
-    ghost use Rattle.napt_table.specs.declared.bindings.keys.ExternalKey.{ExternalKey as Key};
-    ghost use Rattle.napt_table.specs.Holdings.{held, held_at, HasInside, IsSamePlace, IsAbsent, HoldsSame, IsUsedBy, WentOut};
-    ghost use Rattle.napt_table.specs.Bindings.{HasRoom, Stands, Begins, Renews, Sends, SendsKnown};
+    ghost use Rattle.napt_table.specs.declared.bindings.keys.ExternalNumberKey.{ExternalNumberKey as Key};
+    ghost use Rattle.napt_table.specs.BindingIndexes.{held_binding, held_at, HasInside, IsSamePlace, HasNoInside, HoldsSame, IsUsedBy, SendKnownPost};
+    ghost use Rattle.napt_table.specs.Bindings.{BindingsHaveRoom, BindingsInvariant, NewBindingOk, RenewedBindingOk, SendPost, SendsKnown};
 
     /// Adds a binding that lives or is held, and whose ends are free. A redirect never expires, so it has no queue entry.
     /// If memory is refused nothing that is held changes.
-    pub(crate) fn add(&mut self, binding: Binding) -> Result<(), AllocError>
+    pub(crate) fn add(&mut self, binding: TableBinding) -> Result<(), AllocError>
         requires live { is_live self.old.timers (hold_ago self.old.timers self.old.at) binding
             ≡ true }
         requires at { binding.row.external.address ≡ self.old.held.address }
-        requires free { held self.old.held (key_of binding) ≡ None }
-        requires absent { IsAbsent self.old.held binding.row.protocol binding.row.inside }
+        requires free { held_binding self.old.held (key_of binding) ≡ None }
+        requires absent { HasNoInside self.old.held binding.row.protocol binding.row.inside }
         requires used { IsUsedBy self.old.at binding }
         ensures timers { self.new.timers ≡ self.old.timers }
         ensures at { self.new.at ≡ self.old.at }
         ensures place { IsSamePlace self.old.held self.new.held }
-        ensures held { OnOk result ((key : Key) → held self.new.held key
-            ≡ cond (key_eq (key_of binding) key) (Some binding) (held self.old.held key)) }
+        ensures held { OnOk result ((key : Key) → held_binding self.new.held key
+            ≡ cond (key_eq (key_of binding) key) (Some binding) (held_binding self.old.held key)) }
         ensures refused { OnErr result (HoldsSame self.old.held self.new.held) }
     {
         self.make_room(binding.row.protocol())?;
@@ -93,13 +93,17 @@ impl Bindings {
     /// Sends a packet out through the live binding of its inside endpoint, if there is one; returns its number, and its
     /// time becomes that of the packet. If memory is refused nothing that is held changes.
     #[inline(always)]
-    fn send_held(&mut self, alloc: Global, packet: Sent) -> Result<Option<u16>, AllocError>
+    fn send_held(
+        &mut self,
+        alloc: Global,
+        packet: OutboundPacket,
+    ) -> Result<Option<u16>, AllocError>
         requires later { self.old.at ≤ packet.now }
         ensures timers { self.new.timers ≡ self.old.timers }
         ensures at { IfOk result (λ found.
             self.new.at ≡ cond (is_some found) packet.now self.old.at) }
-        ensures went { IfOk result (WentOut self.old.timers packet self.old.held self.new.held) }
-        ensures refused { OnErr result (Stands self.old self.new) }
+        ensures went { IfOk result (SendKnownPost self.old.timers packet self.old.held self.new.held) }
+        ensures refused { OnErr result (BindingsInvariant self.old self.new) }
     {
         let timers = self.timers;
         timers.keep_limits();
@@ -116,14 +120,14 @@ impl Bindings {
     pub(crate) fn send_known(
         &mut self,
         alloc: Global,
-        packet: Sent,
+        packet: OutboundPacket,
     ) -> Result<Option<u16>, AllocError>
         requires later { self.old.at ≤ packet.now }
         ensures timers { self.new.timers ≡ self.old.timers }
         ensures known { IfOk result (λ found. IfSome found (λ number.
             SendsKnown packet self.old self.new number)) }
-        ensures unknown { result ≡ Ok None → Stands self.old self.new }
-        ensures refused { OnErr result (Stands self.old self.new) }
+        ensures unknown { result ≡ Ok None → BindingsInvariant self.old self.new }
+        ensures refused { OnErr result (BindingsInvariant self.old self.new) }
     {
         self.timers.keep_limits();
         self.keep_names();
@@ -131,12 +135,12 @@ impl Bindings {
     }
 
     /// Takes the memory for a new binding for the outgoing packet, and begins its flows. What is held does not change.
-    fn prepare(&mut self, alloc: Global, packet: Sent) -> Result<Flows, AllocError>
-        ensures same { Stands self.old self.new }
-        ensures room { OnOk result (HasRoom self.new) }
+    fn prepare(&mut self, alloc: Global, packet: OutboundPacket) -> Result<Flows, AllocError>
+        ensures same { BindingsInvariant self.old self.new }
+        ensures room { OnOk result (BindingsHaveRoom self.new) }
         ensures flows { IfOk result (λ flows.
             live_flows self.old.timers packet.now packet.protocol flows ≡
-            change_first (is_flow_of packet.remote) (used packet.protocol WayOut packet.flags packet.now)
+            change_first (is_flow_of packet.remote) (flow_after packet.protocol WayOut packet.flags packet.now)
             (with_flow packet.remote packet.now [])) }
     {
         self.make_room(packet.protocol)?;
@@ -144,20 +148,20 @@ impl Bindings {
     }
 
     /// Makes a binding with these flows for the outgoing packet; returns its number, or `NoPort`. It takes no memory.
-    fn begin(&mut self, packet: Sent, flows: Flows) -> Result<u16, Cause>
-        requires room { HasRoom self.old }
+    fn begin(&mut self, packet: OutboundPacket, flows: Flows) -> Result<u16, Cause>
+        requires room { BindingsHaveRoom self.old }
         requires at { self.old.at ≡ packet.now }
-        requires live { (key : Key) (b : Binding) → held self.old.held key ≡ Some b →
+        requires live { (key : Key) (b : Binding) → held_binding self.old.held key ≡ Some b →
             is_live self.old.timers (hold_ago self.old.timers packet.now) b ≡ true }
-        requires absent { IsAbsent self.old.held packet.protocol packet.inside }
-        requires block { IfSome packet.block IsBlock }
+        requires absent { HasNoInside self.old.held packet.protocol packet.inside }
+        requires block { IfSome packet.block IsPortBlock }
         requires flows { live_flows self.old.timers packet.now packet.protocol flows ≡
-            change_first (is_flow_of packet.remote) (used packet.protocol WayOut packet.flags packet.now)
+            change_first (is_flow_of packet.remote) (flow_after packet.protocol WayOut packet.flags packet.now)
             (with_flow packet.remote packet.now []) }
         ensures timers { self.new.timers ≡ self.old.timers }
         ensures at { self.new.at ≡ self.old.at }
         ensures place { IsSamePlace self.old.held self.new.held }
-        ensures begins { Begins packet self.old self.new result }
+        ensures begins { NewBindingOk packet self.old self.new result }
     {
         self.timers.keep_limits();
         let chosen = self
@@ -166,8 +170,8 @@ impl Bindings {
         let Some(number) = chosen else {
             return Err(Cause::NoPort);
         };
-        let binding = Binding {
-            row: KeptRow::new(Row {
+        let binding = TableBinding {
+            row: PackedRow::new(Row {
                 protocol: packet.protocol,
                 inside: packet.inside,
                 external: Endpoint {
@@ -184,24 +188,24 @@ impl Bindings {
     }
 
     /// Begins the binding that is held for the outgoing packet anew, with these flows: it has the number.
-    fn renew(&mut self, packet: Sent, number: u16, flows: Flows)
+    fn renew(&mut self, packet: OutboundPacket, number: u16, flows: Flows)
         requires at { self.old.at ≡ packet.now }
         requires its { HasInside self.old.held packet.protocol packet.inside number }
-        requires unseen { seen self.old.timers packet.now
+        requires unseen { seen_binding self.old.timers packet.now
             (held_at self.old.held packet.protocol number) ≡ None }
         requires flows { live_flows self.old.timers packet.now packet.protocol flows ≡
-            change_first (is_flow_of packet.remote) (used packet.protocol WayOut packet.flags packet.now)
+            change_first (is_flow_of packet.remote) (flow_after packet.protocol WayOut packet.flags packet.now)
             (with_flow packet.remote packet.now []) }
         ensures timers { self.new.timers ≡ self.old.timers }
         ensures at { self.new.at ≡ self.old.at }
         ensures place { IsSamePlace self.old.held self.new.held }
-        ensures renews { Renews packet self.old self.new number }
+        ensures renews { RenewedBindingOk packet self.old self.new number }
     {
         self.timers.keep_limits();
         self.held.keep_names();
         let protocol = packet.protocol;
         let held = &mut self.held;
-        held.renew(ExternalKey { number, protocol }, packet.now, flows);
+        held.renew(ExternalNumberKey { number, protocol }, packet.now, flows);
     }
 
     /// Sends a packet out: returns the number of its binding, or of a new one if it has none, which is that of its held
@@ -210,15 +214,15 @@ impl Bindings {
     pub(crate) fn send(
         &mut self,
         alloc: Global,
-        packet: Sent,
+        packet: OutboundPacket,
     ) -> Result<Result<u16, Cause>, AllocError>
         requires later { self.old.at ≤ packet.now }
-        requires block { IfSome packet.block IsBlock }
+        requires block { IfSome packet.block IsPortBlock }
         ensures timers { self.new.timers ≡ self.old.timers }
         ensures place { IsSamePlace self.old.held self.new.held }
         ensures at { OnOk result (self.new.at ≡ packet.now) }
-        ensures sends { IfOk result (Sends packet self.old self.new) }
-        ensures refused { OnErr result (Stands self.old self.new) }
+        ensures sends { IfOk result (SendPost packet self.old self.new) }
+        ensures refused { OnErr result (BindingsInvariant self.old self.new) }
     {
         self.timers.keep_limits();
         self.keep_names();

@@ -1,7 +1,7 @@
 use Rattle.std.proofs.Common.{◌≡◌, ◌<◌, ◌≤◌, ℕ, true, false, List, ◌++◌, map, length, get_or, sym, ◌∙◌, ap, subst}
 use Rattle.std.{proofs.lemmas.List.take_all}
 use Rattle.napt_rules.specs.Prelude.{Binding, Rules, State, Timers, is_live, flows_share, opening, with_live_flows}
-use Rattle.napt_table.specs.{TimedRows.timed}
+use Rattle.napt_table.specs.{TimedRows.timed_row}
 use Rattle.napt_account.proofs.LiveRows.{live_all, live_of, next_single}
 use Rattle.napt_account.proofs.live_rows.live_rows.Goals as goal
 
@@ -30,6 +30,6 @@ returns c =
     let same = c.deref-binding-items.ensures.value ∙ ap (λ (s : State). s.list) c.state.view_is in
     let past : length state.list ≤ k = rw (← same) c.loop-binding-test.false in
     c.loop-binding.invariant
-    ∙ (ap (λ (bs : List Binding). map (timed rules.timers) (opening rules)
-    ++ map (timed rules.timers) (live_of rules.timers state.clock bs)) (take_all k state.list past)
+    ∙ (ap (λ (bs : List Binding). map (timed_row rules.timers) (opening rules)
+    ++ map (timed_row rules.timers) (live_of rules.timers state.clock bs)) (take_all k state.list past)
     ∙ sym (live_all rules state))

@@ -1,5 +1,5 @@
 use Rattle.std.proofs.Common.{◌∙◌, sym, ap, is_some}
-use Rattle.napt_binding.proofs.Few.{never_full, full_where}
+use Rattle.napt_binding.proofs.ListLengths.{never_full, full_where}
 use Rattle.napt_binding.proofs.flows.is_full.Goals as goal
 
 pub returns-then-flows-lt-FEW : goal.returns-then-flows-lt-FEW

@@ -1,5 +1,5 @@
 use Rattle.std.proofs.{Common.{◌≡◌, ℕ, ◌+◌, ◌*◌, ◌<◌, ◌||◌, true, false, min, subst, sym, ◌∙◌, ap, arith}, lemmas.Bool.Decides.nat_tests}
-use Rattle.napt_rules.specs.Prelude.{Binding, second, is_recent, is_live_by, is_live, Protocol, Icmp, Tcp, Udp, Timers}
+use Rattle.napt_rules.specs.Prelude.{Binding, ns_per_second, is_recent, is_live_by, is_live, Protocol, Icmp, Tcp, Udp, Timers}
 use Rattle.napt_binding.specs.Ends.{least_timer}
 use Rattle.napt_binding.proofs.life.until.Goals as goal
 
@@ -11,11 +11,11 @@ lives_by b timers t protocol loose is live =
 
 -- a time that is sooner after now than the least timer
 within : (b : Binding) (timers : Timers) (t now seconds : ℕ) (protocol : Protocol) → b.row.protocol ≡ protocol →
-    seconds ≡ least_timer protocol timers → 0 < seconds → t < now + least_timer b.row.protocol timers * second →
+    seconds ≡ least_timer protocol timers → 0 < seconds → t < now + least_timer b.row.protocol timers * ns_per_second →
     is_recent t now seconds ≡ true
 within b timers t now seconds protocol is same some h =
-    let span : t < now + seconds * second =
-    rw same (subst (λ (p : Protocol). t < now + least_timer p timers * second) is h) in
+    let span : t < now + seconds * ns_per_second =
+    rw same (subst (λ (p : Protocol). t < now + least_timer p timers * ns_per_second) is h) in
     grind (arith, nat_tests)
 
 pub returns-in-Icmp-clause-far : goal.returns-in-Icmp-clause-far

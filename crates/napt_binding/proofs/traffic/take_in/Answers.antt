@@ -1,4 +1,4 @@
-use Rattle.napt_binding.proofs.Used.{live_flows_used}
+use Rattle.napt_binding.proofs.LastUses.{live_flows_used}
 use Rattle.napt_binding.proofs.traffic.take_in.Goals as goal
 
 pub receive-requires : goal.receive-requires

@@ -1,4 +1,4 @@
-use Rattle.napt_capture.proofs.{Captured.never_large, Whole.read_short}
+use Rattle.napt_capture.proofs.{FileContents.never_large, WholeReading.read_short}
 use Rattle.napt_capture.proofs.laws.none_too_large.Goals as goal
 
 pub returns-clause-whole : goal.returns-clause-whole

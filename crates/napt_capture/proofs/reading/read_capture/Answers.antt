@@ -1,6 +1,6 @@
 -- Each exit answers what was read.
 use Rattle.std.proofs.{lemmas.{Grind.common_steps, Bool.Decides.nat_tests, Result.err_from_is_err_and}, Common.{arith, length-append}}
-use Rattle.napt_capture.proofs.Whole.{asked_joined, for_records, header_refused, reads_end, reads_fault, reads_on, refuses, starts}
+use Rattle.napt_capture.proofs.WholeReading.{asked_joined, for_records, header_refused, reads_end, reads_fault, reads_on, refuses, starts}
 use Rattle.napt_capture.proofs.reading.read_capture.Goals as goal
 
 pub returns-in_err-spelling-clause-answer : goal.returns-in_err-spelling-clause-answer

@@ -1,13 +1,13 @@
 -- What was read so far is the front of the file, with these records, and no read failed.
 use Rattle.std.proofs.Common.{◌≡◌, ◌+◌, ◌-◌, ◌*◌, ◌≤◌, All, length}
-use Rattle.napt_capture.{specs.Prelude.{MOST_ASKED, asked_records, Gives, IsWritable}, proofs.Whole.Progress}
+use Rattle.napt_capture.{specs.Prelude.{MOST_ASKED, bytes_asked_for_records, LeavesBytes, IsWritable}, proofs.WholeReading.Progress}
 use Rattle.napt_capture.proofs.reading.read_capture.Given as goal
 
 abbrev pub invariant-loop-records : goal.invariant-loop-records
 invariant-loop-records g l = record {
-  progress : Gives (g.R.Source.remaining l.fn.reader) (g.R.Source.remaining l.reader)
+  progress : LeavesBytes (g.R.Source.remaining l.fn.reader) (g.R.Source.remaining l.reader)
       (Progress l.spelling l.records.items l.asked);
-  counted : l.asked ≡ 24 + asked_records l.records.items;
+  counted : l.asked ≡ 24 + bytes_asked_for_records l.records.items;
   room : l.asked ≤ MOST_ASKED;
   live : g.R.Source.failed l.reader ≡ g.R.Source.failed l.fn.reader;
   writable : All IsWritable l.records.items;

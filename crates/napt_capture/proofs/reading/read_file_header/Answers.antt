@@ -1,6 +1,6 @@
 -- What was filled is the header.
 use Rattle.std.proofs.Common.{arith}
-use Rattle.napt_capture.proofs.{Filled.{Gives-map, Says-fact, filled_by}, Header.{file_short, file_whole}}
+use Rattle.napt_capture.proofs.{FillSteps.{Gives-map, Says-fact, filled_by}, Header.{file_short, file_whole}}
 use Rattle.napt_capture.proofs.reading.read_file_header.Goals as goal
 
 pub returns-then-filled-lt-FILE_HEADER-clause-header : goal.returns-then-filled-lt-FILE_HEADER-clause-header

@@ -1,6 +1,6 @@
 -- What was filled is the header, and then the bytes.
 use Rattle.std.proofs.{lemmas.{Grind.common_steps, Bool.Decides.nat_tests, Result.err_from_is_err_and, List.with_items_is}, Common.{Err, arith}}
-use Rattle.napt_capture.{specs.Prelude.Next, proofs.Filled.{Gives-both, Gives-map, Says-fact, filled_by}}
+use Rattle.napt_capture.{specs.Prelude.NextRead, proofs.FillSteps.{Gives-both, Gives-map, Says-fact, filled_by}}
 use Rattle.napt_capture.proofs.Header.{header_read, next_all, next_bad, next_early, next_large, next_none, next_part}
 use Rattle.napt_capture.proofs.reading.read_record.Goals as goal
 
@@ -21,7 +21,7 @@ returns-in_err-fields-clause-next g c =
     let fault = c.in_err-fields.field-0.0 in
     let read = filled_by _ _ c.in_ok-filled.filled c.fill.new.buffer c.in_ok-filled.ensures.bound
     c.in_ok-filled.ensures.bytes c.in_ok-filled.ensures.end in
-    rw (p.1, p.2) (Says-fact {T = Next} (Err fault) (Gives-map _ _ (λ text left p.
+    rw (p.1, p.2) (Says-fact {T = NextRead} (Err fault) (Gives-map _ _ (λ text left p.
     next_bad c.args.spelling c.args.asked c.args.number c.fill.new.buffer text left fault
     (omega (arith, c.if-asked.false, c.requires.within))
     (header_read c.in_ok-filled.filled c.fill.new.buffer text left (omega (arith, c.fill.auto.buffer))

@@ -1,5 +1,5 @@
 use Rattle.std.proofs.Common.{◌≡◌, ℕ, ◌+◌, ◌*◌, ◌<◌, ◌≤◌, true}
-use Rattle.napt_collections.specs.Sets.{has}
+use Rattle.napt_collections.specs.BitSets.{has}
 use Rattle.napt_collections.proofs.word.first_clear_of.Given as goal
 
 abbrev pub invariant-loop-i : goal.invariant-loop-i

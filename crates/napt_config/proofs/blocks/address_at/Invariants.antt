@@ -1,5 +1,5 @@
 use Rattle.std.proofs.Common.{◌≡◌, drop}
-use Rattle.napt_config.specs.Network.{address_at}
+use Rattle.napt_config.specs.Prefixes.{address_at}
 use Rattle.napt_config.proofs.blocks.address_at.Given as goal
 
 abbrev pub invariant-loop-prefix : goal.invariant-loop-prefix

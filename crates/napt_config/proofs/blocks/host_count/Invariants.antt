@@ -1,5 +1,5 @@
 use Rattle.std.proofs.Common.{◌≡◌, ◌+◌, ◌*◌, ◌^◌, ◌≤◌, drop}
-use Rattle.napt_config.specs.Network.{host_count}
+use Rattle.napt_config.specs.Prefixes.{host_count}
 use Rattle.napt_config.proofs.blocks.host_count.Given as goal
 
 abbrev pub invariant-loop-prefix : goal.invariant-loop-prefix

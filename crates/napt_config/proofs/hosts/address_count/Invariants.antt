@@ -1,5 +1,5 @@
 use Rattle.std.proofs.Common.{◌≡◌, ◌+◌, ◌*◌, ◌^◌, ◌≤◌, length}
-use Rattle.napt_config.specs.Network.{address_count}
+use Rattle.napt_config.specs.Prefixes.{address_count}
 use Rattle.napt_config.proofs.hosts.address_count.Given as goal
 
 abbrev pub invariant-loop-prefix : goal.invariant-loop-prefix

@@ -1,10 +1,10 @@
 use Rattle.std.proofs.Common.{◌≡◌, ◌<◌, [], drop, length, IsOk}
 use Rattle.toml.specs.View.{items_view}
-use Rattle.napt_config.specs.Prelude.{paired, block_in, each_in_order, first_in_order, with_redirect}
+use Rattle.napt_config.specs.Prelude.{paired_address, block_in, each_in_order, first_in_order, with_redirect}
 use Rattle.napt_config.proofs.redirects.redirects_at.Given as goal
 
 abbrev pub invariant-loop-entry : goal.invariant-loop-entry
-invariant-loop-entry l = let pair = paired l.block l.inside l.pool l.pairs.entries in
+invariant-loop-entry l = let pair = paired_address l.block l.inside l.pool l.pairs.entries in
     let with_entry = with_redirect l.inside pair (block_in l.block l.inside (length l.pool)) in record {
       exact : each_in_order with_entry l.redirects.items (items_view (drop l.entry-index l.entries))
           ≡ each_in_order with_entry [] (items_view l.entries);

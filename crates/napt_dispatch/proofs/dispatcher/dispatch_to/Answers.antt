@@ -1,12 +1,12 @@
 use Rattle.std.proofs.{Common.{◌≡◌, [], length, refl, sym, ap, ◌∙◌, inl, rules}, lemmas.{List.length-replicate, Result.err_from_is_err_and}}
-use Rattle.napt_pool.specs.Pools.{starts}
-use Rattle.napt_dispatch.{specs.QueueStates.unused, proofs.Lanes.front_empty}
-use Rattle.napt_dispatch.proofs.Ending.{begun, ends_with, ends_early, ends_halted, ends_after, ends_by}
+use Rattle.napt_pool.specs.Pools.{initial_machines}
+use Rattle.napt_dispatch.{specs.WorkerQueues.unused_queue, proofs.Lanes.front_empty}
+use Rattle.napt_dispatch.proofs.RunThroughEnds.{begun, ends_with, ends_early, ends_halted, ends_after, ends_by}
 use Rattle.napt_dispatch.proofs.dispatcher.dispatch_to.Goals as goal
 
 pub pass_all-requires : goal.pass_all-requires
 pass_all-requires g c =
-    let workers : length (starts c.args.pool.now) ≡ length c.args.config.now.pool = c.requires.workers in (
+    let workers : length (initial_machines c.args.pool.now) ≡ length c.args.config.now.pool = c.requires.workers in (
       c.type_bounds.static-D-Told,
       (
         search rules,
@@ -14,7 +14,7 @@ pass_all-requires g c =
           keeps = c.pool.ensures.kept;
           count = workers;
           sized = rw (c.in_ok-dispatcher.ensures.queues, workers)
-              (length-replicate _ unused ∙ ap length c.pool.ensures.addresses);
+              (length-replicate _ unused_queue ∙ ap length c.pool.ensures.addresses);
           left = c.in_ok-dispatcher.ensures.left;
           under_way = c.in_ok-dispatcher.ensures.under_way;
         },

@@ -1,6 +1,6 @@
 use Rattle.std.proofs.{Common.{◌≡◌, ℕ, ◌+◌, max, List, [], ◌∷◌, ◌++◌, take, refl, ◌∙◌, ap}, lemmas.List.take_more}
 use Rattle.napt_rules.specs.Prelude.{Arrival, last_clock}
-use Rattle.napt_laws.proofs.Grown.{clock_more}
+use Rattle.napt_laws.proofs.OneMoreInput.{clock_more}
 use Rattle.napt_dispatch.proofs.inputs.last_clock.Goals as goal
 
 pub loop-input-preserved : goal.loop-input-preserved

@@ -1,10 +1,10 @@
 use Rattle.std.proofs.Common.{◌≡◌, ◌≤◌, length}
-use Rattle.napt_rules.specs.Prelude.{under}
+use Rattle.napt_rules.specs.Prelude.{with_redirects}
 use Rattle.napt_dispatch.specs.Dispatch.{started_from}
 use Rattle.napt_dispatch.proofs.workers.workers.Given as goal
 
 abbrev pub invariant-loop-index : goal.invariant-loop-index
 invariant-loop-index g l = record {
   within : l.index ≤ length l.config.pool;
-  made : l.made.items ≡ started_from l.config (under l.config l.state) l.index;
+  made : l.made.items ≡ started_from l.config (with_redirects l.config l.state) l.index;
 }

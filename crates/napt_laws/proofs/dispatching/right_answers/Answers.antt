@@ -1,4 +1,4 @@
-use Rattle.napt_laws.proofs.Dispatched as lemmas
+use Rattle.napt_laws.proofs.DispatchLaws as lemmas
 use Rattle.napt_laws.proofs.dispatching.right_answers.Goals as goal
 
 pub returns-clause-right : goal.returns-clause-right

@@ -1,4 +1,4 @@
-use Rattle.napt_laws.proofs.Alone.{legs_answer_alone, legs_leave_their_own}
+use Rattle.napt_laws.proofs.LegsAlone.{legs_answer_alone, legs_leave_their_own}
 use Rattle.napt_laws.proofs.legs.legs_are_local.Goals as goal
 
 pub returns-clause-answers : goal.returns-clause-answers

@@ -1,4 +1,4 @@
-use Rattle.napt_laws.proofs.Through.{out_says_its_binding, in_says_its_binding, errors_go_through_none, dropped_go_through_none}
+use Rattle.napt_laws.proofs.BindingUseLaws.{out_says_its_binding, in_says_its_binding, errors_go_through_none, dropped_go_through_none}
 use Rattle.napt_laws.proofs.legs.legs_say_their_binding.Goals as goal
 
 pub returns-clause-outbound : goal.returns-clause-outbound

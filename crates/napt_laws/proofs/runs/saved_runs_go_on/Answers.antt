@@ -1,4 +1,4 @@
-use Rattle.napt_laws.proofs.Saved.{ordered_are_alike, ordered_are_taken, saved_runs_go_on}
+use Rattle.napt_laws.proofs.SavedStates.{ordered_are_alike, ordered_are_taken, saved_runs_go_on}
 use Rattle.napt_laws.proofs.runs.saved_runs_go_on.Goals as goal
 
 pub returns-clause-alike : goal.returns-clause-alike

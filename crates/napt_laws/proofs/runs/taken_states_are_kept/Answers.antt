@@ -1,4 +1,4 @@
-use Rattle.napt_laws.proofs.{Taken.{taken_sound, taken_blocks, taken_quota}, Owned.taken_own}
+use Rattle.napt_laws.proofs.{TakenStates.{taken_sound, taken_blocks, taken_quota}, OwnBindings.taken_own}
 use Rattle.napt_laws.proofs.runs.taken_states_are_kept.Goals as goal
 
 pub returns-clause-sound : goal.returns-clause-sound

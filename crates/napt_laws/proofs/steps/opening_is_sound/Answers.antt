@@ -1,4 +1,4 @@
-use Rattle.napt_laws.proofs.Opened.{opening_sound}
+use Rattle.napt_laws.proofs.OpeningList.{opening_sound}
 use Rattle.napt_laws.proofs.steps.opening_is_sound.Goals as goal
 
 pub returns : goal.returns

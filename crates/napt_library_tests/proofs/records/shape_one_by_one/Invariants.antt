@@ -1,6 +1,6 @@
 -- No read failed.
 use Rattle.std.proofs.Common.{◌≡◌, ◌+◌}
-use Rattle.napt_capture.specs.Faulty.{device_of, own_failed}
+use Rattle.napt_capture.specs.FaultyDevices.{device_of, own_failed}
 use Rattle.napt_capture.specs.Watched.{failed_of}
 use Rattle.napt_library_tests.proofs.records.shape_one_by_one.Given as goal
 

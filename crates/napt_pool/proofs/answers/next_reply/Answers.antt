@@ -1,7 +1,7 @@
 use Rattle.std.{proofs.Common.{refl, ap, ◌∙◌, [], ◌∷◌, ◌++◌, append-nil}, specs.{Prelude.Some, Vec.Iter.into_iter_items}}
 use Rattle.rtrb.specs.Ring.{received}
-use Rattle.napt_pool.{specs.{Histories.{answers_of, each_reply, heard_but}, declared.message.Reply.TheVariants.{Done, Failed, Many}}, proofs.Joins.drained}
-use Rattle.napt_pool.proofs.{Hands.{next_hand, next_taken, came_heard, taken_grown}, Grown.answers_of-append}
+use Rattle.napt_pool.{specs.{Histories.{answers_of, each_reply, replies_handed_out}, declared.message.Reply.TheVariants.{Done, Failed, Many}}, proofs.JoinedWorkers.drained}
+use Rattle.napt_pool.proofs.{AnswersAtHand.{next_hand, next_taken, came_heard, taken_grown}, HistoryGrowth.answers_of-append}
 use Rattle.napt_pool.proofs.answers.next_reply.Goals as goal
 
 pub returns-in-Some-clause-hand : goal.returns-in-Some-clause-hand
@@ -28,7 +28,7 @@ returns-in-Ok-Many-clause-heard g c =
     let left = drained c.next.new.self c.in_default.ensures.cases.1 in
     came_heard (received c.args.answers.now) (received c.pop.new.self) (into_iter_items c.args.at_hand.now)
     (into_iter_items c.next.new.self) (Many c.in-Ok-Many.answered) c.requires.hand (c.in_default.ensures.items ∙ left)
-    popped.0 left ∙ ap (λ r. heard_but c.args.answers.now (into_iter_items c.args.at_hand.now) ++ r) (append-nil _)
+    popped.0 left ∙ ap (λ r. replies_handed_out c.args.answers.now (into_iter_items c.args.at_hand.now) ++ r) (append-nil _)
 
 pub returns-in-Ok-Failed-clause-stopped : goal.returns-in-Ok-Failed-clause-stopped
 returns-in-Ok-Failed-clause-stopped g c =
@@ -47,6 +47,6 @@ returns-in-Ok-Many-clause-some g c =
 
 pub returns-in-Ok-Failed-clause-err : goal.returns-in-Ok-Failed-clause-err
 returns-in-Ok-Failed-clause-err g c =
-    let heard = heard_but c.args.answers.now (into_iter_items c.args.at_hand.now) in
+    let heard = replies_handed_out c.args.answers.now (into_iter_items c.args.at_hand.now) in
     ap answers_of (returns-in-Ok-Failed-clause-stopped g c)
     ∙ answers_of-append heard (Failed c.in-Ok-Failed.stop ∷ []) ∙ append-nil (answers_of heard)

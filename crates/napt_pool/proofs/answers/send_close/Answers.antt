@@ -1,4 +1,4 @@
-use Rattle.napt_pool.proofs.Grown.{items_of-close}
+use Rattle.napt_pool.proofs.HistoryGrowth.{items_of-close}
 use Rattle.napt_pool.proofs.answers.send_close.Goals as goal
 
 pub returns-clause-accepted : goal.returns-clause-accepted

@@ -1,5 +1,5 @@
 use Rattle.std.{proofs.Common.{rules, ◌≡◌, ◌++◌, ◌∷◌, [], vec_items}, specs.Vec.Iter.into_iter_items}
-use Rattle.napt_pool.proofs.Joins.{AreEnds-push, split-step}
+use Rattle.napt_pool.proofs.JoinedWorkers.{AreEnds-push, split-step}
 use Rattle.napt_pool.proofs.joining.join_all.Goals as goal
 
 pub loop-worker-preserved : goal.loop-worker-preserved

@@ -1,6 +1,6 @@
 use Rattle.std.proofs.Common.{rules, arith, ◌≡◌, ◌++◌, ◌∷◌, [], map, vec_items, vec_len, ◌+◌, below_more, ap, sym, append-nil, ◌∙◌, length}
 use Rattle.std.{proofs.lemmas.List.{get_or_append_left, get_or_push}, specs.{Prelude.{slice_index_or, replicate}, Vec.Iter.into_iter_items}}
-use Rattle.napt_pool.{specs.Workers.{machine_of, accepted_of, taken_of, heard_of}, proofs.Joins.{all-push, map-split-step, drained}}
+use Rattle.napt_pool.{specs.Workers.{machine_of, accepted_of, taken_of, heard_of}, proofs.JoinedWorkers.{all-push, map-split-step, drained}}
 use Rattle.napt_pool.proofs.starting.start_all.Goals as goal
 
 pub loop-machine-preserved : goal.loop-machine-preserved

@@ -1,6 +1,6 @@
 use Rattle.std.proofs.{Common.{◌≡◌, ℕ, List, Option, Err, refl}, lemmas.Result.err_from_is_err_and}
 use Rattle.napt_records.specs.declared.{Fault.Fault, Which.{Which, TheVariants.{Outside, Inside, Report}}}
-use Rattle.napt_run.{specs.Captures.{GetsFrom, IsWriteFaultOf, Receives, Share, whole}, proofs.captures.resume_captures.{Given.Over, Goals.In_ok-outputs}}
+use Rattle.napt_run.{specs.Captures.{GetsFrom, IsWriteFaultOf, OutputReceives, OutputShare, whole}, proofs.captures.resume_captures.{Given.Over, Goals.In_ok-outputs}}
 use Rattle.napt_run.proofs.Received.{Answered, AreMade, answered_inside, answered_outside, answered_run, answered_write, answers_ok, before_inside, before_report, leaves, received, text_of, texts_known}
 use Rattle.napt_run.specs.Origins.{origin_of}
 use Rattle.napt_run.proofs.captures.resume_captures.Goals as goal
@@ -17,8 +17,8 @@ known g c =
     c.in_ok-outside.ensures.ok c.in_ok-outputs.ensures.too_many.1
 
 -- what an output gets that received a share of its text
-got : (g : Over) (c : In_ok-outputs g) (which : Which) (share : Share) {told : List ℕ} (old new : Option (List ℕ)) →
-    told ≡ text_of which c.in_ok-outputs.outputs → Receives share told old new →
+got : (g : Over) (c : In_ok-outputs g) (which : Which) (share : OutputShare) {told : List ℕ} (old new : Option (List ℕ)) →
+    told ≡ text_of which c.in_ok-outputs.outputs → OutputReceives share told old new →
     GetsFrom (origin_of c.args.start) which share (g.R.Source.remaining c.args.inside.now)
     (g.Q.Source.remaining c.args.outside.now) old new
 got g c which share old new is kept =

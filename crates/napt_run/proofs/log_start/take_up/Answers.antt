@@ -1,12 +1,12 @@
 use Rattle.std.proofs.Common.{◌∙◌, ap}
-use Rattle.napt_account.specs.{GoingOn.{LogState, filled, kept_at}, KnownLogs.KnownTraces, ResumedLogs.told_first, Telling.LogPart}
+use Rattle.napt_account.specs.{ResumedLogRuns.{LogStateModel, filled, kept_at}, TrackedLogs.KnownTraces, ResumedLogs.told_first, LogParts.LogDelta}
 use Rattle.napt_log_text.specs.Logs.{first_text}
 use Rattle.napt_run.proofs.log_start.take_up.Goals as goal
 
 pub returns : goal.returns
 returns c =
     let resumed = c.in_ok-resumed.ensures in
-    let told : LogPart = told_first c.in_ok-resumed.resumed.ended.items c.in_ok-resumed.resumed.made.items in
+    let told : LogDelta = told_first c.in_ok-resumed.resumed.ended.items c.in_ok-resumed.resumed.made.items in
     let of = ((c.logs_go_on.ensures.keep c.args.start.config.now c.pool-pool.ensures.kept c.args.start.state.now
     c.requires.taken).taken c.args.log_start.kept.now resumed.log told resumed.taken).0 in
     record {
@@ -21,6 +21,6 @@ returns c =
             told = told;
             is_new = c.args.log_start.is_new;
           })) resumed.begun
-          ∙ ap (λ (l : LogState). first_text c.args.start.config.now
+          ∙ ap (λ (l : LogStateModel). first_text c.args.start.config.now
           (record { log = l; told = told; is_new = c.args.log_start.is_new })) of.kept);
     }

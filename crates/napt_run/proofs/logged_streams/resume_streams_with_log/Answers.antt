@@ -1,5 +1,5 @@
 use Rattle.std.proofs.{Common.{◌≡◌, ◌∙◌, OnOk, ap, inr, refl, rules, subst, sym}, lemmas.Result.err_from_is_err_and}
-use Rattle.napt_run.specs.{LoggedStreams.{IsKept, IsUnderOpenGate, LogGetsText, LoggedExplains, besides_log, logged_end}, LogOrigins.texts_from, Origins.origin_of}
+use Rattle.napt_run.specs.{LoggedStreams.{LogIsKept, IsRunUnderOpenGate, LogGetsText, LoggedExplains, besides_log, logged_end}, LogOrigins.texts_from, Origins.origin_of}
 use Rattle.napt_run.proofs.{Endings.{reads_by, report_by}, LogTaken.{kept_is, ready, texts_taken}}
 use Rattle.napt_run.proofs.LoggedEndings.{before, besides_and, end_is, ended_of, ends, err_besides, err_end, explains, gate, inside_gets, kept_if, left_if, log_gets, ok_besides, on_besides, outside_gets, unbegun_log, unbegun_report}
 use Rattle.napt_run.proofs.logged_streams.resume_streams_with_log.{Given.Over, Goals.After-with_report}
@@ -79,10 +79,10 @@ returns-clause-kept g c log told is =
     let kept = c.stream_logged-told.new.log.left in
     let same = kept_is c.args.start c.args.log_start c.in_ok-taken.taken c.in_ok-taken.ensures log told is
     c.over-running.result c.over-running.ensures.log in
-    rw c.with_report.ensures (kept_if (IsKept (origin_of c.args.start) log inside outside) c.stream_logged-told.result
+    rw c.with_report.ensures (kept_if (LogIsKept (origin_of c.args.start) log inside outside) c.stream_logged-told.result
     c.reported-written.result left (subst (λ l. OnOk c.stream_logged-told.result
-    (IsKept (origin_of c.args.start) log inside outside l)) (sym c.take_left-left.ensures.left)
-    (subst (λ l. OnOk c.stream_logged-told.result (IsKept (origin_of c.args.start) l inside outside kept)) same
+    (LogIsKept (origin_of c.args.start) log inside outside l)) (sym c.take_left-left.ensures.left)
+    (subst (λ l. OnOk c.stream_logged-told.result (LogIsKept (origin_of c.args.start) l inside outside kept)) same
     c.stream_logged-told.ensures.left)))
 
 pub returns-clause-fault : goal.returns-clause-fault
@@ -92,7 +92,7 @@ returns-clause-fault g c =
 
 pub returns-clause-gate : goal.returns-clause-gate
 returns-clause-gate g c is =
-    err_end c.with_report.result IsUnderOpenGate (rw (ended g c) (gate c.stream_logged-told.result
+    err_end c.with_report.result IsRunUnderOpenGate (rw (ended g c) (gate c.stream_logged-told.result
     c.reported-written.result c.reported-written.ensures.fault g.G.Gate.is_open
     c.stream_logged-told.ensures.says.stop is))
 

@@ -1,9 +1,9 @@
 use Rattle.std.proofs.Common.{◌≡◌, ◌≤◌, length}
-use Rattle.napt_dispatch.specs.Dispatch.{started}
+use Rattle.napt_dispatch.specs.Dispatch.{started_translators}
 use Rattle.napt_run_tests.proofs.dispatching.workers.Given as goal
 
 abbrev pub invariant-loop-index : goal.invariant-loop-index
 invariant-loop-index l = record {
   within : l.index ≤ length l.config.pool;
-  made : l.made.items ≡ started l.config l.index;
+  made : l.made.items ≡ started_translators l.config l.index;
 }

@@ -2,9 +2,9 @@ use Rattle.std.{proofs.{Common.{◌≡◌, ℕ, List, Some, refl, sym, ◌∙◌
 use Rattle.napt_wire.specs.Fields.{destination}
 use Rattle.napt_config.specs.Rules.{Rules}
 use Rattle.napt_rules.specs.{declared.{End.TheVariants.{ToOutside, ToInside, Onward, Dropped}, Leg.Leg}, Prelude.act}
-use Rattle.napt_sequential.specs.{declared.{passage.Passage.Passage, telling.Told.Told}, CountedTranslators.{CanTake, Takes, state_after}}
-use Rattle.napt_sequential.proofs.Passed.{goes_onward, steps_once, steps_twice}
-use Rattle.napt_laws.proofs.{Pools.stands_at, Onward.onward_place}
+use Rattle.napt_sequential.specs.{declared.{passage.Passage.Passage, leg_trace.TracedAnswer.TracedAnswer}, CountedTranslators.{CanTake, TracesLeg, state_after}}
+use Rattle.napt_sequential.proofs.StepTraceSteps.{goes_onward, steps_once, steps_twice}
+use Rattle.napt_laws.proofs.{Pools.stands_at, OnwardLegs.onward_place}
 use Rattle.napt_sequential.proofs.run.follow.Goals as goal
 
 pub take-requires-in-Onward-clause-within : goal.take-requires-in-Onward-clause-within
@@ -28,12 +28,12 @@ returns-in_ok-second-in-Onward c = λ state address are later at.
     let packet : List ℕ = c.in-Onward.packet in
     let first = c.in_ok-end.ensures state address are later at in
     let ends : (act rules address leg state.list).end ≡ Onward c.in-Onward.to packet =
-    sym (ap (λ (t : Told Passage). t.answer.end) first.0) ∙ c.in-Onward.is in
+    sym (ap (λ (t : TracedAnswer Passage). t.answer.end) first.0) ∙ c.in-Onward.is in
     let to : ℕ = (destination packet).address in
     let there : slice_get rules.pool c.in-Onward.to ≡ Some to =
     stands_at rules.pool to c.in-Onward.to
     (onward_place rules address leg state.list c.in-Onward.to packet ends) in
-    let takes = subst (λ (l : Leg). Takes rules c.in-Onward.to l c.take.new.translators
+    let takes = subst (λ (l : Leg). TracesLeg rules c.in-Onward.to l c.take.new.translators
     c.take-in-Onward.new.translators c.in_ok-second-in-Onward.second) c.second_leg-next.ensures
     c.in_ok-second-in-Onward.ensures in
     let second = takes (state_after rules address leg state) to first.1 (omega arith) there in

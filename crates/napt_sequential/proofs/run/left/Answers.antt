@@ -1,6 +1,6 @@
 use Rattle.std.proofs.{Common.{◌≡◌, ◌+◌, List, [], ◌∷◌, ◌++◌, take, sym, ◌∙◌, ap, subst}, lemmas.List.take_more}
 use Rattle.napt_sequential.specs.declared.counted_translator.CountedTranslator.{CountedTranslator}
-use Rattle.napt_sequential.{specs.CountedTranslators.AreAllLeft, proofs.Left.one_left}
+use Rattle.napt_sequential.{specs.CountedTranslators.AreBindingsOfAll, proofs.LeftTranslators.one_left}
 use Rattle.napt_sequential.proofs.run.left.Goals as goal
 
 pub loop-counted-preserved : goal.loop-counted-preserved
@@ -11,7 +11,7 @@ loop-counted-preserved c =
     let more : take (c.loop-counted.counted-index + 1) translators ≡ before ++ counted ∷ [] =
     take_more translators c.loop-counted.counted-index counted c.loop-counted-test.true
     ∙ ap (λ (x : CountedTranslator). before ++ x ∷ []) (sym c.counted-item.is) in
-    subst (λ (done : List CountedTranslator). AreAllLeft c.args.now done c.append.new.self.items) (sym more)
-    (subst (AreAllLeft c.args.now (before ++ counted ∷ [])) (sym c.in_ok-append.ensures.items)
+    subst (λ (done : List CountedTranslator). AreBindingsOfAll c.args.now done c.append.new.self.items) (sym more)
+    (subst (AreBindingsOfAll c.args.now (before ++ counted ∷ [])) (sym c.in_ok-append.ensures.items)
     (one_left c.args.now before counted c.loop-counted.made.items c.in_ok-part.part.items c.loop-counted.invariant
     c.in_ok-part.ensures))

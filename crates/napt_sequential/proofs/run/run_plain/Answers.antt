@@ -1,4 +1,4 @@
-use Rattle.napt_laws.proofs.{Grown.ran_long, Rows.rows_apart}
+use Rattle.napt_laws.proofs.{OneMoreInput.ran_long, Rows.rows_apart}
 use Rattle.napt_sequential.proofs.run.run_plain.Goals as goal
 
 pub returns-clause-one_each : goal.returns-clause-one_each

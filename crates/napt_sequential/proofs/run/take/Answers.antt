@@ -1,7 +1,7 @@
 use Rattle.std.proofs.{Common.{◌≡◌, sym, ◌∙◌, subst, arith, get_or, set}, lemmas.Option.slice_get-get_or}
 use Rattle.napt_config.specs.Rules.{Rules}
-use Rattle.napt_sequential.specs.declared.{passage.Passage.Passage, telling.Told.Told, counted_translator.CountedTranslator.CountedTranslator}
-use Rattle.napt_sequential.{specs.CountedTranslators.{AreCountedTranslators, Takes, state_after, told_at, counted_after}, proofs.Results.if_both}
+use Rattle.napt_sequential.specs.declared.{passage.Passage.Passage, leg_trace.TracedAnswer.TracedAnswer, counted_translator.CountedTranslator.CountedTranslator}
+use Rattle.napt_sequential.{specs.CountedTranslators.{AreCountedTranslators, TracesLeg, state_after, traced_answer, counted_after}, proofs.Results.if_both}
 use Rattle.napt_sequential.proofs.CountedTranslators.{few_legs, told_same, translators_after}
 use Rattle.napt_sequential.proofs.run.take.Goals as goal
 
@@ -21,8 +21,8 @@ pub returns : goal.returns
 returns c =
     let rules : Rules = c.args.config.now in
     let counted : CountedTranslator = get_or c.args.translators.now c.args.place c.index-translators-place.result in
-    if_both (λ (told : Told Passage). told ≡ told_at (λ passage. passage) c.args.leg counted.translator)
-    (Takes rules c.args.place c.args.leg c.args.translators.now (set c.args.translators.now c.args.place
+    if_both (λ (told : TracedAnswer Passage). told ≡ traced_answer (λ passage. passage) c.args.leg counted.translator)
+    (TracesLeg rules c.args.place c.args.leg c.args.translators.now (set c.args.translators.now c.args.place
     c.take.new.self)) (c.take.new.self ≡ counted_after c.args.leg counted) c.take.result
     (λ told is after state address are later at. (
       is ∙ told_same rules c.requires.keeps state c.args.translators.now are c.args.place address at c.args.leg later

@@ -1,4 +1,4 @@
-use Rattle.napt_table.proofs.Seen.{shows_later}
+use Rattle.napt_table.proofs.SeenBindings.{shows_later}
 use Rattle.napt_table.proofs.bindings.held_is_purged_later.Goals as goal
 
 pub returns : goal.returns

@@ -1,4 +1,4 @@
-use Rattle.napt_wire.proofs.{Carried.source-carried, Readings.reads_again}
+use Rattle.napt_wire.proofs.{PacketNumbers.source-carried, ReadingChecks.reads_again}
 use Rattle.napt_wire.proofs.laws.packets_carry_numbers.Goals as goal
 
 pub returns : goal.returns

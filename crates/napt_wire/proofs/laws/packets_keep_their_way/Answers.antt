@@ -1,4 +1,4 @@
-use Rattle.napt_wire.proofs.Given.{reverted-destination, with_source-destination}
+use Rattle.napt_wire.proofs.ReplacedEnds.{reverted-destination, with_source-destination}
 use Rattle.napt_wire.proofs.laws.packets_keep_their_way.Goals as goal
 
 pub returns-clause-packets : goal.returns-clause-packets

@@ -1,5 +1,5 @@
 use Rattle.std.proofs.{Common.{arith, None, Some, refl, sym}, lemmas.{Grind.common_steps, Bool.Decides.nat_tests, Result.err_from_is_err_and}}
-use Rattle.napt_wire.proofs.Readings.{reading_by}
+use Rattle.napt_wire.proofs.ReadingChecks.{reading_by}
 use Rattle.napt_wire.proofs.reading.read_datagram.Goals as goal
 
 pub returns-in_err-length-clause-cause : goal.returns-in_err-length-clause-cause

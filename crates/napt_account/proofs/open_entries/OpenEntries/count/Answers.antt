@@ -1,6 +1,6 @@
 use Rattle.std.{proofs.Common.{◌+◌, List, map, Some, refl, sym, ◌∙◌, ap, subst, arith}, specs.{Prelude.IsSome, Option.option_map}}
-use Rattle.napt_account.specs.{declared.{log.Entry.Entry, open_entries.{Open.Open, OpenEntries.OpenEntries}}, Book.use_at, Log.{counted, through}}
-use Rattle.napt_account.{specs.OpenEntries.{open_at, Shows}, proofs.Books.{map_unmoved, no_place}}
+use Rattle.napt_account.specs.{declared.{log.Entry.Entry, open_entries.{Open.Open, OpenEntries.OpenEntries}}, LogBook.use_at, Log.{counted, entry_through}}
+use Rattle.napt_account.{specs.OpenEntries.{open_at, OpenEntriesShow}, proofs.Books.{map_unmoved, no_place}}
 use Rattle.napt_account.proofs.OpenEntries.{counted_shows, counted_used, open_listed, row_none, shows_more}
 use Rattle.napt_account.proofs.open_entries.OpenEntries.count.Goals as goal
 
@@ -43,10 +43,10 @@ returns-in_default-clause-shows c = λ most entries shows opened.
     let none = ap (open_at c.args.self.now) (sym c.external_key-key.ensures) ∙ sym c.in_default.ensures.value in
     let same : OpenEntries = c.args.self.now in
     subst (λ m. let new : OpenEntries = record { by_external = m; queue = same.queue; made = same.made } in
-    Shows c.args.now (most + 1)
-    (map (through c.args.now c.args.timed.row (counted c.args.way c.args.now c.args.timed.end)) entries) new)
+    OpenEntriesShow c.args.now (most + 1)
+    (map (entry_through c.args.now c.args.timed.row (counted c.args.way c.args.now c.args.timed.end)) entries) new)
     (sym c.get_mut.follows.holds-at-none)
-    (subst (λ (es : List Entry). Shows c.args.now (most + 1) es same)
+    (subst (λ (es : List Entry). OpenEntriesShow c.args.now (most + 1) es same)
     (sym (map_unmoved c.args.now c.args.timed.row (counted c.args.way c.args.now c.args.timed.end) entries
     (row_none c.args.now most c.args.self.now entries shows c.args.timed.row
     (ap (option_map (λ (o : Open). o.listed)) none))))

@@ -1,5 +1,5 @@
 use Rattle.std.proofs.Common.{◌≡◌, cond, true, false, Some, None, refl, sym, ◌∙◌, subst}
-use Rattle.napt_account.specs.declared.open_entries.{ExternalKey.ExternalKey, Open.Open, OpenEntries.OpenEntries}
+use Rattle.napt_account.specs.declared.open_entries.{EntryKey.EntryKey, Open.Open, OpenEntries.OpenEntries}
 use Rattle.napt_account.{specs.OpenEntries.{external_eq, open_at, is_queued, IsIndexedBut}, proofs.OpenEntries.{moved, queued_at}}
 use Rattle.napt_account.proofs.open_entries.OpenEntries.look_at.Goals as goal
 
@@ -8,7 +8,7 @@ returns-then-is_before-clause-indexed c = λ but.
     let o : Open = c.in-Some.open in
     let at : open_at c.args.self.now c.args.key ≡ Some o =
     sym c.get.ensures.value ∙ (sym c.copied.ensures ∙ c.in-Some.is) in
-    c.in_ok-set.ensures.indexed (subst (λ (x : ExternalKey). IsIndexedBut x None c.args.self.now)
+    c.in_ok-set.ensures.indexed (subst (λ (x : EntryKey). IsIndexedBut x None c.args.self.now)
     (but.placed c.args.key o at).0 but)
 
 pub returns-clause-indexed : goal.returns-clause-indexed

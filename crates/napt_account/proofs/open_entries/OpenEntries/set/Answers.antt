@@ -1,11 +1,11 @@
 use Rattle.std.proofs.{Common.{ℕ, cond, Option, Some, refl, sym, ◌∙◌, ap, subst}, lemmas.Option.same_Some}
-use Rattle.napt_account.specs.declared.open_entries.{ExternalKey.ExternalKey, Open.Open, OpenEntries.OpenEntries}
-use Rattle.napt_account.{specs.OpenEntries.{external_key, external_eq, open_at, is_queued, is_at, IsPlaced}, proofs.OpenEntries.{moved, queued_at}}
+use Rattle.napt_account.specs.declared.open_entries.{EntryKey.EntryKey, Open.Open, OpenEntries.OpenEntries}
+use Rattle.napt_account.{specs.OpenEntries.{entry_key, external_eq, open_at, is_queued, entry_is_at, IsPlaced}, proofs.OpenEntries.{moved, queued_at}}
 use Rattle.napt_account.proofs.open_entries.OpenEntries.set.Goals as goal
 
 pub returns-clause-indexed : goal.returns-clause-indexed
 returns-clause-indexed c = λ but.
-    let key : ExternalKey = external_key c.args.listed.entry.binding in
+    let key : EntryKey = entry_key c.args.listed.entry.binding in
     let same = c.external_key-key.ensures in
     let due : Option ℕ = c.due_by-due.result in
     let next : Open = record { listed = c.args.listed; due = due } in
@@ -16,9 +16,9 @@ returns-clause-indexed c = λ but.
     } in
     moved c.args.self.now new key c.args.was but (Some next)
     (λ y. c.in_ok-insert.ensures.updates.0 y
-    ∙ (ap (λ (k : ExternalKey). cond (external_eq k y) (Some next) (open_at c.queue_at.new.self y)) same
+    ∙ (ap (λ (k : EntryKey). cond (external_eq k y) (Some next) (open_at c.queue_at.new.self y)) same
     ∙ ap (cond (external_eq key y) (Some next)) (c.queue_at.ensures.open y)))
     (λ d. c.in_ok-queue_at.ensures.queued d
-    (λ e. queued_at c.args.self.now key c.args.was but d (ap (λ (k : ExternalKey). external_eq k d.key) (sym same) ∙ e))
-    ∙ ap (λ (k : ExternalKey). cond (external_eq k d.key) (is_at due d.at) (is_queued c.args.self.now d)) same)
+    (λ e. queued_at c.args.self.now key c.args.was but d (ap (λ (k : EntryKey). external_eq k d.key) (sym same) ∙ e))
+    ∙ ap (λ (k : EntryKey). cond (external_eq k d.key) (entry_is_at due d.at) (is_queued c.args.self.now d)) same)
     (λ o h. subst (IsPlaced key) (same_Some next o h) (refl, c.due_by-due.ensures.early))

@@ -1,6 +1,6 @@
 use Rattle.std.{proofs.Common.{◌≡◌, ℕ, ◌&&◌, false, cond, Option, Some, None, refl, sym, ◌∙◌, ap, subst}, specs.Option.{option_map, is_some, IfSome}}
-use Rattle.napt_account.specs.declared.{log.Listed.Listed, open_entries.{ExternalKey.ExternalKey, Open.Open, OpenEntries.OpenEntries}}
-use Rattle.napt_account.specs.{OpenEntries.{external_eq, listed_at}, Telling.is_open}
+use Rattle.napt_account.specs.declared.{log.LogEntry.LogEntry, open_entries.{EntryKey.EntryKey, Open.Open, OpenEntries.OpenEntries}}
+use Rattle.napt_account.specs.{OpenEntries.{external_eq, listed_at}, LogParts.is_open}
 use Rattle.napt_account.proofs.EndOrder.{IsParted, parted_none, parted_same, parted_taken, ended_is}
 use Rattle.napt_account.proofs.open_entries.OpenEntries.take_ended.Goals as goal
 
@@ -15,12 +15,12 @@ pub loop-key-preserved-in-Continue-branch-3 : goal.loop-key-preserved-in-Continu
 loop-key-preserved-in-Continue-branch-3 c =
     let i = c.loop-key.invariant in
     let now : ℕ = c.args.now in
-    let key : ExternalKey = c.in-Some.key in
-    let l : Listed = c.in-Some-2.listed in
+    let key : EntryKey = c.in-Some.key in
+    let l : LogEntry = c.in-Some-2.listed in
     let first : OpenEntries = c.args.self.now in
     let old : OpenEntries = c.loop-key.self in
     let mid : OpenEntries = c.take_due.new.self in
-    let same : (x : ExternalKey) → listed_at mid x ≡ listed_at old x =
+    let same : (x : EntryKey) → listed_at mid x ≡ listed_at old x =
     λ x. ap (option_map (λ (o : Open). o.listed)) (c.take_due.ensures.open x) in
     record {
       made = c.look_at.ensures.made ∙ (c.take_due.ensures.made ∙ i.made);
@@ -28,11 +28,11 @@ loop-key-preserved-in-Continue-branch-3 c =
           let parted = i.parted h in
           let but = c.in-Some.ensures.indexed parted.indexed in
           let taken : (listed_at mid key ≡ Some l) × (is_open now l ≡ false) =
-          subst (λ (o : Option Listed). IfSome o (λ m. (listed_at mid key ≡ Some m) × (is_open now m ≡ false)))
+          subst (λ (o : Option LogEntry). IfSome o (λ m. (listed_at mid key ≡ Some m) × (is_open now m ≡ false)))
           c.in-Some-2.is c.in_ok-listed.ensures.taken in
           parted_taken now first old c.look_at.new.self c.loop-key.ended.items c.push.new.self.items parted key l
           (sym (same key) ∙ taken.0) taken.1 (c.in_ok-listed.ensures.indexed but)
-          (λ x. subst (λ (o : Option Listed). listed_at c.look_at.new.self x
+          (λ x. subst (λ (o : Option LogEntry). listed_at c.look_at.new.self x
           ≡ cond (is_some o && external_eq key x) None (listed_at mid x)) c.in-Some-2.is
           (c.in_ok-listed.ensures.left but x)
           ∙ ap (cond (external_eq key x) None) (same x))

@@ -1,5 +1,5 @@
 use Rattle.std.proofs.Common.{◌≡◌, ℕ, ◌+◌, List, length, ◌∙◌, ap, subst, arith}
-use Rattle.napt_account.specs.{declared.{account.Use.Use, log.Entry.Entry}, Book.{after, after_trace, use_told}, OpenEntries.Shows, Uses.both_uses}
+use Rattle.napt_account.specs.{declared.{account.BindingTally.BindingTally, log.Entry.Entry}, LogBook.{book_after, after_trace, use_told}, OpenEntries.OpenEntriesShow, BindingTallies.both_uses}
 use Rattle.napt_account.proofs.MadeLegs.{pass_few, made_is, not_less, less}
 use Rattle.napt_account.proofs.open_entries.OpenEntries.tell.Goals as goal
 
@@ -11,7 +11,7 @@ pass-requires-2 c =
     let room = c.requires.4 in
     let long = c.requires.5 in (
       most + 1,
-      after c.args.trace.now c.args.trace.first entries,
+      book_after c.args.trace.now c.args.trace.first entries,
       c.in_ok-first.ensures.shows most entries c.requires.2 c.requires.3,
       omega (arith, room),
       omega (arith, few, long),
@@ -20,24 +20,24 @@ pass-requires-2 c =
 pub returns-clause-shows : goal.returns-clause-shows
 returns-clause-shows c = λ most entries shows first second.
     let twice : most + 1 + 1 ≡ most + 2 = omega arith in
-    subst (λ (m : ℕ). Shows c.args.trace.now m (after_trace entries c.args.trace) c.pass-2.new.self) twice
-    (c.in_ok-second.ensures.shows (most + 1) (after c.args.trace.now c.args.trace.first entries)
+    subst (λ (m : ℕ). OpenEntriesShow c.args.trace.now m (after_trace entries c.args.trace) c.pass-2.new.self) twice
+    (c.in_ok-second.ensures.shows (most + 1) (book_after c.args.trace.now c.args.trace.first entries)
     (c.in_ok-first.ensures.shows most entries shows first) second)
 
 pub returns-clause-uses : goal.returns-clause-uses
 returns-clause-uses c = λ most entries shows first.
     let now : ℕ = c.args.trace.now in
     c.both_uses.ensures
-    ∙ (ap (λ (u : Use). both_uses u c.in_ok-second.second) (c.in_ok-first.ensures.uses most entries shows)
+    ∙ (ap (λ (u : BindingTally). both_uses u c.in_ok-second.second) (c.in_ok-first.ensures.uses most entries shows)
     ∙ ap (both_uses (use_told now c.args.trace.first entries))
-    (c.in_ok-second.ensures.uses (most + 1) (after now c.args.trace.first entries)
+    (c.in_ok-second.ensures.uses (most + 1) (book_after now c.args.trace.first entries)
     (c.in_ok-first.ensures.shows most entries shows first)))
 
 pub returns-clause-made : goal.returns-clause-made
 returns-clause-made c = λ most entries shows first second.
     let now : ℕ = c.args.trace.now in
-    let mid : List Entry = after now c.args.trace.first entries in
-    let end : List Entry = after now c.args.trace.second mid in
+    let mid : List Entry = book_after now c.args.trace.first entries in
+    let end : List Entry = book_after now c.args.trace.second mid in
     let between = c.in_ok-first.ensures.shows most entries shows first in
     let last = c.in_ok-second.ensures.shows (most + 1) mid between second in
     let one = c.made-before.ensures ∙ shows.made in

@@ -1,6 +1,6 @@
 use Rattle.std.proofs.{Common.{◌≡◌, ◌+◌, ◌<◌, ◌++◌, [], ◌∷◌, length, ◌∙◌, arith, refl}, lemmas.List.length_push}
-use Rattle.napt_pool.proofs.Joins.{split-step}
-use Rattle.napt_dispatch.proofs.Offering.{notes_none, notes_more, noted_less}
+use Rattle.napt_pool.proofs.JoinedWorkers.{split-step}
+use Rattle.napt_dispatch.proofs.WorkerOffers.{notes_none, notes_more, noted_less}
 use Rattle.napt_dispatch.proofs.dispatcher.Dispatcher.note_each.Goals as goal
 
 pub loop-answer-init : goal.loop-answer-init

@@ -1,9 +1,9 @@
 use Rattle.std.proofs.Common.{ℕ, ◌<◌}
-use Rattle.napt_dispatch.specs.Standing.{Continues, HasOffered}
+use Rattle.napt_dispatch.specs.DispatcherInvariants.{DispatcherContinues, HasOffered}
 use Rattle.napt_dispatch.proofs.dispatcher.Dispatcher.offer_all.Given as goal
 
 abbrev pub invariant-loop-w : goal.invariant-loop-w
 invariant-loop-w g l = record {
-  state : Continues g.P.Telling.tells l.initial.pool l.initial.self l.pool l.self;
+  state : DispatcherContinues g.P.Telling.tells l.initial.pool l.initial.self l.pool l.self;
   offered : (v : ℕ) → v < l.w → HasOffered l.pool l.self v;
 }

@@ -1,6 +1,6 @@
 use Rattle.std.proofs.{Common.{◌<◌, length, refl, sym, ap, ◌∙◌}, lemmas.Result.err_from_is_err_and}
 use Rattle.napt_dispatch.{specs.declared.dispatcher.Dispatcher.Dispatcher, proofs.Lanes.{grows_not, grows_none, grows_offered}}
-use Rattle.napt_dispatch.proofs.Offering.{over_pool, none_sent, none_continue, none_alone, sent_keeps, only_sent, sent_all}
+use Rattle.napt_dispatch.proofs.WorkerOffers.{over_pool, none_sent, none_continue, none_alone, sent_keeps, only_sent, sent_all}
 use Rattle.napt_dispatch.proofs.dispatcher.Dispatcher.offer_held.Goals as goal
 
 pub returns-then-count-eq0-clause-state : goal.returns-then-count-eq0-clause-state

@@ -1,14 +1,14 @@
 use Rattle.std.proofs.Common.{◌≡◌, ℕ, List}
-use Rattle.napt_dispatch.specs.{declared.departures.Departed.Departed, Passing.Reads}
+use Rattle.napt_dispatch.specs.{declared.outcome_sink.InputResult.InputResult, RunsThrough.ReadInputsPost}
 use Rattle.napt_rules.specs.Prelude.{Arrival, last_clock}
 use Rattle.napt_dispatch.proofs.dispatcher.Dispatcher.read_all.Given as goal
 
 abbrev pub invariant-loop : goal.invariant-loop
 invariant-loop g l = record {
   inputs : List Arrival;
-  went : List (ℕ × Departed g.row.P.Denot);
+  went : List (ℕ × InputResult g.row.P.Denot);
   handed : g.A.Arrivals.hands l.initial.arrivals inputs l.arrivals;
   clock : l.clock ≡ last_clock l.initial.self.clock inputs;
-  reads : Reads g.P.Telling.tells l.config l.initial.pool l.initial.self inputs went l.pool l.self;
+  reads : ReadInputsPost g.P.Telling.tells l.config l.initial.pool l.initial.self inputs went l.pool l.self;
   took : g.D.Departures.takes l.initial.departures went l.departures;
 }

@@ -1,5 +1,5 @@
 use Rattle.std.proofs.Common.{refl, ◌∙◌}
-use Rattle.napt_dispatch.{specs.declared.dispatcher.Dispatcher.Dispatcher, proofs.Offering.{readies_moved, readies_both}}
+use Rattle.napt_dispatch.{specs.declared.dispatcher.Dispatcher.Dispatcher, proofs.WorkerOffers.{readies_moved, readies_both}}
 use Rattle.napt_dispatch.proofs.dispatcher.Dispatcher.ready_all.Goals as goal
 
 pub loop-self-init : goal.loop-self-init

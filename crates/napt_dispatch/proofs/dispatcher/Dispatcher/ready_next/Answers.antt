@@ -1,5 +1,5 @@
 use Rattle.std.proofs.Common.{sym, ◌∙◌}
-use Rattle.napt_dispatch.{specs.declared.dispatcher.Dispatcher.Dispatcher, proofs.Offering.readies_first}
+use Rattle.napt_dispatch.{specs.declared.dispatcher.Dispatcher.Dispatcher, proofs.WorkerOffers.readies_first}
 use Rattle.napt_dispatch.proofs.dispatcher.Dispatcher.ready_next.Goals as goal
 
 pub returns-clause-readies : goal.returns-clause-readies

@@ -1,6 +1,6 @@
 use Rattle.std.proofs.{Common.{◌≡◌, ◌∙◌, ap}, lemmas.Result.err_from_is_err_and}
 use Rattle.napt_rules.specs.Prelude.{Arrival, way_from}
-use Rattle.napt_dispatch.{specs.Windows.expecting, proofs.{Lanes.{grows_none, halts_after}, Passing.{serves_as, continues_both}, Windows.expecting_unmarked}}
+use Rattle.napt_dispatch.{specs.RunProgresses.progress_expecting, proofs.{Lanes.{grows_none, halts_after}, Passing.{serves_as, continues_both}, Windows.expecting_unmarked}}
 use Rattle.napt_dispatch.proofs.dispatcher.Dispatcher.serve.Goals as goal
 
 pub admit-requires-clause-open : goal.admit-requires-clause-open
@@ -27,8 +27,8 @@ returns-clause-serves g c =
     ∙ ap (λ (a : Arrival). way_from a.side) c.input.view_is in
     serves_as c.args.config.now c.args.now c.in_ok-number.number c.args.input c.args.pool.now
     c.args.self.now c.admit.new.self c.expect.new.self c.look_if-2.new.pool c.look_if-2.new.self
-    (c.in_ok-number.ensures.expecting ∙ (ap (λ t. expecting t c.way_from.result c.args.self.now.progress) time
-    ∙ ap (λ w. expecting c.args.input.time w c.args.self.now.progress) way))
+    (c.in_ok-number.ensures.expecting ∙ (ap (λ t. progress_expecting t c.way_from.result c.args.self.now.progress) time
+    ∙ ap (λ w. progress_expecting c.args.input.time w c.args.self.now.progress) way))
     c.in_ok-number.ensures.number c.in_ok-place.ensures.admits c.in_ok-place.ensures.journal
     (continues_both c.in_ok-look_if.ensures c.in_ok-look_if-2.ensures)
 

@@ -1,5 +1,5 @@
 use Rattle.std.proofs.{Common.{sym, ◌∙◌, ap, ◌||◌}, lemmas.Result.err_from_is_err_and}
-use Rattle.napt_dispatch.proofs.{Offering.taken_more, Passing.continues_both, dispatcher.Dispatcher.take_all_there.Goals.{then-branch, else-branch}}
+use Rattle.napt_dispatch.proofs.{WorkerOffers.taken_more, Passing.continues_both, dispatcher.Dispatcher.take_all_there.Goals.{then-branch, else-branch}}
 use Rattle.napt_dispatch.proofs.Lanes.{halts_after}
 use Rattle.napt_dispatch.proofs.dispatcher.Dispatcher.take_all_there.Goals as goal
 

@@ -1,8 +1,8 @@
-use Rattle.napt_dispatch.specs.Standing.{Continues, HasTaken}
+use Rattle.napt_dispatch.specs.DispatcherInvariants.{DispatcherContinues, HasTaken}
 use Rattle.napt_dispatch.proofs.dispatcher.Dispatcher.take_all_there.Given as goal
 
 abbrev pub invariant-loop-w : goal.invariant-loop-w
 invariant-loop-w g l = record {
-  state : Continues g.P.Telling.tells l.initial.pool l.initial.self l.pool l.self;
+  state : DispatcherContinues g.P.Telling.tells l.initial.pool l.initial.self l.pool l.self;
   told : HasTaken l.initial.self l.self l.any;
 }

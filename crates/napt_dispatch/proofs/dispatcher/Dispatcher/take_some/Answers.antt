@@ -1,4 +1,4 @@
-use Rattle.napt_dispatch.proofs.{Offering.taken_none, Passing.continues_both, Lanes.halts_after}
+use Rattle.napt_dispatch.proofs.{WorkerOffers.taken_none, Passing.continues_both, Lanes.halts_after}
 use Rattle.std.proofs.lemmas.Result.{err_from_is_err_and}
 use Rattle.napt_dispatch.proofs.dispatcher.Dispatcher.take_some.Goals as goal
 

@@ -1,9 +1,9 @@
 use Rattle.std.proofs.Common.{false}
-use Rattle.napt_dispatch.specs.Standing.{Continues, HasTaken}
+use Rattle.napt_dispatch.specs.DispatcherInvariants.{DispatcherContinues, HasTaken}
 use Rattle.napt_dispatch.proofs.dispatcher.Dispatcher.take_some.Given as goal
 
 abbrev pub invariant-loop : goal.invariant-loop
 invariant-loop g l = record {
-  state : Continues g.P.Telling.tells l.initial.pool l.initial.self l.pool l.self;
+  state : DispatcherContinues g.P.Telling.tells l.initial.pool l.initial.self l.pool l.self;
   none : HasTaken l.initial.self l.self false;
 }

@@ -1,5 +1,5 @@
 use Rattle.std.proofs.{Common.rules, lemmas.Result.err_from_is_err_and}
-use Rattle.napt_dispatch.proofs.{Offering.taken_on, Passing.continues_both, Lanes.halts_after}
+use Rattle.napt_dispatch.proofs.{WorkerOffers.taken_on, Passing.continues_both, Lanes.halts_after}
 use Rattle.napt_dispatch.proofs.dispatcher.Dispatcher.take_there.Goals as goal
 
 pub returns-then-not-branch-clause-state : goal.returns-then-not-branch-clause-state

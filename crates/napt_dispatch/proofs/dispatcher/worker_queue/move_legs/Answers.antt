@@ -1,5 +1,5 @@
 use Rattle.std.proofs.{Common.{arith, length, ◌++◌, ◌∷◌, [], ap, ◌∙◌}, lemmas.List.length_push}
-use Rattle.napt_dispatch.{specs.declared.dispatcher.holding.Pending.Pending, proofs.QueueStates.turned_on}
+use Rattle.napt_dispatch.{specs.declared.dispatcher.holding.PendingLeg.PendingLeg, proofs.QueueStates.turned_on}
 use Rattle.napt_dispatch.proofs.dispatcher.worker_queue.move_legs.Goals as goal
 
 pub returns-in_err-reserve-clause-legs : goal.returns-in_err-reserve-clause-legs
@@ -10,7 +10,7 @@ loop-held-preserved c =
     let leg = c.in-Some-Ready-pop_front.leg in
     let ready = c.loop-held.ready.items in
     let first = c.in-Some-Ready-pop_front.ensures.items
-    ∙ ap (λ (h : Pending). h ∷ c.pop_front.new.self.items) c.in-Some-Ready-pop_front.field-0-is in
+    ∙ ap (λ (h : PendingLeg). h ∷ c.pop_front.new.self.items) c.in-Some-Ready-pop_front.field-0-is in
     let now = c.push_reserved.ensures.items ∙ ap (λ ls. ls ++ leg ∷ []) c.reserve.ensures.items in
     record {
       legs = λ acts. rw now (turned_on acts ready leg c.loop-held.held.items c.pop_front.new.self.items first

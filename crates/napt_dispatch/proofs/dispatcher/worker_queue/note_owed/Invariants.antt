@@ -1,5 +1,5 @@
 use Rattle.std.proofs.Common.{◌≡◌, ◌++◌, map, take}
-use Rattle.napt_dispatch.specs.QueueStates.{owed_of}
+use Rattle.napt_dispatch.specs.WorkerQueues.{owed_of}
 use Rattle.napt_dispatch.proofs.dispatcher.worker_queue.note_owed.Given as goal
 
 abbrev pub invariant-loop-leg : goal.invariant-loop-leg

@@ -1,5 +1,5 @@
 use Rattle.std.proofs.Common.{◌≡◌, take}
-use Rattle.napt_dispatch.specs.QueueStates.{counts_in}
+use Rattle.napt_dispatch.specs.WorkerQueues.{counts_in}
 use Rattle.napt_dispatch.proofs.dispatcher.worker_queues.counts_of.Given as goal
 
 abbrev pub invariant-loop-queue : goal.invariant-loop-queue

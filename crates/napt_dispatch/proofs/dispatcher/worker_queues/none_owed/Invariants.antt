@@ -1,5 +1,5 @@
 use Rattle.std.proofs.Common.{◌≡◌, ℕ, ◌<◌, []}
-use Rattle.napt_dispatch.specs.QueueStates.{queue_of}
+use Rattle.napt_dispatch.specs.WorkerQueues.{queue_of}
 use Rattle.napt_dispatch.proofs.dispatcher.worker_queues.none_owed.Given as goal
 
 abbrev pub invariant-loop-queue : goal.invariant-loop-queue

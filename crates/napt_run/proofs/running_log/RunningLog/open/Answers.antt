@@ -1,11 +1,11 @@
 use Rattle.std.proofs.Common.{[], ◌∙◌, ap, string_bytes, subst}
-use Rattle.napt_log_text.specs.Times.{Text}
+use Rattle.napt_log_text.specs.Times.{TimeText}
 use Rattle.napt_run.specs.RunningLogs.{Adds}
 use Rattle.napt_run.proofs.running_log.RunningLog.open.Goals as goal
 
 pub returns : goal.returns
 returns g c from at =
-    subst (λ (l : Text). Adds from [] l c.args.self.now.output c.put.result c.put.new.self)
+    subst (λ (l : TimeText). Adds from [] l c.args.self.now.output c.put.result c.put.new.self)
     (c.deref.ensures ∙ ap string_bytes c.replace-opening.ensures.value)
     (c.put.ensures.text from [] (record {
       log = at.log;

@@ -1,6 +1,6 @@
 use Rattle.std.proofs.{Common.{[], sym, ◌∙◌, eqb-true}, lemmas.{List.nil_from_length, Result.err_from_is_err_and}}
 use Rattle.napt_sequential.specs.declared.passage.Trace.{Trace}
-use Rattle.napt_run.{specs.LeavingLaws.grows_none, proofs.Entering.{enter_failed, enter_written}}
+use Rattle.napt_run.{specs.OutputSinkLaws.grows_none, proofs.Entering.{enter_failed, enter_written}}
 use Rattle.napt_run.proofs.running_log.RunningLogLogging.enter.Goals as goal
 
 pub returns-in_err-text : goal.returns-in_err-text

@@ -1,7 +1,7 @@
 use Rattle.std.{proofs.Common.{ℕ, max, sym, ◌∙◌}, specs.Option.is_some}
 use Rattle.napt_rules.specs.Prelude.{by_inside, by_number, hold_ago}
-use Rattle.napt_translate.specs.Translators.{TranslatorState}
-use Rattle.napt_sequential.proofs.{Later.{unchanged, without_ended}, Numbers.{least_is, none_by}}
+use Rattle.napt_translate.specs.Translators.{TranslatorModel}
+use Rattle.napt_sequential.proofs.{LaterTranslators.{unchanged, without_ended}, Numbers.{least_is, none_by}}
 use Rattle.napt_sequential.proofs.counted_translator.CountedTranslator.number.Goals as goal
 
 pub returns-in-Some-clause-left : goal.returns-in-Some-clause-left
@@ -9,7 +9,7 @@ returns-in-Some-clause-left c = unchanged c.args.now c.args.self.now
 
 pub returns-clause-value : goal.returns-clause-value
 returns-clause-value c =
-    let t : TranslatorState = c.args.self.now.translator in
+    let t : TranslatorModel = c.args.self.now.translator in
     let now : ℕ = max c.args.now t.table.at in
     least_is (λ n. is_some (by_number t.rules.timers t.table.address (hold_ago t.rules.timers now) c.args.protocol n
     t.table.list))

@@ -1,7 +1,7 @@
 use Rattle.std.proofs.Common.{◌≡◌, [], ◌∙◌, codes, true, false, ap, get_or}
 use Rattle.napt_state.specs.declared.line.StateLine.{StateLine}
 use Rattle.napt_state.specs.declared.line.StateLine.TheVariants as lines
-use Rattle.napt_state.specs.StateText.{Text, words, kind_text}
+use Rattle.napt_state.specs.StateText.{StateTextBytes, split_words, kind_text}
 use Rattle.napt_state.proofs.{Arms.{clock_arm, binding_arm, flow_arm, log_arm, entry_arm, end_arm, tag_of}, Lines.words_read}
 use Rattle.napt_state.proofs.line.StateLine.read.Goals as goal
 
@@ -34,7 +34,7 @@ returns-in-end-clause-read c is fits text = end_arm c.args.line.now _ c.read_end
     (words_read is _ text) (tag_of _ _ _ c.word.ensures is text c.in-end.is)
 
 -- a line of a state begins with one of the words
-no_word : (word : Text) (is : StateLine) → word ≡ get_or (words is) 0 [] → (word ≡ codes "clock" → ⊥) →
+no_word : (word : StateTextBytes) (is : StateLine) → word ≡ get_or (split_words is) 0 [] → (word ≡ codes "clock" → ⊥) →
     (word ≡ codes "binding" → ⊥) → (word ≡ codes "redirect" → ⊥) → (word ≡ codes "flow" → ⊥) →
     (word ≡ codes "log" → ⊥) → (word ≡ codes "entry" → ⊥) → (word ≡ codes "end" → ⊥) → ⊥
 no_word word (lines.Clock at) e a b c d f g h = a e

@@ -1,5 +1,5 @@
 use Rattle.std.proofs.Common.{◌≡◌, ℕ, None, sym, ◌∙◌, subst}
-use Rattle.napt_table.specs.{Bindings.BindingsState, Holdings.{held, IsUsedBy}, Keys.key_of}
+use Rattle.napt_table.specs.{Bindings.BindingsModel, BindingIndexes.{held_binding, IsUsedBy}, Keys.key_of}
 use Rattle.napt_table.proofs.Queues.{fixed_due}
 use Rattle.napt_table.proofs.bindings.Bindings.add.Goals as goal
 
@@ -9,8 +9,8 @@ invariant_of-self c =
     let b = c.args.binding in
     let same = c.make_room.ensures.same in
     fixed_due s.timers s.at s.held s.due.entries c.self.invariant (key_of b) b c.insert.new.self
-    (subst (λ (x : BindingsState). held x.held (key_of b) ≡ None) (sym c.self.view_is)
+    (subst (λ (x : BindingsModel). held_binding x.held (key_of b) ≡ None) (sym c.self.view_is)
     (same.same.held_same (key_of b) ∙ c.requires.free)) c.insert.ensures.held
     (sym c.is_fixed.ensures ∙ c.if-is_fixed.true)
-    (subst (λ (x : BindingsState). IsUsedBy x.at b) (sym c.self.view_is)
+    (subst (λ (x : BindingsModel). IsUsedBy x.at b) (sym c.self.view_is)
     (subst (λ (a : ℕ). IsUsedBy a b) (sym same.at_is) c.requires.used))

@@ -1,5 +1,5 @@
 use Rattle.std.proofs.Common.{◌≡◌, ◌≤◌, arith, Some, None, cond, sym, subst}
-use Rattle.napt_table.specs.{declared.bindings.keys.ExternalKey.ExternalKey, Bindings.BindingsState, Holdings.{held, IsUsedBy}, Keys.{key_eq, key_of}}
+use Rattle.napt_table.specs.{declared.bindings.keys.ExternalNumberKey.ExternalNumberKey, Bindings.BindingsModel, BindingIndexes.{held_binding, IsUsedBy}, Keys.{key_eq, key_of}}
 use Rattle.napt_table.proofs.Queues.{inserted_due}
 use Rattle.napt_table.proofs.bindings.Bindings.insert.Goals as goal
 
@@ -9,13 +9,13 @@ invariant_of-self c =
     let b = c.args.binding in
     let is = sym c.key_of-key.ensures.value in
     let from : c.args.from ≤ s.at =
-    subst (λ (x : BindingsState). c.args.from ≤ x.at) (sym c.self.view_is) c.requires.from in
+    subst (λ (x : BindingsModel). c.args.from ≤ x.at) (sym c.self.view_is) c.requires.from in
     inserted_due s.timers s.at s.held s.due.entries c.self.invariant c.key_of-key.result b c.insert.new.self
-    (subst (λ (k : ExternalKey). held s.held k ≡ None) is
-    (subst (λ (x : BindingsState). held x.held (key_of b) ≡ None) (sym c.self.view_is) c.requires.free))
-    (subst (λ (x : ExternalKey). (k : ExternalKey) → held c.insert.new.self k ≡ cond (key_eq x k) (Some b)
-    (held s.held k)) is c.insert.ensures.held)
+    (subst (λ (k : ExternalNumberKey). held_binding s.held k ≡ None) is
+    (subst (λ (x : BindingsModel). held_binding x.held (key_of b) ≡ None) (sym c.self.view_is) c.requires.free))
+    (subst (λ (x : ExternalNumberKey). (k : ExternalNumberKey) → held_binding c.insert.new.self k ≡ cond (key_eq x k) (Some b)
+    (held_binding s.held k)) is c.insert.ensures.held)
     c.until-end.result c.put.new.self.entries c.requires.loose c.put.ensures.entries
     (omega (arith, c.until-end.ensures.near, from))
-    c.until-end.ensures.lives (subst (λ (x : BindingsState). IsUsedBy x.at b) (sym c.self.view_is)
+    c.until-end.ensures.lives (subst (λ (x : BindingsModel). IsUsedBy x.at b) (sym c.self.view_is)
     c.requires.used)

@@ -1,5 +1,5 @@
 use Rattle.std.{proofs.Common.{sym, ap, ◌∙◌}, specs.Option.option_copied}
-use Rattle.napt_table.{specs.Held.seen, proofs.{Seen.seen_dead, LiveNumbers.{live_none, live_dead, live_found}}}
+use Rattle.napt_table.{specs.HeldLists.seen_binding, proofs.{SeenBindings.seen_dead, LiveNumbers.{live_none, live_dead, live_found}}}
 use Rattle.napt_table.proofs.bindings.Bindings.number_of.Goals as goal
 
 pub returns-in_err-number : goal.returns-in_err-number
@@ -33,7 +33,7 @@ returns-in_default c = rw (← c.self.view_is) (live_dead
     })
     c.args.now c.args.protocol c.args.inside c.number_of.result c.in_ok-number.number
     c.number_of.ensures c.in_ok-number.was
-    (ap (seen c.self.inside.timers c.args.now) (sym c.in-Some.ensures)
+    (ap (seen_binding c.self.inside.timers c.args.now) (sym c.in-Some.ensures)
     ∙ seen_dead c.self.inside.timers c.args.now c.in-Some.binding.now (sym c.is_live.ensures ∙ c.if-is_live.false)))
 
 pub returns-in_default-2 : goal.returns-in_default-2
@@ -46,4 +46,4 @@ returns-in_default-2 c = rw (← c.self.view_is) (live_dead
     })
     c.args.now c.args.protocol c.args.inside c.number_of.result c.in_ok-number.number
     c.number_of.ensures c.in_ok-number.was
-    (ap (seen c.self.inside.timers c.args.now) (sym c.get.ensures ∙ ap option_copied c.in_default.is)))
+    (ap (seen_binding c.self.inside.timers c.args.now) (sym c.get.ensures ∙ ap option_copied c.in_default.is)))

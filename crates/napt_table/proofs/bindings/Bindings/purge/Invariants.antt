@@ -1,6 +1,6 @@
 use Rattle.std.proofs.Common.{◌≡◌}
 use Rattle.napt_rules.specs.Prelude.{hold_ago}
-use Rattle.napt_table.specs.{Holdings.KeepsSeen, Bindings.{HasRoom, come_up}}
+use Rattle.napt_table.specs.{BindingIndexes.KeepsSeen, Bindings.{BindingsHaveRoom, entries_due}}
 use Rattle.napt_table.proofs.bindings.Bindings.purge.Given as goal
 
 abbrev pub invariant-loop : goal.invariant-loop
@@ -8,8 +8,8 @@ invariant-loop l = record {
   timers : l.self.timers ≡ l.fn.self.timers;
   at : l.self.at ≡ l.fn.self.at;
   keeps : KeepsSeen l.fn.self.timers (hold_ago l.fn.self.timers l.fn.self.at) l.fn.self.held l.self.held;
-  room : HasRoom l.fn.self → HasRoom l.self;
+  room : BindingsHaveRoom l.fn.self → BindingsHaveRoom l.self;
 }
 
 abbrev pub decreases-loop : goal.decreases-loop
-decreases-loop l = come_up (hold_ago l.fn.self.timers l.fn.self.at) l.self.due.entries
+decreases-loop l = entries_due (hold_ago l.fn.self.timers l.fn.self.at) l.self.due.entries

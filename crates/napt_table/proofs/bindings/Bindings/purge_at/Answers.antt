@@ -1,12 +1,12 @@
 use Rattle.std.proofs.Common.{◌≤◌, sym, subst}
-use Rattle.napt_table.{specs.Bindings.BindingsState, proofs.Queues.due_later}
+use Rattle.napt_table.{specs.Bindings.BindingsModel, proofs.Queues.due_later}
 use Rattle.napt_table.proofs.bindings.Bindings.purge_at.Goals as goal
 
 pub invariant_of-self : goal.invariant_of-self
 invariant_of-self c =
     let s = c.self.inside in
     due_later s.timers s.at c.args.now s.held s.due.entries
-    (subst (λ (x : BindingsState). x.at ≤ c.args.now) (sym c.self.view_is) c.requires.later) c.self.invariant
+    (subst (λ (x : BindingsModel). x.at ≤ c.args.now) (sym c.self.view_is) c.requires.later) c.self.invariant
 
 pub returns : goal.returns
 returns c =

@@ -1,6 +1,6 @@
 use Rattle.std.proofs.{Common.{ℕ, ◌≤◌, arith}, lemmas.List.Elements.All-contains}
 use Rattle.napt_rules.specs.Prelude.{hold_ago}
-use Rattle.napt_table.{specs.declared.bindings.keys.ExternalKey.ExternalKey, proofs.Queues.{popped_due, one_less}}
+use Rattle.napt_table.{specs.declared.bindings.keys.ExternalNumberKey.ExternalNumberKey, proofs.Queues.{popped_due, one_less}}
 use Rattle.napt_table.proofs.bindings.Bindings.purge_first.Goals as goal
 
 pub requeue_or_remove-requires-clause-due : goal.requeue_or_remove-requires-clause-due
@@ -14,7 +14,7 @@ returns-clause-fewer c =
     let s = c.self.inside in
     rw (← c.self.view_is) (λ given.
     let le : c.in-Some-take_first.field-0-0 ≤ c.in-Some.until =
-    All-contains (λ (e : ℕ × ExternalKey). c.in-Some-take_first.field-0-0 ≤ e.0) s.due.entries (
+    All-contains (λ (e : ℕ × ExternalNumberKey). c.in-Some-take_first.field-0-0 ≤ e.0) s.due.entries (
       c.in-Some.until,
       c.in-Some.field-0-1,
     ) c.in-Some-take_first.ensures.least c.in-Some.ensures.some in

@@ -1,14 +1,14 @@
 use Rattle.std.proofs.Common.{◌≤◌, sym, subst, ◌∙◌}
 use Rattle.napt_rules.specs.Prelude.{purge, in_taken}
-use Rattle.napt_table.{specs.Bindings.{BindingsState, AllShow}, proofs.{Queues.due_later, Steps.in_is_shown, Keeps.{keeps_on, in_stays, in_apart}}}
-use Rattle.napt_table.proofs.Enters.{all_received, received_unseen, all_received_due}
+use Rattle.napt_table.{specs.Bindings.{BindingsModel, AllShow}, proofs.{Queues.due_later, Steps.in_is_shown, HeldThroughTime.{keeps_on, in_stays, in_apart}}}
+use Rattle.napt_table.proofs.InboundSteps.{all_received, received_unseen, all_received_due}
 use Rattle.napt_table.proofs.bindings.Bindings.receive.Goals as goal
 
 pub receive-requires : goal.receive-requires
 receive-requires c =
     let s = c.self.inside in
     (due_later s.timers s.at c.args.packet.now s.held s.due.entries
-    (subst (λ (x : BindingsState). x.at ≤ c.args.packet.now) (sym c.self.view_is) c.requires.later)
+    (subst (λ (x : BindingsModel). x.at ≤ c.args.packet.now) (sym c.self.view_is) c.requires.later)
     c.self.invariant).used
 
 pub invariant_of-self : goal.invariant_of-self
@@ -17,7 +17,7 @@ invariant_of-self c =
     let k = c.receive.ensures in
     all_received_due s.timers c.keep_limits.ensures c.args.inbound s.held.address c.args.packet s.held
     c.receive.new.self k.one c.receive.result k.absent k.found s.at s.due.entries
-    (subst (λ (x : BindingsState). x.at ≤ c.args.packet.now) (sym c.self.view_is) c.requires.later)
+    (subst (λ (x : BindingsModel). x.at ≤ c.args.packet.now) (sym c.self.view_is) c.requires.later)
     c.self.invariant
 
 pub returns-clause-receives : goal.returns-clause-receives

@@ -1,8 +1,8 @@
 use Rattle.std.{proofs.Common.{◌≡◌, ℕ, true, false, cond, Option, sym, subst, ◌∙◌}, specs.Option.is_some}
 use Rattle.napt_config.specs.Rules.{AreTimers}
-use Rattle.napt_rules.specs.Prelude.{reaches}
-use Rattle.napt_table.specs.{Holdings.{count_all, IsAbsent, IsNumberOf, HasInside, WentThrough, HasNone, WentOut}, Bindings.{BindingsState, Stands}}
-use Rattle.napt_table.proofs.Granted.{stands_then, went_answer, went_keeps, absent_from, gone_unseen, over_sends, begun_sends, renewed_sends}
+use Rattle.napt_rules.specs.Prelude.{reaches_quota}
+use Rattle.napt_table.specs.{BindingIndexes.{count_all, HasNoInside, IsNumberOf, HasInside, WentThrough, HasNone, SendKnownPost}, Bindings.{BindingsModel, BindingsInvariant}}
+use Rattle.napt_table.proofs.AssignedNumbers.{stands_then, went_answer, went_keeps, absent_from, gone_unseen, over_sends, begun_sends, renewed_sends}
 use Rattle.napt_table.proofs.bindings.Bindings.send.Goals as goal
 
 pub returns-in-Some-clause-sends : goal.returns-in-Some-clause-sends
@@ -10,10 +10,10 @@ returns-in-Some-clause-sends c list apart is_taken keeps left =
     let p = c.args.packet in
     let old = c.args.self.now in
     let new = c.send_held.new.self in
-    let t : AreTimers old.timers = subst (λ (x : BindingsState). AreTimers x.timers) c.self.view_is
+    let t : AreTimers old.timers = subst (λ (x : BindingsModel). AreTimers x.timers) c.self.view_is
     c.keep_limits.ensures in
     let went : WentThrough old.timers p old.held new.held c.in-Some.number =
-    subst (WentOut old.timers p old.held new.held) c.in-Some.is c.in_ok-number.ensures.went in (
+    subst (SendKnownPost old.timers p old.held new.held) c.in-Some.is c.in_ok-number.ensures.went in (
       went_answer old.timers t old.held.granting p old.held new.held c.keep_names.ensures c.in-Some.number went list
           apart keeps,
       went_keeps old.timers t old.held.granting p old.held new.held c.keep_names.ensures c.in-Some.number went list
@@ -26,7 +26,7 @@ renew-requires-clause-its c =
     let gone = c.purge_at.new.self in
     let n = c.in-Some-number_of.number in
     let has : HasInside gone.held p.protocol p.inside n =
-    subst (λ (x : BindingsState). HasInside x.held p.protocol p.inside n) c.self-2.view_is
+    subst (λ (x : BindingsModel). HasInside x.held p.protocol p.inside n) c.self-2.view_is
     ((c.number_of.ensures n).0 c.in-Some-number_of.is) in
     has
 
@@ -37,15 +37,15 @@ renew-requires-clause-unseen c =
     let mid = c.prepare.new.self in
     let gone = c.purge_at.new.self in
     let none : HasNone old.timers p old.held c.send_held.new.self.held =
-    subst (WentOut old.timers p old.held c.send_held.new.self.held) c.in_default.is c.in_ok-number.ensures.went in
+    subst (SendKnownPost old.timers p old.held c.send_held.new.self.held) c.in_default.is c.in_ok-number.ensures.went in
     let at : c.send_held.new.self.at ≡ old.at = subst (λ (o : Option ℕ). c.send_held.new.self.at
     ≡ cond (is_some o) p.now old.at) c.in_default.is c.in_ok-number.ensures.at in
-    let first : Stands old c.send_held.new.self =
+    let first : BindingsInvariant old c.send_held.new.self =
     record { timers_is = c.send_held.ensures.timers; at_is = at; same = none.same } in
     let same = stands_then old c.send_held.new.self mid first c.prepare.ensures.same in
     let n = c.in-Some-number_of.number in
     let has : HasInside gone.held p.protocol p.inside n =
-    subst (λ (x : BindingsState). HasInside x.held p.protocol p.inside n) c.self-2.view_is
+    subst (λ (x : BindingsModel). HasInside x.held p.protocol p.inside n) c.self-2.view_is
     ((c.number_of.ensures n).0 c.in-Some-number_of.is) in
     gone_unseen old mid gone p same c.purge_at.ensures none.none c.keep_names.ensures c.keep_names-2.ensures n has
 
@@ -56,17 +56,17 @@ returns-in-Some-number_of-clause-sends c list apart is_taken keeps left =
     let mid = c.prepare.new.self in
     let gone = c.purge_at.new.self in
     let none : HasNone old.timers p old.held c.send_held.new.self.held =
-    subst (WentOut old.timers p old.held c.send_held.new.self.held) c.in_default.is c.in_ok-number.ensures.went in
+    subst (SendKnownPost old.timers p old.held c.send_held.new.self.held) c.in_default.is c.in_ok-number.ensures.went in
     let at : c.send_held.new.self.at ≡ old.at = subst (λ (o : Option ℕ). c.send_held.new.self.at
     ≡ cond (is_some o) p.now old.at) c.in_default.is c.in_ok-number.ensures.at in
-    let first : Stands old c.send_held.new.self =
+    let first : BindingsInvariant old c.send_held.new.self =
     record { timers_is = c.send_held.ensures.timers; at_is = at; same = none.same } in
     let same = stands_then old c.send_held.new.self mid first c.prepare.ensures.same in
-    let t : AreTimers old.timers = subst (λ (x : BindingsState). AreTimers x.timers) c.self.view_is
+    let t : AreTimers old.timers = subst (λ (x : BindingsModel). AreTimers x.timers) c.self.view_is
     c.keep_limits.ensures in
     let n = c.in-Some-number_of.number in
     let has : HasInside gone.held p.protocol p.inside n =
-    subst (λ (x : BindingsState). HasInside x.held p.protocol p.inside n) c.self-2.view_is
+    subst (λ (x : BindingsModel). HasInside x.held p.protocol p.inside n) c.self-2.view_is
     ((c.number_of.ensures n).0 c.in-Some-number_of.is) in
     renewed_sends old mid gone p same c.purge_at.ensures none.none c.keep_names.ensures c.keep_names-2.ensures t list
     apart is_taken keeps n has c.renew.new.self c.renew.ensures.renews left
@@ -75,8 +75,8 @@ pub begin-requires-clause-absent : goal.begin-requires-clause-absent
 begin-requires-clause-absent c =
     let p = c.args.packet in
     let gone = c.purge_at.new.self in
-    let absent : IsAbsent gone.held p.protocol p.inside = absent_from gone.held p.protocol p.inside
-    c.number_of.result (subst (λ (x : BindingsState). IsNumberOf x.held p.protocol p.inside c.number_of.result)
+    let absent : HasNoInside gone.held p.protocol p.inside = absent_from gone.held p.protocol p.inside
+    c.number_of.result (subst (λ (x : BindingsModel). IsNumberOf x.held p.protocol p.inside c.number_of.result)
     c.self-2.view_is c.number_of.ensures) c.in_default-number_of.is in
     absent
 
@@ -87,19 +87,19 @@ returns-then-reaches-clause-sends c list apart is_taken keeps left =
     let mid = c.prepare.new.self in
     let gone = c.purge_at.new.self in
     let none : HasNone old.timers p old.held c.send_held.new.self.held =
-    subst (WentOut old.timers p old.held c.send_held.new.self.held) c.in_default.is c.in_ok-number.ensures.went in
+    subst (SendKnownPost old.timers p old.held c.send_held.new.self.held) c.in_default.is c.in_ok-number.ensures.went in
     let at : c.send_held.new.self.at ≡ old.at = subst (λ (o : Option ℕ). c.send_held.new.self.at
     ≡ cond (is_some o) p.now old.at) c.in_default.is c.in_ok-number.ensures.at in
-    let first : Stands old c.send_held.new.self =
+    let first : BindingsInvariant old c.send_held.new.self =
     record { timers_is = c.send_held.ensures.timers; at_is = at; same = none.same } in
     let same = stands_then old c.send_held.new.self mid first c.prepare.ensures.same in
-    let t : AreTimers old.timers = subst (λ (x : BindingsState). AreTimers x.timers) c.self.view_is
+    let t : AreTimers old.timers = subst (λ (x : BindingsModel). AreTimers x.timers) c.self.view_is
     c.keep_limits.ensures in
-    let absent : IsAbsent gone.held p.protocol p.inside = absent_from gone.held p.protocol p.inside
-    c.number_of.result (subst (λ (x : BindingsState). IsNumberOf x.held p.protocol p.inside c.number_of.result)
+    let absent : HasNoInside gone.held p.protocol p.inside = absent_from gone.held p.protocol p.inside
+    c.number_of.result (subst (λ (x : BindingsModel). IsNumberOf x.held p.protocol p.inside c.number_of.result)
     c.self-2.view_is c.number_of.ensures) c.in_default-number_of.is in
-    let over : reaches gone.held.granting.quota (count_all gone.held p.inside.address) ≡ true =
-    subst (λ (x : BindingsState). reaches x.held.granting.quota (count_all x.held p.inside.address)
+    let over : reaches_quota gone.held.granting.quota (count_all gone.held p.inside.address) ≡ true =
+    subst (λ (x : BindingsModel). reaches_quota x.held.granting.quota (count_all x.held p.inside.address)
     ≡ true) c.self-2.view_is
     (sym c.reaches.ensures ∙ c.if-reaches.true) in
     over_sends old mid gone p same c.purge_at.ensures none.none c.keep_names.ensures c.keep_names-2.ensures t list apart
@@ -112,19 +112,19 @@ returns-clause-sends c list apart is_taken keeps left =
     let mid = c.prepare.new.self in
     let gone = c.purge_at.new.self in
     let none : HasNone old.timers p old.held c.send_held.new.self.held =
-    subst (WentOut old.timers p old.held c.send_held.new.self.held) c.in_default.is c.in_ok-number.ensures.went in
+    subst (SendKnownPost old.timers p old.held c.send_held.new.self.held) c.in_default.is c.in_ok-number.ensures.went in
     let at : c.send_held.new.self.at ≡ old.at = subst (λ (o : Option ℕ). c.send_held.new.self.at
     ≡ cond (is_some o) p.now old.at) c.in_default.is c.in_ok-number.ensures.at in
-    let first : Stands old c.send_held.new.self =
+    let first : BindingsInvariant old c.send_held.new.self =
     record { timers_is = c.send_held.ensures.timers; at_is = at; same = none.same } in
     let same = stands_then old c.send_held.new.self mid first c.prepare.ensures.same in
-    let t : AreTimers old.timers = subst (λ (x : BindingsState). AreTimers x.timers) c.self.view_is
+    let t : AreTimers old.timers = subst (λ (x : BindingsModel). AreTimers x.timers) c.self.view_is
     c.keep_limits.ensures in
-    let absent : IsAbsent gone.held p.protocol p.inside = absent_from gone.held p.protocol p.inside
-    c.number_of.result (subst (λ (x : BindingsState). IsNumberOf x.held p.protocol p.inside c.number_of.result)
+    let absent : HasNoInside gone.held p.protocol p.inside = absent_from gone.held p.protocol p.inside
+    c.number_of.result (subst (λ (x : BindingsModel). IsNumberOf x.held p.protocol p.inside c.number_of.result)
     c.self-2.view_is c.number_of.ensures) c.in_default-number_of.is in
-    let under : reaches gone.held.granting.quota (count_all gone.held p.inside.address) ≡ false =
-    subst (λ (x : BindingsState). reaches x.held.granting.quota (count_all x.held p.inside.address)
+    let under : reaches_quota gone.held.granting.quota (count_all gone.held p.inside.address) ≡ false =
+    subst (λ (x : BindingsModel). reaches_quota x.held.granting.quota (count_all x.held p.inside.address)
     ≡ false) c.self-2.view_is
     (sym c.reaches.ensures ∙ c.if-reaches.false) in
     begun_sends old mid gone p same c.purge_at.ensures none.none c.keep_names.ensures c.keep_names-2.ensures t list

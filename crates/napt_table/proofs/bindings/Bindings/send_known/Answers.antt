@@ -1,13 +1,13 @@
 use Rattle.std.{proofs.Common.{◌≡◌, ℕ, Option, Some, None, Result, Ok, Err, cond, subst}, specs.{Prelude.{IfOk, IfSome}, Option.is_some}}
 use Rattle.std.specs.declared.alloc.AllocError.{AllocError}
 use Rattle.napt_config.specs.Rules.{AreTimers}
-use Rattle.napt_rules.specs.declared.Sent.{Sent}
-use Rattle.napt_table.specs.{Holdings.{IsNamed, HasNone, WentOut}, Bindings.{BindingsState, SendsKnown}}
-use Rattle.napt_table.proofs.Granted.{went_answer, went_any_block, went_keeps}
+use Rattle.napt_rules.specs.declared.OutboundPacket.{OutboundPacket}
+use Rattle.napt_table.specs.{BindingIndexes.{IsNamed, HasNone, SendKnownPost}, Bindings.{BindingsModel, SendsKnown}}
+use Rattle.napt_table.proofs.AssignedNumbers.{went_answer, went_any_block, went_keeps}
 use Rattle.napt_table.proofs.bindings.Bindings.send_known.Goals as goal
 
-known : (p : Sent) (old new : BindingsState) → AreTimers old.timers → IsNamed old.held →
-    (r : Result (Option ℕ) AllocError) → IfOk r (WentOut old.timers p old.held new.held) →
+known : (p : OutboundPacket) (old new : BindingsModel) → AreTimers old.timers → IsNamed old.held →
+    (r : Result (Option ℕ) AllocError) → IfOk r (SendKnownPost old.timers p old.held new.held) →
     IfOk r (λ found. new.at ≡ cond (is_some found) p.now old.at) →
     IfOk r (λ found. IfSome found (λ number. SendsKnown p old new number))
 known p old new t named (Err e) went at = tt
@@ -25,7 +25,7 @@ known p old new t named (Ok (Some number)) went at = record {
 
 pub returns-clause-known : goal.returns-clause-known
 returns-clause-known c = known c.args.packet c.args.self.now c.send_held.new.self
-    (subst (λ (x : BindingsState). AreTimers x.timers) c.self.view_is c.keep_limits.ensures) c.keep_names.ensures
+    (subst (λ (x : BindingsModel). AreTimers x.timers) c.self.view_is c.keep_limits.ensures) c.keep_names.ensures
     c.send_held.result c.send_held.ensures.went c.send_held.ensures.at
 
 pub returns-clause-unknown : goal.returns-clause-unknown
@@ -34,7 +34,7 @@ returns-clause-unknown c is =
     let old = c.args.self.now in
     let new = c.send_held.new.self in
     let none : HasNone old.timers p old.held new.held =
-    subst (λ (r : Result (Option ℕ) AllocError). IfOk r (WentOut old.timers p old.held new.held)) is
+    subst (λ (r : Result (Option ℕ) AllocError). IfOk r (SendKnownPost old.timers p old.held new.held)) is
     c.send_held.ensures.went in record {
       timers_is = c.send_held.ensures.timers;
       at_is = subst (λ (r : Result (Option ℕ) AllocError). IfOk r (λ found. new.at ≡ cond (is_some found) p.now old.at))

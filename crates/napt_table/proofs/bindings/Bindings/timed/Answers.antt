@@ -2,7 +2,7 @@ use Rattle.std.{proofs.Common.{◌≡◌, Option, Some, None, cond, sym, ◌∙�
 use Rattle.napt_config.specs.declared.settings.Timers.{Timers}
 use Rattle.napt_rules.specs.Prelude.{Binding, with_live_flows, row}
 use Rattle.napt_binding.{specs.Ends.end_of, proofs.FirstEnds.end_without_dead}
-use Rattle.napt_table.specs.{declared.TimedRow.TimedRow, TimedRows.timed, Held.seen, Holdings.held_at}
+use Rattle.napt_table.specs.{declared.TimedRow.TimedRow, TimedRows.timed_row, HeldLists.seen_binding, BindingIndexes.held_at}
 use Rattle.napt_table.proofs.bindings.Bindings.timed.Goals as goal
 
 pub returns-in-Some : goal.returns-in-Some
@@ -16,6 +16,6 @@ returns-in-Some c =
     rw (← c.self.view_is)
     (ap (λ (r : _). let t : TimedRow = record { row = r; end = c.end_of.result } in Some t) c.row.ensures.row
     ∙ (ap (λ (e : _). let t : TimedRow = record { row = row b; end = e } in Some t) end_is
-    ∙ (sym (ap (λ v. option_map (timed timers) (cond v (Some (with_live_flows timers c.args.now b)) None))
+    ∙ (sym (ap (λ v. option_map (timed_row timers) (cond v (Some (with_live_flows timers c.args.now b)) None))
     (sym c.is_live.ensures ∙ c.if-is_live.true))
-    ∙ sym (ap (λ (o : Option Binding). option_map (timed timers) (seen timers c.args.now o)) held_is))))
+    ∙ sym (ap (λ (o : Option Binding). option_map (timed_row timers) (seen_binding timers c.args.now o)) held_is))))

@@ -1,4 +1,4 @@
-use Rattle.napt_collections.specs.Sets.{has}
+use Rattle.napt_collections.specs.BitSets.{has}
 use Rattle.napt_table.proofs.numbers.Numbers.first_from.Goals as goal
 
 pub returns : goal.returns

@@ -1,5 +1,5 @@
 use Rattle.std.proofs.Common.{◌∙◌}
-use Rattle.napt_collections.specs.Sets.{has}
+use Rattle.napt_collections.specs.BitSets.{has}
 use Rattle.napt_table.proofs.Choices.{near_choice, far_choice, no_choice}
 use Rattle.napt_table.proofs.numbers.Numbers.first_of_parity.Goals as goal
 

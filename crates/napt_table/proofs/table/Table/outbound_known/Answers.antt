@@ -1,9 +1,9 @@
 use Rattle.std.{proofs.Common.{◌≤◌, ◌∙◌, ℕ, Option, Result, ap, refl, sym, subst}, specs.Prelude.{IfOk, IfSome}}
 use Rattle.napt_wire.specs.declared.Cause.{Cause}
-use Rattle.napt_rules.specs.Prelude.{Out, IsNumber}
-use Rattle.napt_table.specs.{declared.event.Event.TheVariants.Sent, Bindings.SendsKnown, Shown.shown, Tables.TableState}
+use Rattle.napt_rules.specs.Prelude.{OutboundEffect, IsNumber}
+use Rattle.napt_table.specs.{declared.table_event.TableEvent.TheVariants.Sent, Bindings.SendsKnown, TableModels.table_model, Tables.TableModel}
 use Rattle.napt_table.proofs.{TableSteps.{all, all_sound, all_taken, keep_now, shown_after, keeps_after, keeps_same}, Tables.table_out}
-use Rattle.napt_laws.proofs.Named.{out_named}
+use Rattle.napt_laws.proofs.RowNumbers.{out_named}
 use Rattle.napt_table.proofs.table.Table.outbound_known.Goals as goal
 
 pub invariant_of-self : goal.invariant_of-self
@@ -14,23 +14,23 @@ invariant_of-self-in-Some c =
     let t = c.self.inside in
     let packet = c.args.packet in
     let le : t.bindings.at ≤ packet.now =
-    subst (λ (s : TableState). s.at ≤ packet.now) (sym c.self.view_is) c.requires.later in
+    subst (λ (s : TableModel). s.at ≤ packet.now) (sym c.self.view_is) c.requires.later in
     let k : SendsKnown packet t.bindings c.send_known.new.self c.in-Some.number =
     subst (λ (found : Option ℕ). IfSome found (λ number.
     SendsKnown packet t.bindings c.send_known.new.self number)) c.in-Some.is c.in_ok-number.ensures.known in
     keeps_after t _ packet.now (Sent packet) refl refl c.in_ok-number.ensures.timers k.place k.at
     c.and-self-inside.ensures
-    (table_out (shown t) c.self.invariant.state packet c.requires.number c.requires.block)
+    (table_out (table_model t) c.self.invariant.state packet c.requires.number c.requires.block)
     (k.sends (all t c.self.invariant packet.now le) (all_sound t c.self.invariant packet.now le).apart
     (all_taken t c.self.invariant packet.now le) (keep_now t c.self.invariant packet.now le)
-    (table_out (shown t) c.self.invariant.state packet c.requires.number c.requires.block).sound.apart).1
+    (table_out (table_model t) c.self.invariant.state packet c.requires.number c.requires.block).sound.apart).1
 
 pub returns-in-Some-clause-known : goal.returns-in-Some-clause-known
 returns-in-Some-clause-known c block =
     let t = c.self.inside in
     let packet = c.args.packet in
     let le : t.bindings.at ≤ packet.now =
-    subst (λ (s : TableState). s.at ≤ packet.now) (sym c.self.view_is) c.requires.later in
+    subst (λ (s : TableModel). s.at ≤ packet.now) (sym c.self.view_is) c.requires.later in
     let k : SendsKnown packet t.bindings c.send_known.new.self c.in-Some.number =
     subst (λ (found : Option ℕ). IfSome found (λ number.
     SendsKnown packet t.bindings c.send_known.new.self number)) c.in-Some.is c.in_ok-number.ensures.known in
@@ -40,11 +40,11 @@ returns-in-Some-clause-known c block =
     let same = sym (k.any_block list apart keeps block) in
     rw (← c.self.view_is) (record {
       answered = (k.sends list apart (all_taken t c.self.invariant packet.now le) keeps
-          (table_out (shown t) c.self.invariant.state packet c.requires.number c.requires.block).sound.apart).0 ∙ ap
-          (λ (o : Out). o.number) same;
+          (table_out (table_model t) c.self.invariant.state packet c.requires.number c.requires.block).sound.apart).0 ∙ ap
+          (λ (o : OutboundEffect). o.number) same;
       left = shown_after t (record t { past = c.and-self-inside.result; bindings = c.send_known.new.self }) packet.now
           (Sent packet) refl refl c.in_ok-number.ensures.timers k.place k.at c.and-self-inside.ensures
-          ∙ ap (λ (o : Out). let s : TableState = record (shown t) { list = o.list; at = packet.now } in s) same;
+          ∙ ap (λ (o : OutboundEffect). let s : TableModel = record (table_model t) { list = o.list; at = packet.now } in s) same;
     })
 
 pub returns-in-Some-clause-named : goal.returns-in-Some-clause-named
@@ -52,7 +52,7 @@ returns-in-Some-clause-named c =
     let t = c.self.inside in
     let packet = c.args.packet in
     let le : t.bindings.at ≤ packet.now =
-    subst (λ (s : TableState). s.at ≤ packet.now) (sym c.self.view_is) c.requires.later in
+    subst (λ (s : TableModel). s.at ≤ packet.now) (sym c.self.view_is) c.requires.later in
     let k : SendsKnown packet t.bindings c.send_known.new.self c.in-Some.number =
     subst (λ (found : Option ℕ). IfSome found (λ number.
     SendsKnown packet t.bindings c.send_known.new.self number)) c.in-Some.is c.in_ok-number.ensures.known in
@@ -61,7 +61,7 @@ returns-in-Some-clause-named c =
     subst (λ (r : Result ℕ Cause). IfOk r (IsNumber packet.protocol))
     (sym (k.sends list sound.apart (all_taken t c.self.invariant packet.now le)
     (keep_now t c.self.invariant packet.now le)
-    (table_out (shown t) c.self.invariant.state packet c.requires.number c.requires.block).sound.apart).0)
+    (table_out (table_model t) c.self.invariant.state packet c.requires.number c.requires.block).sound.apart).0)
     (out_named (λ host. t.bindings.held.address) t.bindings.held.address t.bindings.timers t.bindings.held.granting
     packet
     c.requires.block

@@ -1,7 +1,7 @@
 use Rattle.std.proofs.Common.{◌≤◌, refl, sym, subst}
-use Rattle.napt_table.specs.{declared.event.Event.TheVariants.Sent, Shown.shown, Tables.TableState}
+use Rattle.napt_table.specs.{declared.table_event.TableEvent.TheVariants.Sent, TableModels.table_model, Tables.TableModel}
 use Rattle.napt_table.proofs.{TableSteps.{all, all_sound, all_taken, keep_now, shown_after, keeps_after, keeps_same}, Tables.table_out}
-use Rattle.napt_laws.proofs.Named.{out_named}
+use Rattle.napt_laws.proofs.RowNumbers.{out_named}
 use Rattle.napt_table.proofs.table.Table.outbound_of.Goals as goal
 
 pub invariant_of-self : goal.invariant_of-self
@@ -12,25 +12,25 @@ invariant_of-self-2 c =
     let t = c.self.inside in
     let packet = c.args.packet in
     let le : t.bindings.at ≤ packet.now =
-    subst (λ (s : TableState). s.at ≤ packet.now) (sym c.self.view_is) c.requires.later in
+    subst (λ (s : TableModel). s.at ≤ packet.now) (sym c.self.view_is) c.requires.later in
     let k = c.in_ok-answer.ensures in
     keeps_after t _ packet.now (Sent packet) refl
     refl k.timers k.place k.at c.and-self-inside.ensures
-    (table_out (shown t) c.self.invariant.state packet c.requires.number c.requires.block)
+    (table_out (table_model t) c.self.invariant.state packet c.requires.number c.requires.block)
     (k.sends (all t c.self.invariant packet.now le) (all_sound t c.self.invariant packet.now le).apart
     (all_taken t c.self.invariant packet.now le) (keep_now t c.self.invariant packet.now le)
-    (table_out (shown t) c.self.invariant.state packet c.requires.number c.requires.block).sound.apart).1
+    (table_out (table_model t) c.self.invariant.state packet c.requires.number c.requires.block).sound.apart).1
 
 pub returns-clause-answer : goal.returns-clause-answer
 returns-clause-answer c =
     let t = c.self.inside in
     let packet = c.args.packet in
     let le : t.bindings.at ≤ packet.now =
-    subst (λ (s : TableState). s.at ≤ packet.now) (sym c.self.view_is) c.requires.later in
+    subst (λ (s : TableModel). s.at ≤ packet.now) (sym c.self.view_is) c.requires.later in
     rw (← c.self.view_is) (c.in_ok-answer.ensures.sends (all t c.self.invariant packet.now le)
     (all_sound t c.self.invariant packet.now le).apart (all_taken t c.self.invariant packet.now le)
     (keep_now t c.self.invariant packet.now le)
-    (table_out (shown t) c.self.invariant.state packet c.requires.number c.requires.block).sound.apart).0
+    (table_out (table_model t) c.self.invariant.state packet c.requires.number c.requires.block).sound.apart).0
 
 pub returns-clause-left : goal.returns-clause-left
 returns-clause-left c =
@@ -45,11 +45,11 @@ returns-clause-named c =
     let t = c.self.inside in
     let packet = c.args.packet in
     let le : t.bindings.at ≤ packet.now =
-    subst (λ (s : TableState). s.at ≤ packet.now) (sym c.self.view_is) c.requires.later in
+    subst (λ (s : TableModel). s.at ≤ packet.now) (sym c.self.view_is) c.requires.later in
     let sound = all_sound t c.self.invariant packet.now le in
     rw (c.in_ok-answer.ensures.sends (all t c.self.invariant packet.now le) sound.apart
     (all_taken t c.self.invariant packet.now le) (keep_now t c.self.invariant packet.now le)
-    (table_out (shown t) c.self.invariant.state packet c.requires.number c.requires.block).sound.apart).0
+    (table_out (table_model t) c.self.invariant.state packet c.requires.number c.requires.block).sound.apart).0
     (out_named (λ host. t.bindings.held.address) t.bindings.held.address t.bindings.timers t.bindings.held.granting
     packet
     c.requires.block

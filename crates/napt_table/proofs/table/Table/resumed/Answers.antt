@@ -1,5 +1,5 @@
 use Rattle.std.proofs.Common.{sym, subst}
-use Rattle.napt_table.{specs.Tables.IsTable, proofs.Resuming.resumed_is_table}
+use Rattle.napt_table.{specs.Tables.IsTable, proofs.ResumedTables.resumed_is_table}
 use Rattle.napt_table.proofs.table.Table.resumed.Goals as goal
 
 pub begun-requires : goal.begun-requires

@@ -1,5 +1,5 @@
 use Rattle.std.{proofs.Common.{ℕ, List, ◌∙◌, ap}, specs.Prelude.slice_index}
-use Rattle.napt_table.specs.Tables.{TableState}
+use Rattle.napt_table.specs.Tables.{TableModel}
 use Rattle.napt_translate.proofs.translator.Translator.new.Goals as goal
 
 -- the table is the one that the configuration opens with
@@ -9,9 +9,9 @@ invariant_of-result c =
     record {
       place = c.requires.place;
       rules = c.pool.ensures.kept;
-      address = ap (λ (t : TableState). t.address) shown
+      address = ap (λ (t : TableModel). t.address) shown
           ∙ ap (λ (p : List ℕ). slice_index p c.args.index) c.pool.ensures.addresses;
-      timers = ap (λ (t : TableState). t.timers) shown;
-      granting = ap (λ (t : TableState). t.granting) shown;
-      inbound = ap (λ (t : TableState). t.inbound) shown;
+      timers = ap (λ (t : TableModel). t.timers) shown;
+      granting = ap (λ (t : TableModel). t.granting) shown;
+      inbound = ap (λ (t : TableModel). t.inbound) shown;
     }

@@ -1,21 +1,21 @@
 use Rattle.std.{proofs.Common.{◌∙◌, ℕ, Option, None, Ok, ap, subst}, specs.Prelude.IfSome}
-use Rattle.napt_config.specs.declared.settings.Block.{Block}
-use Rattle.napt_table.specs.Tables.{TableState, GoesOut}
+use Rattle.napt_config.specs.declared.settings.PortBlock.{PortBlock}
+use Rattle.napt_table.specs.Tables.{TableModel, GoesOut}
 use Rattle.napt_translate.proofs.translator.Translator.outbound.Goals as goal
 
 pub invariant_of-self-in-Some : goal.invariant_of-self-in-Some
 invariant_of-self-in-Some c =
-    let old : TableState = c.self.inside.table in
-    let new : TableState = c.outbound_known.new.self in
-    let known = subst (λ (found : Option ℕ). IfSome found (λ number. (block : Option Block) →
+    let old : TableModel = c.self.inside.table in
+    let new : TableModel = c.outbound_known.new.self in
+    let known = subst (λ (found : Option ℕ). IfSome found (λ number. (block : Option PortBlock) →
     GoesOut (record c.args.sent { block = block }) old new (Ok number))) c.in-Some.is c.in_ok-number.ensures.known in
     let left = (known None).left in
     let is = c.self.invariant in
     record {
       place = is.place;
       rules = is.rules;
-      address = ap (λ (t : TableState). t.address) left ∙ is.address;
-      timers = ap (λ (t : TableState). t.timers) left ∙ is.timers;
-      granting = ap (λ (t : TableState). t.granting) left ∙ is.granting;
-      inbound = ap (λ (t : TableState). t.inbound) left ∙ is.inbound;
+      address = ap (λ (t : TableModel). t.address) left ∙ is.address;
+      timers = ap (λ (t : TableModel). t.timers) left ∙ is.timers;
+      granting = ap (λ (t : TableModel). t.granting) left ∙ is.granting;
+      inbound = ap (λ (t : TableModel). t.inbound) left ∙ is.inbound;
     }

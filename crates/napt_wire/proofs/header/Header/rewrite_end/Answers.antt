@@ -1,19 +1,19 @@
 use Rattle.std.proofs.{Common.{arith, ◌≡◌, ℕ, ◌+◌, List, [], ◌∷◌, Option, Some, None, option_map, refl}, lemmas.{Grind.common_steps, Bool.Decides.nat_tests}}
-use Rattle.napt_wire.specs.Prelude.{change, checksum_changes, number_changes, end_changes, Endpoint, Form}
+use Rattle.napt_wire.specs.Prelude.{word_change, checksum_changes, number_changes, end_changes, Endpoint, TransportForm}
 use Rattle.napt_wire.proofs.header.Header.rewrite_end.Goals.{in-Some, in-None}
 use Rattle.napt_wire.proofs.header.Header.rewrite_end.Goals as goal
 
 -- an end that has a number at a place
-changes_at : (start place : ℕ) (offset : Option ℕ) (form : Form) (old new : Endpoint) (bytes : List ℕ) →
+changes_at : (start place : ℕ) (offset : Option ℕ) (form : TransportForm) (old new : Endpoint) (bytes : List ℕ) →
     option_map (λ (n : ℕ). start + n) offset ≡ Some place →
     number_changes offset form start old new bytes
-    ≡ change bytes place new.number ∷ checksum_changes form start old new bytes
+    ≡ word_change bytes place new.number ∷ checksum_changes form start old new bytes
 changes_at start place None form old new bytes h = cc
 changes_at start place (Some n) form old new bytes h =
     let here : start + n ≡ place = cc in
     rw here refl
 
-no_changes : (start : ℕ) (offset : Option ℕ) (form : Form) (old new : Endpoint) (bytes : List ℕ) →
+no_changes : (start : ℕ) (offset : Option ℕ) (form : TransportForm) (old new : Endpoint) (bytes : List ℕ) →
     option_map (λ (n : ℕ). start + n) offset ≡ None → number_changes offset form start old new bytes ≡ []
 no_changes start None form old new bytes h = refl
 no_changes start (Some n) form old new bytes h = cc

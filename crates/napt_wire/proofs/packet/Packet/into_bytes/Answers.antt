@@ -1,5 +1,5 @@
 use Rattle.std.proofs.Common.{rules}
-use Rattle.napt_wire.proofs.Carried.{length-packet}
+use Rattle.napt_wire.proofs.PacketNumbers.{length-packet}
 use Rattle.napt_wire.proofs.packet.Packet.into_bytes.Goals as goal
 
 pub returns-clause-short : goal.returns-clause-short

@@ -1,5 +1,5 @@
 use Rattle.std.proofs.Common.{◌≡◌, ℕ, List, ap, ◌∙◌, refl}
-use Rattle.napt_wire.{specs.Prelude.{inner_at, quoted_of, Quoted}, proofs.{Readings.passes_of_read, WithInner.{error_of, inner_room, passes_error}}}
+use Rattle.napt_wire.{specs.Prelude.{inner_datagram_start, quoted_of, Quoted}, proofs.{ReadingChecks.passes_of_read, WithInner.{error_of, inner_room, passes_error}}}
 use Rattle.napt_wire.proofs.packet.Packet.quoted_header.Goals as goal
 
 pub returns : goal.returns
@@ -11,7 +11,7 @@ returns c =
     let quoted : c.args.quoted ≡ quoted_of bytes = rw c.self.view_is c.requires.quoted in
     rw (← c.self.view_is)
     record {
-      room = inner_room side (inner_at bytes) bytes passes.inner_good;
+      room = inner_room side (inner_datagram_start bytes) bytes passes.inner_good;
       at_is = rw (c.from.ensures, c.self.invariant.found.start_is) refl;
       start_is = c.into.ensures ∙ ap (λ (q : Quoted). q.start) quoted;
       form_is = ap (λ (q : Quoted). q.form) quoted;

@@ -1,7 +1,7 @@
 use Rattle.std.proofs.Common.{◌≡◌, Ok, sym, ◌∙◌, ap, refl, take, drop, length, ◌++◌, List, ℕ}
-use Rattle.napt_wire.proofs.{Changes.vec-changed, Readings.{passes_of_read, reads_of_passes}, RightKept.error_right}
+use Rattle.napt_wire.proofs.{Changes.vec-changed, ReadingChecks.{passes_of_read, reads_of_passes}, ChecksumsStayRight.error_right}
 use Rattle.napt_wire.proofs.WithInner.{passes_error, KeepsError, error_kept_of, error_there, error_of, carries_inner, not_error, error_found, quoted_form}
-use Rattle.napt_wire.{specs.Prelude.{reading, changed, reverted, reverted_changes, Side}, proofs.packet.Packet.revert_inner.Goals.After-self-1}
+use Rattle.napt_wire.{specs.Prelude.{reading, with_changes, reverted, reverted_changes, Side}, proofs.packet.Packet.revert_inner.Goals.After-self-1}
 use Rattle.napt_wire.proofs.packet.Packet.revert_inner.Goals as goal
 
 pub unreachable-requires : goal.unreachable-requires
@@ -27,7 +27,7 @@ write-requires c =
 -- what the vector holds at the end
 held : (c : After-self-1) →
     take c.self.inside.bytes.len (c.write.new.bytes ++ drop (length c.write.new.bytes) c.self.inside.bytes.items)
-    ≡ changed (reverted_changes c.args.way c.args.end c.self.inside.bytes.items) c.self.inside.bytes.items
+    ≡ with_changes (reverted_changes c.args.way c.args.end c.self.inside.bytes.items) c.self.inside.bytes.items
 held c =
     vec-changed c.self.inside.bytes.items c.write.new.bytes c.self.inside.bytes.len
     (reverted_changes c.args.way c.args.end c.self.inside.bytes.items)
@@ -36,7 +36,7 @@ held c =
 
 kept_for : (c : After-self-1) (side : Side) → reading side c.self.inside.bytes.items ≡ Ok c.self.inside.bytes.items →
     KeepsError side c.self.inside.bytes.items
-    (changed (reverted_changes c.args.way c.args.end c.self.inside.bytes.items) c.self.inside.bytes.items)
+    (with_changes (reverted_changes c.args.way c.args.end c.self.inside.bytes.items) c.self.inside.bytes.items)
 kept_for c side h = error_kept_of side c.args.way c.args.end c.self.inside.bytes.items
     (rw c.self.view_is c.requires.error) (rw c.self.view_is c.requires.number) h
 
@@ -44,7 +44,7 @@ pub invariant_of-self : goal.invariant_of-self
 invariant_of-self c =
     let (side, reads) = c.self.invariant.reads in
     let bytes : List ℕ = c.self.inside.bytes.items in
-    let new : List ℕ = changed (reverted_changes c.args.way c.args.end bytes) bytes in
+    let new : List ℕ = with_changes (reverted_changes c.args.way c.args.end bytes) bytes in
     let keeps = kept_for c side reads in
     rw (held c)
     record {
@@ -55,12 +55,12 @@ invariant_of-self c =
 
 pub returns-clause-value : goal.returns-clause-value
 unfolding reverted
-returns-clause-value c = held c ∙ ap (λ (bytes : List ℕ). changed (reverted_changes c.args.way c.args.end bytes) bytes)
+returns-clause-value c = held c ∙ ap (λ (bytes : List ℕ). with_changes (reverted_changes c.args.way c.args.end bytes) bytes)
     c.self.view_is
 
 pub returns-clause-reads : goal.returns-clause-reads
 returns-clause-reads c = λ side h.
-    rw (held c) (reads_of_passes side (changed (reverted_changes c.args.way c.args.end c.self.inside.bytes.items)
+    rw (held c) (reads_of_passes side (with_changes (reverted_changes c.args.way c.args.end c.self.inside.bytes.items)
     c.self.inside.bytes.items) (kept_for c side (rw c.self.view_is h)).passes)
 
 pub returns-clause-right : goal.returns-clause-right

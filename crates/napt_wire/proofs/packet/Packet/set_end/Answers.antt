@@ -1,6 +1,6 @@
 use Rattle.std.proofs.{Common.{arith, ◌≡◌, ◌∙◌, ap, take, drop, length, ◌++◌, List, ℕ, take_at}, lemmas.{Grind.common_steps, Bool.Decides.nat_tests}}
-use Rattle.napt_wire.proofs.{Changes.length-changed, Ends.end-there, Readings.{room_of_packet, passes_of_read, reads_of_passes}, RightKept.end_right}
-use Rattle.napt_wire.{proofs.WithEnd.{Carries, IsPlain, plain_of, carries_of, end_passes, end_found, end_form}, specs.Prelude.{form_at, changed, end_changes}}
+use Rattle.napt_wire.proofs.{Changes.length-changed, EndReplacement.end-there, ReadingChecks.{room_of_packet, passes_of_read, reads_of_passes}, ChecksumsStayRight.end_right}
+use Rattle.napt_wire.{proofs.WithEnd.{Carries, IsPlain, plain_of, carries_of, end_passes, end_found, end_form}, specs.Prelude.{form_at, with_changes, end_changes}}
 use Rattle.napt_wire.proofs.packet.Packet.set_end.Goals as goal
 
 pub write-requires : goal.write-requires
@@ -11,7 +11,7 @@ write-requires c =
 -- what the vector holds at the end
 is_new : (c : goal.After-self-1) → take c.self.inside.bytes.len (c.write.new.bytes
     ++ drop (length c.write.new.bytes) c.self.inside.bytes.items)
-    ≡ changed (end_changes 0 c.args.end c.args.new c.self.inside.bytes.items) c.self.inside.bytes.items
+    ≡ with_changes (end_changes 0 c.args.end c.args.new c.self.inside.bytes.items) c.self.inside.bytes.items
 is_new c = grind (arith, common_steps, nat_tests, length-changed, take_at)
 
 is_plain : (c : goal.After-self-1) → IsPlain (form_at 0 c.self.inside.bytes.items)
@@ -36,7 +36,7 @@ invariant_of-self c =
     }
 
 pub returns-clause-value : goal.returns-clause-value
-returns-clause-value c = is_new c ∙ ap (λ (bytes : List ℕ). changed (end_changes 0 c.args.end c.args.new bytes) bytes)
+returns-clause-value c = is_new c ∙ ap (λ (bytes : List ℕ). with_changes (end_changes 0 c.args.end c.args.new bytes) bytes)
     c.self.view_is
 
 pub returns-clause-reads : goal.returns-clause-reads

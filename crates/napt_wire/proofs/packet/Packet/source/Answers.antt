@@ -1,5 +1,5 @@
 use Rattle.std.proofs.{Common.arith, lemmas.{Grind.common_steps, Bool.Decides.nat_tests}}
-use Rattle.napt_wire.{specs.Prelude.source, proofs.Carried.source-carried}
+use Rattle.napt_wire.{specs.Prelude.source, proofs.PacketNumbers.source-carried}
 use Rattle.napt_wire.proofs.packet.Packet.source.Goals as goal
 
 -- a packet that reads has numbers that its kind can carry

@@ -1,11 +1,11 @@
 use Rattle.std.proofs.Common.{ℕ, [], ◌∷◌, ◌++◌, refl}
-use Rattle.napt_dispatch.{specs.declared.departures.Departed.Departed, proofs.Windows.{over_more, leaves_over}}
+use Rattle.napt_dispatch.{specs.declared.outcome_sink.InputResult.InputResult, proofs.Windows.{over_more, leaves_over}}
 use Rattle.napt_dispatch.proofs.dispatcher.run_progress.RunProgress.hand_over.Goals as goal
 
 pub loop-self-preserved : goal.loop-self-preserved
 loop-self-preserved g c =
     let taken = c.take_first-time in
-    let pair : ℕ × Departed g.row.P.Denot = taken.result in
+    let pair : ℕ × InputResult g.row.P.Denot = taken.result in
     let went = c.loop-self.invariant.went in
     record {
       went = went ++ pair ∷ [];
@@ -19,7 +19,7 @@ loop-self-preserved g c =
 pub returns-in-Err-clause-handed : goal.returns-in-Err-clause-handed
 returns-in-Err-clause-handed g c =
     let taken = c.take_first-time in
-    let pair : ℕ × Departed g.row.P.Denot = taken.result in
+    let pair : ℕ × InputResult g.row.P.Denot = taken.result in
     let went = c.loop-self.invariant.went in
     record {
       went = went ++ pair ∷ [];

@@ -1,5 +1,5 @@
 use Rattle.std.proofs.Common.{sym, ap, ◌∙◌}
-use Rattle.napt_dispatch.{specs.Windows.is_unknown, proofs.Windows.open_get}
+use Rattle.napt_dispatch.{specs.RunProgresses.is_unknown, proofs.Windows.open_get}
 use Rattle.napt_dispatch.proofs.dispatcher.run_progress.RunProgress.is_unknown.Goals as goal
 
 pub returns-in-Some : goal.returns-in-Some

@@ -1,5 +1,5 @@
 use Rattle.std.proofs.Common.{◌+◌, ◌<◌, [], ◌∷◌, length, arith, sym, ap, ◌∙◌}
-use Rattle.napt_dispatch.{specs.QueueStates.many_held, proofs.QueueStates.{holds_here, count_more, counted_by}}
+use Rattle.napt_dispatch.{specs.WorkerQueues.many_held, proofs.QueueStates.{holds_here, count_more, counted_by}}
 use Rattle.napt_dispatch.proofs.dispatcher.worker_queues.WorkerQueues.hold.Goals as goal
 
 pub invariant_of-self-2 : goal.invariant_of-self-2

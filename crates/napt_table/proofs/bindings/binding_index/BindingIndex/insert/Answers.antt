@@ -1,7 +1,7 @@
 use Rattle.std.proofs.{Common.{ℕ, ◌≡◌, ◌∙◌, ◌+◌, ◌||◌, ap, refl, sym, subst, cond, Some, None, arith}, lemmas.Option.same_Some}
 use Rattle.napt_wire.specs.declared.Protocol.{Protocol}
-use Rattle.napt_table.specs.{declared.bindings.keys.ExternalKey.ExternalKey, InUse.is_in_use, HeldShown.{holdings_of, number_at}}
-use Rattle.napt_table.specs.{Holdings.{Holdings, held, IsAbsent}, Keys.{key_eq, key_of, inside_key, inside_eq}}
+use Rattle.napt_table.specs.{declared.bindings.keys.ExternalNumberKey.ExternalNumberKey, NumbersInUse.is_in_use, HeldModels.{holdings_of, number_of_inside}}
+use Rattle.napt_table.specs.{BindingIndexes.{BindingIndexModel, held_binding, HasNoInside}, Keys.{key_eq, key_of, inside_key, inside_eq}}
 use Rattle.napt_table.proofs.{Ends.{held_in, hosts_few, step_held, IsAt}, Keys.{key_itself, other_key}}
 use Rattle.napt_table.proofs.bindings.binding_index.BindingIndex.insert.Goals as goal
 
@@ -20,16 +20,16 @@ invariant_of-self c =
     let key = c.key_of-key.result in
     let key_is : key ≡ key_of fresh = c.key_of-key.ensures.value in
     let free : held_in c.self.inside key ≡ None =
-    subst (λ (x : ExternalKey). held_in c.self.inside x ≡ None) (sym key_is)
-    (subst (λ (h : Holdings). held h (key_of fresh) ≡ None) (sym c.self.view_is) c.requires.free) in
-    let absent : IsAbsent (holdings_of c.self.inside) fresh.row.protocol fresh.row.inside =
-    subst (λ (h : Holdings). IsAbsent h fresh.row.protocol fresh.row.inside) (sym c.self.view_is) c.requires.absent in
-    let protocol : fresh.row.protocol ≡ key.protocol = sym (ap (λ (x : ExternalKey). x.protocol) key_is) in
+    subst (λ (x : ExternalNumberKey). held_in c.self.inside x ≡ None) (sym key_is)
+    (subst (λ (h : BindingIndexModel). held_binding h (key_of fresh) ≡ None) (sym c.self.view_is) c.requires.free) in
+    let absent : HasNoInside (holdings_of c.self.inside) fresh.row.protocol fresh.row.inside =
+    subst (λ (h : BindingIndexModel). HasNoInside h fresh.row.protocol fresh.row.inside) (sym c.self.view_is) c.requires.absent in
+    let protocol : fresh.row.protocol ≡ key.protocol = sym (ap (λ (x : ExternalNumberKey). x.protocol) key_is) in
     let ends = c.inside_key-inside.ensures ∙ λ i. inside_key ((c.protocol.ensures ∙ protocol) i) (c.inside.ensures i) in
     step_held c.self.inside _ is key c.key_of-key.ensures.small fresh.row.inside None (Some fresh) free
     (λ k. c.in-Ok-insert.ensures.updates.0 k)
     (λ q e. c.in-Ok.ensures.updates.0 (inside_key q e)
-    ∙ λ i. cond (inside_eq (ends i) (inside_key q e)) (Some key.number) (number_at c.self.inside q e))
+    ∙ λ i. cond (inside_eq (ends i) (inside_key q e)) (Some key.number) (number_of_inside c.self.inside q e))
     (λ b h. cc)
     (λ n h. let o = is.number_is key.protocol fresh.row.inside n h in
     absurd (absent n o.0 (ap (λ (p : Protocol). held_in c.self.inside (record { number = n; protocol = p })) protocol
@@ -37,9 +37,9 @@ invariant_of-self c =
     (λ b h. subst (IsAt _ key fresh.row.inside) (same_Some fresh b h) (
       protocol,
       λ i. record {
-        address = (subst (λ (h : Holdings). fresh.row.external.address ≡ h.address) (sym c.self.view_is)
+        address = (subst (λ (h : BindingIndexModel). fresh.row.external.address ≡ h.address) (sym c.self.view_is)
             c.requires.at) i;
-        number = (sym (ap (λ (x : ExternalKey). x.number) key_is)) i;
+        number = (sym (ap (λ (x : ExternalNumberKey). x.number) key_is)) i;
       },
       refl,
     )) refl refl c.put-2.ensures.by_protocol
@@ -50,4 +50,4 @@ invariant_of-self c =
 
 pub returns-clause-held : goal.returns-clause-held
 returns-clause-held c = λ k. c.in-Ok-insert.ensures.updates.0 k
-    ∙ λ i. cond (key_eq (c.key_of-key.ensures.value i) k) (Some c.args.binding) (held (c.self.view_is i) k)
+    ∙ λ i. cond (key_eq (c.key_of-key.ensures.value i) k) (Some c.args.binding) (held_binding (c.self.view_is i) k)

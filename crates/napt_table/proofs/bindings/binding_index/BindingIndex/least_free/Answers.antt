@@ -1,5 +1,5 @@
 use Rattle.std.specs.Option.{is_some}
-use Rattle.napt_table.{specs.{HeldShown.holdings_of, Holdings.held_at, InUse.is_in_use, Keys.external_key}, proofs.LeastFree.first_agrees}
+use Rattle.napt_table.{specs.{HeldModels.holdings_of, BindingIndexes.held_at, NumbersInUse.is_in_use, Keys.external_key}, proofs.LeastFree.first_agrees}
 use Rattle.napt_table.proofs.bindings.binding_index.BindingIndex.least_free.Goals as goal
 
 pub returns : goal.returns

@@ -1,5 +1,5 @@
 use Rattle.std.{proofs.Common.{sym, ap, ◌∙◌, subst}, specs.Map.lookup}
-use Rattle.napt_table.{specs.{declared.bindings.keys.InsideKey.InsideKey, Keys.inside_eq, Holdings.IsNumberOf, HeldShown.holdings_of}, proofs.Ends.number_found}
+use Rattle.napt_table.{specs.{declared.bindings.keys.InsideKey.InsideKey, Keys.inside_eq, BindingIndexes.IsNumberOf, HeldModels.holdings_of}, proofs.Ends.number_found}
 use Rattle.napt_table.proofs.bindings.binding_index.BindingIndex.number_of.Goals as goal
 
 pub returns-in-Some : goal.returns-in-Some

@@ -1,8 +1,8 @@
 use Rattle.std.proofs.{Common.{◌≡◌, Some, None, sym, subst, ap, ◌∙◌}, lemmas.Option.same_Some}
 use Rattle.napt_rules.specs.Prelude.{Binding, with_live_flows, row}
-use Rattle.napt_binding.specs.Entering.{entered, left_by}
-use Rattle.napt_table.specs.{Holdings.AreUsedUpTo, Keys.external_key}
-use Rattle.napt_table.proofs.{Ends.{lent_at, lent_seen, lent_there, held_at_place, one_at_place, left_at_place}, Enters.left_row}
+use Rattle.napt_binding.specs.Inbounds.{inbound_answer, binding_after_inbound}
+use Rattle.napt_table.specs.{BindingIndexes.AreUsedUpTo, Keys.external_key}
+use Rattle.napt_table.proofs.{Ends.{lent_at, lent_seen, lent_there, held_at_place, one_at_place, left_at_place}, InboundSteps.left_row}
 use Rattle.napt_table.proofs.bindings.binding_index.BindingIndex.receive.Goals as goal
 
 pub returns-in_default-get_index_mut-clause-found : goal.returns-in_default-get_index_mut-clause-found
@@ -58,8 +58,8 @@ returns-clause-found c = rw (← c.self.view_is) (λ d s.
     _ l.value c.args.timers p.now
     (sym c.is_live.ensures ∙ c.if-not-is_live.false) in
     let is : now ≡ d = same_Some now d (sym sees ∙ s) in (
-      c.take_in.ensures.answer ∙ ap (entered c.args.inbound p) is,
+      c.take_in.ensures.answer ∙ ap (inbound_answer c.args.inbound p) is,
       left_at_place c.self.inside _ c.self.view_is _ c.in-Some.place _ f.value f.entry
           _ l.value c.self.invariant l.unique _
-          ∙ ap (λ (x : Binding). Some x) (c.take_in.ensures.left ∙ ap (left_by c.args.inbound p) is),
+          ∙ ap (λ (x : Binding). Some x) (c.take_in.ensures.left ∙ ap (binding_after_inbound c.args.inbound p) is),
     ))

@@ -1,6 +1,6 @@
 use Rattle.std.{proofs.{Common.{ℕ, ◌≡◌, ◌+◌, ◌-◌, ◌&&◌, not, cond, Some, None, refl, sym, ap, ◌∙◌, arith}, lemmas.Option.same_Some}, specs.Map.lookup}
 use Rattle.napt_rules.specs.Prelude.{Binding}
-use Rattle.napt_table.{specs.{InUse.is_in_use, Keys.{key_eq, inside_key, inside_eq}, HeldShown.number_at}, proofs.Ends.{same_held, step_held}}
+use Rattle.napt_table.{specs.{NumbersInUse.is_in_use, Keys.{key_eq, inside_key, inside_eq}, HeldModels.number_of_inside}, proofs.Ends.{same_held, step_held}}
 use Rattle.napt_table.proofs.Keys.{key_itself, other_key}
 use Rattle.napt_table.proofs.bindings.binding_index.BindingIndex.remove.Goals as goal
 
@@ -22,7 +22,7 @@ invariant_of-self-2 c =
     step_held c.self.inside _ is key (is.named.small key dead there) dead.row.inside (Some dead) None there
     (λ k. c.swap_remove_full.ensures.updates.0 k)
     (λ q e. c.remove.ensures.updates.0 (inside_key q e)
-    ∙ λ i. cond (inside_eq (ends i) (inside_key q e)) None (number_at c.self.inside q e))
+    ∙ λ i. cond (inside_eq (ends i) (inside_key q e)) None (number_of_inside c.self.inside q e))
     (λ b h. ap (λ (x : Binding). x.row.inside) (same_Some b dead (sym h)))
     (λ n h. same_Some n key.number (sym h ∙ is.inside_is key dead there)) (λ b h. cc) refl refl
     c.take-2.ensures.by_protocol

@@ -1,7 +1,7 @@
 use Rattle.std.{proofs.{Common.{◌≡◌, ◌++◌, ◌∷◌, [], Bool, true, cond, List, map, filter, sym, ◌∙◌, ap}, lemmas.List.append_assoc}, specs.Map.Iter.deref}
 use Rattle.std.proofs.lemmas.{List.Elements.All-push, Map.Iter.rest_more}
 use Rattle.napt_rules.specs.{Prelude.{Binding, is_live, row}, declared.Row.Row}
-use Rattle.napt_table.specs.Listing.{IsSmall}
+use Rattle.napt_table.specs.HeldRows.{IsSmall}
 use Rattle.napt_table.proofs.bindings.binding_index.BindingIndex.rows.Goals as goal
 
 pub loop-binding-preserved-in-Continue-1 : goal.loop-binding-preserved-in-Continue-1

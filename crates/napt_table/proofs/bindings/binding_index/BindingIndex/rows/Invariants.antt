@@ -1,6 +1,6 @@
 use Rattle.std.proofs.Common.{◌≡◌, ◌++◌, All, map, filter}
 use Rattle.napt_rules.specs.Prelude.{is_live, row}
-use Rattle.napt_table.specs.Listing.{held_rows, IsSmall}
+use Rattle.napt_table.specs.HeldRows.{held_rows, IsSmall}
 use Rattle.napt_table.proofs.bindings.binding_index.BindingIndex.rows.Given as goal
 
 -- the rows that were made and those that are left are those of what is held

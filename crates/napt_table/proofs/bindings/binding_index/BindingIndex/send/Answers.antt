@@ -1,15 +1,15 @@
 use Rattle.std.{proofs.{Common.{◌≡◌, Some, None, refl, sym, subst, ap, ◌∙◌}, lemmas.Option.same_Some}, specs.Map.lookup}
 use Rattle.napt_rules.specs.Prelude.{Binding, with_live_flows, row}
-use Rattle.napt_table.specs.{declared.bindings.keys.InsideKey.InsideKey, Keys.{external_key, inside_eq}, HeldShown.number_at, Held.seen}
-use Rattle.napt_table.specs.Holdings.{Holdings, held_at, AreUsedUpTo}
+use Rattle.napt_table.specs.{declared.bindings.keys.InsideKey.InsideKey, Keys.{external_key, inside_eq}, HeldModels.number_of_inside, HeldLists.seen_binding}
+use Rattle.napt_table.specs.BindingIndexes.{BindingIndexModel, held_at, AreUsedUpTo}
 use Rattle.napt_table.proofs.Ends.{found_there, lent_at, lent_seen, lent_there, held_at_place, one_at_place, same_at_place, left_at_place, none_seen, dead_seen}
-use Rattle.napt_table.proofs.{Seen.{seen_live, seen_dead}, Steps.on_err}
+use Rattle.napt_table.proofs.{SeenBindings.{seen_live, seen_dead}, Steps.on_err}
 use Rattle.napt_table.proofs.bindings.binding_index.BindingIndex.send.Goals as goal
 
 pub returns-in-None-clause-went : goal.returns-in-None-clause-went
 returns-in-None-clause-went c =
     let p = c.args.packet in
-    let none : number_at c.self.inside p.protocol p.inside ≡ None =
+    let none : number_of_inside c.self.inside p.protocol p.inside ≡ None =
     ap (λ (k : InsideKey). lookup (inside_eq k) c.self.inside.by_inside.entries) (sym c.inside_key.ensures)
     ∙ sym c.in-None.ensures.value in
     rw (← c.self.view_is) (record {
@@ -21,12 +21,12 @@ pub returns-in_default-clause-went : goal.returns-in_default-clause-went
 returns-in_default-clause-went c =
     let p = c.args.packet in
     let number = c.in-Some.number.now in
-    let found : number_at c.self.inside p.protocol p.inside ≡ Some number =
+    let found : number_of_inside c.self.inside p.protocol p.inside ≡ Some number =
     ap (λ (k : InsideKey). lookup (inside_eq k) c.self.inside.by_inside.entries) (sym c.inside_key.ensures)
     ∙ sym c.in-Some.ensures.value in
     let has = c.self.invariant.number_is p.protocol p.inside number found in
     let z : None ≡ Some has.0 = c.in_default.ensures.value
-    ∙ (ap (λ (h : Holdings). held_at h p.protocol number) (sym c.self.view_is) ∙ has.1) in
+    ∙ (ap (λ (h : BindingIndexModel). held_at h p.protocol number) (sym c.self.view_is) ∙ has.1) in
     cc
 
 pub returns-then-not-is_live-clause-went : goal.returns-then-not-is_live-clause-went
@@ -34,13 +34,13 @@ returns-then-not-is_live-clause-went c =
     let f = c.in-Some-find.ensures in
     let p = c.args.packet in
     let number = c.in-Some.number.now in
-    let found : number_at c.self.inside p.protocol p.inside ≡ Some number =
+    let found : number_of_inside c.self.inside p.protocol p.inside ≡ Some number =
     ap (λ (k : InsideKey). lookup (inside_eq k) c.self.inside.by_inside.entries) (sym c.inside_key.ensures)
     ∙ sym c.in-Some.ensures.value in
     rw (← c.self.view_is) (record {
       same = record { place = record { address_is = refl; granting_is = refl }; held_same = λ k. refl };
       none = dead_seen c.self.inside c.self.invariant c.args.timers p.now p.protocol p.inside number found
-          (ap (seen c.args.timers p.now)
+          (ap (seen_binding c.args.timers p.now)
           (found_there c.self.inside _ c.self.view_is _ c.in-Some-find.place _ f.value f.entry)
           ∙ seen_dead c.args.timers p.now _ (sym c.is_live.ensures ∙ c.if-not-is_live.true));
     })
@@ -90,7 +90,7 @@ returns-clause-went c =
     let l = c.in-Some-get_index_mut.ensures in
     let p = c.args.packet in
     let number = c.in-Some.number.now in
-    let found : number_at c.self.inside p.protocol p.inside ≡ Some number =
+    let found : number_of_inside c.self.inside p.protocol p.inside ≡ Some number =
     ap (λ (k : InsideKey). lookup (inside_eq k) c.self.inside.by_inside.entries) (sym c.inside_key.ensures)
     ∙ sym c.in-Some.ensures.value in
     let b = c.in-Some-get_index_mut.binding.now in
@@ -105,7 +105,7 @@ returns-clause-went c =
       inside_is = ap (λ (x : Binding). x.row.inside) (same_Some b has.0 (sym here ∙ has.1)) ∙ has.2;
       one = one_at_place c.self.inside _ c.self.view_is _ c.in-Some-find.place _ f.value f.entry
           _ l.value c.self.invariant l.unique w;
-      left = ap (seen c.args.timers p.now)
+      left = ap (seen_binding c.args.timers p.now)
           (left_at_place c.self.inside _ c.self.view_is _ c.in-Some-find.place _ f.value f.entry
           _ l.value c.self.invariant l.unique w)
           ∙ seen_live c.args.timers p.now w _ c.in_ok-send.ensures.live c.in_ok-send.ensures.ok;

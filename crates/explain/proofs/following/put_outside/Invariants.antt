@@ -1,6 +1,0 @@
--- No write failed.
-use Rattle.std.proofs.Common.{◌≡◌}
-use Rattle.explain.proofs.following.put_outside.Given as goal
-
-abbrev pub invariant-loop-input : goal.invariant-loop-input
-invariant-loop-input g l = g.W.Sink.failed l.sink ≡ g.W.Sink.failed l.fn.sink

@@ -1,0 +1,198 @@
+//! Who had an external endpoint, and when (RFC 6888, section 4; RFC 6269, section 12). `napt_log_text` defines the
+//! holders and the lines.
+
+use crate::owners::{add_owners, add_party};
+use crate::requests::HolderRequest;
+use crate::saved_bindings::{SavedBindings, read_saved};
+use napt_account::Entry;
+use napt_commands::{Exit, Page, SortedEntries};
+use napt_config::Config;
+use napt_log_text::{Request, TimeStamp, add_holder, add_mark, add_nobody};
+use napt_program::StandardStreams;
+use napt_records::protocol_name;
+use std::alloc::AllocError;
+use std::fmt::Write;
+use std::rt::Files;
+
+/// What requests are answered from.
+#[derive(Clone, Copy)]
+pub struct AnswerBasis<'a> {
+    /// The entries of a log, in the order in which their bindings were made.
+    pub entries: &'a [Entry],
+    /// The time of the last packet, in ns.
+    pub last: u64,
+    /// How much later than it says a packet may have come, in ns.
+    pub later: u64,
+    /// The configuration of the run, if it is known.
+    pub config: Option<&'a Config>,
+    pub basis: Basis,
+}
+
+/// What a holder is known by.
+#[derive(Clone, Copy, PartialEq, Eq)]
+pub enum Basis {
+    /// The blocks of the configuration.
+    Blocks,
+    /// A run over captures, which is known from this time on, in ns.
+    Run(u64),
+    /// A log that is known from this time on, in ns.
+    Log(u64),
+}
+
+impl AnswerBasis<'_> {
+    /// When the run begins, or the log begins and ends, if that is behind the time that a request asks about, or the log is
+    /// over before it.
+    fn beside(self, request: &Request) -> Option<OutsideTime> {
+        let span = request.at?;
+        let (what, first, last) = match self.basis {
+            Basis::Blocks => return None,
+            Basis::Run(first) => ("run", first, None),
+            Basis::Log(first) => ("log", first, Some(self.last)),
+        };
+        let is_over = last.is_some_and(|last| u128::from(last) < span.first);
+        (is_over || span.until <= u128::from(first)).then_some(OutsideTime { what, first, last })
+    }
+}
+
+/// What is not of the time that a request asks about, and when it begins and ends, in ns.
+#[derive(Clone, Copy)]
+struct OutsideTime {
+    what: &'static str,
+    first: u64,
+    last: Option<u64>,
+}
+
+/// Answers requests from the blocks of a configuration. Fails with `Nobody` if one has no answer.
+pub fn answer_by_blocks<R: Print + AllocGlobal>(
+    rt: &R,
+    streams: StandardStreams,
+    asked: &[HolderRequest],
+    config: &Config,
+) -> Result<(), Exit> {
+    if !streams.output {
+        return Err(Exit::NoOutput);
+    }
+    let known = AnswerBasis {
+        entries: &[],
+        last: 0,
+        later: 0,
+        config: Some(config),
+        basis: Basis::Blocks,
+    };
+    tell_answers(rt, asked, known)
+}
+
+/// Answers requests from the log whose pieces have these paths, under a configuration if it is known. A piece that is
+/// refused is reported. Fails with `Nobody` if one has no answer.
+pub fn answer_by_log<R: Files + Input + Print + Eprint + AllocGlobal>(
+    rt: &R,
+    streams: StandardStreams,
+    asked: &[HolderRequest],
+    pieces: &[String],
+    config: Option<&Config>,
+) -> Result<(), Exit> {
+    let SavedBindings {
+        entries,
+        first,
+        last,
+    } = read_saved(rt, pieces, config)?;
+    if !streams.output {
+        return Err(Exit::NoOutput);
+    }
+    let known = AnswerBasis {
+        entries: &entries,
+        last,
+        later: 0,
+        config,
+        basis: Basis::Log(first),
+    };
+    tell_answers(rt, asked, known)
+}
+
+/// Prints for each request the hosts whose blocks it is in, a line for each binding that had the endpoint, in the order
+/// in which they were made, or that nobody had it. Fails with `Nobody` if there is such a request.
+pub fn tell_answers<R: Print + AllocGlobal>(
+    rt: &R,
+    asked: &[HolderRequest],
+    known: AnswerBasis<'_>,
+) -> Result<(), Exit> {
+    let sorted = match asked.len() {
+        0 | 1 => None,
+        _ => Some(SortedEntries::of(Vec::from_slice(rt.alloc(), known.entries)?)?),
+    };
+    let mut page = Page::new(rt.alloc());
+    let mut is_answered = true;
+    for one in asked {
+        let one = one.until_later(known.later);
+        let entries = match (&sorted, one.endpoint()) {
+            (Some(sorted), Some(endpoint)) => sorted.at(endpoint),
+            _ => known.entries,
+        };
+        let known = AnswerBasis { entries, ..known };
+        is_answered &= tell_answer(rt, &one, known, &mut page)?;
+    }
+    page.end(rt)?;
+    if is_answered {
+        Ok(())
+    } else {
+        Err(Exit::Nobody)
+    }
+}
+
+/// Prints the lines of a request, and returns whether somebody had the endpoint.
+fn tell_answer<R: Print + AllocGlobal>(
+    rt: &R,
+    asked: &HolderRequest,
+    known: AnswerBasis<'_>,
+    page: &mut Page,
+) -> Result<bool, Exit> {
+    let is_owned = add_owners(asked, known, page)?;
+    page.turn(rt)?;
+    if known.basis == Basis::Blocks {
+        return Ok(is_owned);
+    }
+    let holders = asked.request.holders_among(rt.alloc(), known.entries)?;
+    for entry in &holders {
+        mark(asked, &mut page.text)?;
+        add_holder(entry, known.last, &mut page.text)?;
+        page.turn(rt)?;
+    }
+    if !holders.is_empty() {
+        return Ok(true);
+    }
+    mark(asked, &mut page.text)?;
+    let (request, text) = (&asked.request, &mut page.text);
+    if let Some(beside) = known.beside(request) {
+        add_beside(request, beside, text)?;
+    } else {
+        let nearest = request.nearest_among(known.entries);
+        add_nobody(request, &nearest, known.config, known.last, text)?;
+    }
+    page.turn(rt)?;
+    Ok(is_owned)
+}
+
+/// Ends the line that says that nobody is known at the time that a request asks about.
+fn add_beside(request: &Request, beside: OutsideTime, text: &mut String) -> Result<(), AllocError> {
+    let OutsideTime { what, first, last } = beside;
+    text.push_str("nobody is known at ")?;
+    if let Some(protocol) = request.protocol {
+        write!(text, "{} ", protocol_name(protocol))?;
+    }
+    add_party(request.party, text)?;
+    write!(text, " then: the {what} begins at ")?;
+    TimeStamp(u128::from(first)).add_to(text)?;
+    if let Some(last) = last {
+        text.push_str(", ends at ")?;
+        TimeStamp(u128::from(last)).add_to(text)?;
+    }
+    text.push_str("\n")
+}
+
+/// Begins a line of a request that is one of several.
+pub fn mark(asked: &HolderRequest, text: &mut String) -> Result<(), AllocError> {
+    match asked.line {
+        Some(number) => add_mark(number, text),
+        None => Ok(()),
+    }
+}

@@ -1,0 +1,43 @@
+//! The external addresses and endpoints that requests name.
+
+use crate::requests::HolderRequest;
+use napt_wire::Endpoint;
+use std::alloc::{AllocError, Global};
+use std::collections::BTreeSet;
+
+/// The external addresses of which any endpoint is asked about, and the endpoints of others.
+#[derive(Drop)]
+pub struct WantedEndpoints {
+    addresses: BTreeSet<u32>,
+    endpoints: BTreeSet<(u32, u16)>,
+}
+
+impl WantedEndpoints {
+    /// Those of the requests.
+    pub fn of(alloc: Global, asked: &[HolderRequest]) -> Result<WantedEndpoints, AllocError> {
+        let mut wanted = WantedEndpoints {
+            addresses: BTreeSet::new(alloc),
+            endpoints: BTreeSet::new(alloc),
+        };
+        for one in asked {
+            wanted.add(one)?;
+        }
+        Ok(wanted)
+    }
+
+    fn add(&mut self, asked: &HolderRequest) -> Result<(), AllocError> {
+        match asked.endpoint() {
+            Some(Endpoint { address, number }) => self.endpoints.insert((address, number))?,
+            None => self.addresses.insert(asked.request.party.address)?,
+        };
+        Ok(())
+    }
+
+    /// Whether an external endpoint is asked about.
+    pub fn has(&self, external: Endpoint) -> bool {
+        self.addresses.contains(&external.address)
+            || self
+                .endpoints
+                .contains(&(external.address, external.number))
+    }
+}

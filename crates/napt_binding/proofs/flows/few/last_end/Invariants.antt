@@ -1,6 +1,0 @@
-use Rattle.std.proofs.Common.{◌≡◌, take}
-use Rattle.napt_binding.specs.Ends.{last_end}
-use Rattle.napt_binding.proofs.flows.few.last_end.Given as goal
-
-abbrev pub invariant-loop-flow : goal.invariant-loop-flow
-invariant-loop-flow l = l.last ≡ last_end l.timers (take l.flow-index l.flows)

@@ -1,7 +1,0 @@
-use Rattle.std.proofs.Common.{◌∙◌, ap, sym, nat_lt}
-use Rattle.napt_binding.proofs.Slots.{any_of_address}
-use Rattle.napt_binding.proofs.flows.many.Many.has_address.Goals as goal
-
-pub returns : goal.returns
-returns c = c.has.ensures ∙ (ap (nat_lt 0) (c.requires.counted c.args.address)
-    ∙ sym (any_of_address c.args.address c.args.self.now.slots.slots))

@@ -1,5 +1,0 @@
-use Rattle.napt_binding.proofs.Manys.{found_is}
-use Rattle.napt_binding.proofs.flows.many.Many.has_remote.Goals as goal
-
-pub returns : goal.returns
-returns c = rw (c.is_some.ensures, c.place_of.ensures) (found_is c.args.self.now c.args.remote c.requires)

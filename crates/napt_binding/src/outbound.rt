@@ -1,0 +1,23 @@
+//! An outgoing packet, and the flow of its remote.
+
+ghost use Rattle.std.specs.Prelude.{◌≡◌};
+ghost use Rattle.napt_rules.specs.Prelude as rules;
+ghost use Rattle.napt_binding.specs.OutboundFlows as packets;
+
+use crate::traffic::{fresh_flow, used};
+use napt_rules::{Flow, OutboundPacket};
+use napt_wire::Way;
+
+/// The flow after the packet.
+pub(crate) fn used_by(sent: OutboundPacket, flow: Flow) -> Flow
+    ensures { result ≡ rules.flow_after sent.protocol Way.Outgoing sent.flags sent.now flow }
+{
+    used(flow, sent.protocol, Way::Outgoing, sent.flags, sent.now)
+}
+
+/// The flow that begins with the packet.
+pub(crate) fn begun_by(sent: OutboundPacket) -> Flow
+    ensures { result ≡ packets.new_flow sent }
+{
+    used_by(sent, fresh_flow(sent.remote, sent.now))
+}

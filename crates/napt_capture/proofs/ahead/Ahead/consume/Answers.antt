@@ -1,6 +1,0 @@
-use Rattle.std.proofs.{lemmas.{Grind.common_steps, Bool.Decides.nat_tests}, Common.{arith, length-take}}
-use Rattle.napt_capture.proofs.Buffer.{slice_range-from}
-use Rattle.napt_capture.proofs.ahead.Ahead.consume.Goals as goal
-
-pub returns : goal.returns
-returns c = grind (arith, common_steps, nat_tests, length-take, slice_range-from)

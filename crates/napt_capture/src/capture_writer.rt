@@ -1,0 +1,163 @@
+//! How far a text is written.
+ghost use Rattle.std.specs.{Prelude.{◌≡◌, ◌+◌, ◌-◌, ◌^◌, ◌<◌, length, OnOk, IfErr}, Io.KnownBytes.Keeps};
+ghost use Rattle.napt_capture.specs.{Device.failed_calls, Text.{IsWritable, entry_of_packet, file_header, record_header as header_of, record_text}};
+ghost use Rattle.napt_capture.specs.Writing.{PutPost};
+
+use crate::device::Sink;
+use crate::fault::WriteFault;
+use byteorder::{ByteOrder, LittleEndian};
+use std::marker::Model;
+
+/// The header of every file written: nanoseconds, version 2.4, zone 0, significant figures 0, snapshot length 262,144,
+/// link type 101 (raw IP), in little-endian order.
+pub(crate) const FILE_HEADER: [u8; 24] = [
+    0x4d, 0x3c, 0xb2, 0xa1, 2, 0, 4, 0, 0, 0, 0, 0, 0, 0, 0, 0, 0, 0, 4, 0, 101, 0, 0, 0,
+];
+
+/// How many bytes of a text are written to a [`Sink`]. A capture is written by [`CaptureWriter::begin`], [`CaptureWriter::record`]
+/// for each packet and [`CaptureWriter::finish`], which take no memory. If one of them fails, what it wrote of its part and
+/// all before it is written, and the fault counts those bytes.
+#[derive(Debug, Drop)]
+pub struct CaptureWriter {
+    bytes: u64,
+}
+
+impl Model for CaptureWriter {
+    ghost use Rattle.std.specs.Prelude.{ℕ};
+
+    ghost Value = { ℕ };
+
+    ghost view = { λ written. written.bytes };
+}
+
+impl CaptureWriter {
+    /// Nothing is written.
+    pub fn nothing() -> CaptureWriter
+        ensures { result ≡ 0 }
+    {
+        CaptureWriter { bytes: 0 }
+    }
+
+    /// How many bytes are written.
+    pub fn bytes(&self) -> u64
+        ensures { result ≡ self.now }
+    {
+        self.bytes
+    }
+
+    /// Writes the header of a capture.
+    #[tactic(auto, unfolding(crate::specs::Text::file_header))]
+    pub fn begin<W: Sink>(writer: &mut W) -> Result<CaptureWriter, WriteFault>
+        requires { W.failed writer.old < 2 ^ 64 - 1 }
+        ensures puts { PutPost 0 (W.contents writer.old) (W.contents writer.new) file_header result }
+        ensures count { W.failed writer.new ≡ W.failed writer.old + failed_calls result }
+    {
+        CaptureWriter::nothing().put(writer, &FILE_HEADER)
+    }
+
+    /// Writes the record of a whole packet that arrived at `time`, in ns since 1970-01-01 00:00:00 UTC.
+    #[tactic(auto, unfolding(crate::specs::Text::record_text))]
+    #[inline(always)]
+    pub fn record<W: Sink>(
+        self,
+        writer: &mut W,
+        time: u64,
+        bytes: &[u8],
+    ) -> Result<CaptureWriter, WriteFault>
+        requires can_fail { W.failed writer.old < 2 ^ 64 - 1 }
+        requires room { self + length (record_text (entry_of_packet time bytes.now)) < 2 ^ 64 }
+        requires writable { IsWritable (entry_of_packet time bytes.now) }
+        ensures puts { PutPost self (W.contents writer.old) (W.contents writer.new)
+            (record_text (entry_of_packet time bytes.now)) result }
+        ensures count { W.failed writer.new ≡ W.failed writer.old + failed_calls result }
+    {
+        let written = self.put(writer, &record_header(time, bytes))?;
+        written.put(writer, bytes)
+    }
+
+    /// Flushes what is written.
+    pub fn finish<W: Sink>(self, writer: &mut W) -> Result<(), WriteFault>
+        requires { W.failed writer.old < 2 ^ 64 - 1 }
+        ensures bytes { Keeps (W.contents writer.old) (W.contents writer.new) }
+        ensures flushed { OnOk result (W.is_flushed writer.new) }
+        ensures fault { IfErr result (λ fault. fault.written ≡ self) }
+        ensures count { W.failed writer.new ≡ W.failed writer.old + failed_calls result }
+    {
+        match writer.flush() {
+            Ok(()) => Ok(()),
+            Err(_) => Err(WriteFault {
+                written: self.bytes,
+            }),
+        }
+    }
+
+    /// Appends these bytes to what is written. Most devices take all at once.
+    #[inline(always)]
+    pub(crate) fn put<W: Sink>(
+        self,
+        writer: &mut W,
+        bytes: &[u8],
+    ) -> Result<CaptureWriter, WriteFault>
+        requires can_fail { W.failed writer.old < 2 ^ 64 - 1 }
+        requires room { self + length bytes.now < 2 ^ 64 }
+        ensures puts { PutPost self (W.contents writer.old) (W.contents writer.new) bytes.now result }
+        ensures count { W.failed writer.new ≡ W.failed writer.old + failed_calls result }
+    {
+        if bytes.is_empty() {
+            return Ok(self);
+        }
+        let count = writer.write(bytes).unwrap_or(0);
+        let written = CaptureWriter {
+            bytes: self.bytes + count as u64,
+        };
+        if count == bytes.len() {
+            return Ok(written);
+        }
+        if count == 0 {
+            return Err(WriteFault {
+                written: self.bytes,
+            });
+        }
+        written.put_rest(writer, &bytes[count..])
+    }
+
+    /// The same, in as many writes as it takes.
+    #[inline(never)]
+    fn put_rest<W: Sink>(self, writer: &mut W, bytes: &[u8]) -> Result<CaptureWriter, WriteFault>
+        requires can_fail { W.failed writer.old < 2 ^ 64 - 1 }
+        requires room { self + length bytes.now < 2 ^ 64 }
+        ensures puts { PutPost self (W.contents writer.old) (W.contents writer.new) bytes.now result }
+        ensures count { W.failed writer.new ≡ W.failed writer.old + failed_calls result }
+    {
+        let before = self.bytes;
+        let mut done = 0;
+        while done < bytes.len() {
+            let count = writer.write(&bytes[done..]).unwrap_or(0);
+            if count == 0 {
+                return Err(WriteFault {
+                    written: before + done as u64,
+                });
+            }
+            done += count;
+        }
+        Ok(CaptureWriter {
+            bytes: before + bytes.len() as u64,
+        })
+    }
+}
+
+/// Seconds, nanoseconds, and the number of bytes, twice.
+#[tactic(auto, unfolding(crate::specs::Text::record_header))]
+#[inline(always)]
+fn record_header(time: u64, bytes: &[u8]) -> [u8; 16]
+    requires { IsWritable (entry_of_packet time bytes.now) }
+    ensures { result ≡ header_of (entry_of_packet time bytes.now) }
+{
+    let len = bytes.len() as u32;
+    let mut header = [0; 16];
+    LittleEndian::write_u32(&mut header, (time / 1_000_000_000) as u32);
+    LittleEndian::write_u32(&mut header[4..], (time % 1_000_000_000) as u32);
+    LittleEndian::write_u32(&mut header[8..], len);
+    LittleEndian::write_u32(&mut header[12..], len);
+    header
+}

@@ -1,0 +1,172 @@
+//! A device for tests.
+ghost use Rattle.std.specs.Prelude.{◌≡◌, ◌<◌};
+
+use crate::device::{DeviceFault, Sink, Source};
+
+/// What goes wrong at a call.
+#[derive(Clone, Copy, Debug, PartialEq, Eq)]
+pub enum InjectedFault {
+    /// The call fails.
+    Fails,
+    /// The call returns 0: a read as at the end, a write as if there were no room. A flush, which returns
+    /// no number, succeeds.
+    TakesNone,
+}
+
+/// What a faulty device does from here on.
+#[derive(Clone, Copy, Debug, PartialEq, Eq)]
+pub struct FaultPlan {
+    /// The most bytes that a read or a write moves, not 0.
+    pub most: usize,
+    /// Which call goes wrong, counted from 1 over reads, writes and flushes; none if it is 0.
+    pub call: u64,
+    /// What goes wrong at that call.
+    pub trouble: InjectedFault,
+}
+
+/// A source or a sink for tests: it passes calls to its device, except the one call of its plan, which
+/// goes wrong.
+#[derive(Drop)]
+pub struct Faulty<D> {
+    device: D,
+    plan: FaultPlan,
+    failed: u64,
+    ghost moves_bytes: { 0 < plan.most },
+}
+
+impl<D> Faulty<D> {
+    ghost use Rattle.napt_capture.specs.FaultyDevices.{device_of, plan_of, own_failed, trouble_of, after_a_call};
+
+    /// Follows the plan from here on.
+    pub fn new(device: D, plan: FaultPlan) -> Self
+        requires { 0 < plan.most }
+        ensures device { device_of result ≡ device }
+        ensures plan { plan_of result ≡ plan }
+        ensures count { own_failed result ≡ 0 }
+    {
+        Faulty {
+            device,
+            plan,
+            failed: 0,
+        }
+    }
+
+    /// Gives the device back.
+    pub fn into_inner(self) -> D
+        ensures { result ≡ device_of self }
+    {
+        let Faulty {
+            device,
+            plan: _,
+            failed: _,
+        } = self;
+        device
+    }
+
+    /// Counts a call, and returns what goes wrong at it.
+    fn next_trouble(&mut self) -> Option<InjectedFault>
+        ensures answer { result ≡ trouble_of self.old.plan }
+        ensures left { self.new ≡ record self.old { plan = after_a_call self.old.plan } }
+    {
+        let goes_wrong = self.plan.call == 1;
+        self.plan.call = self.plan.call.saturating_sub(1);
+        goes_wrong.then_some(self.plan.trouble)
+    }
+}
+
+impl<D: Source> Source for Faulty<D> {
+    ghost use Rattle.std.specs.Prelude.{◌+◌, ◌-◌, ◌^◌, ◌≤◌, IfOk, IfSome};
+    ghost use Rattle.std.specs.Io.{ReadsAtMost};
+    ghost use Rattle.std.specs.Io.KnownBytes.{ReadConsumes};
+    ghost use Rattle.napt_capture.specs.Device.{failed_calls};
+    ghost use Rattle.napt_capture.specs.FaultyDevices.{GoesWrong, after_a_call, device_of, plan_of, own_failed, faulty_known_bytes, trouble_of};
+
+    ghost remaining = { λ f. faulty_known_bytes (plan_of f).trouble (D.remaining (device_of f)) };
+
+    ghost failed = { λ f. own_failed f + D.failed (device_of f) };
+
+    fn read(&mut self, buffer: &mut [u8]) -> Result<usize, DeviceFault>
+        requires { own_failed self.old + D.failed (device_of self.old) < 2 ^ 64 - 1 }
+        ensures bound { ReadsAtMost result buffer.new }
+        ensures bytes { ReadConsumes
+            (faulty_known_bytes (plan_of self.old).trouble (D.remaining (device_of self.old)))
+            (faulty_known_bytes (plan_of self.new).trouble (D.remaining (device_of self.new))) result buffer.new }
+        ensures count { own_failed self.new + D.failed (device_of self.new)
+            ≡ own_failed self.old + D.failed (device_of self.old) + failed_calls result }
+        // Beside the trait's clauses: what the plan says.
+        ensures most { IfOk result (λ count. count ≤ (plan_of self.old).most) }
+        ensures trouble { IfSome (trouble_of (plan_of self.old)) (λ trouble.
+            GoesWrong trouble result) }
+        ensures plan { plan_of self.new ≡ after_a_call (plan_of self.old) }
+    {
+        match self.next_trouble() {
+            None => {
+                let most = self.plan.most.min(buffer.len());
+                self.device.read(&mut buffer[..most])
+            }
+            Some(InjectedFault::Fails) => {
+                self.failed += 1;
+                Err(DeviceFault)
+            }
+            Some(InjectedFault::TakesNone) => Ok(0),
+        }
+    }
+}
+
+impl<D: Sink> Sink for Faulty<D> {
+    ghost use Rattle.std.specs.Prelude.{◌+◌, ◌-◌, ◌^◌, ◌≤◌, IfOk, IfSome};
+    ghost use Rattle.std.specs.Io.{WritesAtMost};
+    ghost use Rattle.std.specs.Io.KnownBytes.{WriteAppends};
+    ghost use Rattle.napt_capture.specs.Device.{failed_writes};
+    ghost use Rattle.napt_capture.specs.FaultyDevices.{GoesWrong, after_a_call, device_of, own_failed, plan_of, trouble_of};
+
+    ghost contents = { λ f. D.contents (device_of f) };
+
+    ghost failed = { λ f. own_failed f + D.failed (device_of f) };
+
+    ghost is_flushed = { λ f. D.is_flushed (device_of f) };
+
+    fn write(&mut self, bytes: &[u8]) -> Result<usize, DeviceFault>
+        requires { own_failed self.old + D.failed (device_of self.old) < 2 ^ 64 - 1 }
+        ensures bound { WritesAtMost result bytes.now }
+        ensures bytes { WriteAppends (D.contents (device_of self.old))
+            (D.contents (device_of self.new)) result bytes.now }
+        ensures unflushed { IfOk result (λ count. 0 < count →
+            ¬ D.is_flushed (device_of self.new)) }
+        ensures held { D.is_flushed (device_of self.new) → D.is_flushed (device_of self.old) }
+        ensures count { own_failed self.new + D.failed (device_of self.new)
+            ≡ own_failed self.old + D.failed (device_of self.old) + failed_writes result bytes.now }
+        // Beside the trait's clauses: what the plan says.
+        ensures most { IfOk result (λ count. count ≤ (plan_of self.old).most) }
+        ensures trouble { IfSome (trouble_of (plan_of self.old)) (λ trouble.
+            GoesWrong trouble result) }
+        ensures plan { plan_of self.new ≡ after_a_call (plan_of self.old) }
+    {
+        match self.next_trouble() {
+            None => {
+                let most = self.plan.most.min(bytes.len());
+                self.device.write(&bytes[..most])
+            }
+            Some(InjectedFault::Fails) => {
+                self.failed += 1;
+                Err(DeviceFault)
+            }
+            Some(InjectedFault::TakesNone) => {
+                if !bytes.is_empty() {
+                    self.failed += 1;
+                }
+                Ok(0)
+            }
+        }
+    }
+
+    fn flush(&mut self) -> Result<(), DeviceFault> {
+        match self.next_trouble() {
+            None | Some(InjectedFault::TakesNone) => self.device.flush(),
+            Some(InjectedFault::Fails) => {
+                self.failed += 1;
+                Err(DeviceFault)
+            }
+        }
+    }
+}

@@ -1,0 +1,94 @@
+//! The bytes read ahead of what is handed on.
+ghost use Rattle.std.specs.Prelude.{◌≡◌, ◌+◌, ◌-◌, ◌^◌, ◌<◌, ◌≤◌, [], length, drop, slice_range, vec_len, IfOk, OnErr};
+ghost use Rattle.std.specs.Io.KnownBytes.{IsAtEnd, Keeps, prepend_known};
+ghost use Rattle.napt_capture.specs.Device.{failed_calls};
+
+use crate::device::{DeviceFault, Source};
+use std::alloc::{AllocError, Global};
+use std::marker::Model;
+
+/// The size of a buffer in bytes: more than a record and its header.
+const ROOM: usize = 1_048_576;
+
+/// What was read from a source and not yet handed on: at most 1,048,576 bytes.
+#[derive(Drop)]
+pub(crate) struct ReadAhead {
+    buffer: Vec<u8>,
+    begin: usize,
+    end: usize,
+}
+
+impl Model for ReadAhead {
+    ghost use Rattle.std.specs.Prelude.{◌≡◌, ◌≤◌, List, ℕ, slice_range, vec_len};
+
+    ghost Value = { List ℕ };
+
+    ghost view = { λ ahead. slice_range ahead.buffer.items ahead.begin ahead.end };
+
+    ghost invariant = { λ ahead. (ahead.begin ≤ ahead.end) × (ahead.end ≤ 1048576)
+        × (vec_len ahead.buffer ≡ 1048576) };
+}
+
+impl ReadAhead {
+    /// Nothing. All memory is taken here.
+    pub(crate) fn new(alloc: Global) -> Result<ReadAhead, AllocError>
+        ensures { IfOk result (λ ahead. ahead ≡ []) }
+    {
+        let buffer = vec![in alloc; 0; ROOM]?;
+        Ok(ReadAhead {
+            buffer,
+            begin: 0,
+            end: 0,
+        })
+    }
+
+    /// The bytes.
+    pub(crate) fn as_slice(&self) -> &[u8]
+        ensures value { result.now ≡ self.now }
+        ensures bound { length result.now ≤ 1048576 }
+    {
+        let (begin, end) = (self.begin, self.end);
+        let all = self.buffer.as_slice();
+        &all[begin..end]
+    }
+
+    /// Drops `count` bytes from the front.
+    pub(crate) fn consume(&mut self, count: usize)
+        requires { count ≤ length self.old }
+        ensures { self.new ≡ drop count self.old }
+    {
+        self.begin += count;
+    }
+
+    /// Reads once, after what there is, and returns how many bytes came: 0 only at the end of the source.
+    pub(crate) fn read_more<R: Source>(&mut self, source: &mut R) -> Result<usize, DeviceFault>
+        requires can_fail { R.failed source.old < 2 ^ 64 - 1 }
+        requires room { length self.old < 1048576 }
+        ensures bytes { Keeps (prepend_known self.old (R.remaining source.old))
+            (prepend_known self.new (R.remaining source.new)) }
+        ensures more { IfOk result (λ count. length self.new ≡ length self.old + count) }
+        ensures end { IfOk result (λ count. count ≡ 0 → IsAtEnd (R.remaining source.new)) }
+        ensures kept { OnErr result (self.new ≡ self.old) }
+        ensures count { R.failed source.new ≡ R.failed source.old + failed_calls result }
+    {
+        self.end = move_to_front(&mut self.buffer, self.begin, self.end);
+        self.begin = 0;
+        let count = source.read(&mut self.buffer[self.end..])?;
+        self.end += count;
+        Ok(count)
+    }
+}
+
+/// Moves a part of a buffer to its front, and returns its new end.
+fn move_to_front(buffer: &mut Vec<u8>, begin: usize, end: usize) -> usize
+    requires order { begin ≤ end }
+    requires bound { end ≤ vec_len buffer.old }
+    ensures part { slice_range buffer.new.items 0 result ≡ slice_range buffer.old.items begin end }
+    ensures end { result ≡ end - begin }
+    ensures len { vec_len buffer.new ≡ vec_len buffer.old }
+{
+    if begin > 0 {
+        buffer.copy_within(begin..end, 0);
+    }
+    end - begin
+}

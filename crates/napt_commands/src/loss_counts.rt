@@ -1,0 +1,130 @@
+//! What becomes of the packets from outside, counted, to see whether the captures and the configuration belong together.
+
+ghost use Rattle.std.specs.Prelude.{◌≡◌, ◌+◌, ◌-◌, ◌/◌, ◌^◌, ◌<◌, ◌↔◌, min, true};
+
+use napt_config::Config;
+use napt_sequential::{Input, Outcome};
+use napt_wire::{Cause, Side};
+use std::alloc::{AllocError, Global};
+
+/// How many packets came from outside, and how many of them were dropped for some causes.
+#[derive(Drop)]
+pub struct LossCounts {
+    pub all: u64,
+    /// Their endpoint has no live binding.
+    pub no_binding: u64,
+    /// They are not for an address of the gateway.
+    pub not_ours: u64,
+    /// Their source is an inside address.
+    pub from_inside: u64,
+    /// Their source is an address of the pool: a count for each, in the order of the pool.
+    pub from_pool: Vec<u64>,
+}
+
+impl LossCounts {
+    /// Those of no packets.
+    pub fn new(alloc: Global, config: &Config) -> Result<LossCounts, AllocError> {
+        Ok(LossCounts {
+            all: 0,
+            no_binding: 0,
+            not_ours: 0,
+            from_inside: 0,
+            from_pool: vec![in alloc; 0; config.pool().len()]?,
+        })
+    }
+
+    /// Takes the next packet.
+    pub fn take(&mut self, config: &Config, input: &Input, outcome: &Outcome) {
+        if input.side == Side::Inside {
+            return;
+        }
+        self.all = self.all.saturating_add(1);
+        match outcome {
+            Outcome::Dropped(Cause::NoBinding) => {
+                self.no_binding = self.no_binding.saturating_add(1);
+            }
+            Outcome::Dropped(Cause::NotOurs) => self.not_ours = self.not_ours.saturating_add(1),
+            Outcome::Dropped(Cause::Spoofed) => match SourceKind::of(config, &input.bytes) {
+                SourceKind::Inside => self.from_inside = self.from_inside.saturating_add(1),
+                SourceKind::Pool(place) => {
+                    if let Some(many) = self.from_pool.get_mut(place as usize) {
+                        *many = many.saturating_add(1);
+                    }
+                }
+                SourceKind::Remote => {}
+            },
+            _ => {}
+        }
+    }
+
+    /// How many found no binding, or were not for the gateway.
+    pub fn unmet(&self) -> u64
+        ensures { result ≡ min (self.now.no_binding + self.now.not_ours) (2 ^ 64 - 1) }
+    {
+        self.no_binding.saturating_add(self.not_ours)
+    }
+
+    /// Whether more than a fifth, and more than one, found no binding or were not for the gateway.
+    pub fn is_fifth_unmet(&self) -> bool {
+        self.unmet() > self.all / 5 && self.unmet() > 1
+    }
+
+    /// Whether more than a fifth, and more than one, found no binding.
+    pub fn is_fifth_unbound(&self) -> bool
+        ensures { (result ≡ true)
+            ↔ ((self.now.all / 5 < self.now.no_binding) × (1 < self.now.no_binding)) }
+    {
+        self.no_binding > self.all / 5 && self.no_binding > 1
+    }
+
+    /// Whether more than half were not for the gateway.
+    pub fn is_half_not_ours(&self) -> bool
+        ensures { (result ≡ true) ↔ (self.now.all / 2 < self.now.not_ours) }
+    {
+        self.not_ours > self.all / 2
+    }
+}
+
+/// Where a packet comes from, by its source address.
+#[derive(Clone, Copy)]
+pub enum SourceKind {
+    /// An inside address.
+    Inside,
+    /// The address at this index of the pool.
+    Pool(u32),
+    /// Any other.
+    Remote,
+}
+
+impl SourceKind {
+    /// That of the datagram that these bytes begin.
+    pub fn of(config: &Config, bytes: &[u8]) -> SourceKind {
+        let Some(source) = source_of(bytes) else {
+            return SourceKind::Remote;
+        };
+        if config.is_inside(source) {
+            return SourceKind::Inside;
+        }
+        match config.pool_index(source) {
+            Some(place) => SourceKind::Pool(place),
+            None => SourceKind::Remote,
+        }
+    }
+}
+
+/// The source in an IPv4 header.
+pub fn source_of(bytes: &[u8]) -> Option<u32> {
+    address_at(bytes, 12)
+}
+
+/// The destination in an IPv4 header.
+pub fn destination_of(bytes: &[u8]) -> Option<u32> {
+    address_at(bytes, 16)
+}
+
+/// The address at an offset, if there are enough bytes.
+fn address_at(bytes: &[u8], at: usize) -> Option<u32> {
+    let rest = bytes.get(at..)?;
+    let four = rest.first_chunk::<4>()?;
+    Some(u32::from_be_bytes(*four))
+}

@@ -1,0 +1,64 @@
+//! What the outside capture holds: packets as the gateway got them, or replies that follow the run.
+
+use napt_config::Config;
+use napt_sequential::{Input, RunFault, followed};
+use std::alloc::{AllocError, Global};
+
+/// What the outside capture holds.
+#[derive(Clone, Copy, PartialEq, Eq)]
+pub enum OutsideCapture {
+    /// Packets for external endpoints, as the gateway got them.
+    Packets,
+    /// Packets for inside endpoints, as inside hosts got them: they follow the run.
+    Replies,
+}
+
+impl OutsideCapture {
+    /// The name of its option, without its dashes.
+    pub fn name(self) -> &'static str {
+        match self {
+            OutsideCapture::Packets => "outside",
+            OutsideCapture::Replies => "replies",
+        }
+    }
+
+    /// Its option.
+    pub fn option(self) -> &'static str {
+        match self {
+            OutsideCapture::Packets => "--outside",
+            OutsideCapture::Replies => "--replies",
+        }
+    }
+
+    /// Whether its packets follow the run.
+    pub fn follows(self) -> bool {
+        self == OutsideCapture::Replies
+    }
+
+    /// The inputs as the run under a configuration gets them: replies follow it, and other packets stay as they are.
+    pub fn inputs_under(
+        self,
+        alloc: Global,
+        config: &Config,
+        inputs: Vec<Input>,
+    ) -> Result<Vec<Input>, RunFault> {
+        match self {
+            OutsideCapture::Packets => Ok(inputs),
+            OutsideCapture::Replies => followed(alloc, config, inputs),
+        }
+    }
+}
+
+/// The same inputs once more.
+pub fn copied(alloc: Global, inputs: &[Input]) -> Result<Vec<Input>, AllocError> {
+    let mut copies = Vec::new(alloc);
+    for input in inputs {
+        copies.push(Input {
+            side: input.side,
+            time: input.time,
+            clock: input.clock,
+            bytes: Vec::from_slice(alloc, &input.bytes)?,
+        })?;
+    }
+    Ok(copies)
+}

@@ -1,0 +1,296 @@
+-- The invariant of dispatching.
+--
+-- For each worker, the legs offered and then those held are its legs of the run over the inputs read so far. A
+-- placeholder takes the place of a second leg (RFC 4787, REQ-9) until the first is answered. That the answers are
+-- right is a premise here: it is proved once the workers are joined.
+use Rattle.std.specs.Prelude.{◌≡◌, ◌≢◌, ◌⊎◌, ℕ, ◌+◌, ◌<◌, ◌≤◌, ◌==◌, max, Bool, true, false, if◌then◌else◌, List, [], ◌∷◌, ◌++◌, map, flat_map, length, slice_index, slice_get, Option, Some, None, Result, MatchResult}
+use Rattle.napt_config.specs.Rules.{Rules}
+use Rattle.napt_rules.specs.{Prelude.{Arrival, LegAct, State, last_clock, effect_from, legs_at}, declared.Leg.Leg}
+use Rattle.napt_pool.specs.{declared.pool.Pool.Pool, Pools.{initial_machines, accepted_items, taken_answers, capacity_of}}
+use Rattle.napt_sequential.specs.{declared.{fault.RunFault.RunFault, passage.Passage.{Passage, TheVariants.Nothing}, leg_trace.TracedAnswer.TracedAnswer}, Steps.told_replies}
+use Rattle.napt_wire.specs.declared.Way.{Way}
+use Rattle.napt_laws.specs.{Dispatching.IsFrontOf, SecondLegs.second_legs}
+use Rattle.napt_dispatch.specs.declared.{outcome_sink.InputResult.InputResult, dispatcher.{Dispatcher.Dispatcher, holding.{QueueHead.QueueHead, PendingLeg.PendingLeg}}}
+use Rattle.napt_dispatch.specs.declared.dispatcher.{holding.{PendingLeg.TheVariants.{Ready, Place}, AwaitedLeg.AwaitedLeg}, progress.{OpenInput.OpenInput, InputProgress.InputProgress}}
+use Rattle.napt_dispatch.specs.declared.dispatcher.{progress.InputProgress.TheVariants.{Returning, Answered}, taking.StopCondition.StopCondition}
+use Rattle.napt_dispatch.specs.Dispatch.{of_worker, local_bindings, IsDispatchFault}
+use Rattle.napt_dispatch.specs.WorkerQueues.{WorkerQueueModel, AnswersAt, all_held, held_legs_count, front_of, queue_of, owed_of, many_owed, many_held, with_queue}
+use Rattle.napt_dispatch.specs.RunProgresses.{RunProgressModel, progress_in, times_in, is_unknown, passages_after, second_leg_asked, AsksForSecondLeg, first_in, whole_of, AllKnown, ProgressIsWritten, HasMark, InputIsMarked}
+use Rattle.napt_dispatch.specs.declared.dispatcher.holding.QueueHead.TheVariants as fronts
+use Rattle.napt_dispatch.specs.declared.dispatcher.taking.StopCondition.TheVariants as untils
+
+-- A DISPATCHER'S STATE
+
+-- one worker: the legs offered to it, the answers taken from it, and its queues
+pub record Lane (P : Type 0) : Type 0 where
+  pub offered : List Leg
+  pub taken : List (TracedAnswer P)
+  pub queue : WorkerQueueModel
+
+-- a lane for each worker, and the progress of each input read
+pub record DispatcherModel (P : Type 0) : Type 0 where
+  pub many : ℕ
+  pub lane : ℕ → Lane P
+  pub progress : List (InputProgress P)
+
+-- with the legs offered to each worker, and the answers taken from it
+abbrev pub state_with : {P : Type 0} → (ℕ → List Leg) → (ℕ → List (TracedAnswer P)) → Dispatcher P → DispatcherModel P
+state_with offered taken d = record {
+  many = length d.queues;
+  lane = λ w. record { offered = offered w; taken = taken w; queue = queue_of d.queues w };
+  progress = progress_in d.progress;
+}
+
+abbrev pub dispatcher_state : {P M G : Type 0} → Pool M G Leg (TracedAnswer P) → Dispatcher P → DispatcherModel P
+dispatcher_state pool d = state_with (of_worker (accepted_items pool)) (of_worker (taken_answers pool)) d
+
+-- more at the end of the list of worker w
+abbrev pub with_more_at : {X : Type 0} → ℕ → List X → (ℕ → List X) → ℕ → List X
+with_more_at w xs lists v = if v == w then lists v ++ xs else lists v
+
+-- THE INVARIANT
+
+-- a worker has answered the first of the legs that it was offered, and owes the answers to the others
+pub record IsOwed {P : Type 0} (offered : List Leg) (taken : List (TracedAnswer P)) (count : ℕ) (owed : List AwaitedLeg)
+    : Type 0 where
+  pub before : List Leg
+  pub rest : List Leg
+  pub parts : offered ≡ before ++ rest
+  pub long : length before ≡ length taken
+  pub owed_is : owed ≡ map owed_of rest
+  pub counted : count ≡ length offered
+
+abbrev pub LaneStands : {P : Type 0} → Lane P → Type 0
+LaneStands lane = IsOwed lane.offered lane.taken lane.queue.offered lane.queue.owed
+
+-- the legs that something held turns into
+abbrev pub resolved_legs : List LegAct → PendingLeg → List Leg
+resolved_legs acts (Ready leg) = leg ∷ []
+resolved_legs acts (Place number) = second_legs number acts
+
+-- the legs of a next message, and those that what is held behind turns into
+abbrev pub turned_legs : List LegAct → List Leg → List PendingLeg → List Leg
+turned_legs acts ready held = ready ++ flat_map (resolved_legs acts) held
+
+-- the legs offered to a worker, and those that are held for it
+abbrev pub lane_legs : {P : Type 0} → List LegAct → Lane P → List Leg
+lane_legs acts lane = lane.offered ++ turned_legs acts lane.queue.ready lane.queue.held
+
+-- the answers of worker w, and what is told with them, are its translator's
+abbrev pub IsRight : {P : Type 0} → (Passage → P) → Rules → State → ℕ → Lane P → Type 0
+IsRight tells rules start w lane = let address : ℕ = slice_index rules.pool w in
+    IsFrontOf lane.taken (told_replies tells rules address lane.offered (local_bindings start address))
+
+abbrev pub AreRight : {P : Type 0} → (Passage → P) → Rules → State → DispatcherModel P → Type 0
+AreRight tells rules start state = (w : ℕ) → w < length rules.pool → IsRight tells rules start w (state.lane w)
+
+-- if the answers are right
+pub record DispatcherReaches {P : Type 0} (tells : Passage → P) (rules : Rules) (start : State) (done all : List Arrival)
+    (state : DispatcherModel P) : Type 0 where
+  pub reached : (w : ℕ) → w < length rules.pool → lane_legs (effect_from rules start all).acts (state.lane w)
+      ≡ legs_at (slice_index rules.pool w) (effect_from rules start done).acts
+  pub known : AllKnown (whole_of tells rules start all) state.progress
+
+-- after the inputs `done`, the first of `all`
+pub record DispatcherInvariant {P : Type 0} (tells : Passage → P) (rules : Rules) (start : State) (done all : List Arrival)
+    (state : DispatcherModel P) : Type 0 where
+  pub rest : List Arrival
+  pub whole : done ++ rest ≡ all
+  pub many : state.many ≡ length rules.pool
+  pub lanes : (w : ℕ) → w < length rules.pool → LaneStands (state.lane w)
+  pub reaches : AreRight tells rules start state → DispatcherReaches tells rules start done all state
+
+-- the invariant still holds, after the same inputs
+abbrev pub DispatcherKeeps : {P : Type 0} → (Passage → P) → DispatcherModel P → DispatcherModel P → Type 0
+DispatcherKeeps tells state later = (rules : Rules) (start : State) (done all : List Arrival) →
+    DispatcherInvariant tells rules start done all state → DispatcherInvariant tells rules start done all later
+
+-- OVER A POOL
+
+-- the arrival times of the inputs read, and what has left
+abbrev pub journal_of : {P : Type 0} → RunProgressModel P → List ℕ × List (ℕ × InputResult P)
+journal_of window = (times_in window, window.left)
+
+-- the dispatcher has queues for each worker of the pool
+abbrev pub IsSizedFor : {P M G : Type 0} → Pool M G Leg (TracedAnswer P) → Dispatcher P → Type 0
+IsSizedFor pool d = length d.queues ≡ length (initial_machines pool)
+
+-- the invariant of a dispatcher, with what its pool accepted and gave
+pub record StandsAt {P M G : Type 0} (tells : Passage → P) (rules : Rules) (start : State) (done all : List Arrival)
+    (pool : Pool M G Leg (TracedAnswer P)) (d : Dispatcher P) : Type 0 where
+  pub stands : DispatcherInvariant tells rules start done all (dispatcher_state pool d)
+
+abbrev pub KeepsAt : {P M G : Type 0} → (Passage → P) → Pool M G Leg (TracedAnswer P) → Dispatcher P →
+    Pool M G Leg (TracedAnswer P) → Dispatcher P → Type 0
+KeepsAt tells pool d later_pool later = (rules : Rules) (start : State) (done all : List Arrival) →
+    StandsAt tells rules start done all pool d → StandsAt tells rules start done all later_pool later
+
+-- the pool has the same workers, and what they were offered and what was taken from them stays: there may be more
+pub record PoolGrows {P M G : Type 0} (pool later_pool : Pool M G Leg (TracedAnswer P)) : Type 0 where
+  pub starts_stay : initial_machines later_pool ≡ initial_machines pool
+  pub offered : (w : ℕ) → IsFrontOf (of_worker (accepted_items pool) w) (of_worker (accepted_items later_pool) w)
+  pub taken : (w : ℕ) → IsFrontOf (of_worker (taken_answers pool) w) (of_worker (taken_answers later_pool) w)
+
+-- a fault of dispatching
+pub record DispatcherHalts {P M G : Type 0} (open_gate : Bool) (pool later_pool : Pool M G Leg (TracedAnswer P)) (fault : RunFault)
+    : Type 0 where
+  pub grows : PoolGrows pool later_pool
+  pub fault_is : IsDispatchFault open_gate fault
+
+-- the pool has the same workers, and the dispatcher's invariant still holds
+pub record DispatcherContinues {P M G : Type 0} (tells : Passage → P) (pool : Pool M G Leg (TracedAnswer P)) (d : Dispatcher P)
+    (later_pool : Pool M G Leg (TracedAnswer P)) (later : Dispatcher P) : Type 0 where
+  pub grows : PoolGrows pool later_pool
+  pub sized : IsSizedFor later_pool later
+  pub journal_stays : journal_of later.progress ≡ journal_of d.progress
+  pub keeps : KeepsAt tells pool d later_pool later
+
+-- or there was a fault of dispatching
+abbrev pub ContinuesOr : {P M G X : Type 0} → (Passage → P) → Bool → Pool M G Leg (TracedAnswer P) → Dispatcher P →
+    Pool M G Leg (TracedAnswer P) → Dispatcher P → Result X RunFault → Type 0
+ContinuesOr tells open_gate pool d later_pool later result =
+    MatchResult result (λ done. DispatcherContinues tells pool d later_pool later) (DispatcherHalts open_gate pool later_pool)
+
+-- STEPS
+
+-- what is told of the legs of an input, once this is told of one that goes this way and whose answer is awaited
+pub record AnswersTo {P : Type 0} (none : P) (window : RunProgressModel P) (number : ℕ) (way : Way) (passage : P)
+    (passages : P × P) : Type 0 where
+  pub was : InputProgress P
+  pub there : slice_get (progress_in window) number ≡ Some was
+  pub told : passages_after none was way passage ≡ Some passages
+
+-- an answer of worker w was noted, with what is told of its leg
+pub record NoteAnswerPost {P : Type 0} (tells : Passage → P) (w : ℕ) (told : TracedAnswer P) (d later : Dispatcher P) : Type 0 where
+  pub owed : AwaitedLeg
+  pub answers : AnswersAt w owed d.queues later.queues
+  pub passages : P × P
+  pub awaited : AnswersTo (tells Nothing) d.progress told.answer.number owed.way told.passage passages
+  pub written : ProgressIsWritten told.answer.number (Answered owed told.answer.end passages.0 passages.1) d.progress
+      later.progress
+
+-- taking out the second leg of an open input, if it has one
+abbrev pub IsSecondOf : {P : Type 0} → ℕ → OpenInput P → OpenInput P → Option Leg → Type 0
+IsSecondOf number input later None = (later ≡ record input { has_place = false }) × (second_leg_asked number input.progress ≡ None)
+IsSecondOf {P} number input later (Some leg) = (first : P)
+    × (later ≡ record input { progress = Returning first; has_place = false })
+    × (second_leg_asked number input.progress ≡ Some leg) × (first_in input.progress ≡ Some first)
+
+-- the same for an input by its number: it has this second leg
+pub record Returns {P : Type 0} (number : ℕ) (window later : RunProgressModel P) (leg : Leg) : Type 0 where
+  pub asks : AsksForSecondLeg number (progress_in window) (Some leg)
+  pub first : P
+  pub first_is : first_in asks.p ≡ Some first
+  pub written : ProgressIsWritten number (Returning first) window later
+  pub mark : HasMark number false window later
+
+-- or none
+abbrev pub IsSecond : {P : Type 0} → ℕ → RunProgressModel P → RunProgressModel P → Option Leg → Type 0
+IsSecond number window later None = InputIsMarked number false window later × AsksForSecondLeg number (progress_in window) None
+IsSecond number window later (Some leg) = Returns number window later leg
+
+-- if it was not known whether an input has a second leg, it still is not
+abbrev pub Forgets : {P : Type 0} → List (InputProgress P) → List (InputProgress P) → Type 0
+Forgets progress later = (number : ℕ) → is_unknown (slice_get progress number) ≡ true →
+    is_unknown (slice_get later number) ≡ true
+
+-- no queue changed, and no progress
+abbrev pub NothingMoved : {P : Type 0} → Dispatcher P → Dispatcher P → Type 0
+NothingMoved d later = (later.queues ≡ d.queues) × (later.progress ≡ d.progress)
+
+-- what is held first cannot be offered: there is nothing, or a waiting placeholder
+abbrev pub queue_waits : {P : Type 0} → List (InputProgress P) → QueueHead → Bool
+queue_waits progress fronts.Nothing = true
+queue_waits progress fronts.FirstLeg = false
+queue_waits progress (fronts.FirstPlace number) = is_unknown (slice_get progress number)
+
+-- of a worker, behind the legs of its next message
+abbrev pub waits_behind : {P : Type 0} → Dispatcher P → ℕ → Bool
+waits_behind d w = queue_waits (progress_in d.progress) (front_of (queue_of d.queues w).held)
+
+-- the second leg for what is held first, where that is a placeholder
+abbrev pub Resolves : {P : Type 0} → QueueHead → RunProgressModel P → Option Leg → RunProgressModel P → Type 0
+Resolves fronts.Nothing window second later = later ≡ window
+Resolves fronts.FirstLeg window second later = later ≡ window
+Resolves (fronts.FirstPlace number) window second later = IsSecond number window later second
+
+-- one more input was read
+abbrev pub Admits : {P : Type 0} → (Passage → P) → Rules → ℕ → ℕ → Arrival → Dispatcher P → Dispatcher P → Type 0
+Admits {P} tells rules number now input d later =
+    (start : State) (offered : ℕ → List Leg) (taken : ℕ → List (TracedAnswer P)) (done rest : List Arrival) →
+    length done ≡ number → max (last_clock start.clock done) input.clock ≡ now →
+    DispatcherInvariant tells rules start done ((done ++ input ∷ []) ++ rest) (state_with offered taken d) →
+    DispatcherInvariant tells rules start (done ++ input ∷ []) ((done ++ input ∷ []) ++ rest) (state_with offered taken later)
+
+-- true: answers were taken, so fewer are owed; false: nothing changed
+abbrev pub HasTaken : {P : Type 0} → Dispatcher P → Dispatcher P → Bool → Type 0
+HasTaken d later true = many_owed later.queues < many_owed d.queues
+HasTaken d later false = NothingMoved d later
+
+-- these answers of worker w were noted, whatever was offered and answered before
+pub record NoteAnswersPost {P : Type 0} (tells : Passage → P) (w : ℕ) (answers : List (TracedAnswer P)) (d later : Dispatcher P)
+    : Type 0 where
+  pub journal_stays : journal_of later.progress ≡ journal_of d.progress
+  pub keeps : (offered : ℕ → List Leg) (taken : ℕ → List (TracedAnswer P)) → DispatcherKeeps tells (state_with offered taken d)
+      (state_with offered (with_more_at w answers taken) later)
+
+-- OFFERS
+
+-- legs that were held first became legs of the next message: there are as many, and in the same order
+pub record MovesLegs (q later : WorkerQueueModel) : Type 0 where
+  pub same : later ≡ record q { ready = later.ready; held = later.held }
+  pub legs_stay : (acts : List LegAct) → turned_legs acts later.ready later.held ≡ turned_legs acts q.ready q.held
+  pub count_stays : held_legs_count later ≡ held_legs_count q
+  pub shorter : length later.held ≤ length q.held
+
+-- of worker w
+pub record MovesLegsAt (w : ℕ) (queues later : List WorkerQueueModel) : Type 0 where
+  pub queue : WorkerQueueModel
+  pub moves : MovesLegs (queue_of queues w) queue
+  pub later_is : later ≡ with_queue w (λ q. queue) queues
+
+-- what is held for worker w was put behind the legs of its next message, or was a placeholder without a leg
+pub record ReadyLegsPost {P : Type 0} (tells : Passage → P) (w : ℕ) (d later : Dispatcher P) : Type 0 where
+  pub journal_stays : journal_of later.progress ≡ journal_of d.progress
+  pub keeps : (offered : ℕ → List Leg) (taken : ℕ → List (TracedAnswer P)) →
+      DispatcherKeeps tells (state_with offered taken d) (state_with offered taken later)
+  pub others : (v : ℕ) → v ≢ w → queue_of later.queues v ≡ queue_of d.queues v
+  pub forgets : Forgets (progress_in d.progress) (progress_in later.progress)
+
+-- a worker was offered all it can be: nothing is held for it, a waiting placeholder is first, or its ring is full
+-- until an answer is taken
+abbrev pub HasOffered : {P M G : Type 0} → Pool M G Leg (TracedAnswer P) → Dispatcher P → ℕ → Type 0
+HasOffered {P} pool d w =
+    let lane : Lane P = (dispatcher_state pool d).lane w in
+    (queue_waits (progress_in d.progress) (front_of (all_held lane.queue)) ≡ true)
+    ⊎ (length lane.offered ≡ length lane.taken + capacity_of pool)
+
+-- and so was every worker
+abbrev pub HasOfferedAll : {P M G : Type 0} → Pool M G Leg (TracedAnswer P) → Dispatcher P → Type 0
+HasOfferedAll pool d = (w : ℕ) → w < length (initial_machines pool) → HasOffered pool d w
+
+-- the lanes of all workers but w are as they were, and no input got further
+pub record OffersOnlyTo {P M G : Type 0} (w : ℕ) (pool : Pool M G Leg (TracedAnswer P)) (d : Dispatcher P)
+    (later_pool : Pool M G Leg (TracedAnswer P)) (later : Dispatcher P) : Type 0 where
+  pub capacity_stays : capacity_of later_pool ≡ capacity_of pool
+  pub others : (v : ℕ) → v ≢ w → (dispatcher_state later_pool later).lane v ≡ (dispatcher_state pool d).lane v
+  pub forgets : Forgets (progress_in d.progress) (progress_in later.progress)
+
+-- ROOM
+
+-- one more input may be read
+pub record DispatcherHasRoom {P : Type 0} (d : Dispatcher P) : Type 0 where
+  pub held : many_held d.queues + 2 ≤ 65536
+  pub under_way : length d.progress.under_way < 131072
+
+-- THE END
+
+-- nothing is held, and every leg is answered
+pub record DispatcherIsDone {P : Type 0} (d : Dispatcher P) : Type 0 where
+  pub owed : (w : ℕ) → (queue_of d.queues w).owed ≡ []
+  pub held : (w : ℕ) → held_legs_count (queue_of d.queues w) ≡ 0
+
+-- the state that a dispatcher goes on to
+abbrev pub HasReached : {P : Type 0} → StopCondition → Dispatcher P → Type 0
+HasReached untils.Room d = DispatcherHasRoom d
+HasReached untils.Done d = DispatcherIsDone d

@@ -1,0 +1,138 @@
+//! The line of a single packet, and the bindings that it used.
+
+use crate::column_widths::ColumnWidths;
+use crate::ended_bindings::add_binding;
+use crate::lines::PacketLine;
+use crate::packet_selection::PacketSelection;
+use napt_account::{Entry, LogEntry};
+use napt_commands::{Exit, Page, RunEnd, RunPacket, Seconds};
+use napt_program::Stop;
+use std::alloc::{AllocError, Global};
+use std::fmt::Write;
+
+/// A binding that the packet used: its number in the log, from 1, and its entry once it ended.
+#[derive(Clone, Copy)]
+struct UsedBinding {
+    number: u64,
+    entry: Option<Entry>,
+}
+
+impl UsedBinding {
+    /// The binding at an index of the log.
+    fn at(place: usize) -> UsedBinding {
+        UsedBinding {
+            number: (place as u64).saturating_add(1),
+            entry: None,
+        }
+    }
+
+    /// Takes its entry, if it is one of these.
+    fn take(&mut self, listed: &[LogEntry]) {
+        if let Some(found) = listed.iter().find(|listed| listed.number == self.number) {
+            self.entry = Some(found.entry);
+        }
+    }
+}
+
+/// The packet that is shown alone.
+#[derive(Clone, Copy, Default)]
+pub struct SinglePacket {
+    /// Its number, from 1.
+    number: u64,
+    /// Whether it came.
+    is_found: bool,
+    /// Whether it meets the other conditions.
+    is_chosen: bool,
+    /// The binding that it went out through, and that it came in through.
+    out: Option<UsedBinding>,
+    into: Option<UsedBinding>,
+}
+
+impl SinglePacket {
+    /// Before the first packet.
+    pub fn new(number: u64) -> SinglePacket {
+        SinglePacket {
+            number,
+            ..SinglePacket::default()
+        }
+    }
+
+    /// Takes the next packet. The line of the one that is shown is appended, if it meets the other conditions.
+    pub fn take(
+        &mut self,
+        alloc: Global,
+        text: &mut String,
+        choice: PacketSelection,
+        line: PacketLine<'_>,
+    ) -> Result<(), AllocError> {
+        let RunPacket {
+            number,
+            input,
+            step,
+        } = line.passing;
+        self.take_entries(&step.ended);
+        if number != self.number {
+            return Ok(());
+        }
+        self.is_found = true;
+        self.is_chosen = line.is_chosen(alloc, choice)?;
+        if !self.is_chosen {
+            return Ok(());
+        }
+        let mut widths = ColumnWidths::default();
+        widths.take(number, input);
+        line.add(alloc, text, widths)?;
+        self.out = step.used.out.map(UsedBinding::at);
+        self.into = step.used.into.map(UsedBinding::at);
+        Ok(())
+    }
+
+    /// Takes the entries of its bindings, if they are among these.
+    fn take_entries(&mut self, listed: &[LogEntry]) {
+        if let Some(used) = &mut self.out {
+            used.take(listed);
+        }
+        if let Some(used) = &mut self.into {
+            used.take(listed);
+        }
+    }
+
+    /// Prints the bindings. A packet that did not come is reported.
+    pub fn tell<R: Print + Eprint>(
+        self,
+        rt: &R,
+        page: &mut Page,
+        ending: &RunEnd<'_>,
+    ) -> Result<(), Exit> {
+        if !self.is_found {
+            let (number, packets) = (self.number, ending.packets);
+            let _ = eprintln!(rt; "explain: --only {number}: there are {packets} packets");
+            return Err(Exit::Told(Stop::Usage));
+        }
+        if !self.is_chosen {
+            let number = self.number;
+            let _ = eprintln!(rt;
+                "explain: --only {number}: it does not meet the other conditions"
+            );
+        }
+        let mut only = self;
+        only.take_entries(&ending.living);
+        add_used(&mut page.text, "out", only.out)?;
+        add_used(&mut page.text, "in", only.into)?;
+        page.end(rt)
+    }
+}
+
+/// Appends the line of a binding that the packet used in this direction.
+fn add_used(text: &mut String, way: &str, used: Option<UsedBinding>) -> Result<(), AllocError> {
+    let Some(entry) = used.and_then(|used| used.entry) else {
+        return Ok(());
+    };
+    write!(text, "  {way} through ")?;
+    add_binding(text, &entry.binding)?;
+    if entry.binding.fixed {
+        return text.push_str(", a redirect\n");
+    }
+    let (made, last) = (Seconds(entry.made), Seconds(entry.last));
+    writeln!(text, ", made at {made}, last packet at {last}")
+}

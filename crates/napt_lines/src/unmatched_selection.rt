@@ -1,0 +1,60 @@
+//! Whether the selected host or endpoint has a packet or a binding.
+
+use crate::lines::{PacketLine, has_party};
+use crate::packet_selection::PacketSelection;
+use napt_account::{LogEntry, Party};
+use napt_config::Address;
+use std::alloc::{AllocError, Global};
+
+/// A selected host or endpoint that nothing had so far; none if something had it, or if none is selected.
+#[derive(Clone, Copy)]
+pub struct UnmatchedSelection {
+    host: Option<Party>,
+}
+
+impl UnmatchedSelection {
+    /// Before the first packet, with the redirects.
+    pub fn of(choice: PacketSelection, opening: &[LogEntry]) -> UnmatchedSelection {
+        let mut unmatched = UnmatchedSelection { host: choice.host };
+        unmatched.take_bindings(opening);
+        unmatched
+    }
+
+    /// Takes the next packet, and the bindings that it made.
+    pub fn take(
+        &mut self,
+        alloc: Global,
+        line: PacketLine<'_>,
+        made: &[LogEntry],
+    ) -> Result<(), AllocError> {
+        self.take_bindings(made);
+        if let Some(host) = self.host
+            && line.has_host(alloc, host)?
+        {
+            self.host = None;
+        }
+        Ok(())
+    }
+
+    fn take_bindings(&mut self, bindings: &[LogEntry]) {
+        if bindings
+            .iter()
+            .any(|listed| has_party(&listed.entry.binding, self.host))
+        {
+            self.host = None;
+        }
+    }
+
+    /// Prints that the selected host or endpoint has no packet and no binding, if it is so.
+    pub fn tell<R: Eprint>(self, rt: &R) {
+        let Some(host) = self.host else {
+            return;
+        };
+        let address = Address(host.address);
+        let _ = match host.number {
+            Some(number) => eprint!(rt; "explain: --host {address}:{number}: "),
+            None => eprint!(rt; "explain: --host {address}: "),
+        };
+        let _ = eprintln!(rt; "no packet and no binding has it");
+    }
+}

@@ -1,0 +1,15 @@
+use Rattle.std.{proofs.Common.{◌≡◌, ◌∙◌, [], Option, Some, None, lit<, refl, ap}, specs.{Option.option_map, Prelude.unwrap_or}}
+use Rattle.std.proofs.lemmas.{Option.unwrap_or-slice_get, Iterator.{Consumers.nth_from_yields_List, Splits.YieldsList-from_str_split}}
+use Rattle.napt_log_text.proofs.log_row.field.Goals as goal
+
+mapped : {A B : Type 0} (v : A → B) (r : Option A) (d : A) → v (unwrap_or r d) ≡ unwrap_or (option_map v r) (v d)
+mapped v None d = refl
+mapped v (Some x) d = refl
+
+pub returns : goal.returns
+returns c =
+    let road = YieldsList-from_str_split {s = c.split.result} 44 c.args.row.now (lit< tt) c.split.ensures.text
+    c.split.ensures.has_more c.split.ensures.pattern in
+    ap (λ x. x.now) c.unwrap_or.ensures ∙ mapped (λ x. x.now) c.nth.result _
+    ∙ ap (λ o. unwrap_or o []) (nth_from_yields_List c.nth.result c.nth.new.self c.args.place c.nth.ensures.ran road)
+    ∙ unwrap_or-slice_get _ c.args.place []

@@ -1,0 +1,341 @@
+//! The object of a packet in JSON (RFC 8259), for programs.
+ghost use Rattle.std.specs.Prelude.{◌≡◌, ◌++◌, OnOk, IfOk, codes, option_map, string_bytes};
+ghost use Rattle.napt_wire.specs.{Bytes.byte_at, Fields.{form_at, transport_start}};
+ghost use Rattle.napt_log_text.specs.Objects as objects;
+
+use crate::digits::{add_address, add_number};
+use napt_account::LogNote;
+use napt_records::{cause_name, protocol_name};
+use napt_rules::Outcome;
+use napt_sequential::Input;
+use napt_wire::{Endpoint, Inner, Kind, Packet, Protocol, Side};
+use std::alloc::{AllocError, Global};
+
+/// The type of an ICMP echo request (RFC 792).
+const ECHO_REQUEST: u8 = 8;
+
+/// What an object tells: a packet of a run, and what became of it.
+#[derive(Clone, Copy)]
+pub struct JsonObject<'a> {
+    /// From 1, in the order of the run.
+    pub number: u64,
+    /// The packet as it arrived, or bytes that are none.
+    pub input: &'a Input,
+    pub outcome: &'a Outcome,
+    /// What the packet did to the binding that it used first.
+    pub note: LogNote,
+}
+
+/// The endpoints of a packet.
+#[derive(Clone, Copy)]
+struct Ends {
+    source: Endpoint,
+    destination: Endpoint,
+    numbers: PacketNumbers,
+}
+
+/// What the numbers of endpoints are.
+#[derive(Clone, Copy)]
+enum PacketNumbers {
+    Ports,
+    Identifier,
+    /// An ICMP error has none.
+    Absent,
+}
+
+impl JsonObject<'_> {
+    /// Appends it, on a line of its own (RFC 8259). Its time is in ns since 1970-01-01 UTC. Fails only if memory runs out.
+    pub fn add_to(&self, alloc: Global, text: &mut String) -> Result<(), AllocError>
+        ensures { OnOk result (string_bytes text.new ≡ string_bytes text.old ++ objects.object_text
+            self.now.number self.now.input.now self.now.outcome.now self.now.note) }
+    {
+        self.add_members(alloc, text)?;
+        text.push_str("\n")?;
+        Ok(())
+    }
+
+    /// Appends it without the end of the line.
+    #[tactic(auto, unfolding(crate::specs::Objects::object_of))]
+    fn add_members(&self, alloc: Global, text: &mut String) -> Result<(), AllocError>
+        ensures { OnOk result (string_bytes text.new ≡ string_bytes text.old ++ objects.object_of
+            self.now.number self.now.input.now self.now.outcome.now self.now.note) }
+    {
+        let input = self.input;
+        text.push_str("{\"number\":")?;
+        add_number(text, self.number)?;
+        text.push_str(",\"time\":")?;
+        add_number(text, input.time)?;
+        add_fate(input.side, self.outcome, self.note, text)?;
+        text.push_str(",\"before\":")?;
+        add_arrived(alloc, input, text)?;
+        text.push_str(",\"after\":")?;
+        add_packet_or_null(left(self.outcome), text)?;
+        text.push_str("}")?;
+        Ok(())
+    }
+}
+
+/// Appends the members that tell what became of a packet, with a comma before them.
+#[tactic(auto, unfolding(crate::specs::Objects::fate_members))]
+fn add_fate(
+    side: Side,
+    outcome: &Outcome,
+    note: LogNote,
+    text: &mut String,
+) -> Result<(), AllocError>
+    ensures { OnOk result (string_bytes text.new ≡ string_bytes text.old
+        ++ (codes "," ++ objects.fate_members side outcome.now note)) }
+{
+    text.push_str(",\"side\":")?;
+    text.push_str(side_text(side))?;
+    text.push_str(",\"outcome\":")?;
+    add_outcome(outcome, text)?;
+    text.push_str(",\"binding\":")?;
+    text.push_str(binding(outcome, note))?;
+    text.push_str(hairpin(side, outcome))?;
+    Ok(())
+}
+
+/// Appends the name of an outcome and the cause.
+#[tactic(auto, unfolding(crate::specs::Objects::quoted))]
+fn add_outcome(outcome: &Outcome, text: &mut String) -> Result<(), AllocError>
+    ensures { OnOk result (string_bytes text.new ≡ string_bytes text.old
+        ++ (objects.quoted (objects.outcome_name outcome.now)
+        ++ (codes ",\"cause\":" ++ objects.cause_text outcome.now))) }
+{
+    match outcome {
+        Outcome::ToOutside(_) => text.push_str("\"to-outside\",\"cause\":null"),
+        Outcome::ToInside(_) => text.push_str("\"to-inside\",\"cause\":null"),
+        Outcome::Dropped(cause) => {
+            text.push_str("\"dropped\",\"cause\":\"")?;
+            text.push_str(cause_name(*cause))?;
+            text.push_str("\"")
+        }
+    }
+}
+
+#[tactic(auto, unfolding(crate::specs::Objects::quoted))]
+fn side_text(side: Side) -> &'static str
+    ensures { result.now ≡ objects.quoted (objects.json_side_name side) }
+{
+    match side {
+        Side::Inside => "\"inside\"",
+        Side::Outside => "\"outside\"",
+    }
+}
+
+/// What a packet that left did to the first binding that it used.
+#[tactic(auto, unfolding(crate::specs::Objects::quoted))]
+fn binding(outcome: &Outcome, note: LogNote) -> &'static str
+    ensures { result.now ≡ objects.binding_text outcome.now note }
+{
+    match (outcome, note) {
+        (Outcome::Dropped(_), _) | (_, LogNote::Nothing) => "null",
+        (_, LogNote::Made) => "\"made\"",
+        (_, LogNote::Found) => "\"found\"",
+        (_, LogNote::Redirect) => "\"redirect\"",
+    }
+}
+
+/// The member that says whether a packet came from the inside and goes back in, with a comma before it.
+fn hairpin(side: Side, outcome: &Outcome) -> &'static str
+    ensures { result.now ≡ codes ",\"hairpin\":"
+        ++ objects.boolean (objects.is_hairpin side outcome.now) }
+{
+    match (side, outcome) {
+        (Side::Inside, Outcome::ToInside(_)) => ",\"hairpin\":true",
+        _ => ",\"hairpin\":false",
+    }
+}
+
+/// The packet that leaves, if one does.
+fn left(outcome: &Outcome) -> Option<&Packet>
+    ensures { option_map (λ packet. packet.now) result ≡ objects.left outcome.now }
+{
+    match outcome {
+        Outcome::ToOutside(packet) | Outcome::ToInside(packet) => Some(packet),
+        Outcome::Dropped(_) => None,
+    }
+}
+
+/// Appends the object of the packet that an input is, or null if its bytes do not read as one.
+fn add_arrived(alloc: Global, input: &Input, text: &mut String) -> Result<(), AllocError>
+    ensures { OnOk result (string_bytes text.new ≡ string_bytes text.old
+        ++ objects.packet_or_null (objects.arrival_member input.now)) }
+{
+    let bytes = Vec::from_slice(alloc, &input.bytes)?;
+    match Packet::read(input.side, bytes) {
+        Ok(packet) => add_packet(&packet, text),
+        Err(_) => text.push_str("null"),
+    }
+}
+
+fn add_packet_or_null(packet: Option<&Packet>, text: &mut String) -> Result<(), AllocError>
+    ensures { OnOk result (string_bytes text.new ≡ string_bytes text.old
+        ++ objects.packet_or_null (option_map (λ known. known.now) packet.entry)) }
+{
+    match packet {
+        Some(packet) => add_packet(packet, text),
+        None => text.push_str("null"),
+    }
+}
+
+/// Appends the object of a packet.
+#[tactic(auto, unfolding(crate::specs::Objects::packet_object))]
+fn add_packet(packet: &Packet, text: &mut String) -> Result<(), AllocError>
+    ensures { OnOk result (string_bytes text.new
+        ≡ string_bytes text.old ++ objects.packet_object packet.now) }
+{
+    text.push_str("{\"kind\":")?;
+    text.push_str(kind_text(packet))?;
+    Ends::of(packet).add_to(text)?;
+    add_about(packet.kind(), text)?;
+    text.push_str("}")?;
+    Ok(())
+}
+
+/// Appends the member that tells what an ICMP error is about, with a comma before it.
+fn add_about(kind: Kind, text: &mut String) -> Result<(), AllocError>
+    ensures { OnOk result (string_bytes text.new ≡ string_bytes text.old
+        ++ (codes ",\"about\":" ++ objects.about_text kind)) }
+{
+    match kind {
+        Kind::Udp | Kind::Tcp(_) | Kind::Echo => text.push_str(",\"about\":null"),
+        Kind::ErrorOf(inner) => {
+            text.push_str(",\"about\":")?;
+            add_quoted(inner, text)
+        }
+    }
+}
+
+/// Appends the object of the packet that an ICMP error quotes.
+#[tactic(auto, unfolding(crate::specs::Objects::quoted_object))]
+fn add_quoted(inner: Inner, text: &mut String) -> Result<(), AllocError>
+    ensures { OnOk result (string_bytes text.new
+        ≡ string_bytes text.old ++ objects.quoted_object inner) }
+{
+    text.push_str("{\"protocol\":\"")?;
+    text.push_str(protocol_name(inner.protocol))?;
+    text.push_str("\"")?;
+    Ends::quoted(inner).add_to(text)?;
+    text.push_str("}")?;
+    Ok(())
+}
+
+impl Ends {
+    /// Those of a packet.
+    fn of(packet: &Packet) -> Ends
+        ensures { result ≡ objects.ends_of packet.now }
+    {
+        Ends {
+            source: packet.source(),
+            destination: packet.destination(),
+            numbers: PacketNumbers::of(packet.kind()),
+        }
+    }
+
+    /// Those of the packet that an ICMP error quotes.
+    fn quoted(inner: Inner) -> Ends
+        ensures { result ≡ objects.ends_in inner }
+    {
+        Ends {
+            source: inner.source,
+            destination: inner.destination,
+            numbers: PacketNumbers::quoted(inner.protocol),
+        }
+    }
+
+    /// Appends their members, with a comma before them.
+    #[tactic(auto, unfolding(crate::specs::Objects::end_members))]
+    fn add_to(self, text: &mut String) -> Result<(), AllocError>
+        ensures { OnOk result (string_bytes text.new ≡ string_bytes text.old
+            ++ (codes "," ++ objects.end_members self)) }
+    {
+        text.push_str(",\"source\":\"")?;
+        add_address(text, self.source.address)?;
+        text.push_str("\",\"source_port\":")?;
+        self.numbers.add_port(self.source.number, text)?;
+        text.push_str(",\"destination\":\"")?;
+        add_address(text, self.destination.address)?;
+        text.push_str("\",\"destination_port\":")?;
+        self.numbers.add_port(self.destination.number, text)?;
+        text.push_str(",\"identifier\":")?;
+        self.numbers
+            .add_identifier(self.source.number, self.destination.number, text)?;
+        Ok(())
+    }
+}
+
+impl PacketNumbers {
+    /// Those of a packet.
+    fn of(kind: Kind) -> PacketNumbers
+        ensures { result ≡ objects.packet_numbers kind }
+    {
+        match kind {
+            Kind::Udp | Kind::Tcp(_) => PacketNumbers::Ports,
+            Kind::Echo => PacketNumbers::Identifier,
+            Kind::ErrorOf(_) => PacketNumbers::Absent,
+        }
+    }
+
+    /// Those of the packet that an ICMP error quotes.
+    fn quoted(protocol: Protocol) -> PacketNumbers
+        ensures { result ≡ objects.numbers_in protocol }
+    {
+        match protocol {
+            Protocol::Icmp => PacketNumbers::Identifier,
+            Protocol::Tcp | Protocol::Udp => PacketNumbers::Ports,
+        }
+    }
+
+    /// Appends the number of an end if it is a port, else null.
+    fn add_port(self, number: u16, text: &mut String) -> Result<(), AllocError>
+        ensures { OnOk result (string_bytes text.new
+            ≡ string_bytes text.old ++ objects.port_text self number) }
+    {
+        match self {
+            PacketNumbers::Ports => add_number(text, u64::from(number)),
+            PacketNumbers::Identifier | PacketNumbers::Absent => text.push_str("null"),
+        }
+    }
+
+    /// Appends the identifier that one of the ends has, if it is one, else null.
+    fn add_identifier(self, one: u16, other: u16, text: &mut String) -> Result<(), AllocError>
+        ensures { OnOk result (string_bytes text.new
+            ≡ string_bytes text.old ++ objects.identifier_text self one other) }
+    {
+        match self {
+            PacketNumbers::Identifier => add_number(text, u64::from(one.max(other))),
+            PacketNumbers::Ports | PacketNumbers::Absent => text.push_str("null"),
+        }
+    }
+}
+
+#[tactic(auto, unfolding(crate::specs::Objects::quoted))]
+fn kind_text(packet: &Packet) -> &'static str
+    ensures { result.now ≡ objects.quoted (objects.form_name (form_at 0 packet.now)) }
+{
+    match packet.kind() {
+        Kind::Udp => "\"udp\"",
+        Kind::Tcp(_) => "\"tcp\"",
+        Kind::Echo if icmp_type(packet.bytes()) == ECHO_REQUEST => "\"icmp-echo-request\"",
+        Kind::Echo => "\"icmp-echo-reply\"",
+        Kind::ErrorOf(_) => "\"icmp-error\"",
+    }
+}
+
+/// The type of an ICMP message: the first byte behind the IP header (RFC 792), whose length is in units of four bytes
+/// (RFC 791, section 3.1).
+fn icmp_type(bytes: &[u8]) -> u8
+    ensures { result ≡ byte_at (transport_start 0 bytes.now) bytes.now }
+{
+    let first = byte(bytes, 0);
+    byte(bytes, 4 * usize::from(first & 15))
+}
+
+/// A byte, or 0 past the end.
+fn byte(bytes: &[u8], place: usize) -> u8
+    ensures { result ≡ byte_at place bytes.now }
+{
+    bytes.get(place).copied().unwrap_or(0)
+}

@@ -1,0 +1,102 @@
+//! A log that was written before, read again row by row.
+ghost use Rattle.std.specs.{Prelude.{◌≡◌, ◌≢◌, ◌++◌, ◌<◌, ℕ, List, [], IsOkAnd, length}, List.All};
+ghost use Rattle.napt_config.specs.Rules.{Rules};
+ghost use Rattle.napt_log_text.specs.Rows as rows;
+ghost use Rattle.napt_log_text.specs.LogReaders as logs;
+ghost use Rattle.napt_log_text.specs.LogRows as saved;
+ghost use Rattle.napt_log_text.specs.declared.event.LogEvent.{LogEvent as Told};
+
+use crate::event::header;
+use crate::log_row::LogRow;
+use std::alloc::Global;
+use std::io;
+use std::io::BufRead;
+
+/// Why a log is refused.
+#[derive(Debug, Drop)]
+pub enum LogFileFault {
+    /// A read failed, memory ran out, or the bytes are not UTF-8.
+    Unread(io::Error),
+    /// A row is none of a log: what was expected.
+    Wrong(&'static str),
+    /// The last row breaks off: it has no end of a line.
+    Torn,
+}
+
+/// A log that is read row by row, in the memory of its longest row.
+#[derive(Drop)]
+pub struct LogReader<R> {
+    reader: R,
+    line: String,
+}
+
+impl<R: BufRead + Drop> LogReader<R> {
+    /// Reads the names of the fields.
+    pub fn open(alloc: Global, reader: R) -> Result<LogReader<R>, LogFileFault>
+        ensures { (rest : List ℕ) → R.remaining reader ≡ Some (rows.csv_header ++ rest) →
+            logs.LogUnlessUnread result (IsOkAnd result (λ log. R.remaining log.reader ≡ Some rest)) }
+    {
+        let mut log = LogReader {
+            reader,
+            line: String::new(alloc),
+        };
+        if let Err(error) = log.reader.read_line(&mut log.line) {
+            return Err(LogFileFault::Unread(error));
+        }
+        if log.line.as_str() == header() {
+            Ok(log)
+        } else {
+            Err(LogFileFault::Wrong("expected the names of the fields, as explain log writes them"))
+        }
+    }
+
+    /// A piece of a log behind the first one, of which nothing is read yet.
+    pub fn piece(alloc: Global, reader: R) -> LogReader<R>
+        ensures { R.remaining result.reader ≡ R.remaining reader }
+    {
+        LogReader {
+            reader,
+            line: String::new(alloc),
+        }
+    }
+
+    /// Whether the line that was read last is the names of the fields, with which a piece may begin.
+    pub fn is_at_names(&self) -> bool {
+        self.line.as_str() == header()
+    }
+
+    /// Reads the next row, of the next event; `None` at the end. Of what is no row an error says what was expected.
+    pub fn next(&mut self) -> Result<Option<LogRow>, LogFileFault>
+        ensures row { (rules : Rules) (event : Told) (rest : List ℕ) → saved.IsEvent event →
+            R.remaining self.old.reader ≡ Some (rows.csv_row rules event ++ rest) →
+            logs.LogUnlessUnread result ((result ≡ Ok (Some (saved.saved_row event)))
+            × (R.remaining self.new.reader ≡ Some rest)) }
+        ensures end { R.remaining self.old.reader ≡ Some [] →
+            logs.LogUnlessUnread result (result ≡ Ok None) }
+        ensures torn { (torn : List ℕ) → 0 < length torn → All (λ byte. byte ≢ 10) torn →
+            R.remaining self.old.reader ≡ Some torn →
+            logs.LogUnlessUnread result (result ≡ Err LogFileFault.Torn) }
+    {
+        self.line.clear();
+        let length = match self.reader.read_line(&mut self.line) {
+            Ok(length) => length,
+            Err(error) => return Err(LogFileFault::Unread(error)),
+        };
+        if length == 0 {
+            return Ok(None);
+        }
+        let Some(text) = self.line.as_str().strip_suffix('\n') else {
+            return Err(LogFileFault::Torn);
+        };
+        match LogRow::read(text) {
+            Some(row) => Ok(Some(row)),
+            None => Err(LogFileFault::Wrong("expected as many fields as there are names")),
+        }
+    }
+}
+
+/// Behind its header a log has the rows of its events, so that [`LogReader`] reads these back, in order.
+#[tactic(auto, using(crate::proofs::SavedLogs::has_rows))]
+pub fn log_has_rows()
+    ensures { logs.LogHasRows }
+{}

@@ -1,8 +1,0 @@
-use Rattle.std.proofs.Common.{◌∙◌}
-use Rattle.napt_program.proofs.StateLemmas.{unread}
-use Rattle.napt_program.proofs.resuming.state_from.Goals as goal
-
-pub returns-in-Err-clause-whole : goal.returns-in-Err-clause-whole
-returns-in-Err-clause-whole g c saved is told =
-    unread c.in-Err.fault.reason _ _ (λ same. cc) (c.in-Err.ensures.read saved is (c.in_ok-reader.ensures.tells ∙ told))
-    c.stop_of_state.ensures.unread

@@ -1,0 +1,126 @@
+//! Identifies files, so that one file is recognized under several paths.
+ghost use Rattle.std.specs.{Prelude.{◌≡◌, ◌==◌, None, Some, if◌then◌else◌, option_map}, Fs.file_type, Path.path_bytes};
+ghost use Rattle.napt_program.specs.FileLocation.{IsOfKind, IsOfPath, folder_of, is_same, is_same_node};
+
+use std::fs;
+use std::fs::Metadata;
+use std::os::unix::fs::MetadataExt;
+use std::path::Path;
+use std::rt::Files;
+
+/// A file or a folder, as the system identifies it: its device, and its inode number there, which is not 0.
+#[derive(Clone, Copy, Debug)]
+pub struct FileId {
+    pub device: u64,
+    pub number: u64,
+}
+
+/// What is known of where a file is.
+#[derive(Clone, Copy, Debug)]
+pub enum FileLocation<'a> {
+    /// An existing file.
+    There(FileId),
+    /// A file that does not exist yet: the folder it would be created in, and its name there.
+    New(FileId, &'a str),
+    /// Nothing is known: just its path.
+    Words(&'a str),
+    /// A device, a pipe or a folder: writing to it destroys nothing.
+    Aside,
+}
+
+/// The node, if the system gives one.
+fn node_of(known: &Metadata) -> Option<FileId> {
+    node_at(known.dev(), known.ino())
+}
+
+/// The node of a device and an inode number, which is 0 if the system has none.
+fn node_at(device: u64, number: u64) -> Option<FileId>
+    ensures { result ≡ (if number == 0 then None
+        else Some (record { device = device; number = number })) }
+{
+    if number == 0 {
+        None
+    } else {
+        Some(FileId { device, number })
+    }
+}
+
+/// The place of the file at this path. Links are followed, except one to a file that does not exist yet.
+pub fn place_of<'a, R: Files>(rt: &R, path: &'a str) -> FileLocation<'a>
+    ensures { IsOfPath path.now result }
+{
+    match fs::metadata(rt, path) {
+        Ok(known) => place_there(&known, path),
+        Err(_) => place_of_new(rt, path),
+    }
+}
+
+/// The place of what exists at this path.
+fn place_there<'a>(known: &Metadata, path: &'a str) -> FileLocation<'a>
+    ensures path { IsOfPath path.now result }
+    ensures kind { IsOfKind (file_type known.now) result }
+{
+    match node_of(known) {
+        Some(_) if !known.is_file() => FileLocation::Aside,
+        Some(node) => FileLocation::There(node),
+        None => FileLocation::Words(path),
+    }
+}
+
+/// The place where a file of this path would be created.
+fn place_of_new<'a, R: Files>(rt: &R, path: &'a str) -> FileLocation<'a>
+    ensures { IsOfPath path.now result }
+{
+    let (Some(folder), Some(name)) = (folder_of(path), Path::new(path).file_name()) else {
+        return FileLocation::Words(path);
+    };
+    let Ok(known) = fs::metadata(rt, folder) else {
+        return FileLocation::Words(path);
+    };
+    match node_of(&known) {
+        Some(node) => FileLocation::New(node, name),
+        None => FileLocation::Words(path),
+    }
+}
+
+/// The folder of a path, `.` if the path is a name alone; `None` if it has no folder.
+pub(crate) fn folder_of<'a>(path: &'a str) -> Option<Path<'a>>
+    ensures { option_map path_bytes result ≡ folder_of path.now }
+{
+    let folder = Path::new(path).parent()?;
+    if folder.as_str().is_empty() {
+        Some(Path::new("."))
+    } else {
+        Some(folder)
+    }
+}
+
+/// Whether what is known is of the file at this path; so it is if the system does not tell one file from another.
+pub(crate) fn is_at<R: Files>(rt: &R, known: &Metadata, path: &str) -> bool {
+    let Ok(there) = fs::metadata(rt, path) else {
+        return false;
+    };
+    match (node_of(known), node_of(&there)) {
+        (Some(known), Some(there)) => is_same_node(known, there),
+        _ => true,
+    }
+}
+
+fn is_same_node(a: FileId, b: FileId) -> bool
+    ensures { result ≡ is_same_node a b }
+{
+    a.device == b.device && a.number == b.number
+}
+
+/// Whether both are one file. `Aside` is the same as nothing.
+pub fn is_same(a: FileLocation<'_>, b: FileLocation<'_>) -> bool
+    ensures { result ≡ is_same a.entry b.entry }
+{
+    match (a, b) {
+        (FileLocation::There(a), FileLocation::There(b)) => is_same_node(a, b),
+        (FileLocation::New(a, a_name), FileLocation::New(b, b_name)) => is_same_node(a, b)
+            && a_name == b_name,
+        (FileLocation::Words(a), FileLocation::Words(b)) => a == b,
+        _ => false,
+    }
+}

@@ -1,0 +1,105 @@
+//! The file of a state that is saved: a new file beside it, which takes its place once it is written.
+
+ghost use Rattle.std.specs.{Prelude.{◌≡◌, ◌++◌, IfErr, IfOk, IfSome, codes, is_some, string_bytes}, Io.KnownBytes.Appends, Option.option_copied};
+ghost use Rattle.napt_state.specs.StateText.{saved_text};
+ghost use Rattle.napt_program.specs.State.{IsNewStop, IsSaveStop};
+
+use crate::devices::{BUFFERED, writer};
+use crate::file_location::is_at;
+use crate::options::RunOptions;
+use crate::role::FileRole;
+use crate::stop::{MEMORY, Stop};
+use napt_rules::State;
+use napt_state::{LogPosition, write_state};
+use std::alloc::{AllocError, Global};
+use std::fs::{OpenFile, OpenOptions};
+use std::io::{ErrorKind, Write};
+use std::rt::Files;
+use std::{fs, io};
+
+/// A new file for a state, which is empty until the run has ended.
+#[derive(Drop)]
+pub struct StateFile<F> {
+    file: F,
+    /// Where it is.
+    new: String,
+    /// Where it is wanted.
+    path: String,
+}
+
+impl<F: Write + OpenFile + Drop> StateFile<F> {
+    /// Writes the state, and its log if it has one, makes the system keep the text, and puts the file, which is returned, into
+    /// its place. That is the last step, and the system does it at once: so there is always the state that was there before
+    /// or this one, whole. Fails with `Stop::Save`, which leaves the one before, also if another run has put its own new file
+    /// there since; or, as a run does, if memory runs out.
+    pub fn finish<R: Files>(
+        self,
+        rt: &R,
+        alloc: Global,
+        state: &State,
+        log: Option<&LogPosition>,
+    ) -> Result<F, Stop>
+        ensures written { IfOk result (λ kept. Appends (F.contents self.file) (F.contents kept)
+            (saved_text (record { state = state.now; log = option_copied log.entry }))) }
+        ensures refused { IfErr result IsSaveStop }
+    {
+        let StateFile { file, new, path } = self;
+        let mut writer = writer(alloc, file, BUFFERED)?;
+        write_state(alloc, &mut writer, state, log).map_err(|error| unsaved(&error))?;
+        let file = writer.into_inner().map_err(|_| Stop::Save)?;
+        file.sync_all().map_err(|error| unsaved(&error))?;
+        let known = file.metadata().map_err(|error| unsaved(&error))?;
+        if !is_at(rt, &known, &new) {
+            return Err(Stop::Save);
+        }
+        fs::rename(rt, &new, &path).map_err(|error| unsaved(&error))?;
+        Ok(file)
+    }
+}
+
+fn unsaved(error: &io::Error) -> Stop
+    ensures { IsSaveStop result }
+{
+    match error.kind() {
+        ErrorKind::OutOfMemory => MEMORY,
+        _ => Stop::Save,
+    }
+}
+
+/// Creates the new file for a state, if one is to be saved. One of that name, which a run left that broke off or another run
+/// still has, loses its name first: so no two runs write to one file. Fails with its role, or, as a run does, if memory runs
+/// out.
+pub(crate) fn state_file<R: Files + AllocGlobal>(
+    rt: &R,
+    options: &RunOptions,
+) -> Result<Option<StateFile<R::File>>, Stop>
+    ensures named { IfOk result (λ made. is_some made ≡ is_some options.now.save) }
+    ensures paths { IfOk result (λ made. IfSome made (λ it.
+        string_bytes it.new ≡ string_bytes it.path ++ codes ".new")) }
+    ensures refused { IfErr result (IsNewStop (is_some options.now.save)) }
+{
+    let Some(path) = &options.save else {
+        return Ok(None);
+    };
+    if path.is_empty() {
+        return Err(Stop::File(FileRole::Save));
+    }
+    let new = new_path(rt.alloc(), path)?;
+    let path = String::from_str(rt.alloc(), path)?;
+    let _ = fs::remove_file(rt, &new);
+    let file = OpenOptions::new()
+        .write(true)
+        .create_new(true)
+        .open(rt, &new)
+        .map_err(|_| Stop::File(FileRole::Save))?;
+    Ok(Some(StateFile { file, new, path }))
+}
+
+/// The path of the new file beside the file of a state that is saved. Fails only if memory runs out.
+pub fn new_path(alloc: Global, path: &str) -> Result<String, AllocError>
+    ensures { IfOk result (λ new. string_bytes new ≡ path.now ++ codes ".new") }
+{
+    let mut new = String::from_str(alloc, path)?;
+    new.push_str(".new")?;
+    Ok(new)
+}

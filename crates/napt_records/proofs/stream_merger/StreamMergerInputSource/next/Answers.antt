@@ -1,0 +1,14 @@
+use Rattle.std.proofs.lemmas.Result.{err_from_is_err_and}
+use Rattle.napt_records.proofs.HandedInputs.{Hands-any}
+use Rattle.napt_records.proofs.stream_merger.StreamMergerInputSource.next.Goals as goal
+
+pub returns : goal.returns
+returns g c =
+    Hands-any c.args.self.now
+    c.look.new.self c.take.new.self c.take.result c.look.ensures.same c.in_ok-look.ensures.looks c.take.ensures.takes
+    c.take.ensures.inside c.take.ensures.outside
+
+pub returns-in_err-look : goal.returns-in_err-look
+returns-in_err-look g c =
+    let p = err_from_is_err_and c.from_residual.result c.from_residual.ensures.1 in
+    rw (p.1, p.2) (c.look.ensures.same, c.in_err-look.ensures.looks)

@@ -1,0 +1,144 @@
+//! The inputs of a run: the records of both captures, merged by arrival time.
+ghost use Rattle.std.specs.Prelude.{◌≡◌, ◌++◌, [], length, All, IfOk};
+ghost use Rattle.napt_capture.specs.Text.{IsWritable};
+ghost use Rattle.napt_sequential.specs.Inputs.{InputIsTaken};
+ghost use Rattle.napt_records.specs.{Output.IsTimely, RecordMerging.{TakesRecord, is_outside_next, merged_inputs}};
+
+use napt_capture::Record;
+use napt_sequential::{Input, InputSource, NoFault};
+use napt_wire::Side;
+use std::alloc::{AllocError, Global};
+use std::collections::VecDeque;
+use std::marker::Model;
+
+/// Whether the next record is the outside one: the earlier goes first, and on a tie the inside one.
+fn is_outside_next(inside: &VecDeque<Record>, outside: &VecDeque<Record>) -> bool
+    ensures { result ≡ is_outside_next inside.now.items outside.now.items }
+{
+    let Some(first) = inside.front() else {
+        return true;
+    };
+    let Some(other) = outside.front() else {
+        return false;
+    };
+    other.time < first.time
+}
+
+/// Takes the next record, with its side; `None` once both sides are empty.
+fn take_next(
+    inside: &mut VecDeque<Record>,
+    outside: &mut VecDeque<Record>,
+) -> Option<(Side, Record)>
+    ensures { TakesRecord inside.old.items outside.old.items result inside.new.items outside.new.items }
+{
+    if is_outside_next(inside, outside) {
+        let record = outside.pop_front()?;
+        return Some((Side::Outside, record));
+    }
+    let record = inside.pop_front()?;
+    Some((Side::Inside, record))
+}
+
+/// Merges the records of both captures into inputs as the run asks for them. Captures need not be sorted: each keeps its
+/// own order. On a tie the inside record goes first.
+#[derive(Drop)]
+pub struct RecordMerger {
+    inside: VecDeque<Record>,
+    outside: VecDeque<Record>,
+    /// The latest arrival time so far, in ns.
+    clock: u64,
+}
+
+impl Model for RecordMerger {
+    ghost use Rattle.std.specs.Prelude.{List};
+    ghost use Rattle.napt_rules.specs.Prelude.{Arrival};
+    ghost use Rattle.napt_records.specs.RecordMerging.{merged_from};
+
+    ghost Value = { List Arrival };
+
+    ghost view = { λ merged. merged_from merged.inside.items merged.clock merged.outside.items };
+}
+
+impl RecordMerger {
+    /// Merges the records of both captures. Their bytes move.
+    pub fn new(inside: Vec<Record>, outside: Vec<Record>) -> RecordMerger
+        ensures merged { result ≡ merged_inputs inside.items outside.items }
+        ensures timely { All IsWritable inside.items → All IsWritable outside.items →
+            All IsTimely result }
+    {
+        RecordMerger {
+            inside: VecDeque::from(inside),
+            outside: VecDeque::from(outside),
+            clock: 0,
+        }
+    }
+}
+
+impl RecordMerger {
+    /// How many inputs are still to come.
+    fn count(&self) -> usize
+        ensures { result ≡ length self.now }
+    {
+        self.inside.len() + self.outside.len()
+    }
+
+    /// The next input; none at the end.
+    fn take(&mut self) -> Option<Input>
+        ensures { InputIsTaken self.old result self.new }
+    {
+        let (side, record) = take_next(&mut self.inside, &mut self.outside)?;
+        self.clock = self.clock.max(record.time);
+        Some(Input {
+            side,
+            time: record.time,
+            clock: self.clock,
+            bytes: record.bytes,
+        })
+    }
+}
+
+impl InputSource for RecordMerger {
+    ghost use Rattle.std.{specs.Prelude.{◌≡◌, ◌++◌, false, refl}, proofs.Common.{ap, sym, ◌∙◌, append_assoc}};
+
+    type Fault = NoFault;
+
+    ghost hands = { λ merged inputs later. merged ≡ inputs ++ later };
+
+    ghost ends = { λ merged fault later. merged ≡ [] };
+
+    ghost asks = { λ merged. ⊥ };
+
+    ghost hands_none = { λ x. refl };
+
+    ghost hands_more = { λ x y z xs ys first second. first ∙ (ap (λ l. xs ++ l) second
+        ∙ sym (append_assoc xs ys z)) };
+
+    fn asks_device(&self) -> bool
+        ensures { result ≡ false }
+    {
+        false
+    }
+
+    fn next(&mut self, _spare: Vec<u8>) -> Result<Option<Input>, NoFault> {
+        Ok(self.take())
+    }
+}
+
+/// Merges the records of both captures by arrival time into the inputs of a run, in the order of [`RecordMerger`]. The bytes are
+/// moved, not copied. Fails only if memory runs out.
+pub fn merge(
+    alloc: Global,
+    inside: Vec<Record>,
+    outside: Vec<Record>,
+) -> Result<Vec<Input>, AllocError>
+    ensures merged { IfOk result (λ inputs. inputs.items ≡ merged_inputs inside.items outside.items) }
+    ensures timely { All IsWritable inside.items → All IsWritable outside.items →
+        IfOk result (λ inputs. All IsTimely inputs.items) }
+{
+    let mut merged = RecordMerger::new(inside, outside);
+    let mut inputs = Vec::with_capacity(alloc, merged.count())?;
+    while let Some(input) = merged.take() {
+        inputs.push(input)?;
+    }
+    Ok(inputs)
+}

@@ -1,0 +1,131 @@
+-- What a run from arrivals to departures does to its outputs and its log, by its result.
+use Rattle.std.specs.Prelude.{◌≡◌, ◌⊎◌, ◌^◌, ◌<◌, Bool, List, ◌++◌, length, Option, None, Some, Result, Ok, Err}
+use Rattle.napt_capture.specs.declared.device.Sink as sink
+use Rattle.napt_capture.specs.declared.device.Source as source
+use Rattle.napt_run.specs.Origins.{GivesState, OriginModel, ran_by}
+use Rattle.napt_dispatch.specs.{Dispatch.IsFaultUnder, RunsThrough.HasCome, declared.{faults.PassFault.PassFault, workers.RunSummary.RunSummary}}
+use Rattle.napt_dispatch.specs.declared.faults.PassFault.TheVariants as pass_faults
+use Rattle.napt_laws.specs.Dispatching.{IsFrontOf}
+use Rattle.napt_records.specs.{StreamMergers.{MergeEndsWith, HandsOutInputs, cut_of}, declared.Fault.{Fault, TheVariants.{Capture, Run, Write}}}
+use Rattle.napt_records.specs.declared.stream_merger.{StreamMerger.StreamMerger, SideFault.SideFault}
+use Rattle.napt_rules.specs.Prelude.{Arrival}
+use Rattle.napt_sequential.specs.{Inputs.InputsCame, declared.passage.Passage.Passage}
+use Rattle.napt_run.specs.{OutputSinks.{SinkFails, IsSettled, SinkTakes, TimedOutcomes}, LogRuns.{Legs, legs_told}, Runs.run_left_of, declared.output_sinks.Leaving.Leaving}
+use Rattle.napt_run.specs.declared.{output_sinks.OutputFault.OutputFault, logged_output_sinks.LeavingFault.{LeavingFault, TheVariants.{Output, Log}}, logging.LoggingFault.LoggingFault}
+use Rattle.napt_run.specs.declared.capture_run.Totals.{Totals}
+use Rattle.napt_run.specs.declared.logging.LoggingFault.TheVariants as log_faults
+
+-- THE OUTPUTS
+
+-- the first of these were taken, and the fault came while the others were
+pub record FailsAfter {W V : Type 0} {S : sink.Ghosts W} {T : sink.Ghosts V} (before : Leaving W V S T)
+    (went : List TimedOutcomes) (fault : OutputFault) (after : Leaving W V S T) : Type 0 where
+  pub first : List TimedOutcomes
+  pub others : List TimedOutcomes
+  pub middle : Leaving W V S T
+  pub went_is : went ≡ first ++ others
+  pub took : SinkTakes before first middle
+  pub failed : SinkFails middle others fault after
+
+module _ {A F W V : Type 0} {S : sink.Ghosts W} {T : sink.Ghosts V} (origin : OriginModel)
+    (hands : A → List Arrival → A → Type 0) (ends : A → Option F → A → Type 0) (from : A) (before : Leaving W V S T)
+    (left : A) (after : Leaving W V S T) where
+  -- the arrivals ended or failed, and what leaves of the inputs before was taken
+  pub record RunPassesTo (end : Option F) : Type 0 where
+    pub inputs : List Arrival
+    pub came : InputsCame hands ends from inputs end left
+    pub took : SinkTakes before (run_left_of origin inputs) after
+    pub settled : IsSettled after
+    pub few : length inputs < 2 ^ 64
+
+  pub record RunPassesWell (passed : RunSummary) : Type 0 where
+    pub whole : RunPassesTo None
+    pub bindings : passed.bindings.items ≡ (ran_by origin whole.inputs).bindings
+    pub leaves : GivesState origin whole.inputs passed
+
+  -- an output failed, and what left before is the first of what leaves
+  pub record RunPassesEarly (fault : OutputFault) : Type 0 where
+    pub inputs : List Arrival
+    pub went : List TimedOutcomes
+    pub come : HasCome hands ends from inputs left
+    pub front : IsFrontOf went (run_left_of origin inputs)
+    pub failed : FailsAfter before went fault after
+
+  -- the run itself failed, or its log. An output may have failed too
+  pub record RunPassesHalted : Type 0 where
+    pub inputs : List Arrival
+    pub went : List TimedOutcomes
+    pub come : HasCome hands ends from inputs left
+    pub front : IsFrontOf went (run_left_of origin inputs)
+    pub took : SinkTakes before went after ⊎ ((fault : OutputFault) × FailsAfter before went fault after)
+
+  abbrev pub PassesBy : {E : Type 0} → Result RunSummary (PassFault F (LeavingFault E)) → Type 0
+  PassesBy (Ok passed) = RunPassesWell passed
+  PassesBy (Err (pass_faults.Arrival fault)) = RunPassesTo (Some fault)
+  PassesBy (Err (pass_faults.Departure (Output fault))) = RunPassesEarly fault
+  PassesBy (Err (pass_faults.Departure (Log fault))) = RunPassesHalted
+  PassesBy (Err (pass_faults.Run fault)) = RunPassesHalted
+
+module _ {R Q W V : Type 0} {G : source.Ghosts R} {H : source.Ghosts Q} {S : sink.Ghosts W} {T : sink.Ghosts V}
+    (open_gate : Bool) (origin : OriginModel) (from : StreamMerger R Q G H) (before : Leaving W V S T)
+    (left : StreamMerger R Q G H) (after : Leaving W V S T) where
+  -- all went well, with these totals for the report
+  pub record PassesAll (totals : Totals) : Type 0 where
+    pub well : RunPassesWell origin HandsOutInputs MergeEndsWith from before left after totals.passed
+    pub counts : totals.counts ≡ after.counts
+    pub cut_inside : totals.cuts.inside ≡ cut_of left.inside
+    pub cut_outside : totals.cuts.outside ≡ cut_of left.outside
+
+  abbrev pub PassesOr : Result Totals Fault → Type 0
+  PassesOr (Ok totals) = PassesAll totals
+  PassesOr (Err (Capture side fault)) =
+      RunPassesTo origin HandsOutInputs MergeEndsWith from before left after (Some (record { side = side; fault = fault }))
+  PassesOr (Err (Write which fault)) =
+      RunPassesEarly origin HandsOutInputs MergeEndsWith from before left after (record { which = which; fault = fault })
+  PassesOr (Err (Run fault)) =
+      IsFaultUnder open_gate fault × RunPassesHalted origin HandsOutInputs MergeEndsWith from before left after
+
+-- THE LOG
+
+module _ {P A F K E : Type 0} (tells : Passage → P) (origin : OriginModel) (hands : A → List Arrival → A → Type 0)
+    (ends : A → Option F → A → Type 0) (enters : K → List (Legs P) → K → Type 0)
+    (fails : K → List (Legs P) → E → K → Type 0) (is_settled : K → Type 0) (from : A) (old : K) (left : A)
+    (new : K) where
+  -- the arrivals ended or failed, the log was entered the inputs before, and is settled
+  pub record EntersTo (end : Option F) : Type 0 where
+    pub inputs : List Arrival
+    pub came : InputsCame hands ends from inputs end left
+    pub entered : enters old (legs_told tells origin inputs) new
+    pub settled : is_settled new
+
+  -- it was entered the first of the inputs that came
+  pub record EntersFirst : Type 0 where
+    pub first : List Arrival
+    pub later : List Arrival
+    pub come : HasCome hands ends from (first ++ later) left
+    pub entered : enters old (legs_told tells origin first) new
+
+  -- or failed over them
+  pub record FailsFirst (fault : E) : Type 0 where
+    pub first : List Arrival
+    pub later : List Arrival
+    pub come : HasCome hands ends from (first ++ later) left
+    pub failed : fails old (legs_told tells origin first) fault new
+
+  abbrev pub EntersBy : Result RunSummary (PassFault F (LeavingFault E)) → Type 0
+  EntersBy (Ok passed) = EntersTo None
+  EntersBy (Err (pass_faults.Arrival fault)) = EntersTo (Some fault)
+  EntersBy (Err (pass_faults.Departure (Output fault))) = EntersFirst
+  EntersBy (Err (pass_faults.Departure (Log fault))) = FailsFirst fault
+  EntersBy (Err (pass_faults.Run fault)) = EntersFirst ⊎ ((fault : E) × FailsFirst fault)
+
+-- as a run over captures ends, so does the run from their arrivals
+abbrev pub passed_as : {E : Type 0} → Result Totals (LoggingFault E) →
+    Result RunSummary (PassFault SideFault (LeavingFault E))
+passed_as (Ok totals) = Ok totals.passed
+passed_as (Err (log_faults.Run (Capture side fault))) = Err
+    (pass_faults.Arrival (record { side = side; fault = fault }))
+passed_as (Err (log_faults.Run (Write which fault))) =
+    Err (pass_faults.Departure (Output (record { which = which; fault = fault })))
+passed_as (Err (log_faults.Run (Run fault))) = Err (pass_faults.Run fault)
+passed_as (Err (log_faults.Log fault)) = Err (pass_faults.Departure (Log fault))

@@ -1,0 +1,70 @@
+-- What leaves during a run, and what that does to the log and then to the outputs.
+use Rattle.std.{specs.Prelude.{◌≡◌, ℕ, List, [], ◌++◌, map, refl}, proofs.{Common.{sym, ◌∙◌, subst}, lemmas.List.map-append}}
+use Rattle.napt_capture.specs.declared.device.Sink.{Ghosts}
+use Rattle.napt_dispatch.specs.declared.outcome_sink.InputResult.{InputResult}
+use Rattle.napt_run.specs.{OutputSinks.{SinkFails, IsSettled, SinkTakes, TimedOutcomes}, OutputSinkLaws.{takes_none, takes_more}, LogRuns.Legs}
+use Rattle.napt_run.specs.declared.{output_sinks.OutputFault.OutputFault, logged_output_sinks.LeavingFault.{LeavingFault, TheVariants.{Output, Log}}}
+use Rattle.napt_run.specs.declared.logged_output_sinks.LeavingWithLog.{LeavingWithLog}
+
+-- the outcomes of what left, with the arrival times of their inputs
+abbrev pub outcomes_in : {P : Type 0} → List (ℕ × InputResult P) → List TimedOutcomes
+outcomes_in all = map (λ left. (left.0, left.1.outcome)) all
+
+-- and what was told of its legs
+abbrev pub legs_in : {P : Type 0} → List (ℕ × InputResult P) → List (Legs P)
+legs_in all = map (λ left. (left.1.now, left.1.first, left.1.second)) all
+
+module _ {W V K : Type 0} {S : Ghosts W} {T : Ghosts V} where
+  -- its log is at the same place
+  abbrev pub IsSameSinkPlace : LeavingWithLog W V K S T → LeavingWithLog W V K S T → Type 0
+  IsSameSinkPlace old new = new.log.ghost_name ≡ old.log.ghost_name
+
+  -- all that left is flushed, the log too
+  abbrev pub AreSettled : (K → Type 0) → LeavingWithLog W V K S T → Type 0
+  AreSettled is_settled it = IsSettled it.leaving × is_settled it.log.now
+
+module _ {P W V K : Type 0} {S : Ghosts W} {T : Ghosts V} where
+  -- the log was entered all that left, and the outputs have its records
+  pub record TakesBoth (enters : K → List (Legs P) → K → Type 0) (old : LeavingWithLog W V K S T)
+      (all : List (ℕ × InputResult P)) (new : LeavingWithLog W V K S T) : Type 0 where
+    pub took : SinkTakes old.leaving (outcomes_in all) new.leaving
+    pub entered : enters old.log.now (legs_in all) new.log.now
+    pub same : IsSameSinkPlace old new
+
+  -- an output failed, and the log was entered all
+  pub record FailsOutput (enters : K → List (Legs P) → K → Type 0) (old : LeavingWithLog W V K S T)
+      (all : List (ℕ × InputResult P)) (fault : OutputFault) (new : LeavingWithLog W V K S T) : Type 0 where
+    pub failed : SinkFails old.leaving (outcomes_in all) fault new.leaving
+    pub entered : enters old.log.now (legs_in all) new.log.now
+    pub same : IsSameSinkPlace old new
+
+  -- the log failed, and no output has more than before
+  pub record FailsLog {E : Type 0} (fails : K → List (Legs P) → E → K → Type 0) (old : LeavingWithLog W V K S T)
+      (all : List (ℕ × InputResult P)) (fault : E) (new : LeavingWithLog W V K S T) : Type 0 where
+    pub kept : new.leaving ≡ old.leaving
+    pub failed : fails old.log.now (legs_in all) fault new.log.now
+    pub same : IsSameSinkPlace old new
+
+  abbrev pub FailsEither : {E : Type 0} → (K → List (Legs P) → K → Type 0) →
+      (K → List (Legs P) → E → K → Type 0) → LeavingWithLog W V K S T → List (ℕ × InputResult P) → LeavingFault E →
+      LeavingWithLog W V K S T → Type 0
+  FailsEither enters fails old all (Output fault) new = FailsOutput enters old all fault new
+  FailsEither enters fails old all (Log fault) new = FailsLog fails old all fault new
+
+  pub both_none : (enters : K → List (Legs P) → K → Type 0) → ((x : K) → enters x [] x) →
+      (x : LeavingWithLog W V K S T) → TakesBoth enters x [] x
+  both_none enters none x = record { took = takes_none x.leaving; entered = none x.log.now; same = refl }
+
+  pub both_more : (enters : K → List (Legs P) → K → Type 0) → ((x y z : K) (xs ys : List (Legs P)) →
+      enters x xs y → enters y ys z → enters x (xs ++ ys) z) → (x y z : LeavingWithLog W V K S T)
+      (first second : List (ℕ × InputResult P)) →
+      TakesBoth enters x first y → TakesBoth enters y second z → TakesBoth enters x (first ++ second) z
+  both_more enters more x y z first second one two = record {
+    took = subst (λ (l : List TimedOutcomes). SinkTakes x.leaving l z.leaving)
+        (sym (map-append (λ left. (left.0, left.1.outcome)) first second))
+        (takes_more x.leaving y.leaving z.leaving _ _ one.took two.took);
+    entered = subst (λ (l : List (Legs P)). enters x.log.now l z.log.now)
+        (sym (map-append (λ left. (left.1.now, left.1.first, left.1.second)) first second))
+        (more x.log.now y.log.now z.log.now (legs_in first) (legs_in second) one.entered two.entered);
+    same = two.same ∙ one.same;
+  }

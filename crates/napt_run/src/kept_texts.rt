@@ -1,0 +1,121 @@
+//! Bytes that are kept in memory until they are written.
+ghost use Rattle.std.specs.{Prelude.{◌≡◌, ◌+◌, ◌-◌, ◌^◌, ◌<◌, ◌≤◌, [], ◌++◌, flat_map, length, take, IfOk, IfErr, OnOk, vec_len}, Io.KnownBytes.Appends};
+ghost use Rattle.napt_capture.specs.{Device.failed_calls, Writing.PutPost};
+
+use napt_capture::{Sink, WriteFault, write_text};
+use std::alloc::{AllocError, Global};
+use std::io::{self, Write};
+use std::marker::Model;
+use std::mem;
+
+/// The bytes of a full piece.
+const PIECE: usize = 65_536;
+
+/// Bytes in memory, in the order in which they were written. They are in pieces, so that none is moved when more come.
+#[derive(Drop)]
+pub(crate) struct KeptTexts {
+    alloc: Global,
+    full: Vec<Vec<u8>>,
+    /// The piece that is not full yet.
+    last: Vec<u8>,
+    /// How many bytes there are in all pieces.
+    total: u64,
+}
+
+impl Model for KeptTexts {
+    ghost use Rattle.std.specs.Prelude.{◌≡◌, ◌^◌, ◌<◌, ◌++◌, List, ℕ, flat_map, length};
+
+    ghost Value = { List ℕ };
+
+    ghost view = { λ kept. flat_map (λ piece. piece.items) kept.full.items ++ kept.last.items };
+
+    ghost invariant = { λ kept. (kept.total < 2 ^ 64)
+        × (kept.total ≡ length (flat_map (λ piece. piece.items) kept.full.items ++ kept.last.items)) };
+}
+
+/// Makes room in the last piece: where it is full, another one begins.
+fn make_room(alloc: Global, full: &mut Vec<Vec<u8>>, last: &mut Vec<u8>) -> Result<(), AllocError>
+    ensures same { flat_map (λ piece. piece.items) full.new.items ++ last.new.items
+        ≡ flat_map (λ piece. piece.items) full.old.items ++ last.old.items }
+    ensures room { OnOk result (vec_len last.new < 65536) }
+{
+    if last.len() < PIECE {
+        return Ok(());
+    }
+    let next = Vec::with_capacity(alloc, PIECE)?;
+    full.reserve(1)?;
+    full.push_reserved(mem::replace(last, next));
+    Ok(())
+}
+
+/// Writes a piece behind so many bytes, flushes it, and returns how many are written then.
+fn write_piece<W: Sink>(device: &mut W, before: u64, piece: &[u8]) -> Result<u64, WriteFault>
+    requires can_fail { W.failed device.old < 2 ^ 64 - 1 }
+    requires room { before + length piece.now < 2 ^ 64 }
+    ensures puts { PutPost before (W.contents device.old) (W.contents device.new) piece.now result }
+    ensures flushed { OnOk result (W.is_flushed device.new) }
+    ensures count { W.failed device.new ≡ W.failed device.old + failed_calls result }
+{
+    match write_text(device, piece) {
+        Ok(()) => Ok(before + piece.len() as u64),
+        Err(fault) => Err(WriteFault {
+            written: before + fault.written,
+        }),
+    }
+}
+
+impl KeptTexts {
+    /// No bytes. Fails only if memory is refused.
+    pub(crate) fn new(alloc: Global) -> Result<KeptTexts, AllocError>
+        ensures { IfOk result (λ kept. kept ≡ []) }
+    {
+        Ok(KeptTexts {
+            alloc,
+            full: Vec::new(alloc),
+            last: Vec::with_capacity(alloc, PIECE)?,
+            total: 0,
+        })
+    }
+
+    /// Writes all bytes, and flushes them. It takes no memory.
+    ///
+    /// Fails if a write fails or accepts nothing, or a flush fails: exactly the first `written` bytes are then written.
+    pub(crate) fn write_to<W: Sink>(&self, device: &mut W) -> Result<(), WriteFault>
+        requires { W.failed device.old < 2 ^ 64 - 1 }
+        ensures ok { OnOk result
+            (Appends (W.contents device.old) (W.contents device.new) self.now) }
+        ensures flushed { OnOk result (W.is_flushed device.new) }
+        ensures err { IfErr result (λ fault. (fault.written ≤ length self.now)
+            × Appends (W.contents device.old) (W.contents device.new) (take fault.written self.now)) }
+        ensures count { W.failed device.new ≡ W.failed device.old + failed_calls result }
+    {
+        let mut written = 0;
+        for piece in &self.full {
+            written = write_piece(device, written, piece)?;
+        }
+        write_piece(device, written, &self.last)?;
+        Ok(())
+    }
+}
+
+impl Write for KeptTexts {
+    ghost use Rattle.std.specs.Prelude.{Some};
+
+    ghost contents = { λ kept. Some kept };
+
+    /// Keeps as many bytes from the front as the last piece has room for. Fails only if memory is refused.
+    fn write(&mut self, bytes: &[u8]) -> io::Result<usize> {
+        make_room(self.alloc, &mut self.full, &mut self.last)?;
+        let count = bytes.len().min(PIECE - self.last.len());
+        let Some(total) = self.total.checked_add(count as u64) else {
+            return Err(io::Error::from(AllocError));
+        };
+        self.last.extend_from_slice(&bytes[..count])?;
+        self.total = total;
+        Ok(count)
+    }
+
+    fn flush(&mut self) -> io::Result<()> {
+        Ok(())
+    }
+}

@@ -1,0 +1,94 @@
+//! What a run writes as it goes: its captures and its log.
+
+ghost use Rattle.std.specs.Prelude.{◌≡◌, [], ◌∷◌, MatchResult};
+
+use crate::logging::Logging;
+use crate::output_sinks::{Leaving, OutputFault, vector_of};
+use napt_capture::Sink;
+use napt_dispatch::{InputResult, OutcomeSink};
+
+/// The captures that a run writes as it goes, and its log. What is told of an input is entered in the log before its packet
+/// is written, and the log is flushed before the captures are.
+#[derive(Drop)]
+pub(crate) struct LeavingWithLog<'k, 'a, 'b, W: Sink, V: Sink, K> {
+    pub(crate) leaving: Leaving<'a, 'b, W, V>,
+    pub(crate) log: &'k mut K,
+}
+
+/// Why no more can be written.
+#[derive(Drop)]
+pub(crate) enum LeavingFault<F> {
+    Output(OutputFault),
+    Log(F),
+}
+
+impl<'k, 'a, 'b, W: Sink, V: Sink, K> LeavingWithLog<'k, 'a, 'b, W, V, K> {
+    /// These captures and this log.
+    pub(crate) fn over(
+        leaving: Leaving<'a, 'b, W, V>,
+        log: &'k mut K,
+    ) -> LeavingWithLog<'k, 'a, 'b, W, V, K>
+        ensures leaving { result.leaving ≡ leaving.entry }
+        ensures log_name { result.log.ghost_name ≡ log.entry.ghost_name }
+        ensures log { result.log.now ≡ log.old }
+    {
+        LeavingWithLog { leaving, log }
+    }
+}
+
+impl<W: Sink, V: Sink, K: Logging> OutcomeSink for LeavingWithLog<'_, '_, '_, W, V, K> {
+    ghost use Rattle.napt_run.specs.LoggedOutputSinks.{AreSettled, FailsEither, TakesBoth, both_none, both_more};
+
+    type Fault = LeavingFault<K::Fault>;
+
+    type Told = K::Told;
+
+    ghost takes = { λ x all y. TakesBoth K.enters x all y };
+
+    ghost fails = { λ x all fault y. FailsEither K.enters K.fails x all fault y };
+
+    ghost is_settled = { λ x. AreSettled K.is_settled x };
+
+    #[inline(always)]
+    fn leave(
+        &mut self,
+        time: u64,
+        departed: InputResult<K::Told>,
+    ) -> Result<Option<Vec<u8>>, LeavingFault<K::Fault>>
+        ensures { MatchResult result
+            (λ _. TakesBoth K.enters self.old ((time, departed) ∷ []) self.new)
+            (λ fault. FailsEither K.enters K.fails self.old ((time, departed) ∷ []) fault self.new) }
+    {
+        let InputResult {
+            outcome,
+            now,
+            first,
+            second,
+        } = departed;
+        match self.log.enter(now, first, second) {
+            Ok(()) => match self.leaving.write(time, &outcome) {
+                Ok(()) => Ok(vector_of(outcome)),
+                Err(fault) => Err(LeavingFault::Output(fault)),
+            },
+            Err(fault) => Err(LeavingFault::Log(fault)),
+        }
+    }
+
+    fn settle(&mut self) -> Result<(), LeavingFault<K::Fault>>
+        ensures { MatchResult result
+            (λ _. TakesBoth K.enters self.old [] self.new × AreSettled K.is_settled self.new)
+            (λ fault. FailsEither K.enters K.fails self.old [] fault self.new) }
+    {
+        match self.log.settle() {
+            Ok(()) => match self.leaving.settle() {
+                Ok(()) => Ok(()),
+                Err(fault) => Err(LeavingFault::Output(fault)),
+            },
+            Err(fault) => Err(LeavingFault::Log(fault)),
+        }
+    }
+
+    ghost takes_none = { λ x. both_none K.enters K.enters_none x };
+
+    ghost takes_more = { λ x y z first second one two. both_more K.enters K.enters_more x y z first second one two };
+}

@@ -1,0 +1,64 @@
+//! The report of a run.
+ghost use Rattle.std.specs.Prelude.{◌≡◌, ◌+◌, ◌-◌, ◌^◌, ◌<◌, List, Ok, IfErr, IfOk, OnOk};
+ghost use Rattle.napt_rules.specs.declared.Outcome.{Outcome};
+ghost use Rattle.napt_records.specs.{Counts.AreCountsOf, Report.report_of};
+ghost use Rattle.napt_run.specs.{Captures.failed_writings, Streams.{GetsReport, IsReportFault}};
+
+use crate::capture_run::Totals;
+use napt_capture::{Sink, write_text};
+use napt_records::{Fault, Which, report_of};
+use napt_sequential::RunFault;
+use std::alloc::Global;
+
+/// Writes the report, and flushes it.
+pub(crate) fn write_report<U: Sink>(
+    alloc: Global,
+    output: &mut U,
+    totals: &Totals,
+) -> Result<(), Fault>
+    requires { U.failed output.old < 2 ^ 64 - 1 }
+    ensures written { (outcomes : List Outcome) → AreCountsOf outcomes totals.now.counts →
+        GetsReport (report_of totals.now.cuts.inside totals.now.cuts.outside outcomes
+        totals.now.passed.bindings.items) result (U.contents output.old) (U.contents output.new) }
+    ensures fault { IfErr result IsReportFault }
+    ensures flushed { OnOk result (U.is_flushed output.new) }
+    ensures count { U.failed output.new ≡ U.failed output.old
+        + failed_writings Which.Report result }
+{
+    let Totals {
+        counts,
+        passed,
+        cuts,
+    } = totals;
+    let Ok(text) = report_of(alloc, counts, &passed.bindings, cuts.inside, cuts.outside) else {
+        return Err(Fault::Run(RunFault::Memory));
+    };
+    match write_text(output, text.as_bytes()) {
+        Ok(()) => Ok(()),
+        Err(fault) => Err(Fault::Write(Which::Report, fault)),
+    }
+}
+
+/// Writes the report of a run, if it succeeded.
+pub(crate) fn reported<U: Sink, E>(
+    alloc: Global,
+    told: &Result<Totals, E>,
+    output: &mut U,
+) -> Result<(), Fault>
+    requires { U.failed output.old < 2 ^ 64 - 1 }
+    ensures untouched { IfErr told.now (λ _. output.new ≡ output.old) }
+    ensures nothing { IfErr told.now (λ _. result ≡ Ok tt) }
+    ensures written { IfOk told.now (λ totals. (outcomes : List Outcome) →
+        AreCountsOf outcomes totals.counts → GetsReport (report_of totals.cuts.inside
+        totals.cuts.outside outcomes totals.passed.bindings.items) result
+        (U.contents output.old) (U.contents output.new)) }
+    ensures fault { IfErr result IsReportFault }
+    ensures flushed { OnOk told.now (OnOk result (U.is_flushed output.new)) }
+    ensures count { U.failed output.new ≡ U.failed output.old
+        + failed_writings Which.Report result }
+{
+    match told {
+        Ok(totals) => write_report(alloc, output, totals),
+        Err(_) => Ok(()),
+    }
+}

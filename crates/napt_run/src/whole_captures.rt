@@ -1,0 +1,108 @@
+//! The run over inputs that are all at hand.
+ghost use Rattle.std.specs.{Prelude.{◌≡◌, ◌-◌, ◌^◌, ◌<◌, [], All, IfErr, IfOk, OnOk}, Io.KnownBytes.Appends};
+ghost use Rattle.napt_capture.specs.Text.{file_header};
+ghost use Rattle.napt_dispatch.specs.Dispatch.{IsFaultUnder};
+ghost use Rattle.napt_records.specs.{Counts.AreCountsOf, Output.IsTimely};
+ghost use Rattle.napt_run.specs.{Origins.origin_of, Streams.capture_text, WholeCaptures.{IsTallyOf, WritesAll}};
+
+use crate::logged_output_sinks::LeavingWithLog;
+use crate::logging::Unlogged;
+use crate::output::Output;
+use crate::output_sinks::Leaving;
+use crate::start::OriginSetting;
+use napt_capture::Sink;
+use napt_dispatch::{PassFault, RunSummary};
+use napt_pool::Gate;
+use napt_records::{OutcomeCounts, RecordMerger};
+use napt_sequential::RunFault;
+use napt_wire::Side;
+use std::sync::Wait;
+use std::thread::Threads;
+
+/// What the report of a run is made from, but which captures were cut, and the state that it leaves.
+#[derive(Drop)]
+pub(crate) struct RunTally {
+    pub(crate) counts: OutcomeCounts,
+    pub(crate) passed: RunSummary,
+}
+
+impl<
+    T: Threads + Wait + Copy + Send + 'static,
+    G: Gate + Send + Sync + Drop + 'static,
+> OriginSetting<'_, '_, T, G> {
+    /// Runs over the inputs, and writes both captures. Where an output fails, the fault is `Memory`.
+    pub(crate) fn run_into<W: Sink, V: Sink>(
+        self,
+        inputs: RecordMerger,
+        to_outside: &mut W,
+        to_inside: &mut V,
+    ) -> Result<RunTally, RunFault>
+        requires timely { All IsTimely inputs }
+        requires to_outside { W.failed to_outside.old < 2 ^ 64 - 1 }
+        requires to_inside { V.failed to_inside.old < 2 ^ 64 - 1 }
+        ensures to_outside { OnOk result (Appends (W.contents to_outside.old)
+            (W.contents to_outside.new) (capture_text (origin_of self.entry.start) Side.Outside inputs)) }
+        ensures to_inside { OnOk result (Appends (V.contents to_inside.old)
+            (V.contents to_inside.new) (capture_text (origin_of self.entry.start) Side.Inside inputs)) }
+        ensures tally { IfOk result (IsTallyOf (origin_of self.entry.start) inputs) }
+        ensures fault { IfErr result (IsFaultUnder G.is_open) }
+    {
+        let ours = Output::over(to_outside);
+        let theirs = Output::over(to_inside);
+        let leaving = Leaving::into(ours, theirs);
+        let mut nobody = Unlogged;
+        let mut both = LeavingWithLog::over(leaving, &mut nobody);
+        let told = self.write_all(inputs, &mut both);
+        let LeavingWithLog { leaving, log } = both;
+        let _log = log;
+        let Leaving {
+            to_outside: ours,
+            to_inside: theirs,
+            counts: _,
+        } = leaving;
+        let _inside = theirs.device;
+        let _outside = ours.device;
+        told
+    }
+
+    /// Writes the headers of both captures, and runs over the inputs.
+    fn write_all<W: Sink, V: Sink>(
+        self,
+        inputs: RecordMerger,
+        both: &mut LeavingWithLog<'_, '_, '_, W, V, Unlogged>,
+    ) -> Result<RunTally, RunFault>
+        requires timely { All IsTimely inputs }
+        requires counts { AreCountsOf [] both.old.leaving.counts }
+        ensures ok { IfOk result
+            (WritesAll file_header (origin_of self.entry.start) inputs both.old.leaving both.new.leaving) }
+        ensures fault { IfErr result (IsFaultUnder G.is_open) }
+    {
+        match both.leaving.begin() {
+            Ok(()) => self.pass_all(inputs, both),
+            Err(_) => Err(RunFault::Memory),
+        }
+    }
+
+    /// Runs over the inputs.
+    fn pass_all<W: Sink, V: Sink>(
+        self,
+        mut inputs: RecordMerger,
+        both: &mut LeavingWithLog<'_, '_, '_, W, V, Unlogged>,
+    ) -> Result<RunTally, RunFault>
+        requires timely { All IsTimely inputs }
+        requires counts { AreCountsOf [] both.old.leaving.counts }
+        ensures ok { IfOk result
+            (WritesAll [] (origin_of self.entry.start) inputs both.old.leaving both.new.leaving) }
+        ensures fault { IfErr result (IsFaultUnder G.is_open) }
+    {
+        match self.run_all(&mut inputs, both) {
+            Ok(passed) => Ok(RunTally {
+                counts: both.leaving.counts,
+                passed,
+            }),
+            Err(PassFault::Run(fault)) => Err(fault),
+            Err(PassFault::Arrival(none)) => match none {},
+            Err(PassFault::Departure(_)) => Err(RunFault::Memory),
+        }
+    }
+}

@@ -1,0 +1,131 @@
+//! What no contract says: that the answers of workers are taken while inputs are read, all that are there.
+
+ghost use Rattle.std.specs.Prelude.{⊤, MatchResult};
+
+use crate::gates::{GateMode, Hold};
+use crate::resumed_runs::nothing;
+use crate::sample_inputs::input;
+use napt_config::Config;
+use napt_dispatch::{InputResult, OutcomeSink, run_through};
+use napt_run::Input;
+use napt_samples::hosts::{CLIENT, RESOLVER, SECOND};
+use napt_samples::settings::TWO_ADDRESSES;
+use napt_sequential::{InputSource, NoTrace};
+use napt_wire::Side;
+use std::alloc::{AllocError, Global};
+use std::sync::Arc;
+use std::sync::atomic::{AtomicU64, Ordering};
+use std::test::Fail;
+
+/// The input before which the first worker has answered the legs of two messages. After it that worker is looked at.
+const LOOKED_AFTER: u64 = 48;
+
+/// The number of legs in these two messages: the first input's, and those of the sixteen after it.
+const ANSWERED: u64 = 17;
+
+/// Packets of one host; and how many outcomes had left when the one after `LOOKED_AFTER` was asked for.
+#[derive(Drop)]
+struct Packets {
+    alloc: Global,
+    number: u64,
+    gate: Arc<Hold>,
+    left: Arc<AtomicU64>,
+    left_then: u64,
+}
+
+impl InputSource for Packets {
+    type Fault = AllocError;
+
+    ghost hands = { λ packets inputs later. ⊤ };
+
+    ghost ends = { λ packets fault later. ⊤ };
+
+    ghost asks = { λ packets. ⊥ };
+
+    ghost hands_none = { λ x. tt };
+
+    ghost hands_more = { λ x y z xs ys first second. tt };
+
+    fn asks_device(&self) -> bool {
+        false
+    }
+
+    fn next(&mut self, _spare: Vec<u8>) -> Result<Option<Input>, AllocError> {
+        let number = self.number;
+        if number == LOOKED_AFTER {
+            // The worker asks for the first turn of a message once the answers to all before are in the ring.
+            self.gate.wait_for(ANSWERED);
+        }
+        if number > LOOKED_AFTER {
+            self.left_then = self.left.load(Ordering::SeqCst);
+            return Ok(None);
+        }
+        self.number = number + 1;
+        let packet = input(self.alloc, Side::Inside, SECOND, CLIENT, RESOLVER)?;
+        Ok(Some(packet))
+    }
+}
+
+/// Counts the outcomes that leave.
+#[derive(Drop)]
+struct Count {
+    left: Arc<AtomicU64>,
+}
+
+impl OutcomeSink for Count {
+    type Fault = AllocError;
+
+    type Told = NoTrace;
+
+    ghost takes = { λ before pairs after. ⊤ };
+
+    ghost fails = { λ before pairs fault after. ⊤ };
+
+    ghost is_settled = { λ count. ⊤ };
+
+    ghost takes_none = { λ x. tt };
+
+    ghost takes_more = { λ x y z xs ys first second. tt };
+
+    fn leave(
+        &mut self,
+        _time: u64,
+        _departed: InputResult<NoTrace>,
+    ) -> Result<Option<Vec<u8>>, AllocError>
+        ensures { MatchResult result (λ _. ⊤) (λ fault. ⊤) }
+    {
+        self.left.fetch_add(1, Ordering::SeqCst);
+        Ok(None)
+    }
+
+    fn settle(&mut self) -> Result<(), AllocError>
+        ensures { MatchResult result (λ _. ⊤ × ⊤) (λ fault. ⊤) }
+    {
+        Ok(())
+    }
+}
+
+/// Through rings of 64 the dispatcher sends a worker sixteen legs in a message, looks at it whenever it does, and takes all the answers
+/// that are there: so they have left before the next input is asked for. One that takes a single answer, or looks at no worker, holds
+/// them back.
+#[test]
+fn answers_are_taken_while_inputs_are_read(rt: HostRuntime) -> Result<(), Fail> {
+    let alloc = rt.alloc();
+    let config = Config::read(alloc, TWO_ADDRESSES.as_bytes())?;
+    let gate = Hold::new(alloc, GateMode::Shown)?;
+    let left = Arc::new(alloc, AtomicU64::new(0))?;
+    let mut packets = Packets {
+        alloc,
+        number: 0,
+        gate: Arc::try_clone(&gate)?,
+        left: Arc::try_clone(&left)?,
+        left_then: 0,
+    };
+    let (state, mut count) = (nothing(alloc), Count { left });
+    let run = run_through(&rt, alloc, &config, &state, &mut packets, &mut count, gate);
+    let passed = run.ok().expect(&rt, "a run that ends whole");
+    assert_eq!(rt; passed.legs.as_slice(), [LOOKED_AFTER + 1, 0].as_slice());
+    let left = packets.left_then;
+    assert!(rt; left >= ANSWERED, "{left} have left");
+    Ok(())
+}

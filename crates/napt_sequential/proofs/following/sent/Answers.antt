@@ -1,9 +1,0 @@
-use Rattle.napt_wire.{specs.declared.Side.TheVariants.Outside, proofs.Readings.reads_again}
-use Rattle.napt_sequential.proofs.Later.{all_unchanged}
-use Rattle.napt_sequential.proofs.following.sent.Goals as goal
-
-pub send-requires-clause-reads : goal.send-requires-clause-reads
-send-requires-clause-reads c = reads_again Outside c.args.bytes.items c.in-Ok.packet c.in-Ok.ensures.ok
-
-pub returns-in-Err-clause-left : goal.returns-in-Err-clause-left
-returns-in-Err-clause-left c = all_unchanged c.args.config.now c.args.now c.args.translators.now

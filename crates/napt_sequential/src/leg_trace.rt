@@ -1,0 +1,114 @@
+//! A leg at a translator, with what it did to the bindings.
+
+ghost use Rattle.std.specs.Prelude.{◌≡◌, IfOk, OnOk, OnErr};
+ghost use Rattle.napt_sequential.specs.{CountedTranslators.{traced_answer, passage_seen}, declared.passage.Passage.Passage as KnownPassage};
+ghost use Rattle.napt_sequential.specs.declared.passage.Passage.TheVariants.{Nothing as NoPassage};
+ghost use Rattle.napt_translate.specs.Translators.{translator_after};
+
+use crate::passage::{DroppedPacket, PacketTuple, Passage, gone_by};
+use napt_rules::{Answer, End, Leg};
+use napt_translate::Translator;
+use napt_wire::Way;
+use std::alloc::{AllocError, Global};
+
+/// The answer to a leg, and what is told of the leg.
+#[derive(Drop)]
+pub struct TracedAnswer<P> {
+    pub answer: Answer,
+    pub passage: P,
+}
+
+/// What is told of a leg besides its answer. It is made of what the leg did to the bindings, of all or of nothing.
+pub trait LegTrace: Copy + Drop + Send + 'static {
+    // What is told of a leg that did this.
+    ghost tells: { KnownPassage → Self };
+
+    /// What is told where there is no leg.
+    fn none() -> Self
+        ensures { result ≡ tells NoPassage };
+
+    /// Translates a leg, as `Translator::translate` does, and tells of it. If memory is refused nothing changes, and the leg is
+    /// lost.
+    fn tell(
+        alloc: Global,
+        translator: &mut Translator,
+        leg: Leg,
+    ) -> Result<TracedAnswer<Self>, AllocError>
+        ensures told { IfOk result (λ told. told ≡ traced_answer tells leg translator.old) }
+        ensures left { OnOk result (translator.new ≡ translator_after leg translator.old) }
+        ensures refused { OnErr result (translator.new ≡ translator.old) };
+}
+
+/// Nothing is told. It has no bytes.
+#[derive(Clone, Copy, Drop)]
+pub struct NoTrace;
+
+impl LegTrace for NoTrace {
+    ghost use Rattle.napt_sequential.specs.CountedTranslators.{no_trace};
+
+    ghost tells = { λ passage. no_trace };
+
+    fn none() -> NoTrace {
+        NoTrace
+    }
+
+    fn tell(
+        alloc: Global,
+        translator: &mut Translator,
+        leg: Leg,
+    ) -> Result<TracedAnswer<NoTrace>, AllocError> {
+        let answer = translator.translate(alloc, leg)?;
+        Ok(TracedAnswer {
+            answer,
+            passage: NoTrace,
+        })
+    }
+}
+
+/// A leg tells through which binding its packet went, as the leg left it.
+impl LegTrace for Passage {
+    ghost tells = { λ passage. passage };
+
+    fn none() -> Passage {
+        Passage::Nothing
+    }
+
+    fn tell(
+        alloc: Global,
+        translator: &mut Translator,
+        leg: Leg,
+    ) -> Result<TracedAnswer<Passage>, AllocError> {
+        // called for its clause alone: a translator keeps its rules
+        translator.keep_rules();
+        let now = leg.now;
+        let seen = PacketTuple::of(&leg.packet);
+        let answer = translator.translate(alloc, leg)?;
+        let passage = passage(translator, now, seen, &answer.end);
+        Ok(TracedAnswer { answer, passage })
+    }
+}
+
+/// What a leg did, by its packet before it and how it ended. The end of its binding is as of `now`, in ns.
+fn passage(translator: &Translator, now: u64, seen: PacketTuple, end: &End) -> Passage
+    ensures { result ≡ passage_seen now seen end.now translator.now }
+{
+    let Some(protocol) = seen.protocol else {
+        return Passage::Nothing;
+    };
+    match end {
+        End::ToOutside(packet) | End::Onward(_, packet) => {
+            let number = packet.source().number;
+            let row = translator.timed_by_inside(now, protocol, seen.source, number);
+            gone_by(Way::Outgoing, row)
+        }
+        End::ToInside(_) => {
+            let row = translator.timed_by_number(now, protocol, seen.destination.number);
+            gone_by(Way::Incoming, row)
+        }
+        End::Dropped(cause) => Passage::Dropped(DroppedPacket {
+            protocol,
+            host: seen.source.address,
+            cause: *cause,
+        }),
+    }
+}

@@ -1,0 +1,165 @@
+//! Whether the bindings of a state fit a configuration.
+ghost use Rattle.std.specs.{Prelude.{◌≡◌, ℕ, List, nat_lt, IfOk}, List.list_any};
+ghost use Rattle.napt_rules.specs.{Bindings.Binding as Bound, Opening.opening};
+ghost use Rattle.napt_rules.specs.Misfits as taking;
+ghost use Rattle.napt_state.specs.StateReaders.{AreOf};
+
+use crate::endpoints::Endpoints;
+use napt_account::redirected;
+use napt_config::Config;
+use napt_rules::{Flow, Misfit, Row, State, StateBinding};
+use napt_wire::{Endpoint, Protocol};
+use std::alloc::{AllocError, Global};
+use std::collections::HashSet;
+
+/// The endpoints of the configuration's redirects.
+fn redirect_endpoints(alloc: Global, config: &Config) -> Result<Endpoints, AllocError>
+    ensures { IfOk result (AreOf (opening config.now)) }
+{
+    let redirects = config.redirects();
+    let mut endpoints = Endpoints::new(alloc);
+    let mut left = redirects.len();
+    while left > 0 {
+        left -= 1;
+        endpoints.insert(&redirected(config, redirects[left]))?;
+    }
+    Ok(endpoints)
+}
+
+/// Whether a number of the protocol can be: one of UDP or TCP is not 0.
+fn is_number(protocol: Protocol, number: u16) -> bool
+    ensures { result ≡ taking.is_number protocol number }
+{
+    match protocol {
+        Protocol::Icmp => true,
+        Protocol::Tcp | Protocol::Udp => 0 < number,
+    }
+}
+
+/// Whether the numbers of a row can be, and the external one is of the host's block, where the host has one.
+fn is_numbered(config: &Config, row: &Row) -> bool
+    ensures { result ≡ taking.is_numbered config.now row.now }
+{
+    let number = row.external.number;
+    let is_its_number = match config.block_of(row.inside.address) {
+        Some(block) => block.first <= number && number - block.first < block.size,
+        None => true,
+    };
+    is_number(row.protocol, row.inside.number) && is_number(row.protocol, number) && is_its_number
+}
+
+/// Whether one of the flows was used after the clock.
+fn has_later(clock: u64, flows: &[Flow]) -> bool
+    ensures { result ≡ list_any (λ flow. nat_lt clock flow.last) flows.now }
+{
+    flows.iter().any(|flow| clock < flow.last)
+}
+
+/// Whether the binding, or one of its flows, was used after the clock.
+fn is_used_after(clock: u64, binding: &StateBinding) -> bool
+    ensures { result ≡ taking.is_used_after clock binding.now }
+{
+    clock < binding.last || has_later(clock, &binding.flows)
+}
+
+/// Whether two of the flows are of one remote. Fails only if memory runs out.
+fn flows_share(alloc: Global, flows: &[Flow]) -> Result<bool, AllocError>
+    ensures { IfOk result (λ share. share ≡ taking.flows_share flows.now) }
+{
+    if flows.len() < 2 {
+        return Ok(false);
+    }
+    let mut remotes: HashSet<(u32, u16)> = HashSet::new(alloc);
+    let mut left = flows.len();
+    while left > 0 {
+        left -= 1;
+        let remote = flows[left].remote;
+        if !remotes.insert((remote.address, remote.number))? {
+            return Ok(true);
+        }
+    }
+    Ok(false)
+}
+
+/// The first reason against a binding of a state, with the endpoints of the redirects and of the bindings behind it.
+fn misfit_of(
+    alloc: Global,
+    config: &Config,
+    clock: u64,
+    binding: &StateBinding,
+    redirects: &Endpoints,
+    behind: &Endpoints,
+) -> Result<Option<Misfit>, AllocError>
+    ensures { (rest : List Bound) → AreOf (opening config.now) redirects.now →
+        AreOf rest behind.now →
+        IfOk result (λ misfit. misfit ≡ taking.misfit_of config.now clock binding.now rest) }
+{
+    let row = &binding.row;
+    let host = row.inside.address;
+    Ok(if !config.is_inside(host) {
+        Some(Misfit::NotInside)
+    } else if row.external.address != config.pair(host) {
+        Some(Misfit::NotPaired)
+    } else if !is_numbered(config, row) {
+        Some(Misfit::NotItsNumber)
+    } else if is_used_after(clock, binding) {
+        Some(Misfit::UsedLater)
+    } else if flows_share(alloc, &binding.flows)? {
+        Some(Misfit::FlowsShare)
+    } else if redirects.clash(row) {
+        Some(Misfit::Redirected)
+    } else if behind.clash(row) {
+        Some(Misfit::Shared)
+    } else {
+        None
+    })
+}
+
+/// The reason against a binding, else what was found behind it.
+fn misfit_or(
+    binding: &StateBinding,
+    misfit: Option<Misfit>,
+    found: Option<(Row, Misfit)>,
+) -> Option<(Row, Misfit)>
+    ensures { result ≡ taking.misfit_or binding.now.row misfit found }
+{
+    match misfit {
+        Some(misfit) => Some((binding.row, misfit)),
+        None => found,
+    }
+}
+
+/// The first of the bindings of a state that does not fit, and why. Fails only if memory runs out.
+pub(crate) fn first_misfit(
+    alloc: Global,
+    config: &Config,
+    state: &State,
+) -> Result<Option<(Row, Misfit)>, AllocError>
+    ensures { IfOk result (λ found.
+        found ≡ taking.misfit_in config.now state.now.clock state.now.list) }
+{
+    first_misfit_in(alloc, config, state.clock, &state.list)
+}
+
+/// The same of bindings under the clock of a state.
+fn first_misfit_in(
+    alloc: Global,
+    config: &Config,
+    clock: u64,
+    list: &[StateBinding],
+) -> Result<Option<(Row, Misfit)>, AllocError>
+    ensures { IfOk result (λ found. found ≡ taking.misfit_in config.now clock list.now) }
+{
+    let redirects = redirect_endpoints(alloc, config)?;
+    let mut behind = Endpoints::new(alloc);
+    let mut found = None;
+    let mut left = list.len();
+    while left > 0 {
+        left -= 1;
+        let binding = &list[left];
+        let misfit = misfit_of(alloc, config, clock, binding, &redirects, &behind)?;
+        found = misfit_or(binding, misfit, found);
+        behind.insert(&binding.row)?;
+    }
+    Ok(found)
+}

@@ -1,0 +1,76 @@
+//! What is wrong with a line that is none of a state.
+
+use crate::fault::{StateField, StateReason};
+use crate::fields;
+use napt_config::Address;
+use std::alloc::Global;
+
+/// How many characters of a wrong word are told.
+const SHOWN: usize = 40;
+
+/// The words behind the first one of a line.
+fn words_behind(kind: &str) -> &'static [StateField] {
+    use StateField::{Address, Count, End, Few, Mark, Number, Protocol, Row};
+    match kind {
+        "clock" => &[Count],
+        "binding" | "redirect" => &[Protocol, Address, Number, Address, Number, Count],
+        "flow" => &[Address, Number, Count, Mark, Mark, Mark, Mark, Mark],
+        "log" => &[Few, Count],
+        "entry" => &[
+            Count, Row, Protocol, Address, Number, Address, Number, Count, End, Few, Few, Count,
+            Count,
+        ],
+        "end" => &[Count, Count, Count],
+        _ => &[],
+    }
+}
+
+/// Whether a number has neither a sign nor a zero in front.
+fn is_plain(number: &str) -> bool {
+    number == "0" || !number.starts_with('0') && !number.starts_with('+')
+}
+
+/// Whether the word at a place is what it has to be.
+fn is_right(kind: StateField, line: &str, place: usize) -> bool {
+    let word = fields::word(line, place);
+    match kind {
+        StateField::Kind => !words_behind(word).is_empty(),
+        StateField::Protocol => fields::protocol(line, place).is_some(),
+        StateField::Address => word.parse::<Address>().is_ok() && word.split('.').all(is_plain),
+        StateField::Number => word.parse::<u16>().is_ok() && is_plain(word),
+        StateField::Count => word.parse::<u64>().is_ok() && is_plain(word),
+        StateField::Few => fields::count(line, place).is_some() && is_plain(word),
+        StateField::End => word == "never" || word.parse::<u128>().is_ok() && is_plain(word),
+        StateField::Row => word == "binding" || word == "redirect",
+        StateField::Mark => word == "0" || word == "1",
+    }
+}
+
+/// The reason of a word that is none that may stand there.
+pub(crate) fn wrong_word(alloc: Global, kind: StateField, word: &str) -> StateReason {
+    let mut shown = String::new(alloc);
+    for character in word.chars().take(SHOWN) {
+        if !character.is_control() && shown.push(character).is_err() {
+            return StateReason::Memory;
+        }
+    }
+    StateReason::Word(kind, shown)
+}
+
+/// What is wrong with a line, without the line feed at its end, that is none of a state.
+pub(crate) fn reason_of(alloc: Global, line: &str) -> StateReason {
+    let first = fields::word(line, 0);
+    let behind = words_behind(first);
+    if behind.is_empty() {
+        return wrong_word(alloc, StateField::Kind, first);
+    }
+    let words = line.split(' ').count() - 1;
+    if words == behind.len() || first == "end" && words == 2 {
+        for (before, kind) in behind.iter().take(words).enumerate() {
+            if !is_right(*kind, line, before + 1) {
+                return wrong_word(alloc, *kind, fields::word(line, before + 1));
+            }
+        }
+    }
+    StateReason::WordCount
+}

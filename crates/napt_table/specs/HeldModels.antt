@@ -1,0 +1,31 @@
+-- How what is held is kept: found by either end, with its numbers in use and its hosts counted.
+use Rattle.std.specs.{Prelude.{◌≡◌, ℕ, ◌<◌, ◌^◌, min, true, Option, Some}, Option.is_some, HashMap.spare, Map.lookup}
+use Rattle.napt_wire.specs.declared.{Protocol.Protocol, Endpoint.Endpoint}
+use Rattle.napt_rules.specs.Prelude.{Binding}
+use Rattle.napt_table.specs.{declared.bindings.{keys.ExternalNumberKey.ExternalNumberKey, binding_index.BindingIndex.TheInside.Inside}, Counts.{are_counted, count_in, host_place}}
+use Rattle.napt_table.specs.{BindingIndexes.{BindingIndexModel, held_binding, count_all, HasInside, IsNamed}, NumbersInUse.{is_in_use, AreByProtocol}, Keys.{inside_eq, inside_key}}
+
+abbrev pub holdings_of : Inside → BindingIndexModel
+holdings_of it = record {
+  address = it.address;
+  granting = it.granting;
+  entries = it.by_number.entries;
+  room = min (spare it.by_number) (min (spare it.by_inside) (host_place it.hosts));
+}
+
+-- the number of the inside endpoint
+abbrev pub number_of_inside : Inside → Protocol → Endpoint → Option ℕ
+number_of_inside it protocol inside = lookup (inside_eq (inside_key protocol inside)) it.by_inside.entries
+
+-- each binding is found by both its ends, its number is in use, and where hosts are counted it is in its count
+pub record IsHeld (it : Inside) : Type 0 where
+  pub named : IsNamed (holdings_of it)
+  pub inside_is : (key : ExternalNumberKey) (b : Binding) → held_binding (holdings_of it) key ≡ Some b →
+      number_of_inside it key.protocol b.row.inside ≡ Some key.number
+  pub number_is : (protocol : Protocol) (inside : Endpoint) (number : ℕ) →
+      number_of_inside it protocol inside ≡ Some number → HasInside (holdings_of it) protocol inside number
+  pub by_protocol : AreByProtocol it.numbers
+  pub used_is : (key : ExternalNumberKey) → key.number < 2 ^ 16 →
+      is_in_use it.numbers key ≡ is_some (held_binding (holdings_of it) key)
+  pub counting : are_counted it.hosts ≡ is_some it.granting.quota
+  pub counted : are_counted it.hosts ≡ true → (host : ℕ) → count_in it.hosts host ≡ count_all (holdings_of it) host

@@ -1,0 +1,25 @@
+-- What a table over maps shows, and what it keeps.
+use Rattle.std.specs.Prelude.{List, map}
+use Rattle.napt_rules.specs.Prelude.{Binding}
+use Rattle.napt_table.specs.{declared.table.Table.TheInside.Inside, Bindings.AllKeep, Events.list_after_events, Tables.{TableModel, IsTable}}
+
+-- those with which it began, after all that happened since
+abbrev pub list_of : Inside → List Binding
+list_of table =
+    list_after_events table.bindings.timers table.bindings.held.granting table.inbound table.bindings.held.address
+    table.past.items (map (λ e. e.1) table.begun.items)
+
+abbrev pub table_model : Inside → TableModel
+table_model table = record {
+  address = table.bindings.held.address;
+  timers = table.bindings.timers;
+  granting = table.bindings.held.granting;
+  inbound = table.inbound;
+  list = list_of table;
+  at = table.bindings.at;
+}
+
+pub record KeepsItsList (table : Inside) : Type 0 where
+  pub state : IsTable (table_model table)
+  pub keeps : AllKeep table.bindings.timers table.bindings.at table.bindings.held.address table.bindings.held
+      (list_of table)

@@ -1,0 +1,61 @@
+//! The classes of external numbers (RFC 4787, REQ-3 (a) and REQ-4; RFC 7857, section 8; RFC 5508, section 3.1; RFC 7422,
+//! section 2).
+
+ghost use Rattle.std.specs.Prelude.{◌≡◌, ◌+◌, ◌-◌, ◌*◌, ◌/◌, ◌^◌, ◌<◌, ◌≤◌};
+ghost use Rattle.napt_config.specs.Rules.{IsPortBlock};
+ghost use Rattle.napt_table.specs.Classes.{class_of, class_in_block, class_of_block, IsSearched};
+
+use napt_config::PortBlock;
+use napt_wire::Protocol;
+
+/// A class of external numbers: the least one, how many, and how far apart.
+#[derive(Clone, Copy)]
+pub struct CandidateClass {
+    pub least: u32,
+    pub many: u32,
+    pub apart: u32,
+}
+
+/// The class that a number is mapped in: a port keeps its side of 1024 and, if that is kept, its parity.
+pub(crate) fn class_of(keeps_parity: bool, protocol: Protocol, number: u16) -> CandidateClass
+    ensures value { result ≡ class_of keeps_parity protocol number }
+    ensures small { number < 2 ^ 16 }
+    ensures some { 0 < result.many }
+    ensures searched { IsSearched result }
+    ensures within { (number - result.least) / result.apart ≤ result.many }
+{
+    let (least, many, apart) = match (protocol, keeps_parity, number < 1024, number % 2 == 1) {
+        (Protocol::Icmp, _, _, _) => (0, 65_536, 1),
+        (_, true, true, true) => (1, 512, 2),
+        (_, true, true, false) => (2, 511, 2),
+        (_, true, false, true) => (1025, 32_256, 2),
+        (_, true, false, false) => (1024, 32_256, 2),
+        (_, false, true, _) => (1, 1023, 1),
+        (_, false, false, _) => (1024, 64_512, 1),
+    };
+    CandidateClass { least, many, apart }
+}
+
+/// The numbers of a block of a parity, 0 or 1.
+pub(crate) fn class_in_block(block: PortBlock, parity: u16) -> CandidateClass
+    requires block { IsPortBlock block }
+    requires parity { parity < 2 }
+    ensures { result ≡ class_in_block block parity }
+{
+    CandidateClass {
+        least: u32::from(block.first) + u32::from(parity),
+        many: u32::from(block.size / 2),
+        apart: 2,
+    }
+}
+
+/// All numbers of a block.
+pub(crate) fn class_of_block(block: PortBlock) -> CandidateClass
+    ensures { result ≡ class_of_block block }
+{
+    CandidateClass {
+        least: u32::from(block.first),
+        many: u32::from(block.size),
+        apart: 1,
+    }
+}

@@ -1,7 +1,0 @@
-use Rattle.napt_wire.proofs.Checksums.{canon_three}
-use Rattle.napt_wire.proofs.rewrite.AddressRewrite.fix.Goals as goal
-
-pub returns : goal.returns
-returns c =
-    rw (c.fix.ensures, c.fix-fixed-2.ensures, c.fix-fixed.ensures)
-    (canon_three c.args.check c.args.self.now.header_check c.args.self.now.high c.args.self.now.low)

@@ -1,0 +1,254 @@
+//! The bytes that change with one end of a datagram.
+
+ghost use Rattle.std.specs.Prelude.{◌≡◌, ◌+◌, ◌/◌, ◌%◌, ◌<◌, ◌≤◌, [], ◌∷◌, length, option_to_list};
+ghost use Rattle.napt_wire.specs.{Bytes.with_word_at, Fields.inner_datagram_start, Header.IsHeader, HeaderRewrite.{address_changes_of, changes_of, error_changes_of, AreWordsThere}};
+ghost use Rattle.napt_wire.specs.Rewriting.{address_changes, word_change, with_changes, checksum_changes, end_changes, inner_end, outer_end, reverted_changes, old_words, new_words, address_words, end_words};
+ghost use Rattle.napt_wire.specs.Checksum.{canon, canon_udp};
+
+use crate::bytes::{read_long, read_word, write_word};
+use crate::checksum::{fix_address, fix_check, fix_end, fix_end_udp};
+use crate::header::Header;
+use crate::transport_form::{DatagramEnd, TransportForm};
+use crate::{Endpoint, Way};
+
+/// A 16-bit word that is replaced: its place, its old and its new value.
+#[derive(Clone, Copy)]
+pub(crate) struct Change {
+    pub(crate) place: usize,
+    pub(crate) old: u16,
+    pub(crate) new: u16,
+}
+
+impl Change {
+    /// The change of the word at a place.
+    pub(crate) fn of(bytes: &[u8], place: usize, new: u16) -> Change
+        requires { place + 2 ≤ length bytes.now }
+        ensures { result ≡ word_change bytes.now place new }
+    {
+        Change {
+            place,
+            old: read_word(bytes, place),
+            new,
+        }
+    }
+
+    /// Updates a checksum that covers the word.
+    fn fix(self, check: u16) -> u16
+        ensures { result ≡ canon check (self.old ∷ []) (self.new ∷ []) }
+    {
+        fix_check(check, self.old, self.new)
+    }
+
+    /// Replaces the word.
+    pub(crate) fn write(self, bytes: &mut [u8])
+        requires { self.place + 2 ≤ length bytes.old }
+        ensures { bytes.new ≡ with_word_at self.place self.new bytes.old }
+    {
+        write_word(bytes, self.place, self.new);
+    }
+}
+
+/// The words to replace when an end of a datagram changes.
+#[derive(Clone, Copy)]
+pub(crate) struct Rewrite {
+    /// The port or identifier, if the end has one.
+    number: Option<Change>,
+    /// The transport checksum, if it is present and covers a replaced word.
+    transport_check: Option<Change>,
+    address: AddressRewrite,
+}
+
+/// The words to replace when an address of a datagram changes.
+#[derive(Clone, Copy)]
+pub(crate) struct AddressRewrite {
+    header_check: Change,
+    high: Change,
+    low: Change,
+}
+
+impl AddressRewrite {
+    /// Replaces the words.
+    pub(crate) fn write(&self, bytes: &mut [u8])
+        requires { AreWordsThere (address_changes_of self.now) bytes.old }
+        ensures { bytes.new ≡ with_changes (address_changes_of self.now) bytes.old }
+    {
+        self.header_check.write(bytes);
+        self.high.write(bytes);
+        self.low.write(bytes);
+    }
+
+    /// Updates a checksum that covers all the replaced words.
+    fn fix(&self, check: u16) -> u16
+        ensures { result ≡ canon check (old_words (address_changes_of self.now))
+            (new_words (address_changes_of self.now)) }
+    {
+        let fixed = self.header_check.fix(check);
+        let fixed = self.high.fix(fixed);
+        self.low.fix(fixed)
+    }
+}
+
+impl Header {
+    /// What changes when an end of the datagram becomes `new`.
+    #[inline(always)]
+    pub(crate) fn rewrite_end(self, bytes: &[u8], end: DatagramEnd, new: Endpoint) -> Rewrite
+        requires { IsHeader self.at self bytes.now }
+        ensures { changes_of result ≡ end_changes self.at end new bytes.now }
+    {
+        let old = self.end(bytes, end);
+        let (number, transport_check) = match self.number_place(end) {
+            Some(place) => (
+                Some(Change::of(bytes, place, new.number)),
+                self.rewrite_check(bytes, old, new),
+            ),
+            None => (None, None),
+        };
+        Rewrite {
+            number,
+            transport_check,
+            address: self.rewrite_address(bytes, end, new.address),
+        }
+    }
+
+    /// What changes in the IPv4 header when the address of an end becomes `new`.
+    fn rewrite_address(self, bytes: &[u8], end: DatagramEnd, new: u32) -> AddressRewrite
+        requires { IsHeader self.at self bytes.now }
+        ensures { address_changes_of result ≡ address_changes self.at end new bytes.now }
+    {
+        let place = self.address_place(end);
+        let old = read_long(bytes, place);
+        let check = read_word(bytes, self.at + 10);
+        AddressRewrite {
+            header_check: Change::of(bytes, self.at + 10, fix_address(check, old, new)),
+            high: Change::of(bytes, place, (new >> 16) as u16),
+            low: Change::of(bytes, place + 2, (new & 0xffff) as u16),
+        }
+    }
+
+    /// How the transport checksum changes when an end that was `old` becomes `new`, if it is there.
+    fn rewrite_check(self, bytes: &[u8], old: Endpoint, new: Endpoint) -> Option<Change>
+        requires { IsHeader self.at self bytes.now }
+        ensures { option_to_list result
+            ≡ checksum_changes self.form self.start old new bytes.now }
+    {
+        let start = self.start;
+        match self.form {
+            TransportForm::Udp => {
+                let check = read_word(bytes, start + 6);
+                Some(Change::of(bytes, start + 6, fix_end_udp(check, old, new)))
+            }
+            TransportForm::Tcp => {
+                if bytes.len() < start + 18 {
+                    return None;
+                }
+                let check = read_word(bytes, start + 16);
+                Some(Change::of(bytes, start + 16, fix_end(check, old, new)))
+            }
+            TransportForm::Request | TransportForm::Reply => {
+                let check = read_word(bytes, start + 2);
+                Some(Change::of(bytes, start + 2, fix_check(check, old.number, new.number)))
+            }
+            TransportForm::Error => None,
+        }
+    }
+}
+
+impl Rewrite {
+    /// Replaces the words.
+    pub(crate) fn write(&self, bytes: &mut [u8])
+        requires { AreWordsThere (changes_of self.now) bytes.old }
+        ensures { bytes.new ≡ with_changes (changes_of self.now) bytes.old }
+    {
+        if let Some(number) = self.number {
+            number.write(bytes);
+        }
+        if let Some(check) = self.transport_check {
+            check.write(bytes);
+        }
+        self.address.write(bytes);
+    }
+
+    /// Updates a checksum that covers all the replaced words.
+    pub(crate) fn fix(&self, check: u16) -> u16
+        ensures { result ≡ canon check (old_words (changes_of self.now)) (new_words (changes_of self.now)) }
+    {
+        let fixed = self.address.fix(check);
+        let fixed = fix_option(fixed, self.number);
+        fix_option(fixed, self.transport_check)
+    }
+}
+
+/// Updates a checksum that covers the word replaced, if any.
+fn fix_option(check: u16, change: Option<Change>) -> u16
+    requires { check < 65535 }
+    ensures { result ≡ canon check (old_words (option_to_list change)) (new_words (option_to_list change)) }
+{
+    match change {
+        Some(change) => change.fix(check),
+        None => check,
+    }
+}
+
+/// The words to replace when an end of the datagram that an ICMP error quotes changes.
+#[derive(Clone, Copy)]
+pub(crate) struct ErrorRewrite {
+    quoted: Rewrite,
+    /// The ICMP checksum, which covers the words of the quoted datagram.
+    check: Change,
+    /// The error's own address.
+    address: AddressRewrite,
+}
+
+impl ErrorRewrite {
+    /// What changes in an error that goes this way, with this header, when the inside end of the datagram that it
+    /// quotes, whose header is `inner`, becomes `end`.
+    pub(crate) fn of(
+        bytes: &[u8],
+        error: Header,
+        inner: Header,
+        way: Way,
+        end: Endpoint,
+    ) -> ErrorRewrite
+        requires error { IsHeader 0 error bytes.now }
+        requires inner { IsHeader (inner_datagram_start bytes.now) inner bytes.now }
+        ensures { error_changes_of result ≡ reverted_changes way end bytes.now }
+    {
+        let quoted = inner.rewrite_end(bytes, inner_end(way), end);
+        let check = quoted.fix(read_word(bytes, error.start + 2));
+        ErrorRewrite {
+            quoted,
+            check: Change::of(bytes, error.start + 2, check),
+            address: error.rewrite_address(bytes, outer_end(way), end.address),
+        }
+    }
+
+    /// Replaces the words.
+    pub(crate) fn write(&self, bytes: &mut [u8])
+        requires { AreWordsThere (error_changes_of self.now) bytes.old }
+        ensures { bytes.new ≡ with_changes (error_changes_of self.now) bytes.old }
+    {
+        self.quoted.write(bytes);
+        self.check.write(bytes);
+        self.address.write(bytes);
+    }
+}
+
+/// The inside end of the datagram quoted by an error that goes this way.
+fn inner_end(way: Way) -> DatagramEnd
+    ensures { result ≡ inner_end way }
+{
+    match way {
+        Way::Incoming => DatagramEnd::Source,
+        Way::Outgoing => DatagramEnd::Destination,
+    }
+}
+
+/// The end of the error itself that is translated with it.
+fn outer_end(way: Way) -> DatagramEnd
+    ensures { result ≡ outer_end way }
+{
+    match way {
+        Way::Incoming => DatagramEnd::Destination,
+        Way::Outgoing => DatagramEnd::Source,
+    }
+}

@@ -1,0 +1,90 @@
+//! The forms of transport headers, and the two ends of a datagram.
+
+ghost use Rattle.std.specs.Prelude.{◌≡◌, ◌+◌, ◌≤◌, length};
+ghost use Rattle.napt_wire.specs.Fields.{address_place, form_at, icmp_form, number_place, protocol_of, transport_start};
+
+use crate::Protocol;
+
+/// The form of a datagram's transport header.
+#[derive(Clone, Copy)]
+pub(crate) enum TransportForm {
+    Udp,
+    Tcp,
+    /// An ICMP echo request.
+    Request,
+    /// An ICMP echo reply.
+    Reply,
+    /// Any other ICMP message: in a packet that was read, an ICMP error.
+    Error,
+}
+
+impl TransportForm {
+    /// The form of the datagram at `at`, whose transport header begins at `start`.
+    #[tactic(auto, unfolding(crate::specs::Fields::form_at))]
+    pub(crate) fn of(bytes: &[u8], at: usize, start: usize) -> TransportForm
+        requires header { at + 20 ≤ start }
+        requires start { start ≡ transport_start at bytes.now }
+        requires room { start + 1 ≤ length bytes.now }
+        ensures { result ≡ form_at at bytes.now }
+    {
+        match bytes[at + 9] {
+            17 => TransportForm::Udp,
+            6 => TransportForm::Tcp,
+            _ => TransportForm::of_icmp(bytes[start]),
+        }
+    }
+
+    /// The form of an ICMP message, by its type (RFC 792).
+    fn of_icmp(icmp_type: u8) -> TransportForm
+        ensures { result ≡ icmp_form icmp_type }
+    {
+        match icmp_type {
+            8 => TransportForm::Request,
+            0 => TransportForm::Reply,
+            _ => TransportForm::Error,
+        }
+    }
+
+    /// The offset of an end's number in the transport header, if any.
+    pub(crate) fn number_place(self, end: DatagramEnd) -> Option<usize>
+        ensures { result ≡ number_place self end }
+    {
+        match (self, end) {
+            (TransportForm::Udp | TransportForm::Tcp, DatagramEnd::Source) => Some(0),
+            (TransportForm::Udp | TransportForm::Tcp, DatagramEnd::Destination) => Some(2),
+            (TransportForm::Request, DatagramEnd::Source)
+            | (TransportForm::Reply, DatagramEnd::Destination) => Some(4),
+            _ => None,
+        }
+    }
+
+    /// The protocol of this form.
+    pub(crate) fn protocol(self) -> Protocol
+        ensures { result ≡ protocol_of self }
+    {
+        match self {
+            TransportForm::Udp => Protocol::Udp,
+            TransportForm::Tcp => Protocol::Tcp,
+            TransportForm::Request | TransportForm::Reply | TransportForm::Error => Protocol::Icmp,
+        }
+    }
+}
+
+/// One of the two ends of a datagram.
+#[derive(Clone, Copy)]
+pub(crate) enum DatagramEnd {
+    Source,
+    Destination,
+}
+
+impl DatagramEnd {
+    /// The offset of the address in an IPv4 header.
+    pub(crate) fn address_place(self) -> usize
+        ensures { result ≡ address_place self }
+    {
+        match self {
+            DatagramEnd::Source => 12,
+            DatagramEnd::Destination => 16,
+        }
+    }
+}

@@ -1,0 +1,46 @@
+//! A device whose packets are counted.
+ghost use Rattle.std.specs.Prelude.{◌≡◌};
+
+use crate::progress::ProgressReport;
+use napt_capture::{DeviceFault, Source};
+use napt_program::CountedSource;
+use std::time::Clock;
+
+/// The device of a capture, whose packets are reported as they are read.
+#[derive(Drop)]
+pub struct CountedDevice<'p, S, R> {
+    device: CountedSource<S>,
+    progress: &'p ProgressReport<'p, R>,
+}
+
+impl<'p, S, R> CountedDevice<'p, S, R> {
+    /// Over a device, before anything is read.
+    pub fn over(device: S, progress: &'p ProgressReport<'p, R>) -> CountedDevice<'p, S, R>
+        ensures { result.device.device ≡ device }
+    {
+        CountedDevice {
+            device: CountedSource::over(device, progress.is_told()),
+            progress,
+        }
+    }
+
+    /// The device whose records were counted.
+    pub fn tallied(&self) -> &CountedSource<S> {
+        &self.device
+    }
+}
+
+impl<'p, S: Source, R: Eprint + Clock> Source for CountedDevice<'p, S, R> {
+    ghost remaining = { λ counted. S.remaining counted.device.device };
+
+    ghost failed = { λ counted. S.failed counted.device.device };
+
+    fn read(&mut self, buffer: &mut [u8]) -> Result<usize, DeviceFault> {
+        self.progress.tell();
+        let before = self.device.records();
+        let count = self.device.read(buffer)?;
+        self.progress
+            .count(self.device.records().saturating_sub(before));
+        Ok(count)
+    }
+}
