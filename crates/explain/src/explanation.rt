@@ -5,7 +5,7 @@ use crate::options::{ExplainOptions, OutputForm};
 use crate::progress::ExplainProgress;
 use napt_account::{LogEntry, RunFromState, TrackedRun};
 use napt_attribution::{HolderRequest, Holders, LogFile, begin_log};
-use napt_commands::{Consumer, Exit, Page, RunEnd, RunPacket, RunStart, tell_warning};
+use napt_commands::{Consumer, Exit, Page, RunEnd, RunPacket, RunStart, print_warning};
 use napt_config::Config;
 use napt_lines::{
     OutsideSummary, PacketLine, PacketLines, PacketSelection, Replies, SinglePacket,
@@ -211,7 +211,7 @@ impl<'a, 'b, W: Write + Drop> Explanation<'a, 'b, W> {
         if options.is_of_gateway() && outside.remotes.are_astray() {
             return Err(outside.remotes.tell_astray(rt));
         }
-        tell_warning(rt, options.outside, None, &outside.losses);
+        print_warning(rt, options.outside, None, &outside.losses);
         let ending = RunEnd {
             config: running.config(),
             packets,

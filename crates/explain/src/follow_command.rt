@@ -4,7 +4,7 @@ ghost use Rattle.std.specs.Prelude.{◌≡◌, ◌-◌, ◌^◌, ◌<◌, OnOk};
 
 use napt_capture::{CaptureWriter, Sink, Watched, WriteFault};
 use napt_commands::{
-    CountedRun, Exit, OutsideCapture, RunStart, tell_unwritten, tell_warning, unexplained,
+    CountedRun, Exit, OutsideCapture, RunStart, print_unwritten, print_warning, unexplained,
 };
 use napt_sequential::Input;
 use napt_wire::Side;
@@ -37,7 +37,7 @@ pub fn follow<R: Files + Eprint + AllocGlobal>(
     for input in inputs {
         run.step(rt.alloc(), input)?;
     }
-    tell_warning(rt, outside, None, &run.losses);
+    print_warning(rt, outside, None, &run.losses);
     let made = File::create(rt, path).and_then(|file| BufWriter::with_capacity(
         rt.alloc(),
         BUFFERED,
@@ -45,7 +45,7 @@ pub fn follow<R: Files + Eprint + AllocGlobal>(
     ));
     let mut sink = match made {
         Ok(writer) => Watched::new(writer),
-        Err(error) => return Err(tell_unwritten(rt, "FILE", path, &error)),
+        Err(error) => return Err(print_unwritten(rt, "FILE", path, &error)),
     };
     if put_outside(&mut sink, inputs).is_ok() {
         return Ok(());
@@ -53,7 +53,7 @@ pub fn follow<R: Files + Eprint + AllocGlobal>(
     // the device does not keep the system's reason: it is asked again
     let mut writer = sink.into_inner();
     match writer.flush() {
-        Err(error) => Err(tell_unwritten(rt, "FILE", path, &error)),
+        Err(error) => Err(print_unwritten(rt, "FILE", path, &error)),
         Ok(()) => Err(unexplained(rt, "FILE", path)),
     }
 }
@@ -62,7 +62,7 @@ pub fn follow<R: Files + Eprint + AllocGlobal>(
 fn put_outside<W: Sink>(sink: &mut W, inputs: &[Input]) -> Result<(), WriteFault>
     requires { W.failed sink.old < 2 ^ 64 - 1 }
 {
-    let mut written = CaptureWriter::begin(sink)?;
+    let mut written = CaptureWriter::create(sink)?;
     for input in inputs {
         if input.side == Side::Outside {
             written = put_record(sink, written, input)?;

@@ -44,7 +44,7 @@ fn main(rt: HostRuntime) -> ExitCode {
     match called(&rt, streams) {
         Ok(()) => ExitCode::SUCCESS,
         Err(stop) => {
-            stop.tell(&rt);
+            stop.print(&rt);
             ExitCode::from(stop.status())
         }
     }

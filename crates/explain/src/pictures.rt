@@ -3,7 +3,7 @@
 use crate::options::ExplainOptions;
 use crate::picture_run::PictureRun;
 use crate::scene::{ShownBindings, scene_of};
-use napt_commands::{Exit, RunStart, tell_unwritten, tell_warning};
+use napt_commands::{Exit, RunStart, print_unwritten, print_warning};
 use napt_display::picture::drawing_of;
 use napt_sequential::Input;
 use std::fs;
@@ -19,7 +19,7 @@ pub fn draw<R: Files + Eprint + AllocGlobal>(
     inputs: &[Input],
 ) -> Result<(), Exit> {
     let run = PictureRun::of(rt.alloc(), start, inputs, options.choice)?;
-    tell_warning(rt, options.outside, None, &run.losses);
+    print_warning(rt, options.outside, None, &run.losses);
     run.unmatched.tell(rt);
     let shown = ShownBindings {
         config: start.config(),
@@ -32,6 +32,6 @@ pub fn draw<R: Files + Eprint + AllocGlobal>(
     let text = drawing_of(rt.alloc(), &scene)?;
     match fs::write(rt, path, text.as_str()) {
         Ok(()) => Ok(()),
-        Err(error) => Err(tell_unwritten(rt, "FILE", path, &error)),
+        Err(error) => Err(print_unwritten(rt, "FILE", path, &error)),
     }
 }

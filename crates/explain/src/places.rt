@@ -2,7 +2,7 @@
 //! `napt`, but of a log, and of what `explain` writes.
 
 use crate::options::ExplainOptions;
-use napt_commands::{Exit, tell_failed, unwritten};
+use napt_commands::{Exit, print_failed, unwritten};
 use napt_program::{FileLocation, FileRole, Stop, is_same, new_path, place_of, unmade};
 use std::alloc::AllocError;
 use std::fs::File;
@@ -160,7 +160,7 @@ fn tells_no_file<R: Files + Eprint>(rt: &R, name: &str, path: &str) -> bool {
 /// Prints why a capture cannot be opened.
 fn tell_input<R: Files + Eprint>(rt: &R, option: &str, path: &str) {
     if let Err(error) = File::open(rt, path) {
-        tell_failed(rt, option, path, &error);
+        print_failed(rt, option, path, &error);
     }
 }
 
@@ -184,7 +184,7 @@ fn tells_output<R: Files + Eprint>(
 fn tells_unmade<R: Files + Eprint>(rt: &R, name: &str, path: &str) -> bool {
     match unmade(rt, path) {
         Some(error) => {
-            tell_failed(rt, name, path, &error);
+            print_failed(rt, name, path, &error);
             true
         }
         None => false,

@@ -9,7 +9,7 @@ use crate::places::{refuse_log, refuse_written, tell_closed, tell_file, tell_sha
 use crate::refusals;
 use napt_account::SavedLogState;
 use napt_attribution::{HolderRequest, answer_by_log, requests_at};
-use napt_commands::{Exit, RunStart, tell_failed, text_at};
+use napt_commands::{Exit, RunStart, print_failed, text_at};
 use napt_config::{Config, ConfigFault};
 use napt_display::reasons::inside_prefixes;
 use napt_program::{
@@ -133,7 +133,7 @@ fn saved_at<R: Files + Eprint + AllocGlobal>(
     let file = match File::open(rt, path) {
         Ok(file) => file,
         Err(error) => {
-            tell_failed(rt, "--resume", path, &error);
+            print_failed(rt, "--resume", path, &error);
             return Err(Exit::Told(Stop::File(FileRole::Resume)));
         }
     };

@@ -117,7 +117,7 @@ fn run_over<R: ProgramHost, S: Read + Drop, T: Write + Drop, F: Read + Write + D
     );
     match answer {
         Ok(passed) => {
-            call.tell_cuts(rt, &inside, &outside);
+            call.print_cuts(rt, &inside, &outside);
             Ok(passed)
         }
         Err(fault) => Err(stop_of_run(options, fault)),
@@ -128,7 +128,7 @@ fn run_over<R: ProgramHost, S: Read + Drop, T: Write + Drop, F: Read + Write + D
 fn state_left(alloc: Global, passed: &RunSummary) -> Result<State, Stop>
     ensures { IfErr result (λ stop. stop ≡ MEMORY) }
 {
-    passed.left(alloc).map_err(|_| MEMORY)
+    passed.final_bindings(alloc).map_err(|_| MEMORY)
 }
 
 /// The gate of a run, which always opens. Fails, as a run does, if memory runs out.

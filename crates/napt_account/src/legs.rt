@@ -25,7 +25,7 @@ pub(crate) struct Legs {
 impl OpenEntries {
     /// Enters the legs of an input.
     #[inline(always)]
-    pub(crate) fn tell(&mut self, alloc: Global, trace: Trace) -> Result<Legs, AllocError>
+    pub(crate) fn enter_legs(&mut self, alloc: Global, trace: Trace) -> Result<Legs, AllocError>
         requires { (most : ℕ) × (entries : List Logged) × OpenEntriesShow trace.now most entries self.old
             × LeavesOpen trace.now trace.first × (most + 2 < 2 ^ 64)
             × (length entries + 2 < 2 ^ 64) }

@@ -23,7 +23,7 @@ pub(crate) fn live_rows(
     ensures { IfOk result (λ live. live.items ≡ map (timed_row config.now.timers)
         (purge config.now.timers state.now.clock (with_redirects config.now state.now).list)) }
 {
-    let timers = IdleTimers::of(config);
+    let timers = IdleTimers::from_config(config);
     let mut live = redirects(alloc, config)?;
     for binding in &state.list {
         if let Some(timed) = live_row(alloc, binding, timers, state.clock)? {

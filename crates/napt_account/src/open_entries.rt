@@ -147,7 +147,10 @@ impl OpenEntries {
     }
 
     /// Begins with what was kept of a log.
-    pub(crate) fn of(alloc: Global, log: &SavedLogState) -> Result<OpenEntries, AllocError>
+    pub(crate) fn from_entries(
+        alloc: Global,
+        log: &SavedLogState,
+    ) -> Result<OpenEntries, AllocError>
         ensures { (now most : ℕ) → kept_at now (filled log.now) ≡ log.now →
             Each (λ l. (l.entry.sent ≤ most) × (l.entry.received ≤ most)) log.now.living →
             AreKeyed (map (λ l. l.entry.binding) log.now.living) →
@@ -182,7 +185,7 @@ impl OpenEntries {
 
     /// Adds an entry, and returns its place. Its external endpoint has no other.
     #[inline(never)]
-    fn put(&mut self, entry: Entry) -> Result<usize, AllocError>
+    fn insert(&mut self, entry: Entry) -> Result<usize, AllocError>
         requires { self.old.made + 1 < 2 ^ 64 }
         ensures place { IfOk result (λ place. place ≡ self.old.made) }
         ensures shows { (now most : ℕ) (entries : List Logged) → OpenEntriesShow now most entries self.old →
@@ -422,7 +425,7 @@ impl OpenEntries {
         if let Some(used) = self.count(Way::Outgoing, now, timed)? {
             return Ok(used);
         }
-        let made = self.put(Entry::by_packet(now, timed))?;
+        let made = self.insert(Entry::by_packet(now, timed))?;
         Ok(BindingTally::through(Way::Outgoing, LogNote::Made, made))
     }
 

@@ -118,7 +118,7 @@ impl<'a> TrackedLog<'a> {
         // called for its clause alone: a configuration keeps its rules
         let _pool = config.pool();
         let taken = kept.taken_up(alloc, config, state)?;
-        let entries = OpenEntries::of(alloc, &taken.log)?;
+        let entries = OpenEntries::from_entries(alloc, &taken.log)?;
         Ok(LogFromState {
             log: TrackedLog {
                 config,
@@ -202,7 +202,7 @@ impl<'a> TrackedLog<'a> {
             return Err(RunFault::Pool(PoolFault::Ring));
         }
         let ended = self.entries.take_ended(alloc, trace.now)?;
-        let legs = self.entries.tell(alloc, trace)?;
+        let legs = self.entries.enter_legs(alloc, trace)?;
         self.many += 1;
         self.clock = trace.now;
         self.past = self.past.and(&0, &trace);

@@ -3,9 +3,9 @@
 
 use crate::blocks::tell_needless;
 use napt_account::LogEntry;
-use napt_commands::{Exit, RunPacket, tell_unwritten};
+use napt_commands::{Exit, RunPacket, print_unwritten};
 use napt_config::Config;
-use napt_log_text::{add_living, add_opening, add_told};
+use napt_log_text::{add_living, add_opening, add_part};
 use std::fs::{self, File};
 use std::io::{self, Write};
 use std::rt::Files;
@@ -49,7 +49,7 @@ pub fn begin_log<'a, R: Files + Print + Eprint + AllocGlobal>(
         Some(path) if is_held => LogLocation::Path(path),
         Some(path) => match File::create(rt, path) {
             Ok(file) => LogLocation::File(path, file),
-            Err(error) => return Err(tell_unwritten(rt, "--to", path, &error)),
+            Err(error) => return Err(print_unwritten(rt, "--to", path, &error)),
         },
     };
     let mut log = LogFile {
@@ -70,7 +70,7 @@ impl<'a, W: Write + Drop> LogFile<'a, W> {
         config: &Config,
         passing: RunPacket<'_>,
     ) -> Result<(), Exit> {
-        add_told(config, passing.step, &mut self.text)?;
+        add_part(config, passing.step, &mut self.text)?;
         self.turn(rt)
     }
 
@@ -112,7 +112,7 @@ impl<'a, W: Write + Drop> LogFile<'a, W> {
             (Ok(()), _) => Ok(()),
             (Err(error), LogLocation::Output) => Err(Exit::Output(error)),
             (Err(error), LogLocation::Path(path) | LogLocation::File(path, _)) => {
-                Err(tell_unwritten(rt, "--to", path, &error))
+                Err(print_unwritten(rt, "--to", path, &error))
             }
         }
     }

@@ -52,7 +52,7 @@ impl AddressCounts {
     }
 
     /// Counts one more of the address, for which there is room. It takes no memory.
-    pub fn put(&mut self, address: u32)
+    pub fn increment(&mut self, address: u32)
         requires room { 0 < room_of self.old }
         requires fits { count_at self.old address + 1 < 2 ^ 64 }
         ensures { (other : ℕ) → count_at self.new other ≡ count_at self.old other
@@ -66,7 +66,7 @@ impl AddressCounts {
     }
 
     /// Counts one less of the address, down to 0. It leaves as much room.
-    pub fn take(&mut self, address: u32)
+    pub fn decrement(&mut self, address: u32)
         ensures counts { (other : ℕ) → count_at self.new other ≡ count_at self.old other
             - cond {A = ℕ} (address == other) 1 0 }
         ensures gone { count_at self.new address ≡ 0 → HasNoEntry self.new address }

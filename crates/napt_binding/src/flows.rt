@@ -16,7 +16,7 @@ mod slots;
 
 use crate::idle_timers::IdleTimers;
 use crate::life::{flow_end, flow_moment, is_live_flow, is_standing};
-use crate::outbound::{begun_by, used_by};
+use crate::outbound::{flow_after, new_flow};
 use crate::traffic::{is_flow_of, used};
 use flow_maps::FlowMaps;
 use napt_rules::{Flow, OutboundPacket};
@@ -80,16 +80,16 @@ fn after_one(
         list_any (life.is_live_flow timers sent.now) (flows_of kept) ≡ true) }
     ensures maps { IfOk result (λ kept. storage.has_maps kept ≡ false) }
 {
-    timers.keep_limits();
+    timers.are_within_limits();
     if !is_standing(&flow, timers, sent.now, sent.protocol) {
-        return Ok(FlowStore::One(begun_by(sent)));
+        return Ok(FlowStore::One(new_flow(sent)));
     }
     if is_flow_of(&flow, sent.remote) {
-        return Ok(FlowStore::One(used_by(sent, flow)));
+        return Ok(FlowStore::One(flow_after(sent, flow)));
     }
     let mut flows = Vec::new(alloc);
     flows.push(flow)?;
-    flows.push(begun_by(sent))?;
+    flows.push(new_flow(sent))?;
     Ok(FlowStore::Few(flows))
 }
 
@@ -111,7 +111,7 @@ fn with_maps(
         list_any (life.is_live_flow timers sent.now) (flows_of kept) ≡ true) }
     ensures maps { IfOk result (λ kept. storage.has_maps kept ≡ true) }
 {
-    let mut many = FlowMaps::of(alloc, flows)?;
+    let mut many = FlowMaps::from_flows(alloc, flows)?;
     many.use_flow(alloc, timers, sent)?;
     Ok(FlowStore::Many(Box::new(alloc, many)?))
 }
@@ -135,10 +135,10 @@ fn use_kept(
     ensures maps { OnOk result (storage.has_maps kept.new
         ≡ (storage.has_maps kept.old || storage.are_full timers sent kept.old)) }
 {
-    timers.keep_limits();
+    timers.are_within_limits();
     match kept {
         FlowStore::Empty => {
-            *kept = FlowStore::One(begun_by(sent));
+            *kept = FlowStore::One(new_flow(sent));
             return Ok(());
         }
         FlowStore::One(flow) => {
@@ -167,7 +167,7 @@ pub(crate) fn live_flows(
     ensures { IfOk result (λ made. made.items ≡ life.live_flows timers now protocol flows.now) }
 {
     let mut flows = flows.to_vec(alloc)?;
-    flow_list::keep_standing(&mut flows, timers, now, protocol);
+    flow_list::retain_standing(&mut flows, timers, now, protocol);
     Ok(flows)
 }
 
@@ -182,7 +182,7 @@ impl Flows {
     }
 
     /// These flows, oldest first, no two of one remote endpoint.
-    pub fn of(alloc: Global, flows: &[Flow]) -> Result<Flows, AllocError>
+    pub fn from_flows(alloc: Global, flows: &[Flow]) -> Result<Flows, AllocError>
         requires { AreDistinct flows.now }
         ensures { IfOk result (λ made. made ≡ flows.now) }
     {
@@ -190,7 +190,7 @@ impl Flows {
             0 => FlowStore::Empty,
             1 => FlowStore::One(flows[0]),
             few if few <= FEW => FlowStore::Few(flows.to_vec(alloc)?),
-            _ => FlowStore::Many(Box::new(alloc, FlowMaps::of(alloc, flows)?)?),
+            _ => FlowStore::Many(Box::new(alloc, FlowMaps::from_flows(alloc, flows)?)?),
         };
         Ok(Flows { kept })
     }
@@ -222,12 +222,12 @@ impl Flows {
         ensures distinct { IfOk result (λ made. AreDistinct made.items) }
     {
         let mut flows = self.copied(alloc)?;
-        flow_list::keep_standing(&mut flows, timers, now, protocol);
+        flow_list::retain_standing(&mut flows, timers, now, protocol);
         Ok(flows)
     }
 
     /// The flows of a binding whose first packet goes out. They take no memory of their own.
-    pub fn begun(
+    pub fn from_packet(
         _alloc: Global,
         timers: IdleTimers,
         sent: OutboundPacket,
@@ -235,9 +235,9 @@ impl Flows {
         ensures { IfOk result (λ flows. packets.standing_at timers sent flows
             ≡ packets.flows_after_outbound sent []) }
     {
-        timers.keep_limits();
+        timers.are_within_limits();
         Ok(Flows {
-            kept: FlowStore::One(begun_by(sent)),
+            kept: FlowStore::One(new_flow(sent)),
         })
     }
 
@@ -283,7 +283,7 @@ impl Flows {
     }
 
     /// Removes the dead ones of these TCP flows.
-    pub(crate) fn keep_live(&mut self, timers: IdleTimers, now: u64)
+    pub(crate) fn retain_live(&mut self, timers: IdleTimers, now: u64)
         ensures { self.new ≡ filter (life.is_live_flow timers now) self.old }
     {
         match &mut self.kept {
@@ -293,8 +293,8 @@ impl Flows {
                     self.kept = FlowStore::Empty;
                 }
             }
-            FlowStore::Few(flows) => flow_list::keep_live(flows, timers, now),
-            FlowStore::Many(many) => return many.keep_live(timers, now),
+            FlowStore::Few(flows) => flow_list::retain_live(flows, timers, now),
+            FlowStore::Many(many) => return many.retain_live(timers, now),
         }
     }
 

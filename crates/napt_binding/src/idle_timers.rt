@@ -30,7 +30,7 @@ impl Model for IdleTimers {
 
 impl IdleTimers {
     /// Those of the configuration.
-    pub fn of(config: &Config) -> IdleTimers
+    pub fn from_config(config: &Config) -> IdleTimers
         ensures { result ≡ config.now.timers }
     {
         IdleTimers {
@@ -39,7 +39,7 @@ impl IdleTimers {
     }
 
     /// Law: each timer is within its limits. It does nothing when it runs.
-    pub fn keep_limits(self)
+    pub fn are_within_limits(self)
         ensures { AreTimers self }
     {
         let _ = &self.seconds;

@@ -7,7 +7,7 @@ use napt_config::Config;
 use napt_rules::InboundRules;
 
 /// The configuration's rules for incoming packets.
-pub fn inbound_of(config: &Config) -> InboundRules
+pub fn inbound_rules(config: &Config) -> InboundRules
     ensures { result ≡ rules.inbound_rules config.now }
 {
     InboundRules {

@@ -17,12 +17,12 @@ mod traffic;
 pub use address_counts::AddressCounts;
 pub use flows::Flows;
 pub use idle_timers::IdleTimers;
-pub use inbound::inbound_of;
+pub use inbound::inbound_rules;
 pub use life::{end_of, is_live, is_live_flow, is_recent, until};
 pub use napt_rules::{Flow, InboundRules, OutboundPacket, SessionMarks};
 pub use packed_row::PackedRow;
 pub use state_binding::{from_state, to_state};
-pub use traffic::{send, take_in};
+pub use traffic::{purge_and_receive, send};
 
 /// An inside endpoint and the external endpoint it is mapped to under one protocol (RFC 3022, section 2.2), with its
 /// flows.

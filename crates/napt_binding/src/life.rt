@@ -147,6 +147,6 @@ pub(crate) fn purge_flows(binding: &mut TableBinding, timers: IdleTimers, now: u
     ensures { binding.new ≡ life.with_live_flows timers now binding.old }
 {
     if let Protocol::Tcp = binding.row.protocol() {
-        binding.flows.keep_live(timers, now);
+        binding.flows.retain_live(timers, now);
     }
 }

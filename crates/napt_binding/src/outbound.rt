@@ -9,15 +9,15 @@ use napt_rules::{Flow, OutboundPacket};
 use napt_wire::Way;
 
 /// The flow after the packet.
-pub(crate) fn used_by(sent: OutboundPacket, flow: Flow) -> Flow
+pub(crate) fn flow_after(sent: OutboundPacket, flow: Flow) -> Flow
     ensures { result ≡ rules.flow_after sent.protocol Way.Outgoing sent.flags sent.now flow }
 {
     used(flow, sent.protocol, Way::Outgoing, sent.flags, sent.now)
 }
 
 /// The flow that begins with the packet.
-pub(crate) fn begun_by(sent: OutboundPacket) -> Flow
+pub(crate) fn new_flow(sent: OutboundPacket) -> Flow
     ensures { result ≡ packets.new_flow sent }
 {
-    used_by(sent, fresh_flow(sent.remote, sent.now))
+    flow_after(sent, fresh_flow(sent.remote, sent.now))
 }

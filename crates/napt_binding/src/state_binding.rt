@@ -53,7 +53,7 @@ pub fn from_state(
     Ok(Some(TableBinding {
         row: PackedRow::new(binding.row),
         last: binding.last,
-        flows: Flows::of(alloc, &flows)?,
+        flows: Flows::from_flows(alloc, &flows)?,
     }))
 }
 

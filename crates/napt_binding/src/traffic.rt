@@ -116,7 +116,7 @@ fn receive(binding: &mut TableBinding, inbound: InboundRules, packet: InboundPac
 /// Takes in a packet through the binding, under the binding's protocol, and removes its dead flows. Returns the inside
 /// endpoint, or `Filtered` if the filter refuses the remote (RFC 4787, REQ-8). No flow may have been used later. It takes
 /// no memory.
-pub fn take_in(
+pub fn purge_and_receive(
     binding: &mut TableBinding,
     timers: IdleTimers,
     inbound: InboundRules,

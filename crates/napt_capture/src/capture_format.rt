@@ -27,7 +27,7 @@ pub(crate) struct CaptureFormat {
 
 impl CaptureFormat {
     /// The spelling that a file's first four bytes show, read as a big-endian number.
-    pub(crate) fn of_magic(magic: u32) -> Option<CaptureFormat>
+    pub(crate) fn from_magic(magic: u32) -> Option<CaptureFormat>
         ensures { result ≡ format_of_magic magic }
     {
         let (order, unit) = match magic {

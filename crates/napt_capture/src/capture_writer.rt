@@ -14,7 +14,7 @@ pub(crate) const FILE_HEADER: [u8; 24] = [
     0x4d, 0x3c, 0xb2, 0xa1, 2, 0, 4, 0, 0, 0, 0, 0, 0, 0, 0, 0, 0, 0, 4, 0, 101, 0, 0, 0,
 ];
 
-/// How many bytes of a text are written to a [`Sink`]. A capture is written by [`CaptureWriter::begin`], [`CaptureWriter::record`]
+/// How many bytes of a text are written to a [`Sink`]. A capture is written by [`CaptureWriter::create`], [`CaptureWriter::record`]
 /// for each packet and [`CaptureWriter::finish`], which take no memory. If one of them fails, what it wrote of its part and
 /// all before it is written, and the fault counts those bytes.
 #[derive(Debug, Drop)]
@@ -47,12 +47,12 @@ impl CaptureWriter {
 
     /// Writes the header of a capture.
     #[tactic(auto, unfolding(crate::specs::Text::file_header))]
-    pub fn begin<W: Sink>(writer: &mut W) -> Result<CaptureWriter, WriteFault>
+    pub fn create<W: Sink>(writer: &mut W) -> Result<CaptureWriter, WriteFault>
         requires { W.failed writer.old < 2 ^ 64 - 1 }
         ensures puts { PutPost 0 (W.contents writer.old) (W.contents writer.new) file_header result }
         ensures count { W.failed writer.new ≡ W.failed writer.old + failed_calls result }
     {
-        CaptureWriter::nothing().put(writer, &FILE_HEADER)
+        CaptureWriter::nothing().write_record(writer, &FILE_HEADER)
     }
 
     /// Writes the record of a whole packet that arrived at `time`, in ns since 1970-01-01 00:00:00 UTC.
@@ -71,8 +71,8 @@ impl CaptureWriter {
             (record_text (entry_of_packet time bytes.now)) result }
         ensures count { W.failed writer.new ≡ W.failed writer.old + failed_calls result }
     {
-        let written = self.put(writer, &record_header(time, bytes))?;
-        written.put(writer, bytes)
+        let written = self.write_record(writer, &record_header(time, bytes))?;
+        written.write_record(writer, bytes)
     }
 
     /// Flushes what is written.
@@ -93,7 +93,7 @@ impl CaptureWriter {
 
     /// Appends these bytes to what is written. Most devices take all at once.
     #[inline(always)]
-    pub(crate) fn put<W: Sink>(
+    pub(crate) fn write_record<W: Sink>(
         self,
         writer: &mut W,
         bytes: &[u8],
@@ -118,12 +118,12 @@ impl CaptureWriter {
                 written: self.bytes,
             });
         }
-        written.put_rest(writer, &bytes[count..])
+        written.write_rest(writer, &bytes[count..])
     }
 
     /// The same, in as many writes as it takes.
     #[inline(never)]
-    fn put_rest<W: Sink>(self, writer: &mut W, bytes: &[u8]) -> Result<CaptureWriter, WriteFault>
+    fn write_rest<W: Sink>(self, writer: &mut W, bytes: &[u8]) -> Result<CaptureWriter, WriteFault>
         requires can_fail { W.failed writer.old < 2 ^ 64 - 1 }
         requires room { self + length bytes.now < 2 ^ 64 }
         ensures puts { PutPost self (W.contents writer.old) (W.contents writer.new) bytes.now result }

@@ -105,16 +105,16 @@ pub(crate) fn read_file_header<R: Source>(reader: &mut R) -> Result<CaptureForma
     if filled < FILE_HEADER {
         return Err(CaptureFault::NoHeader);
     }
-    spelling_of_file(&header)
+    format_of_file(&header)
 }
 
 /// The spelling that a file's header shows.
-fn spelling_of_file(header: &[u8]) -> Result<CaptureFormat, CaptureFault>
+fn format_of_file(header: &[u8]) -> Result<CaptureFormat, CaptureFault>
     requires { length header.now ≡ 24 }
     ensures is { format_in header.now ≡ result }
     ensures memory { result ≢ Err CaptureFault.Memory }
 {
-    let Some(spelling) = CaptureFormat::of_magic(BigEndian::read_u32(header)) else {
+    let Some(spelling) = CaptureFormat::from_magic(BigEndian::read_u32(header)) else {
         return Err(CaptureFault::BadMagic);
     };
     if spelling.short(&header[4..]) != 2 || spelling.short(&header[6..]) != 4 {

@@ -90,7 +90,7 @@ impl RecordReader {
         ensures count { R.failed source.new ≡ R.failed source.old + failed_reads result }
     {
         self.read_ahead(source)?;
-        self.take(vector)
+        self.consume(vector)
     }
 
     /// What the bytes read ahead begin with: the fields of a whole record, `None` if it is not whole, or the fault of
@@ -173,7 +173,7 @@ impl RecordReader {
 
     /// Takes what is next from the bytes read ahead.
     #[inline(always)]
-    fn take(&mut self, vector: Vec<u8>) -> Result<NextRead, CaptureFault>
+    fn consume(&mut self, vector: Vec<u8>) -> Result<NextRead, CaptureFault>
         ensures next { IsReadResult result (HandsOutNext self.old result self.old.ahead self.new.ahead) }
         ensures number { IfOk result (λ next. self.new.number ≡ next_number next self.old.number) }
         ensures read { result ≢ Err Read }

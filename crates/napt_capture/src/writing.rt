@@ -19,16 +19,16 @@ pub fn write_capture<W: Sink>(writer: &mut W, records: &[Record]) -> Result<(), 
         × Appends (W.contents writer.old) (W.contents writer.new) (take fault.written (text records.now))) }
     ensures count { W.failed writer.new ≡ W.failed writer.old + failed_calls result }
 {
-    let mut written = CaptureWriter::begin(writer)?;
+    let mut written = CaptureWriter::create(writer)?;
     for packet in records {
-        written = put_record(writer, written, packet)?;
+        written = append_record(writer, written, packet)?;
     }
     written.finish(writer)
 }
 
 /// Appends one record to what is written.
 #[tactic(auto, using(crate::proofs::PutSteps::record_text_whole))]
-fn put_record<W: Sink>(
+fn append_record<W: Sink>(
     writer: &mut W,
     written: CaptureWriter,
     packet: &Record,
@@ -52,6 +52,6 @@ pub fn write_text<W: Sink>(writer: &mut W, bytes: &[u8]) -> Result<(), WriteFaul
         × Appends (W.contents writer.old) (W.contents writer.new) (take fault.written bytes.now)) }
     ensures count { W.failed writer.new ≡ W.failed writer.old + failed_calls result }
 {
-    let written = CaptureWriter::nothing().put(writer, bytes)?;
+    let written = CaptureWriter::nothing().write_record(writer, bytes)?;
     written.finish(writer)
 }

@@ -63,7 +63,7 @@ impl BitSet {
     }
 
     /// Adds the number, if it is absent.
-    pub fn put(&mut self, number: u16)
+    pub fn insert(&mut self, number: u16)
         ensures { (n : ℕ) → has self.new n ≡ ((n == number) || has self.old n) }
     {
         let place = usize::from(number / 64);
@@ -77,7 +77,7 @@ impl BitSet {
     }
 
     /// Removes the number, if it is present.
-    pub fn take(&mut self, number: u16)
+    pub fn remove(&mut self, number: u16)
         ensures { (n : ℕ) → has self.new n ≡ (not (n == number) && has self.old n) }
     {
         let place = usize::from(number / 64);

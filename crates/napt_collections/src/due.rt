@@ -51,7 +51,7 @@ impl<T: Ord + Copy> Due<T> {
     }
 
     /// Adds an entry, for which there is room. It takes no memory.
-    pub fn put(&mut self, time: u64, item: T)
+    pub fn push(&mut self, time: u64, item: T)
         requires { 0 < self.old.room }
         ensures entries { IsPermutation ((time, item) ∷ self.old.entries) self.new.entries }
         ensures room { self.old.room ≤ self.new.room + 1 }
@@ -63,7 +63,7 @@ impl<T: Ord + Copy> Due<T> {
     }
 
     /// An entry of the least time, which stays; `None` if there are none.
-    pub fn first(&self) -> Option<(u64, T)>
+    pub fn peek(&self) -> Option<(u64, T)>
         ensures some { IfSome result (λ e. Contains self.now.entries e) }
         ensures least { IfSome result (λ e. All (λ other. e.0 ≤ other.0) self.now.entries) }
         ensures none { IfNone result (self.now.entries ≡ []) }
@@ -75,7 +75,7 @@ impl<T: Ord + Copy> Due<T> {
     }
 
     /// Takes out an entry of the least time, and frees its room; `None` if there are none. It takes no memory.
-    pub fn take_first(&mut self) -> Option<(u64, T)>
+    pub fn pop(&mut self) -> Option<(u64, T)>
         ensures some { IfSome result (λ e. IsPermutation self.old.entries (e ∷ self.new.entries)) }
         ensures least { IfSome result (λ e. All (λ other. e.0 ≤ other.0) self.old.entries) }
         ensures room { IfSome result (λ e. self.old.room < self.new.room) }

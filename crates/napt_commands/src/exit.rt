@@ -44,7 +44,7 @@ impl Exit {
     }
 
     /// Prints the reason, unless it was already printed, or is that nobody reads on.
-    pub fn tell<R: Eprint>(&self, rt: &R) {
+    pub fn print<R: Eprint>(&self, rt: &R) {
         let _ = match self {
             Exit::As(stop) => eprintln!(rt; "explain: {stop}"),
             Exit::NoOutput => eprintln!(rt; "explain: standard output is closed"),

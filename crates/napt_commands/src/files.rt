@@ -9,13 +9,13 @@ use std::rt::Files;
 use std::{fs, io};
 
 /// Prints that a file failed, with what names it and the system's reason.
-pub fn tell_failed<R: Eprint>(rt: &R, name: &str, path: &str, error: &io::Error) {
+pub fn print_failed<R: Eprint>(rt: &R, name: &str, path: &str, error: &io::Error) {
     let _ = eprintln!(rt; "explain: {name} {path}: {error}");
 }
 
 /// Prints that the file that `explain` writes fails, with the system's reason, and returns how the program stops.
-pub fn tell_unwritten<R: Eprint>(rt: &R, name: &str, path: &str, error: &io::Error) -> Exit {
-    tell_failed(rt, name, path, error);
+pub fn print_unwritten<R: Eprint>(rt: &R, name: &str, path: &str, error: &io::Error) -> Exit {
+    print_failed(rt, name, path, error);
     unwritten()
 }
 
@@ -38,7 +38,7 @@ pub fn opened<R: Files + Input + Eprint>(
 ) -> Result<Either<R::Reader, R::File>, Exit> {
     match open_config(rt, path) {
         Ok(device) => Ok(device),
-        Err(stop) => Err(tell_unread(rt, name, path, stop)),
+        Err(stop) => Err(print_unread(rt, name, path, stop)),
     }
 }
 
@@ -50,17 +50,17 @@ pub fn text_at<R: Files + Input + Eprint + AllocGlobal>(
 ) -> Result<Vec<u8>, Exit> {
     match config_text(rt.alloc(), opened(rt, name, path)?) {
         Ok(text) => Ok(text),
-        Err(stop) => Err(tell_unread(rt, name, path, stop)),
+        Err(stop) => Err(print_unread(rt, name, path, stop)),
     }
 }
 
 /// Prints why a file cannot be used (it is missing, cannot be read, or is too long), and returns how `napt` would stop.
-fn tell_unread<R: Files + Eprint>(rt: &R, name: &str, path: &str, stop: Stop) -> Exit {
+fn print_unread<R: Files + Eprint>(rt: &R, name: &str, path: &str, stop: Stop) -> Exit {
     if !matches!(stop, Stop::File(_)) {
         return Exit::As(stop);
     }
     match failure_of_reading(rt, path) {
-        Some(error) => tell_failed(rt, name, path, &error),
+        Some(error) => print_failed(rt, name, path, &error),
         None => {
             let _ = eprintln!(rt;
                 "explain: {name} {path}: it cannot be read, or has more than {MOST_BYTES} bytes"

@@ -17,7 +17,7 @@ mod warning;
 
 pub use crate::counted_run::CountedRun;
 pub use crate::exit::Exit;
-pub use crate::files::{opened, tell_failed, tell_unwritten, text_at, unexplained, unwritten};
+pub use crate::files::{opened, print_failed, print_unwritten, text_at, unexplained, unwritten};
 pub use crate::loss_counts::{LossCounts, SourceKind, destination_of, source_of};
 pub use crate::outside_capture::{OutsideCapture, copied};
 pub use crate::page::Page;
@@ -25,4 +25,4 @@ pub use crate::run_packet::{Consumer, RunEnd, RunPacket, take_all};
 pub use crate::seconds::Seconds;
 pub use crate::sorted_entries::SortedEntries;
 pub use crate::start::RunStart;
-pub use crate::warning::{begin_warning, tell_warning};
+pub use crate::warning::{print_warning, start_warning};

@@ -5,7 +5,7 @@ use crate::outside_capture::OutsideCapture;
 
 /// Prints that many packets from outside were dropped, what that says of the captures, and what to do. `under` names the
 /// configuration, where there are several.
-pub fn tell_warning<R: Eprint>(
+pub fn print_warning<R: Eprint>(
     rt: &R,
     outside: OutsideCapture,
     under: Option<&str>,
@@ -18,7 +18,7 @@ pub fn tell_warning<R: Eprint>(
     if !tell {
         return;
     }
-    begin_warning(rt, under);
+    start_warning(rt, under);
     let (all, unmet) = (losses.all, losses.unmet());
     let _ = match outside {
         OutsideCapture::Packets => eprintln!(rt;
@@ -38,7 +38,7 @@ pub fn tell_warning<R: Eprint>(
 }
 
 /// Begins a warning, under a configuration where there are several.
-pub fn begin_warning<R: Eprint>(rt: &R, under: Option<&str>) {
+pub fn start_warning<R: Eprint>(rt: &R, under: Option<&str>) {
     let _ = match under {
         Some(path) => eprint!(rt; "explain: under {path}: "),
         None => eprint!(rt; "explain: "),

@@ -67,12 +67,12 @@ impl Config {
         ensures kept { IfOk result RulesInvariant }
     {
         let table = document(alloc, text)?;
-        Config::of_table(alloc, &table)
+        Config::from_table(alloc, &table)
     }
 
     /// The configuration of a table.
     #[tactic(auto, unfolding(crate::specs::Configured::configured, crate::specs::Configured::read_first))]
-    fn of_table(alloc: Global, table: &Table) -> Result<Config, ConfigFault>
+    fn from_table(alloc: Global, table: &Table) -> Result<Config, ConfigFault>
         ensures exact { MakePost (λ config. config) result (configured (table_view table.now)) }
         ensures first { FirstFaultComesFirst (read_first (table_view table.now)) result }
         ensures kept { IfOk result RulesInvariant }

@@ -161,7 +161,7 @@ pub(crate) fn dispatch_to<R: Wait, G: Gate, A: InputSource, D: OutcomeSink>(
         Ok(EndOfInputs { clock, fault }) => Ok(DispatchResult {
             legs: dispatcher.queues.counts(alloc)?,
             clock,
-            ending: DispatchEnd::of(fault),
+            ending: DispatchEnd::from_result(fault),
         }),
         Err(DispatchFault::Departure(fault)) => Ok(DispatchResult {
             legs: Vec::new(alloc),
@@ -177,7 +177,7 @@ impl<A, D> DispatchEnd<A, D> {
     ghost use Rattle.napt_dispatch.specs.declared.dispatcher.DispatchEnd.TheVariants.{Whole, Arrival};
 
     /// The ending of a run whose arrivals ended, or failed with this fault.
-    fn of(fault: Option<A>) -> DispatchEnd<A, D>
+    fn from_result(fault: Option<A>) -> DispatchEnd<A, D>
         ensures { MatchOption fault (result ≡ Whole) (λ fault. result ≡ Arrival fault) }
     {
         match fault {

@@ -45,7 +45,7 @@ impl OutcomeSink for OutcomeList {
         ∙ (append_assoc x.outcomes.items (map collected_outcome xs) (map collected_outcome ys)
         ∙ ap (λ l. x.outcomes.items ++ l) (sym (map-append collected_outcome xs ys)))) };
 
-    fn leave(
+    fn write(
         &mut self,
         _time: u64,
         departed: InputResult<NoTrace>,

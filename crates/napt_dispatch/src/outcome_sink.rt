@@ -35,7 +35,7 @@ pub trait OutcomeSink {
 
     /// Takes the outcome of the next input, which arrived at a time in ns. Returns the buffer of its packet unless it keeps
     /// that: an input to come uses it.
-    fn leave(
+    fn write(
         &mut self,
         time: u64,
         departed: InputResult<Self::Told>,

@@ -55,7 +55,7 @@ impl<P: LegTrace> Machine for Worker<P> {
     ghost reply = { λ state leg. traced_answer P.tells leg state };
 
     fn step(&mut self, alloc: Global, leg: Leg) -> Result<TracedAnswer<P>, AllocError> {
-        P::tell(alloc, &mut self.translator, leg)
+        P::translate_traced(alloc, &mut self.translator, leg)
     }
 
     fn size(&self) -> u64 {

@@ -182,13 +182,13 @@ impl RunSummary {
 
     /// The state that the run leaves: its bindings that are live or held at the last clock, by external address in the order
     /// of the pool, then by protocol (ICMP, TCP, UDP) and external number.
-    pub fn left(&self, alloc: Global) -> Result<State, AllocError>
+    pub fn final_bindings(&self, alloc: Global) -> Result<State, AllocError>
         ensures { (rules : Rules) (state : State) → LeavesState rules state self.now →
             IfOk result (IsStateInOrder rules state) }
     {
         let mut list = Vec::new(alloc);
         for translator in &self.translators {
-            list.append(&mut translator.left(alloc, self.clock)?)?;
+            list.append(&mut translator.final_bindings(alloc, self.clock)?)?;
         }
         Ok(State {
             clock: self.clock,

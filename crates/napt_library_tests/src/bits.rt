@@ -32,9 +32,9 @@ fn one_number_at_a_border(rt: HostRuntime) -> Result<(), Fail> {
         let mut set = BitSet::new(rt.alloc())?;
         for is_put in [true, true, false, false] {
             if is_put {
-                set.put(number);
+                set.insert(number);
             } else {
-                set.take(number);
+                set.remove(number);
             }
             let found = [set.contains(number), set.contains(number ^ 1)];
             assert_eq!(rt; found, [is_put, false]);
@@ -51,16 +51,16 @@ fn one_number_at_a_border(rt: HostRuntime) -> Result<(), Fail> {
 fn all_numbers_but_one(rt: HostRuntime) -> Result<(), Fail> {
     let mut set = BitSet::new(rt.alloc())?;
     for number in 0..=u16::MAX {
-        set.put(number);
+        set.insert(number);
     }
     assert_eq!(rt; set.first_absent(0, END), None);
     for number in [0, 63, 64, 4_095, 4_096, 65_535] {
         let place = u32::from(number);
-        set.take(number);
+        set.remove(number);
         assert_eq!(rt; absent(&set, 0, place), [Some(place), None]);
         assert_eq!(rt; set.first_absent(place, END), Some(place));
         assert_eq!(rt; set.first_absent(place + 1, END), None);
-        set.put(number);
+        set.insert(number);
         assert_eq!(rt; set.first_absent(0, END), None);
     }
     Ok(())

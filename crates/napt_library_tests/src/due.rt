@@ -8,14 +8,14 @@ fn queue_of(alloc: Global, entries: &[(u64, u16)]) -> Result<Due<u16>, AllocErro
     let mut due = Due::new(alloc);
     for (time, number) in entries {
         due.reserve()?;
-        due.put(*time, *number);
+        due.push(*time, *number);
     }
     Ok(due)
 }
 
 /// The first entry, as a look and a take find it.
 fn taken(due: &mut Due<u16>) -> [Option<(u64, u16)>; 2] {
-    [due.first(), due.take_first()]
+    [due.peek(), due.pop()]
 }
 
 #[test]
@@ -35,7 +35,7 @@ fn each_entry_of_one_time(rt: HostRuntime) -> Result<(), Fail> {
     let mut due = queue_of(rt.alloc(), &[(100, 7), (100, 9), (100, 7)])?;
     let mut numbers = [0; 3];
     for place in numbers.iter_mut() {
-        let (time, number) = due.take_first().expect(&rt, "an entry that was put in");
+        let (time, number) = due.pop().expect(&rt, "an entry that was put in");
         assert_eq!(rt; time, 100);
         *place = number;
     }

@@ -24,11 +24,11 @@ fn none_of_a_full_class(rt: HostRuntime) -> Result<(), Fail> {
     assert_eq!(rt; numbers.protocol(), Protocol::Udp);
     // The even numbers below 1024.
     for k in 0..511 {
-        numbers.put(2 + 2 * k);
+        numbers.insert(2 + 2 * k);
     }
     let found = choices(&numbers, [2, 1022, 1, 1024]);
     assert_eq!(rt; found, [None, None, Some(1), Some(1024)]);
-    numbers.take(1000);
+    numbers.remove(1000);
     let found = choices(&numbers, [2, 1000, 1002, 1022]);
     assert_eq!(rt; found, [Some(1000); 4]);
     Ok(())

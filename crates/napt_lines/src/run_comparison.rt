@@ -4,7 +4,7 @@ use crate::lines::{leaves_with, side_column};
 use crate::packet_fields::{add_arrival, add_packet, is_end_of_arrival};
 use crate::packet_selection::PacketSelection;
 use napt_commands::{
-    Consumer, CountedRun, Exit, OutsideCapture, RunStart, Seconds, copied, tell_warning,
+    Consumer, CountedRun, Exit, OutsideCapture, RunStart, Seconds, copied, print_warning,
 };
 use napt_records::{OutcomeCounts, cause_name};
 use napt_sequential::{Input, Outcome};
@@ -98,8 +98,8 @@ impl<'a> RunComparison<'a> {
         names: [&str; 2],
     ) -> Result<(), Exit> {
         let [first, second] = names;
-        tell_warning(rt, outside, Some(first), &self.first.losses);
-        tell_warning(rt, outside, Some(second), &self.second.losses);
+        print_warning(rt, outside, Some(first), &self.first.losses);
+        print_warning(rt, outside, Some(second), &self.second.losses);
         self.tell_counts(rt)?;
         if self.different > 0 {
             return Err(Exit::Differ);

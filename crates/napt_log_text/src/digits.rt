@@ -35,7 +35,7 @@ pub fn add_address(text: &mut String, address: u32) -> Result<(), AllocError>
     ensures { OnOk result (string_bytes text.new ≡ string_bytes text.old ++ address_text address) }
 {
     let mut shown = Suffix::new();
-    shown.put_address(address);
+    shown.push_address(address);
     shown.add_to(text)
 }
 
@@ -45,8 +45,8 @@ pub fn add_endpoint(text: &mut String, endpoint: Endpoint) -> Result<(), AllocEr
         ≡ string_bytes text.old ++ endpoint_text endpoint) }
 {
     let mut shown = Suffix::new();
-    shown.put_number(endpoint.number);
-    shown.put_byte(b':');
-    shown.put_address(endpoint.address);
+    shown.push_number(endpoint.number);
+    shown.push_byte(b':');
+    shown.push_address(endpoint.address);
     shown.add_to(text)
 }

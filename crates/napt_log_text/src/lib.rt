@@ -23,7 +23,7 @@ pub use json_object::JsonObject;
 pub use log_reader::{LogFileFault, LogReader, log_has_rows};
 pub use log_row::{LogField, LogRow};
 pub use log_rows::{
-    add_entered, add_first, add_living, add_opening, add_told, begins_piece, log_grows, logs_join,
+    add_entered, add_first, add_living, add_opening, add_part, begins_piece, log_grows, logs_join,
     traces_have_the_rows,
 };
 pub use moment::TimeStamp;

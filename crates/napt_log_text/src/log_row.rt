@@ -50,14 +50,14 @@ impl LogRow {
             result ≡ Some (saved.saved_row event) }
     {
         if field_count(row) == FIELDS {
-            Some(LogRow::of_fields(row))
+            Some(LogRow::from_fields(row))
         } else {
             None
         }
     }
 
     /// The fields at their places in [`header`](crate::header), from 0.
-    fn of_fields(row: &str) -> LogRow
+    fn from_fields(row: &str) -> LogRow
         ensures binding { (time event : Option ℕ) (listed : Logged) →
             saved.IsTimeField time → saved.IsTimeField event → saved.IsEntryField listed →
             saved.fields_in row.now ≡ rows.time_fields time ++ rows.listed_fields event listed →

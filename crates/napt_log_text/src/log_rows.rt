@@ -42,7 +42,7 @@ pub fn add_first(
 
 /// Appends the rows of what the log tells with an input: the bindings that ended since the clock of the input before, the
 /// binding that its packet made, and the packet itself if no binding could be made for it. Fails only if memory runs out.
-pub fn add_told(config: &Config, step: &LogStep, text: &mut String) -> Result<(), AllocError>
+pub fn add_part(config: &Config, step: &LogStep, text: &mut String) -> Result<(), AllocError>
     ensures { OnOk result (string_bytes text.new ≡ string_bytes text.old
         ++ logs.told_rows config.now (told_of_input step.now)) }
 {
@@ -51,7 +51,7 @@ pub fn add_told(config: &Config, step: &LogStep, text: &mut String) -> Result<()
     add_refused(config, &step.refused, text)
 }
 
-/// Appends the rows of what the log tells with the trace of an input, as `add_told` does. Fails only if memory runs out.
+/// Appends the rows of what the log tells with the trace of an input, as `add_part` does. Fails only if memory runs out.
 #[inline(never)]
 pub fn add_entered(config: &Config, told: &LogTrace, text: &mut String) -> Result<(), AllocError>
     ensures { OnOk result (string_bytes text.new ≡ string_bytes text.old

@@ -38,7 +38,7 @@ impl Suffix {
     }
 
     /// Puts an ASCII byte in front.
-    pub(crate) fn put_byte(&mut self, byte: u8)
+    pub(crate) fn push_byte(&mut self, byte: u8)
         requires { (byte < 128) × (length self.old < 40) }
         ensures { self.new ≡ byte ∷ self.old }
     {
@@ -47,7 +47,7 @@ impl Suffix {
     }
 
     /// Puts a number in front, in decimal.
-    pub(crate) fn put_number(&mut self, number: u16)
+    pub(crate) fn push_number(&mut self, number: u16)
         requires { length self.old ≤ 35 }
         ensures text { self.new ≡ decimal number ++ self.old }
         ensures length { length self.new ≤ length self.old + 5 }
@@ -56,18 +56,18 @@ impl Suffix {
     }
 
     /// Puts an address in front.
-    pub(crate) fn put_address(&mut self, address: u32)
+    pub(crate) fn push_address(&mut self, address: u32)
         requires { length self.old ≤ 10 }
         ensures { self.new ≡ address_text address ++ self.old }
     {
         let [first, second, third, fourth] = address.to_be_bytes();
-        self.put_number(u16::from(fourth));
-        self.put_byte(b'.');
-        self.put_number(u16::from(third));
-        self.put_byte(b'.');
-        self.put_number(u16::from(second));
-        self.put_byte(b'.');
-        self.put_number(u16::from(first));
+        self.push_number(u16::from(fourth));
+        self.push_byte(b'.');
+        self.push_number(u16::from(third));
+        self.push_byte(b'.');
+        self.push_number(u16::from(second));
+        self.push_byte(b'.');
+        self.push_number(u16::from(first));
     }
 
     /// Appends it to a text. Fails only if memory runs out.

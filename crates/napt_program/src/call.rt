@@ -35,7 +35,7 @@ pub fn answer_line(rt: &impl Print, fault: LineFault) -> Result<(), Stop>
 
 /// Says on standard error that the log of a program begins a new entry for each binding of the state, at its clock, in ns. Fails
 /// only if memory runs out.
-pub fn tell_new_entries(
+pub fn print_new_entries(
     rt: &impl Eprint,
     alloc: Global,
     name: &str,
@@ -79,7 +79,7 @@ impl ProgramCall {
             let _ = rt.eprintln(line);
         }
         if let Err(stop) = answer {
-            self.tell_advice(rt, *stop);
+            self.print_advice(rt, *stop);
         }
         ExitCode::from(status_at_end(answer))
     }
@@ -112,7 +112,7 @@ impl ProgramCall {
 
     /// Tells people at a terminal what to do about a stop, in a line behind its fault line; of a log that is refused whoever
     /// reads.
-    fn tell_advice(self, rt: &impl Eprint, stop: Stop) {
+    fn print_advice(self, rt: &impl Eprint, stop: Stop) {
         if self.at_terminal || (self.is_heard && matches!(stop, Stop::LogFile(_))) {
             let _ = rt.eprintln(Advice {
                 name: self.name,
@@ -123,34 +123,34 @@ impl ProgramCall {
 
     /// Tells that the entries of the log that the state has are not those of its bindings, so that new ones begin at its
     /// clock, in ns. Fails only if memory runs out.
-    pub fn tell_new_entries(
+    pub fn print_new_entries(
         self,
         rt: &impl Eprint,
         alloc: Global,
         clock: u64,
     ) -> Result<(), AllocError> {
         if self.is_heard {
-            tell_new_entries(rt, alloc, self.name, clock)?;
+            print_new_entries(rt, alloc, self.name, clock)?;
         }
         Ok(())
     }
 
     /// Tells people at a terminal which captures end inside a record.
-    pub fn tell_cuts<S, Q>(
+    pub fn print_cuts<S, Q>(
         self,
         rt: &impl Eprint,
         inside: &CountedSource<S>,
         outside: &CountedSource<Q>,
     ) {
         if inside.is_cut() {
-            self.tell_cut(rt, FileRole::Inside);
+            self.print_cut(rt, FileRole::Inside);
         }
         if outside.is_cut() {
-            self.tell_cut(rt, FileRole::Outside);
+            self.print_cut(rt, FileRole::Outside);
         }
     }
 
-    fn tell_cut(self, rt: &impl Eprint, role: FileRole) {
+    fn print_cut(self, rt: &impl Eprint, role: FileRole) {
         if self.at_terminal {
             let (name, side) = (self.name, role.name());
             let _ = eprintln!(rt;

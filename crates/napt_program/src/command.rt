@@ -97,7 +97,7 @@ pub fn open<'r, R: Files + Input + Print + AllocGlobal>(
     }
     let config = configuration(rt, options.files.config.as_ref())?;
     let StateFileContents { state, log } = state_at(rt, &config, options.files.resume.as_ref())?;
-    let told = options.files.resume.as_ref().map(|_| bytes_told(&log));
+    let told = options.files.resume.as_ref().map(|_| announced_bytes(&log));
     let FilesWithLog { files, log: file } = open_files(rt, options, told)?;
     let held = if file.is_some() { HELD } else { BUFFERED };
     Ok(RunResources {
@@ -111,7 +111,7 @@ pub fn open<'r, R: Files + Input + Print + AllocGlobal>(
 }
 
 /// How many bytes a state tells of its log; 0 if it has none.
-fn bytes_told(log: &Option<LogPosition>) -> u64
+fn announced_bytes(log: &Option<LogPosition>) -> u64
     ensures some { IfSome log.now (λ log. result ≡ log.length) }
     ensures none { log.now ≡ None → result ≡ 0 }
 {

@@ -22,7 +22,7 @@ mod state_reading;
 mod stop;
 mod streams;
 
-pub use crate::call::{ProgramCall, answer_line, tell_new_entries};
+pub use crate::call::{ProgramCall, answer_line, print_new_entries};
 pub use crate::command::{RunResources, open, stop_of_run, words};
 pub use crate::config_file::{
     MOST_BYTES, config_from, config_text, configuration, open_config, unread_config,

@@ -55,7 +55,7 @@ impl<'r, R: Files + AllocGlobal> LogPieces<'r, R> {
     }
 
     /// Makes the system keep the piece, and creates the next.
-    fn go_on(&mut self) -> io::Result<()>
+    fn advance(&mut self) -> io::Result<()>
         ensures { IfOk result (λ _. piece_of self.old < piece_of self.new) }
     {
         self.piece.flush()?;
@@ -87,7 +87,7 @@ impl<'r, R: Files + AllocGlobal> Write for LogPieces<'r, R> {
             piece_of self.new ≡ piece_of self.old }
     {
         if self.needs_new_piece(bytes) {
-            self.go_on()?;
+            self.advance()?;
         }
         let count = self.piece.write(bytes)?;
         self.has_text = self.has_text || count > 0;

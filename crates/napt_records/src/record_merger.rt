@@ -83,7 +83,7 @@ impl RecordMerger {
     }
 
     /// The next input; none at the end.
-    fn take(&mut self) -> Option<Input>
+    fn pop(&mut self) -> Option<Input>
         ensures { InputIsTaken self.old result self.new }
     {
         let (side, record) = take_next(&mut self.inside, &mut self.outside)?;
@@ -120,7 +120,7 @@ impl InputSource for RecordMerger {
     }
 
     fn next(&mut self, _spare: Vec<u8>) -> Result<Option<Input>, NoFault> {
-        Ok(self.take())
+        Ok(self.pop())
     }
 }
 
@@ -137,7 +137,7 @@ pub fn merge(
 {
     let mut merged = RecordMerger::new(inside, outside);
     let mut inputs = Vec::with_capacity(alloc, merged.count())?;
-    while let Some(input) = merged.take() {
+    while let Some(input) = merged.pop() {
         inputs.push(input)?;
     }
     Ok(inputs)

@@ -124,7 +124,7 @@ impl<'a, 'b, R: Source, Q: Source> StreamMerger<'a, 'b, R, Q> {
 
     /// Takes the next record, of those that were read.
     #[inline(always)]
-    fn take(&mut self) -> Option<Input>
+    fn pop(&mut self) -> Option<Input>
         ensures takes { TakesAny self.old.inside_first self.old.outside_first self.old.clock
             result self.new.inside_first self.new.outside_first self.new.clock }
         ensures inside { self.new.inside ≡ self.old.inside }
@@ -169,6 +169,6 @@ impl<'a, 'b, R: Source, Q: Source> InputSource for StreamMerger<'a, 'b, R, Q> {
     fn next(&mut self, spare: Vec<u8>) -> Result<Option<Input>, SideFault> {
         let mut spare = spare;
         self.look(&mut spare)?;
-        Ok(self.take())
+        Ok(self.pop())
     }
 }

@@ -50,7 +50,7 @@ impl<W: Sink, V: Sink, K: Logging> OutcomeSink for LeavingWithLog<'_, '_, '_, W,
     ghost is_settled = { λ x. AreSettled K.is_settled x };
 
     #[inline(always)]
-    fn leave(
+    fn write(
         &mut self,
         time: u64,
         departed: InputResult<K::Told>,

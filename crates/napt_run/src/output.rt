@@ -47,7 +47,7 @@ impl<'a, W: Sink> Output<'a, W> {
         if self.is_broken {
             return Err(WriteFault { written: before });
         }
-        match CaptureWriter::begin(self.device) {
+        match CaptureWriter::create(self.device) {
             Ok(written) => {
                 self.written = before.saturating_add(written.bytes());
                 Ok(())
@@ -72,7 +72,7 @@ impl<'a, W: Sink> Output<'a, W> {
 
     /// Writes the record of a packet, with its arrival time in ns.
     #[inline(always)]
-    pub(crate) fn put(&mut self, time: u64, bytes: &[u8]) -> Result<(), WriteFault>
+    pub(crate) fn write_record(&mut self, time: u64, bytes: &[u8]) -> Result<(), WriteFault>
         requires { length bytes.now < 2 ^ 16 }
         ensures ok { IsTime time → OnOk result (OutputGrows self.old
             (record_text (entry_of_packet time bytes.now)) self.new) }
@@ -97,7 +97,7 @@ impl<'a, W: Sink> Output<'a, W> {
     }
 
     /// Writes a text.
-    pub(crate) fn put_text(&mut self, text: &[u8]) -> Result<(), WriteFault>
+    pub(crate) fn write_text(&mut self, text: &[u8]) -> Result<(), WriteFault>
         ensures ok { OnOk result (OutputGrows self.old text.now self.new) }
         ensures err { IfErr result (λ fault. self.old.is_broken ≡ false →
             Breaks self.old text.now fault self.new) }

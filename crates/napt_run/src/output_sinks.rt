@@ -94,10 +94,16 @@ impl<'a, 'b, W: Sink, V: Sink> Leaving<'a, 'b, W, V> {
         self.counts.count(outcome);
         match outcome {
             Outcome::ToOutside(packet) => {
-                named(Which::Outside, self.to_outside.put(time, bytes_of(packet)))
+                named(
+                    Which::Outside,
+                    self.to_outside.write_record(time, bytes_of(packet)),
+                )
             }
             Outcome::ToInside(packet) => {
-                named(Which::Inside, self.to_inside.put(time, bytes_of(packet)))
+                named(
+                    Which::Inside,
+                    self.to_inside.write_record(time, bytes_of(packet)),
+                )
             }
             Outcome::Dropped(_) => Ok(()),
         }

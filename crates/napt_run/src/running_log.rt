@@ -91,7 +91,7 @@ impl<'a, 'b, L: Sink> RunningLog<'a, 'b, L> {
             Adds from [] (string_bytes self.old.opening) self.old.output result self.new }
     {
         let opening = mem::replace(&mut self.opening, String::new(self.alloc));
-        self.put(&opening)
+        self.write(&opening)
     }
 
     /// Writes the rows of what lives at the end, unless another run goes on with it, and flushes them. Then what is kept of
@@ -104,7 +104,7 @@ impl<'a, 'b, L: Sink> RunningLog<'a, 'b, L> {
     {
         self.left = self.log.left(self.alloc)?;
         let text = self.ending()?;
-        self.put(&text)
+        self.write(&text)
     }
 
     /// Flushes what was written before a run failed, if that still goes. If a capture failed, it is flushed already.
@@ -137,12 +137,12 @@ impl<'a, 'b, L: Sink> RunningLog<'a, 'b, L> {
     }
 
     /// Writes a text, and flushes it.
-    fn put(&mut self, text: &str) -> Result<(), LogRunFault>
+    fn write(&mut self, text: &str) -> Result<(), LogRunFault>
         ensures text { (from : LoggedOrigin) (before : List Did) → LogIsAt from before self.old →
             Adds from before text.now self.old.output result self.new }
         ensures left { self.new.left ≡ self.old.left }
     {
-        self.output.put_text(text.as_bytes())?;
+        self.output.write_text(text.as_bytes())?;
         Ok(self.output.flush()?)
     }
 
@@ -218,7 +218,7 @@ impl<L: Sink> Logging for RunningLog<'_, '_, L> {
         if rows.is_empty() {
             return Ok(());
         }
-        self.output.put_text(rows)?;
+        self.output.write_text(rows)?;
         Ok(())
     }
 

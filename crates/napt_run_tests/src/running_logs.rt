@@ -129,7 +129,7 @@ fn run_on(
     )?;
     Ok(Part {
         text: log.into_inner(),
-        state: left.passed.left(alloc)?,
+        state: left.passed.final_bindings(alloc)?,
         kept: left.log,
     })
 }

@@ -87,7 +87,7 @@ impl OutcomeSink for Count {
 
     ghost takes_more = { λ x y z xs ys first second. tt };
 
-    fn leave(
+    fn write(
         &mut self,
         _time: u64,
         _departed: InputResult<NoTrace>,

@@ -20,7 +20,7 @@ impl CountedTranslator {
     ghost use Rattle.napt_rules.specs.Prelude.{AreBindingsLeft};
 
     /// Translates and counts a leg; returns its answer and what it did.
-    pub(crate) fn take(
+    pub(crate) fn translate(
         &mut self,
         alloc: Global,
         leg: Leg,
@@ -30,7 +30,7 @@ impl CountedTranslator {
             ≡ traced_answer (λ passage. passage) leg self.old.translator) }
         ensures left { OnOk result (self.new ≡ counted_after leg self.old) }
     {
-        let told = Passage::tell(alloc, &mut self.translator, leg)?;
+        let told = Passage::translate_traced(alloc, &mut self.translator, leg)?;
         self.legs += 1;
         Ok(told)
     }
@@ -43,10 +43,14 @@ impl CountedTranslator {
     }
 
     /// The bindings that are live or held at a time, in ns, in the order of their rows.
-    pub(crate) fn left(&self, alloc: Global, now: u64) -> Result<Vec<StateBinding>, AllocError>
+    pub(crate) fn final_bindings(
+        &self,
+        alloc: Global,
+        now: u64,
+    ) -> Result<Vec<StateBinding>, AllocError>
         ensures { IfOk result (λ made. AreBindingsLeft self.now.translator.rules.timers
             (max now self.now.translator.table.at) (bindings_left_at now self.now) made.items) }
     {
-        self.translator.left(alloc, now)
+        self.translator.final_bindings(alloc, now)
     }
 }

@@ -29,7 +29,7 @@ pub trait LegTrace: Copy + Drop + Send + 'static {
 
     /// Translates a leg, as `Translator::translate` does, and tells of it. If memory is refused nothing changes, and the leg is
     /// lost.
-    fn tell(
+    fn translate_traced(
         alloc: Global,
         translator: &mut Translator,
         leg: Leg,
@@ -52,7 +52,7 @@ impl LegTrace for NoTrace {
         NoTrace
     }
 
-    fn tell(
+    fn translate_traced(
         alloc: Global,
         translator: &mut Translator,
         leg: Leg,
@@ -73,7 +73,7 @@ impl LegTrace for Passage {
         Passage::Nothing
     }
 
-    fn tell(
+    fn translate_traced(
         alloc: Global,
         translator: &mut Translator,
         leg: Leg,
@@ -81,7 +81,7 @@ impl LegTrace for Passage {
         // called for its clause alone: a translator keeps its rules
         translator.keep_rules();
         let now = leg.now;
-        let seen = PacketTuple::of(&leg.packet);
+        let seen = PacketTuple::from_packet(&leg.packet);
         let answer = translator.translate(alloc, leg)?;
         let passage = passage(translator, now, seen, &answer.end);
         Ok(TracedAnswer { answer, passage })

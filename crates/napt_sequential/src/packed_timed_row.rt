@@ -60,7 +60,7 @@ const UNIT: u128 = 18_446_744_073_709_551_616;
 impl PackedTimedRow {
     /// Of this row and end.
     #[inline(always)]
-    pub(crate) fn of(timed: TimedRow) -> PackedTimedRow
+    pub(crate) fn from_row(timed: TimedRow) -> PackedTimedRow
         ensures { result ≡ timed }
     {
         let TimedRow { row, end } = timed;

@@ -51,7 +51,7 @@ pub(crate) struct PacketTuple {
 impl PacketTuple {
     ghost use Rattle.napt_sequential.specs.CountedTranslators.{seen_of};
 
-    pub(crate) fn of(packet: &Packet) -> PacketTuple
+    pub(crate) fn from_packet(packet: &Packet) -> PacketTuple
         ensures { result ≡ seen_of packet.now }
     {
         let protocol = match packet.kind() {
@@ -74,7 +74,7 @@ pub(crate) fn gone_by(way: Way, found: Option<TimedRow>) -> Passage
 {
     match (way, found) {
         (_, None) => Passage::Nothing,
-        (Way::Outgoing, Some(row)) => Passage::Out(PackedTimedRow::of(row)),
-        (Way::Incoming, Some(row)) => Passage::In(PackedTimedRow::of(row)),
+        (Way::Outgoing, Some(row)) => Passage::Out(PackedTimedRow::from_row(row)),
+        (Way::Incoming, Some(row)) => Passage::In(PackedTimedRow::from_row(row)),
     }
 }

@@ -31,7 +31,7 @@ impl SequentialRun {
     ghost use Rattle.napt_sequential.specs.SequentialRuns.{IsRunFromOpening, SequentialRunInvariant, StepPost};
 
     /// A run before its first input, with the bindings that the configuration opens with.
-    pub fn begin(alloc: Global, config: &Config) -> Result<SequentialRun, AllocError>
+    pub fn from_config(alloc: Global, config: &Config) -> Result<SequentialRun, AllocError>
         ensures kept { RulesInvariant config.now }
         ensures begun { IfOk result (IsRunFromOpening config.now []) }
     {
@@ -140,7 +140,7 @@ impl SequentialRun {
 
     /// The state that it leaves, from which a run goes on: the bindings that are live or held at the latest clock, in
     /// the order of `bindings`.
-    pub fn left(&self, alloc: Global) -> Result<State, AllocError>
+    pub fn final_bindings(&self, alloc: Global) -> Result<State, AllocError>
         ensures { (rules : Rules) (state : State) (inputs : List Arrival) →
             SequentialRunInvariant rules state inputs self.now →
             IfOk result (IsStateInOrder rules (model.next_state rules state inputs)) }

@@ -1,7 +1,7 @@
 //! How much captures show: what figures for a plan need and captures may lack.
 
 use napt_account::{LogEntry, LogStep};
-use napt_commands::begin_warning;
+use napt_commands::start_warning;
 use napt_sequential::{Input, Outcome};
 use napt_wire::{Cause, Side};
 
@@ -79,7 +79,7 @@ impl Coverage {
         if !is_half && span >= self.longest {
             return;
         }
-        begin_warning(rt, under);
+        start_warning(rt, under);
         let (span, longest) = (span / SECOND, self.longest / SECOND);
         let _ = match is_half {
             true => eprint!(rt;

@@ -11,7 +11,7 @@ pub mod table;
 use crate::plan::plan_run::PlanRun;
 use crate::plan::sheet::write_sheet;
 use crate::plan::table::tell_table;
-use napt_commands::{Consumer, Exit, OutsideCapture, tell_warning};
+use napt_commands::{Consumer, Exit, OutsideCapture, print_warning};
 use napt_config::Config;
 use napt_sequential::Input;
 use std::alloc::{AllocError, Global};
@@ -64,7 +64,7 @@ impl<'a> PlanTable<'a> {
         }
         let mut lines = Vec::new(rt.alloc());
         for (path, run) in self.paths.iter().zip(&self.runs) {
-            tell_warning(rt, outside, Some(path), &run.losses);
+            print_warning(rt, outside, Some(path), &run.losses);
             run.tell_living(rt, path)?;
             lines.push(run.figures(rt.alloc())?)?;
         }

@@ -18,7 +18,7 @@ fn has_live(flows: &[Flow], timers: IdleTimers, now: u64) -> bool
 }
 
 /// Removes those of these TCP flows that do not live at a time, in ns.
-fn keep_live(flows: &mut Vec<Flow>, timers: IdleTimers, now: u64)
+fn retain_live(flows: &mut Vec<Flow>, timers: IdleTimers, now: u64)
     ensures { flows.new.items ≡ filter (life.is_live_flow timers now) flows.old.items }
 {
     flows.retain(|flow| is_live_flow(flow, timers, now));
@@ -32,7 +32,7 @@ fn is_live(binding: &StateBinding, config: &Config, now: u64) -> bool
         return true;
     }
     let idle = config.timers();
-    let timers = IdleTimers::of(config);
+    let timers = IdleTimers::from_config(config);
     match binding.row.protocol {
         Protocol::Icmp => is_recent(now, binding.last, idle.icmp),
         Protocol::Udp => is_recent(now, binding.last, idle.udp),
@@ -41,11 +41,11 @@ fn is_live(binding: &StateBinding, config: &Config, now: u64) -> bool
 }
 
 /// Removes the flows that do not live at a time, in ns.
-fn keep_live_flows(binding: &mut StateBinding, config: &Config, now: u64)
+fn retain_live_flows(binding: &mut StateBinding, config: &Config, now: u64)
     ensures { binding.new ≡ life.with_live_flows config.now.timers now binding.old }
 {
     if let Protocol::Tcp = binding.row.protocol {
-        keep_live(&mut binding.flows, IdleTimers::of(config), now);
+        retain_live(&mut binding.flows, IdleTimers::from_config(config), now);
     }
 }
 
@@ -56,15 +56,15 @@ fn goes_on(binding: &mut StateBinding, config: &Config, now: u64) -> bool
     ensures flows { binding.new ≡ life.with_live_flows config.now.timers now binding.old }
 {
     let goes = !binding.row.fixed && is_live(binding, config, now);
-    keep_live_flows(binding, config, now);
+    retain_live_flows(binding, config, now);
     goes
 }
 
 /// Removes redirects, and what has gone at the state's clock.
-fn keep_loose(config: &Config, state: &mut State)
+fn retain_dynamic(config: &Config, state: &mut State)
     ensures { state.new ≡ record state.old { list = taking.dynamic_bindings config.now state.old } }
 {
-    let now = IdleTimers::of(config).hold_ago(state.clock);
+    let now = IdleTimers::from_config(config).hold_ago(state.clock);
     state
         .list
         .retain_mut(|binding| goes_on(binding, config, now));
@@ -84,6 +84,6 @@ pub fn take_up(
     ensures same { OnOk result
         (taking.with_redirects config.now state.new ≡ taking.with_redirects config.now state.old) }
 {
-    keep_loose(config, state);
+    retain_dynamic(config, state);
     first_misfit(alloc, config, state)
 }

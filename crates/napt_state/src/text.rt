@@ -25,7 +25,7 @@ fn put_line<W: Write>(writer: &mut W, line: &mut String, entry: &StateLine) -> i
 }
 
 /// Writes a binding and its flows.
-fn put_binding<W: Write>(
+fn push_binding<W: Write>(
     writer: &mut W,
     line: &mut String,
     binding: &StateBinding,
@@ -41,7 +41,7 @@ fn put_binding<W: Write>(
 }
 
 /// Writes a log and its entries.
-fn put_log<W: Write>(writer: &mut W, line: &mut String, saved: &LogPosition) -> io::Result<()>
+fn push_log<W: Write>(writer: &mut W, line: &mut String, saved: &LogPosition) -> io::Result<()>
     ensures { OnOk result (Appends (W.contents writer.old) (W.contents writer.new)
         (flat_map texts.line_text (texts.log_lines (Some saved.now)))) }
 {
@@ -53,7 +53,7 @@ fn put_log<W: Write>(writer: &mut W, line: &mut String, saved: &LogPosition) -> 
 }
 
 /// Writes a log and its entries, if there is one.
-fn put_any_log<W: Write>(
+fn push_any_log<W: Write>(
     writer: &mut W,
     line: &mut String,
     log: Option<&LogPosition>,
@@ -62,7 +62,7 @@ fn put_any_log<W: Write>(
         (flat_map texts.line_text (texts.log_lines (option_copied log.entry)))) }
 {
     match log {
-        Some(saved) => put_log(writer, line, saved),
+        Some(saved) => push_log(writer, line, saved),
         None => Ok(()),
     }
 }
@@ -81,9 +81,9 @@ pub fn write_state<W: Write>(
     let mut line = String::new(alloc);
     put_line(writer, &mut line, &StateLine::Clock(state.clock))?;
     for binding in &state.list {
-        put_binding(writer, &mut line, binding)?;
+        push_binding(writer, &mut line, binding)?;
     }
-    put_any_log(writer, &mut line, log)?;
+    push_any_log(writer, &mut line, log)?;
     let counts = LineCounts::of(state, log)?;
     put_line(writer, &mut line, &StateLine::End(counts))?;
     writer.flush()

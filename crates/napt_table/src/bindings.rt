@@ -81,7 +81,7 @@ fn requeue_or_remove(
     }
     let ago = timers.hold_ago(at);
     if is_live(binding, timers, ago) {
-        due.put(until(binding, timers, ago), key);
+        due.push(until(binding, timers, ago), key);
     } else {
         held.remove(key);
     }
@@ -175,7 +175,7 @@ impl Bindings {
         ensures { result ≡ option_map (timed_row self.now.timers)
             (seen_binding self.now.timers now (held_at self.now.held protocol number)) }
     {
-        self.timers.keep_limits();
+        self.timers.are_within_limits();
         match self.held.find(ExternalNumberKey { number, protocol }) {
             Some((_, binding)) if is_live(binding, self.timers, now) => Some(TimedRow {
                 row: binding.row.row(),
@@ -199,7 +199,7 @@ impl Bindings {
         ensures receives { ReceivePost inbound packet self.old self.new result }
     {
         let timers = self.timers;
-        timers.keep_limits();
+        timers.are_within_limits();
         self.held.keep_names();
         self.at = packet.now;
         let held = &mut self.held;
@@ -222,12 +222,12 @@ impl Bindings {
     {
         let (timers, at) = (self.timers, self.at);
         let ago = timers.hold_ago(at);
-        match self.due.first() {
+        match self.due.peek() {
             Some((until, _)) if until < ago => {}
             _ => return false,
         }
         let due = &mut self.due;
-        let Some((_, key)) = due.take_first() else {
+        let Some((_, key)) = due.pop() else {
             return false;
         };
         requeue_or_remove(&mut self.held, &mut self.due, timers, at, key);
@@ -288,7 +288,11 @@ impl Bindings {
     }
 
     /// The bindings that are live or held at `now` (ns), as a state has them, in no order.
-    pub(crate) fn left(&self, alloc: Global, now: u64) -> Result<Vec<StateBinding>, AllocError>
+    pub(crate) fn final_bindings(
+        &self,
+        alloc: Global,
+        now: u64,
+    ) -> Result<Vec<StateBinding>, AllocError>
         ensures bindings { IfOk result (λ made. made.items
             ≡ live_and_held self.now.timers now (values_of self.now.held.entries)) }
         ensures distinct { IfOk result (λ made. All (λ b. AreDistinct b.flows) made.items) }
@@ -296,7 +300,7 @@ impl Bindings {
         ensures used { AreUsedUpTo self.now.at self.now.held }
     {
         let ago = self.timers.hold_ago(now);
-        self.held.left(alloc, self.timers, ago)
+        self.held.final_bindings(alloc, self.timers, ago)
     }
 }
 

@@ -51,7 +51,7 @@ impl HostCounts {
     }
 
     /// Counts the binding, for whose host there is room. A redirect does not count.
-    pub(crate) fn put(&mut self, binding: &TableBinding)
+    pub(crate) fn increment(&mut self, binding: &TableBinding)
         requires room { 0 < host_place self.old }
         requires fits { count_in self.old binding.now.row.inside.address + 1 < 2 ^ 64 }
         ensures counted { are_counted self.new ≡ are_counted self.old }
@@ -59,20 +59,24 @@ impl HostCounts {
             (host : ℕ) → count_in self.new host ≡ count_in self.old host + cond {A = ℕ} (held_counts_for host (Some binding.now)) 1 0 }
     {
         match &mut self.counts {
-            Some(counts) if !binding.row.is_fixed() => counts.put(binding.row.inside().address),
+            Some(counts) if !binding.row.is_fixed() => counts.increment(
+                binding.row.inside().address,
+            ),
             _ => {}
         }
     }
 
     /// Counts it no longer.
-    pub(crate) fn take(&mut self, binding: &TableBinding)
+    pub(crate) fn decrement(&mut self, binding: &TableBinding)
         ensures counted { are_counted self.new ≡ are_counted self.old }
         ensures counts { (host : ℕ) →
             count_in self.new host ≡ count_in self.old host - cond {A = ℕ} (held_counts_for host (Some binding.now)) 1 0 }
         ensures room { host_place self.old ≤ host_place self.new }
     {
         match &mut self.counts {
-            Some(counts) if !binding.row.is_fixed() => counts.take(binding.row.inside().address),
+            Some(counts) if !binding.row.is_fixed() => counts.decrement(
+                binding.row.inside().address,
+            ),
             _ => {}
         }
     }

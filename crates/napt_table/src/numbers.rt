@@ -205,24 +205,24 @@ impl Numbers {
     }
 
     /// Marks the number as in use, if it is free.
-    pub fn put(&mut self, number: u16)
+    pub fn insert(&mut self, number: u16)
         ensures protocol { self.new.protocol ≡ self.old.protocol }
         ensures used { (n : ℕ) → n < 2 ^ 16 → is_used self.new n
             ≡ ((n == number) || is_used self.old n) }
     {
         let place = place_of(number);
         let places = &mut self.places;
-        places.put(place);
+        places.insert(place);
     }
 
     /// Frees the number, if it is in use.
-    pub fn take(&mut self, number: u16)
+    pub fn remove(&mut self, number: u16)
         ensures protocol { self.new.protocol ≡ self.old.protocol }
         ensures used { (n : ℕ) → n < 2 ^ 16 → is_used self.new n
             ≡ (not (n == number) && is_used self.old n) }
     {
         let place = place_of(number);
         let places = &mut self.places;
-        places.take(place);
+        places.remove(place);
     }
 }

@@ -7,7 +7,7 @@ ghost use Rattle.napt_rules.specs.Prelude as rules;
 
 use crate::bindings::Bindings;
 use http_server::Log;
-use napt_binding::{Flows, IdleTimers, PackedRow, TableBinding, from_state, inbound_of};
+use napt_binding::{Flows, IdleTimers, PackedRow, TableBinding, from_state, inbound_rules};
 use napt_config::{Config, Redirect};
 use napt_rules::{AssignmentRules, InboundRules, Row, State, StateBinding};
 use napt_wire::{Endpoint, Protocol};
@@ -36,7 +36,7 @@ impl Model for TableBuilder {
 }
 
 /// How the configuration has numbers granted.
-fn granting_of(config: &Config) -> AssignmentRules
+fn assignment_rules(config: &Config) -> AssignmentRules
     ensures granting { result ≡ rules.assignment_rules config.now }
     ensures kept { RulesInvariant config.now }
 {
@@ -91,10 +91,10 @@ impl TableBuilder {
             it ≡ record (initial_table config.now address) { list = []; at = at }) }
         ensures rules { OnOk result (RulesInvariant config.now) }
     {
-        let granting = granting_of(config);
-        let timers = IdleTimers::of(config);
+        let granting = assignment_rules(config);
+        let timers = IdleTimers::from_config(config);
         Ok(TableBuilder {
-            inbound: inbound_of(config),
+            inbound: inbound_rules(config),
             list: Log::new(),
             bindings: Bindings::new(alloc, address, timers, granting, at)?,
         })
@@ -119,7 +119,7 @@ impl TableBuilder {
     }
 
     /// Adds a binding of a state, if it is one of the address, no redirect, and lives or is held.
-    fn take_up(&mut self, alloc: Global, binding: &StateBinding) -> Result<(), AllocError>
+    fn restore(&mut self, alloc: Global, binding: &StateBinding) -> Result<(), AllocError>
         requires apart { AreBindingsApart (map row (self.old.list
             ++ state_bindings_at self.old.timers self.old.at self.old.address (binding.now ∷ []))) }
         requires last { Each (λ b. b.last ≤ self.old.at)
@@ -176,7 +176,7 @@ impl TableBuilder {
     {
         let mut beginning = TableBuilder::redirects(alloc, address, config, state.clock)?;
         for binding in &state.list {
-            beginning.take_up(alloc, binding)?;
+            beginning.restore(alloc, binding)?;
         }
         Ok(beginning)
     }

@@ -21,7 +21,7 @@ pub(crate) struct Change {
 
 impl Change {
     /// The change of the word at a place.
-    pub(crate) fn of(bytes: &[u8], place: usize, new: u16) -> Change
+    pub(crate) fn from_words(bytes: &[u8], place: usize, new: u16) -> Change
         requires { place + 2 ≤ length bytes.now }
         ensures { result ≡ word_change bytes.now place new }
     {
@@ -98,7 +98,7 @@ impl Header {
         let old = self.end(bytes, end);
         let (number, transport_check) = match self.number_place(end) {
             Some(place) => (
-                Some(Change::of(bytes, place, new.number)),
+                Some(Change::from_words(bytes, place, new.number)),
                 self.rewrite_check(bytes, old, new),
             ),
             None => (None, None),
@@ -119,9 +119,9 @@ impl Header {
         let old = read_long(bytes, place);
         let check = read_word(bytes, self.at + 10);
         AddressRewrite {
-            header_check: Change::of(bytes, self.at + 10, fix_address(check, old, new)),
-            high: Change::of(bytes, place, (new >> 16) as u16),
-            low: Change::of(bytes, place + 2, (new & 0xffff) as u16),
+            header_check: Change::from_words(bytes, self.at + 10, fix_address(check, old, new)),
+            high: Change::from_words(bytes, place, (new >> 16) as u16),
+            low: Change::from_words(bytes, place + 2, (new & 0xffff) as u16),
         }
     }
 
@@ -135,18 +135,18 @@ impl Header {
         match self.form {
             TransportForm::Udp => {
                 let check = read_word(bytes, start + 6);
-                Some(Change::of(bytes, start + 6, fix_end_udp(check, old, new)))
+                Some(Change::from_words(bytes, start + 6, fix_end_udp(check, old, new)))
             }
             TransportForm::Tcp => {
                 if bytes.len() < start + 18 {
                     return None;
                 }
                 let check = read_word(bytes, start + 16);
-                Some(Change::of(bytes, start + 16, fix_end(check, old, new)))
+                Some(Change::from_words(bytes, start + 16, fix_end(check, old, new)))
             }
             TransportForm::Request | TransportForm::Reply => {
                 let check = read_word(bytes, start + 2);
-                Some(Change::of(bytes, start + 2, fix_check(check, old.number, new.number)))
+                Some(Change::from_words(bytes, start + 2, fix_check(check, old.number, new.number)))
             }
             TransportForm::Error => None,
         }
@@ -202,7 +202,7 @@ pub(crate) struct ErrorRewrite {
 impl ErrorRewrite {
     /// What changes in an error that goes this way, with this header, when the inside end of the datagram that it
     /// quotes, whose header is `inner`, becomes `end`.
-    pub(crate) fn of(
+    pub(crate) fn from_packet(
         bytes: &[u8],
         error: Header,
         inner: Header,
@@ -217,7 +217,7 @@ impl ErrorRewrite {
         let check = quoted.fix(read_word(bytes, error.start + 2));
         ErrorRewrite {
             quoted,
-            check: Change::of(bytes, error.start + 2, check),
+            check: Change::from_words(bytes, error.start + 2, check),
             address: error.rewrite_address(bytes, outer_end(way), end.address),
         }
     }

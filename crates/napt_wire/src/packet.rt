@@ -199,7 +199,7 @@ impl Packet {
             unreachable!();
         };
         let quoted = self.quoted_header(quoted);
-        let rewrite = ErrorRewrite::of(&self.bytes, self.header(), quoted, way, end);
+        let rewrite = ErrorRewrite::from_packet(&self.bytes, self.header(), quoted, way, end);
         rewrite.write(&mut self.bytes);
     }
 

@@ -127,7 +127,7 @@ fn read_body(side: Side, bytes: &[u8], start: usize) -> Result<Body, Cause>
     if bytes.len() < start + 8 {
         return Err(Cause::BadHeader);
     }
-    let form = TransportForm::of(bytes, 0, start);
+    let form = TransportForm::from_protocol(bytes, 0, start);
     if has_bad_transport(form, &bytes[start..]) {
         return Err(Cause::BadHeader);
     }
@@ -252,7 +252,7 @@ fn read_inner(side: Side, bytes: &[u8], at: usize) -> Option<Header>
     if read_word(bytes, at + 6) & 0x1fff != 0 || !is_known(bytes[at + 9]) {
         return None;
     }
-    let form = TransportForm::of(bytes, at, start);
+    let form = TransportForm::from_protocol(bytes, at, start);
     if !is_quoted(side, form) || read_long(bytes, at + 12) != read_long(bytes, 16) {
         return None;
     }

@@ -21,7 +21,7 @@ pub(crate) enum TransportForm {
 impl TransportForm {
     /// The form of the datagram at `at`, whose transport header begins at `start`.
     #[tactic(auto, unfolding(crate::specs::Fields::form_at))]
-    pub(crate) fn of(bytes: &[u8], at: usize, start: usize) -> TransportForm
+    pub(crate) fn from_protocol(bytes: &[u8], at: usize, start: usize) -> TransportForm
         requires header { at + 20 ≤ start }
         requires start { start ≡ transport_start at bytes.now }
         requires room { start + 1 ≤ length bytes.now }
@@ -30,12 +30,12 @@ impl TransportForm {
         match bytes[at + 9] {
             17 => TransportForm::Udp,
             6 => TransportForm::Tcp,
-            _ => TransportForm::of_icmp(bytes[start]),
+            _ => TransportForm::from_icmp_type(bytes[start]),
         }
     }
 
     /// The form of an ICMP message, by its type (RFC 792).
-    fn of_icmp(icmp_type: u8) -> TransportForm
+    fn from_icmp_type(icmp_type: u8) -> TransportForm
         ensures { result ≡ icmp_form icmp_type }
     {
         match icmp_type {

@@ -36,7 +36,7 @@ impl<'p, S: Source, R: Eprint + Clock> Source for CountedDevice<'p, S, R> {
     ghost failed = { λ counted. S.failed counted.device.device };
 
     fn read(&mut self, buffer: &mut [u8]) -> Result<usize, DeviceFault> {
-        self.progress.tell();
+        self.progress.print();
         let before = self.device.records();
         let count = self.device.read(buffer)?;
         self.progress

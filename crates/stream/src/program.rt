@@ -86,13 +86,13 @@ fn run<R: ProgramHost + Clock>(
         kept: &kept,
         gate,
     };
-    run.tell_new_entries(rt, call)?;
+    run.print_new_entries(rt, call)?;
     let answer = run.over(rt, &mut captures, &mut outputs, log);
-    progress.tell_end();
+    progress.print_end();
     let left = answer?;
-    call.tell_cuts(rt, captures.inside.tallied(), captures.outside.tallied());
+    call.print_cuts(rt, captures.inside.tallied(), captures.outside.tallied());
     if let Some(save) = save {
-        let state = left.passed.left(rt.alloc())?;
+        let state = left.passed.final_bindings(rt.alloc())?;
         save.finish(rt, rt.alloc(), &state, left.log.as_ref())?;
     }
     Ok(())

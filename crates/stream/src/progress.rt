@@ -79,7 +79,7 @@ impl<'r, R: Eprint + Clock> ProgressReport<'r, R> {
 
     /// If it is time for another line, writes how many packets were read, how many a second since the last line, and how many
     /// bindings there are.
-    pub fn tell(&self) {
+    pub fn print(&self) {
         let Some(now) = self.mark() else {
             return;
         };
@@ -97,7 +97,7 @@ impl<'r, R: Eprint + Clock> ProgressReport<'r, R> {
     }
 
     /// Ends the line, if there is one, with how many packets were read in the whole run, and how many bindings it leaves.
-    pub fn tell_end(&self) {
+    pub fn print_end(&self) {
         if self.told.get().millis == 0 {
             return;
         }

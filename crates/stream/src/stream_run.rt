@@ -56,7 +56,7 @@ pub struct StreamRemainder {
 impl<'a> StreamRun<'a> {
     /// Says on standard error if the log, where there is one, begins new entries for the bindings of the state, because those
     /// that were kept are not theirs.
-    pub fn tell_new_entries<R: Eprint + AllocGlobal>(
+    pub fn print_new_entries<R: Eprint + AllocGlobal>(
         &self,
         rt: &R,
         call: ProgramCall,
@@ -70,7 +70,7 @@ impl<'a> StreamRun<'a> {
         }
         let fits = kept.is_of(rt.alloc(), self.config, state)?;
         if !fits {
-            call.tell_new_entries(rt, rt.alloc(), state.clock)?;
+            call.print_new_entries(rt, rt.alloc(), state.clock)?;
         }
         Ok(())
     }

@@ -10,7 +10,7 @@ ghost use Rattle.napt_rules.specs.FlowUpdates as traffic;
 
 use crate::idle_timers::IdleTimers;
 use crate::life::{flow_end, flow_moment, is_live_flow, is_standing};
-use crate::outbound::{begun_by, used_by};
+use crate::outbound::{flow_after, new_flow};
 use crate::traffic::{is_flow_of, used};
 use napt_rules::{Flow, OutboundPacket};
 use napt_wire::{Endpoint, Flags, Protocol, Way};
@@ -71,7 +71,7 @@ pub(super) fn count_standing(flows: &[Flow], timers: IdleTimers, sent: OutboundP
 }
 
 /// Removes the dead ones of these TCP flows.
-pub(super) fn keep_live(flows: &mut Vec<Flow>, timers: IdleTimers, now: u64)
+pub(super) fn retain_live(flows: &mut Vec<Flow>, timers: IdleTimers, now: u64)
     ensures flows { flows.new.items ≡ filter (life.is_live_flow timers now) flows.old.items }
     ensures capacity { vec_capacity flows.new ≡ vec_capacity flows.old }
     ensures bound { vec_len flows.new ≤ vec_len flows.old }
@@ -80,13 +80,18 @@ pub(super) fn keep_live(flows: &mut Vec<Flow>, timers: IdleTimers, now: u64)
 }
 
 /// Removes the dead flows if they are TCP.
-pub(super) fn keep_standing(flows: &mut Vec<Flow>, timers: IdleTimers, now: u64, protocol: Protocol)
+pub(super) fn retain_standing(
+    flows: &mut Vec<Flow>,
+    timers: IdleTimers,
+    now: u64,
+    protocol: Protocol,
+)
     ensures flows { flows.new.items ≡ life.live_flows timers now protocol flows.old.items }
     ensures capacity { vec_capacity flows.new ≡ vec_capacity flows.old }
     ensures bound { vec_len flows.new ≤ vec_len flows.old }
 {
     if let Protocol::Tcp = protocol {
-        keep_live(flows, timers, now);
+        retain_live(flows, timers, now);
     }
 }
 
@@ -107,14 +112,14 @@ pub(super) fn use_flow(
         (list_any (life.is_live_flow timers sent.now) flows.new.items ≡ true) }
     ensures err { OnErr result (flows.new.items ≡ flows.old.items) }
 {
-    timers.keep_limits();
+    timers.are_within_limits();
     if let Some(i) = standing_place(flows, timers, sent) {
-        flows[i] = used_by(sent, flows[i]);
+        flows[i] = flow_after(sent, flows[i]);
         return Ok(());
     }
     flows.reserve(1)?;
-    keep_standing(flows, timers, sent.now, sent.protocol);
-    flows.push_reserved(begun_by(sent));
+    retain_standing(flows, timers, sent.now, sent.protocol);
+    flows.push_reserved(new_flow(sent));
     Ok(())
 }
 

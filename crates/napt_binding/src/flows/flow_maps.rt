@@ -12,7 +12,7 @@ use super::slots::FlowSlots;
 use crate::address_counts::AddressCounts;
 use crate::idle_timers::IdleTimers;
 use crate::life::is_standing;
-use crate::outbound::{begun_by, used_by};
+use crate::outbound::{flow_after, new_flow};
 use crate::traffic::used;
 use napt_rules::{Flow, OutboundPacket};
 use napt_wire::{Endpoint, Flags, Protocol, Way};
@@ -73,7 +73,7 @@ impl FlowMaps {
     }
 
     /// Appends a flow of a remote that has none.
-    fn put(&mut self, flow: Flow)
+    fn insert(&mut self, flow: Flow)
         requires many { FlowMapsInvariant self.old }
         requires room { FlowMapsHaveRoom self.old }
         requires absent { place_of_remote self.old flow.remote ≡ None }
@@ -82,18 +82,18 @@ impl FlowMaps {
         ensures slots { self.new.slots.slots ≡ self.old.slots.slots ++ Some flow ∷ [] }
     {
         let slots = &mut self.slots;
-        let place = slots.put(flow);
+        let place = slots.insert(flow);
         let remote = flow.remote;
         match self.places.insert((remote.address, remote.number), place) {
             Ok(_) => {}
             Err(_) => unreachable!(),
         }
         let addresses = &mut self.addresses;
-        addresses.put(remote.address);
+        addresses.increment(remote.address);
     }
 
     /// Removes the flow in the slot.
-    fn take_out(&mut self, place: usize)
+    fn remove(&mut self, place: usize)
         requires many { FlowMapsInvariant self.old }
         requires stands { (flow : Flow) × IsInSlot self.old.slots.slots place flow }
         ensures many { FlowMapsInvariant self.new }
@@ -108,7 +108,7 @@ impl FlowMaps {
         let remote = flow.remote;
         self.places.remove(&(remote.address, remote.number));
         let addresses = &mut self.addresses;
-        addresses.take(remote.address);
+        addresses.decrement(remote.address);
     }
 
     /// Changes the flow in the slot, but not its remote.
@@ -140,12 +140,12 @@ impl FlowMaps {
         let Some(place) = self.slots.dead_place(timers, now) else {
             return false;
         };
-        self.take_out(place);
+        self.remove(place);
         true
     }
 
     /// Removes the dead TCP flows.
-    pub(super) fn keep_live(&mut self, timers: IdleTimers, now: u64)
+    pub(super) fn retain_live(&mut self, timers: IdleTimers, now: u64)
         requires many { FlowMapsInvariant self.old }
         ensures many { FlowMapsInvariant self.new }
         ensures flows { standing_flows self.new.slots.slots ≡ filter (life.is_live_flow timers now)
@@ -157,7 +157,7 @@ impl FlowMaps {
     }
 
     /// Removes the dead flows if they are TCP.
-    fn keep_standing(&mut self, timers: IdleTimers, now: u64, protocol: Protocol)
+    fn retain_standing(&mut self, timers: IdleTimers, now: u64, protocol: Protocol)
         requires many { FlowMapsInvariant self.old }
         ensures many { FlowMapsInvariant self.new }
         ensures flows { standing_flows self.new.slots.slots ≡ life.live_flows timers now protocol
@@ -166,7 +166,7 @@ impl FlowMaps {
         ensures as_long { length self.new.slots.slots ≡ length self.old.slots.slots }
     {
         if let Protocol::Tcp = protocol {
-            self.keep_live(timers, now);
+            self.retain_live(timers, now);
         }
     }
 
@@ -229,7 +229,7 @@ impl FlowMaps {
     ///
     /// Each is put as if it had never been used. Then each gets its last use, the one that was used first going first, so
     /// that no use is before the latest.
-    pub(super) fn of(alloc: Global, flows: &[Flow]) -> Result<FlowMaps, AllocError>
+    pub(super) fn from_flows(alloc: Global, flows: &[Flow]) -> Result<FlowMaps, AllocError>
         requires { AreDistinct flows.now }
         ensures many { IfOk result FlowMapsInvariant }
         ensures flows { IfOk result (λ many. standing_flows many.slots.slots ≡ flows.now) }
@@ -238,7 +238,7 @@ impl FlowMaps {
         let mut many = FlowMaps::new(alloc)?;
         for flow in flows {
             many.reserve()?;
-            many.put(Flow { last: 0, ..*flow });
+            many.insert(Flow { last: 0, ..*flow });
         }
         let entries = by_last_use(alloc, flows)?;
         for entry in &entries {
@@ -272,7 +272,7 @@ impl FlowMaps {
             ≡ length (standing_flows self.now.slots.slots)) }
     {
         let flows = self.flows(alloc)?;
-        FlowMaps::of(alloc, &flows)
+        FlowMaps::from_flows(alloc, &flows)
     }
 
     /// Whether most slots are empty, of so many that it matters.
@@ -319,7 +319,7 @@ impl FlowMaps {
             list_any (standing_flow_of timers sent.now sent.protocol sent.remote)
             (standing_flows self.old.slots.slots) ≡ false }
     {
-        timers.keep_limits();
+        timers.are_within_limits();
         let Some(place) = self.place_of(sent.remote) else {
             return false;
         };
@@ -329,7 +329,7 @@ impl FlowMaps {
         if !is_standing(&flow, timers, sent.now, sent.protocol) {
             return false;
         }
-        self.change(place, used_by(sent, flow));
+        self.change(place, flow_after(sent, flow));
         true
     }
 
@@ -351,13 +351,13 @@ impl FlowMaps {
         ensures grown { length self.old.slots.slots < length self.new.slots.slots →
             length self.new.slots.slots ≤ most_slots (length (standing_flows self.old.slots.slots)) }
     {
-        timers.keep_limits();
+        timers.are_within_limits();
         if self.use_standing(timers, sent) {
             return Ok(());
         }
         self.make_room(alloc)?;
-        self.keep_standing(timers, sent.now, sent.protocol);
-        self.put(begun_by(sent));
+        self.retain_standing(timers, sent.now, sent.protocol);
+        self.insert(new_flow(sent));
         Ok(())
     }
 

@@ -149,7 +149,7 @@ impl FlowSlots {
     }
 
     /// Appends a slot with the flow, for which there is room; returns its place.
-    pub(crate) fn put(&mut self, flow: Flow) -> usize
+    pub(crate) fn insert(&mut self, flow: Flow) -> usize
         requires room { 0 < self.old.room }
         requires rising { NoneUsedAfter (standing_flows self.old.slots) flow.last }
         ensures place { result ≡ length self.old.slots }

@@ -44,7 +44,7 @@ impl BufferPool {
     }
 
     /// Keeps a buffer, if there is one and it is of use. Otherwise it is freed, as it is if memory is refused.
-    pub(crate) fn keep(&mut self, vector: Option<Vec<u8>>)
+    pub(crate) fn give_back(&mut self, vector: Option<Vec<u8>>)
         ensures { MatchOption vector (self.new ≡ self.old) (λ v. (self.new ≡ self.old)
             ⊎ ((self.new ≡ self.old ++ v ∷ []) × (length self.old < MOST_SPARES)
             × (vec_capacity v ≤ MOST_ROOM))) }

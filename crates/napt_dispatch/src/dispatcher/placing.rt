@@ -35,7 +35,7 @@ impl<P: LegTrace> Dispatcher<P> {
             None => Ok(()),
             Some(v) => {
                 self.progress.note_place(number);
-                self.queues.hold(v, PendingLeg::Place(number))
+                self.queues.push(v, PendingLeg::Place(number))
             }
         }
     }
@@ -56,7 +56,7 @@ impl<P: LegTrace> Dispatcher<P> {
             ≡ journal_of self.old.progress) }
     {
         let number = leg.number;
-        self.queues.hold(w, PendingLeg::Ready(leg))?;
+        self.queues.push(w, PendingLeg::Ready(leg))?;
         self.hold_place(to, number)
     }
 

@@ -29,7 +29,7 @@ impl<P: LegTrace> Dispatcher<P> {
         ensures { IfSome result (λ w. w < length self.now.queues) }
     {
         let w = place?;
-        if self.queues.many_held(w) & self.mask > 0 {
+        if self.queues.held_count(w) & self.mask > 0 {
             return None;
         }
         Some(w)
@@ -102,7 +102,7 @@ impl<P: LegTrace> Dispatcher<P> {
         if !self.progress.take_told() && self.has_room() {
             return Ok(());
         }
-        self.go_on_until(rt, pool, departures, StopCondition::Room)
+        self.advance_until(rt, pool, departures, StopCondition::Room)
     }
 
     /// Returns the next input, which may use the buffer of a packet that has left. A device is asked for it only if every

@@ -82,7 +82,7 @@ impl<P: LegTrace> RunProgress<P> {
     fn keep_spare(&mut self, vector: Option<Vec<u8>>)
         ensures { self.new ≡ self.old }
     {
-        self.spares.keep(vector);
+        self.spares.give_back(vector);
     }
 
     /// Returns a buffer for an input to come.
@@ -240,7 +240,7 @@ impl<P: LegTrace> RunProgress<P> {
 
     /// Takes out what the first open input, which may leave, came to, with its arrival time.
     #[inline(always)]
-    fn take_first(&mut self) -> (u64, InputResult<P>)
+    fn pop(&mut self) -> (u64, InputResult<P>)
         requires { FirstMayLeave self.old.under_way }
         ensures { FirstInputLeaves result self.old self.new }
     {
@@ -264,8 +264,8 @@ impl<P: LegTrace> RunProgress<P> {
             (HandOverErr D.takes D.fails departures.old self.old departures.new self.new) }
     {
         while self.may_leave() {
-            let (time, departed) = self.take_first();
-            match departures.leave(time, departed) {
+            let (time, departed) = self.pop();
+            match departures.write(time, departed) {
                 Ok(vector) => self.keep_spare(vector),
                 Err(fault) => return Err(fault),
             }

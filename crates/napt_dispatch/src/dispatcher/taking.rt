@@ -58,7 +58,7 @@ impl<P: LegTrace> Dispatcher<P> {
             return Ok(false);
         }
         self.note_each(w, &mut answered.answers)?;
-        self.vectors.keep(answered);
+        self.vectors.give_back(answered);
         Ok(true)
     }
 
@@ -154,7 +154,7 @@ impl<P: LegTrace> Dispatcher<P> {
 
     /// Offers the legs that can be offered, takes answers, waiting for one if there is none yet, and offers those that can then
     /// be offered.
-    fn go_on<R: Wait, G: Gate>(
+    fn advance<R: Wait, G: Gate>(
         &mut self,
         rt: &R,
         pool: &mut Pool<Worker<P>, G>,
@@ -202,7 +202,7 @@ impl<P: LegTrace> Dispatcher<P> {
     }
 
     /// Takes answers, offers legs and lets outcomes leave until a state is reached.
-    pub(super) fn go_on_until<R: Wait, G: Gate, D: OutcomeSink<Told = P>>(
+    pub(super) fn advance_until<R: Wait, G: Gate, D: OutcomeSink<Told = P>>(
         &mut self,
         rt: &R,
         pool: &mut Pool<Worker<P>, G>,
@@ -219,7 +219,7 @@ impl<P: LegTrace> Dispatcher<P> {
             if self.has_reached(until) {
                 return Ok(());
             }
-            self.go_on(rt, pool)?;
+            self.advance(rt, pool)?;
         }
         unreachable!()
     }
@@ -240,7 +240,7 @@ impl<P: LegTrace> Dispatcher<P> {
         ensures room { OnOk result (DispatcherHasRoom self.new) }
         ensures settled { OnOk result (D.is_settled departures.new) }
     {
-        self.go_on_until(rt, pool, departures, StopCondition::Done)?;
+        self.advance_until(rt, pool, departures, StopCondition::Done)?;
         self.check_left()?;
         match departures.settle() {
             Ok(()) => Ok(()),

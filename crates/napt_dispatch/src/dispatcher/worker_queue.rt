@@ -66,25 +66,25 @@ impl WorkerQueue {
     /// Holds a leg or a placeholder behind everything held. A leg is one of the next message, unless something is held behind
     /// that, or it has as many as it may.
     #[inline(always)]
-    pub(crate) fn hold(&mut self, held: PendingLeg) -> Result<(), AllocError>
+    pub(crate) fn push(&mut self, held: PendingLeg) -> Result<(), AllocError>
         ensures ok { OnOk result (HoldPost (held ∷ []) self.old self.new) }
         ensures err { OnErr result (self.new ≡ self.old) }
     {
         match held {
             PendingLeg::Ready(leg) => {
                 if self.held.len() > 0 || self.ready.len() >= MOST_READY {
-                    return self.hold_behind(PendingLeg::Ready(leg));
+                    return self.push_second(PendingLeg::Ready(leg));
                 }
                 self.ready.push(leg)?;
                 Ok(())
             }
-            PendingLeg::Place(number) => self.hold_behind(PendingLeg::Place(number)),
+            PendingLeg::Place(number) => self.push_second(PendingLeg::Place(number)),
         }
     }
 
     /// Holds a leg or a placeholder behind everything held, and not in the next message.
     #[inline(never)]
-    fn hold_behind(&mut self, held: PendingLeg) -> Result<(), AllocError>
+    fn push_second(&mut self, held: PendingLeg) -> Result<(), AllocError>
         ensures ok { OnOk result (self.new
             ≡ record self.old { held = self.old.held ++ held ∷ [] }) }
         ensures err { OnErr result (self.new ≡ self.old) }
@@ -136,7 +136,7 @@ impl WorkerQueue {
     }
 
     /// Returns the number of legs and placeholders held.
-    pub(crate) fn many_held(&self) -> usize
+    pub(crate) fn held_count(&self) -> usize
         ensures { result ≡ held_legs_count self.now }
     {
         self.ready.len() + self.held.len()

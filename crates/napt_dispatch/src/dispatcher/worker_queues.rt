@@ -64,7 +64,7 @@ impl WorkerQueues {
 
     /// Holds a leg or a placeholder for worker `w`, behind everything held for it.
     #[inline(always)]
-    pub(crate) fn hold(&mut self, w: u32, held: PendingLeg) -> Result<(), AllocError>
+    pub(crate) fn push(&mut self, w: u32, held: PendingLeg) -> Result<(), AllocError>
         requires place { w < length self.old }
         requires room { many_held self.old < 65536 }
         ensures many { length self.new ≡ length self.old }
@@ -72,7 +72,7 @@ impl WorkerQueues {
         ensures counted { OnOk result (many_held self.new ≡ many_held self.old + 1) }
     {
         let queue = &mut self.queues[w as usize];
-        queue.hold(held)?;
+        queue.push(held)?;
         self.many += 1;
         Ok(())
     }
@@ -93,9 +93,9 @@ impl WorkerQueues {
         ensures readied { OnOk result (self.new ≡ with_queue w (queue_readied second) self.old) }
     {
         let queue = &mut self.queues[w as usize];
-        let before = queue.many_held();
+        let before = queue.held_count();
         let done = queue.ready_first(second);
-        self.many -= (before - queue.many_held()) as u64;
+        self.many -= (before - queue.held_count()) as u64;
         done
     }
 
@@ -143,11 +143,11 @@ impl WorkerQueues {
     }
 
     /// Returns the number of legs and placeholders held for worker `w`.
-    pub(crate) fn many_held(&self, w: u32) -> usize
+    pub(crate) fn held_count(&self, w: u32) -> usize
         requires { w < length self.now }
         ensures { result ≡ held_legs_count (queue_of self.now w) }
     {
-        self.queues[w as usize].many_held()
+        self.queues[w as usize].held_count()
     }
 
     /// Returns whether nothing is held for any worker.

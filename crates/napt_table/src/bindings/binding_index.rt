@@ -12,7 +12,7 @@ use crate::bindings::keys::{ExternalNumberKey, InsideKey, inside_key, key_of};
 use crate::bindings::numbers_in_use::NumbersInUse;
 use crate::host_counts::HostCounts;
 use indexmap::IndexMap;
-use napt_binding::{Flows, IdleTimers, TableBinding, is_live, send, take_in, to_state};
+use napt_binding::{Flows, IdleTimers, TableBinding, is_live, purge_and_receive, send, to_state};
 use napt_config::PortBlock;
 use napt_rules::{AssignmentRules, InboundPacket, InboundRules, OutboundPacket, Row, StateBinding};
 use napt_wire::{Cause, Endpoint, Protocol};
@@ -192,7 +192,7 @@ impl BindingIndex {
         let key = key_of(&binding);
         let inside = inside_key(binding.row.protocol(), binding.row.inside());
         let hosts = &mut self.hosts;
-        hosts.put(&binding);
+        hosts.increment(&binding);
         match self.by_inside.insert(inside, key.number) {
             Ok(_) => {}
             Err(_) => unreachable!(),
@@ -205,7 +205,7 @@ impl BindingIndex {
         let places = &mut self.places;
         places.note(&self.by_number, place);
         let numbers = &mut self.numbers;
-        numbers.put(key);
+        numbers.insert(key);
     }
 
     /// Removes the binding with the number.
@@ -223,9 +223,9 @@ impl BindingIndex {
         self.by_inside
             .remove(&inside_key(binding.row.protocol(), binding.row.inside()));
         let hosts = &mut self.hosts;
-        hosts.take(&binding);
+        hosts.decrement(&binding);
         let numbers = &mut self.numbers;
-        numbers.take(key);
+        numbers.remove(key);
     }
 }
 
@@ -313,7 +313,7 @@ impl BindingIndex {
         let Some(binding) = self.by_number.get_index_mut(place) else {
             return Err(Cause::NoBinding);
         };
-        take_in(binding, timers, inbound, packet)
+        purge_and_receive(binding, timers, inbound, packet)
     }
 }
 
@@ -344,7 +344,7 @@ impl BindingIndex {
     }
 
     /// The bindings that are live at `ago` (ns), as a state has them, in no order.
-    pub(crate) fn left(
+    pub(crate) fn final_bindings(
         &self,
         alloc: Global,
         timers: IdleTimers,

@@ -71,30 +71,30 @@ impl NumbersInUse {
     }
 
     /// Marks the number as in use, if it is free.
-    pub(crate) fn put(&mut self, key: ExternalNumberKey)
+    pub(crate) fn insert(&mut self, key: ExternalNumberKey)
         requires { AreByProtocol self.old }
         ensures by_protocol { AreByProtocol self.new }
         ensures used { (other : Key) → other.number < 2 ^ 16 → is_in_use self.new other
             ≡ (key_eq other key || is_in_use self.old other) }
     {
         match key.protocol {
-            Protocol::Icmp => self.icmp.put(key.number),
-            Protocol::Tcp => self.tcp.put(key.number),
-            Protocol::Udp => self.udp.put(key.number),
+            Protocol::Icmp => self.icmp.insert(key.number),
+            Protocol::Tcp => self.tcp.insert(key.number),
+            Protocol::Udp => self.udp.insert(key.number),
         }
     }
 
     /// Frees the number, if it is in use.
-    pub(crate) fn take(&mut self, key: ExternalNumberKey)
+    pub(crate) fn remove(&mut self, key: ExternalNumberKey)
         requires { AreByProtocol self.old }
         ensures by_protocol { AreByProtocol self.new }
         ensures used { (other : Key) → other.number < 2 ^ 16 → is_in_use self.new other
             ≡ (not (key_eq other key) && is_in_use self.old other) }
     {
         match key.protocol {
-            Protocol::Icmp => self.icmp.take(key.number),
-            Protocol::Tcp => self.tcp.take(key.number),
-            Protocol::Udp => self.udp.take(key.number),
+            Protocol::Icmp => self.icmp.remove(key.number),
+            Protocol::Tcp => self.tcp.remove(key.number),
+            Protocol::Udp => self.udp.remove(key.number),
         }
     }
 }

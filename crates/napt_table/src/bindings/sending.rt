@@ -49,7 +49,7 @@ impl Bindings {
         let held = &mut self.held;
         held.insert(binding);
         let due = &mut self.due;
-        due.put(end, key);
+        due.push(end, key);
     }
 }
 
@@ -106,7 +106,7 @@ impl Bindings {
         ensures refused { OnErr result (BindingsInvariant self.old self.new) }
     {
         let timers = self.timers;
-        timers.keep_limits();
+        timers.are_within_limits();
         let held = &mut self.held;
         let Some(number) = held.send(alloc, timers, packet)? else {
             return Ok(None);
@@ -129,7 +129,7 @@ impl Bindings {
         ensures unknown { result ≡ Ok None → BindingsInvariant self.old self.new }
         ensures refused { OnErr result (BindingsInvariant self.old self.new) }
     {
-        self.timers.keep_limits();
+        self.timers.are_within_limits();
         self.keep_names();
         self.send_held(alloc, packet)
     }
@@ -144,11 +144,11 @@ impl Bindings {
             (with_flow packet.remote packet.now [])) }
     {
         self.make_room(packet.protocol)?;
-        Flows::begun(alloc, self.timers, packet)
+        Flows::from_packet(alloc, self.timers, packet)
     }
 
     /// Makes a binding with these flows for the outgoing packet; returns its number, or `NoPort`. It takes no memory.
-    fn begin(&mut self, packet: OutboundPacket, flows: Flows) -> Result<u16, Cause>
+    fn insert_new(&mut self, packet: OutboundPacket, flows: Flows) -> Result<u16, Cause>
         requires room { BindingsHaveRoom self.old }
         requires at { self.old.at ≡ packet.now }
         requires live { (key : Key) (b : Binding) → held_binding self.old.held key ≡ Some b →
@@ -163,7 +163,7 @@ impl Bindings {
         ensures place { IsSamePlace self.old.held self.new.held }
         ensures begins { NewBindingOk packet self.old self.new result }
     {
-        self.timers.keep_limits();
+        self.timers.are_within_limits();
         let chosen = self
             .held
             .choose(packet.block, packet.protocol, packet.inside);
@@ -201,7 +201,7 @@ impl Bindings {
         ensures place { IsSamePlace self.old.held self.new.held }
         ensures renews { RenewedBindingOk packet self.old self.new number }
     {
-        self.timers.keep_limits();
+        self.timers.are_within_limits();
         self.held.keep_names();
         let protocol = packet.protocol;
         let held = &mut self.held;
@@ -224,7 +224,7 @@ impl Bindings {
         ensures sends { IfOk result (SendPost packet self.old self.new) }
         ensures refused { OnErr result (BindingsInvariant self.old self.new) }
     {
-        self.timers.keep_limits();
+        self.timers.are_within_limits();
         self.keep_names();
         if let Some(number) = self.send_held(alloc, packet)? {
             return Ok(Ok(number));
@@ -239,6 +239,6 @@ impl Bindings {
         if self.held.reaches(packet.inside.address) {
             return Ok(Err(Cause::OverQuota));
         }
-        Ok(self.begin(packet, flows))
+        Ok(self.insert_new(packet, flows))
     }
 }

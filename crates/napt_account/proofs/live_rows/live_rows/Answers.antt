@@ -16,11 +16,11 @@ live_row-requires c unfixed live =
     let below : k < length state.list = rw (← same) c.loop-binding-test.true in
     let clock = ap (λ (s : State). s.clock) c.state.view_is in
     subst (λ (t : Timers). flows_share (with_live_flows t c.state.inside.clock b).flows ≡ false)
-    (sym c.of-timers.ensures)
+    (sym c.from_config-timers.ensures)
     (subst (λ (n : ℕ). flows_share (with_live_flows rules.timers n b).flows ≡ false) (sym clock)
     (next_single rules state k b below is c.in_ok-live.ensures.kept c.requires unfixed
     (subst (λ (n : ℕ). is_live rules.timers n b ≡ true) clock
-    (subst (λ (t : Timers). is_live t c.state.inside.clock b ≡ true) c.of-timers.ensures live))))
+    (subst (λ (t : Timers). is_live t c.state.inside.clock b ≡ true) c.from_config-timers.ensures live))))
 
 pub returns : goal.returns
 returns c =

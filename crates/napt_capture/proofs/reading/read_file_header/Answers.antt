@@ -14,7 +14,7 @@ pub returns-clause-header : goal.returns-clause-header
 returns-clause-header g c =
     let read = filled_by _ _ c.in_ok-filled.filled c.fill.new.buffer c.in_ok-filled.ensures.bound
     c.in_ok-filled.ensures.bytes c.in_ok-filled.ensures.end in
-    Says-fact c.spelling_of_file.result (Gives-map _ _ (λ bytes left p.
-    file_whole c.in_ok-filled.filled c.fill.new.buffer bytes left c.spelling_of_file.result
+    Says-fact c.format_of_file.result (Gives-map _ _ (λ bytes left p.
+    file_whole c.in_ok-filled.filled c.fill.new.buffer bytes left c.format_of_file.result
     (omega (arith, c.fill.auto.buffer)) (omega (arith, c.if-filled-lt-FILE_HEADER.false))
-    c.spelling_of_file.ensures.is p) read)
+    c.format_of_file.ensures.is p) read)

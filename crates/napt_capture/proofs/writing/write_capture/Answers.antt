@@ -15,8 +15,8 @@ pub loop-packet-init : goal.loop-packet-init
 unfolding file_header
 loop-packet-init g c = (c.in_ok-written.ensures.puts, search rules)
 
-pub put_record-requires-clause-room : goal.put_record-requires-clause-room
-put_record-requires-clause-room g c =
+pub append_record-requires-clause-room : goal.append_record-requires-clause-room
+append_record-requires-clause-room g c =
     text_of_first-room c.loop-packet.packet-index c.args.records.now c.packet-item.result _ c.loop-packet-test.true
     c.packet-item.is c.requires.few c.requires.writable c.loop-packet.invariant.0.counted
 

@@ -24,7 +24,7 @@ pass_all-requires g c =
 pub returns-in-Ok-clause-ends : goal.returns-in-Ok-clause-ends
 returns-in-Ok-clause-ends g c = λ start at.
     let first = c.in_ok-dispatcher.ensures in
-    ends_by _ c.in-Ok.field-0.fault c.of.result c.of.ensures
+    ends_by _ c.in-Ok.field-0.fault c.from_result.result c.from_result.ensures
     (ends_with c.args.pool.now c.in_ok-dispatcher.dispatcher (at ∙ sym first.clock)
     (begun c.args.config.now start c.args.pool.now c.in_ok-dispatcher.dispatcher _
     (ap length c.pool.ensures.addresses) first.queues first.left first.under_way c.requires.unoffered

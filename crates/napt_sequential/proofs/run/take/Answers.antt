@@ -8,8 +8,8 @@ use Rattle.napt_sequential.proofs.run.take.Goals as goal
 pub bounds-translators-place : goal.bounds-translators-place
 bounds-translators-place c = let many = c.requires.can_take.1.many in omega (arith, c.requires.within)
 
-pub take-requires : goal.take-requires
-take-requires c =
+pub translate-requires : goal.translate-requires
+translate-requires c =
     let can_take = c.requires.can_take in
     let few = few_legs c.args.config.now c.requires.keeps can_take.0 c.args.translators.now can_take.1 c.args.place
     (get_or c.args.config.now.pool c.args.place 0) (slice_get-get_or c.args.config.now.pool c.args.place 0
@@ -23,7 +23,7 @@ returns c =
     let counted : CountedTranslator = get_or c.args.translators.now c.args.place c.index-translators-place.result in
     if_both (λ (told : TracedAnswer Passage). told ≡ traced_answer (λ passage. passage) c.args.leg counted.translator)
     (TracesLeg rules c.args.place c.args.leg c.args.translators.now (set c.args.translators.now c.args.place
-    c.take.new.self)) (c.take.new.self ≡ counted_after c.args.leg counted) c.take.result
+    c.translate.new.self)) (c.translate.new.self ≡ counted_after c.args.leg counted) c.translate.result
     (λ told is after state address are later at. (
       is ∙ told_same rules c.requires.keeps state c.args.translators.now are c.args.place address at c.args.leg later
           c.index-translators-place.result,
@@ -31,4 +31,4 @@ returns c =
           (set c.args.translators.now c.args.place s)) (sym after)
           (translators_after rules c.requires.keeps state c.args.translators.now are c.args.place address at c.args.leg
           later c.index-translators-place.result),
-    )) c.take.ensures.told c.take.ensures.left
+    )) c.translate.ensures.told c.translate.ensures.left

@@ -11,5 +11,5 @@ returns g c =
     let saved : StateFileContents = record { state = c.args.state.now; log = option_copied c.args.log } in
     finished c.flush.result (written_saved saved c.in_ok-counts.counts _ _ _ _ _ _
     (omega (arith, same, c.loop-binding-test.false, ap (length {A = Binding}) c.deref-binding-items.ensures.value))
-    c.in_ok-counts.ensures c.loop-binding.invariant c.in_ok-put_any_log.ensures c.in_ok-put_line-2.ensures
+    c.in_ok-counts.ensures c.loop-binding.invariant c.in_ok-push_any_log.ensures c.in_ok-put_line-2.ensures
     c.flush.ensures.bytes)

@@ -30,7 +30,7 @@ returns-clause-shows c = λ most entries shows opened.
     let sent : c.by_packet.result.sent ≡ 1 = ap (λ (e : Entry). e.sent) c.by_packet.ensures in
     let received : c.by_packet.result.received ≡ 0 = ap (λ (e : Entry). e.received) c.by_packet.ensures in
     let change : Entry → Entry = counted Outgoing c.args.now c.args.timed.end in
-    subst (λ (es : List Entry). OpenEntriesShow c.args.now (most + 1) es c.put.new.self)
+    subst (λ (es : List Entry). OpenEntriesShow c.args.now (most + 1) es c.insert.new.self)
     (ap (λ (e : Entry). entries ++ e ∷ []) c.by_packet.ensures
     ∙ sym (ap (λ v. cond v (map (entry_through c.args.now c.args.timed.row change) entries)
     (entries ++ made_by c.args.now c.args.timed ∷ []))

@@ -5,8 +5,8 @@ use Rattle.napt_account.{specs.{LogParts.{LogDelta, numbered_entries, ends_withi
 use Rattle.napt_account.proofs.TraceLogs.{entries_more, time_more, told_as, taken_more}
 use Rattle.napt_account.proofs.tracked_log.TrackedLog.enter.Goals as goal
 
-pub tell-requires : goal.tell-requires
-tell-requires c =
+pub enter_legs-requires : goal.enter_legs-requires
+enter_legs-requires c =
     let it = c.self.inside in
     let start : LogBeginning = begun_in it.begun.items in
     let before : List Trace = taken_in it.past.items in
@@ -73,14 +73,14 @@ invariant_of-self-2 c = λ going.
     let same = ap length (entries_more start before trace) in
     let added = trace_few entries trace in
     let few = is.few in
-    subst (λ (ts : List Trace). IsOpenAfter start ts (it.many + 1) trace.now c.tell.new.self)
+    subst (λ (ts : List Trace). IsOpenAfter start ts (it.many + 1) trace.now c.enter_legs.new.self)
     (sym (ap (λ (l : List (ℕ × Trace)). taken_in l) c.and-self-inside.ensures
     ∙ taken_more it.past.items 0 trace)) (record {
       taken = ap (λ (n : ℕ). n + 1) is.taken ∙ sym long;
       time = sym (time_more start.clock before trace);
       entries = subst
-          (λ (m : ℕ). OpenEntriesShow trace.now m (entries_after start (before ++ trace ∷ [])) c.tell.new.self)
-          twice (subst (λ (es : List Entry). OpenEntriesShow trace.now (most + 2) es c.tell.new.self)
+          (λ (m : ℕ). OpenEntriesShow trace.now m (entries_after start (before ++ trace ∷ [])) c.enter_legs.new.self)
+          twice (subst (λ (es : List Entry). OpenEntriesShow trace.now (most + 2) es c.enter_legs.new.self)
           (sym (entries_more start before trace))
           (c.in_ok-legs.ensures.shows most entries shows next.1.0 next.1.1));
       few = omega (arith, same, added, few, long);

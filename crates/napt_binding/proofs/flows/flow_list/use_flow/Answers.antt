@@ -6,8 +6,8 @@ use Rattle.napt_binding.proofs.flows.flow_list.use_flow.Goals as goal
 
 pub returns-in-Some-clause-distinct : goal.returns-in-Some-clause-distinct
 returns-in-Some-clause-distinct c =
-    let remotes = ap (λ (f : Flow). f.remote) c.used_by.ensures ∙ ap (λ (f : Flow). f.remote) c.index.ensures in
-    distinct_set c.args.flows.now.items c.in-Some.i c.index.result.now c.used_by.result remotes c.requires.distinct
+    let remotes = ap (λ (f : Flow). f.remote) c.flow_after.ensures ∙ ap (λ (f : Flow). f.remote) c.index.ensures in
+    distinct_set c.args.flows.now.items c.in-Some.i c.index.result.now c.flow_after.result remotes c.requires.distinct
 
 pub returns-in-Some-clause-ok : goal.returns-in-Some-clause-ok
 returns-in-Some-clause-ok c = grind (arith, common_steps, nat_tests, flow_set)

@@ -13,5 +13,5 @@ returns-in_err-written-clause-puts g c =
 pub returns-clause-puts : goal.returns-clause-puts
 unfolding record_text
 returns-clause-puts g c =
-    rw (← c.record_header.ensures) (Puts-append _ _ _ c.record_header.result c.args.bytes.now c.put-2.result
-    c.in_ok-written.ensures.puts c.put-2.ensures.puts)
+    rw (← c.record_header.ensures) (Puts-append _ _ _ c.record_header.result c.args.bytes.now c.write_record-2.result
+    c.in_ok-written.ensures.puts c.write_record-2.ensures.puts)

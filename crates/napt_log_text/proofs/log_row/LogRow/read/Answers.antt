@@ -5,16 +5,16 @@ use Rattle.napt_log_text.proofs.log_row.LogRow.read.Goals as goal
 
 pub returns-then-field_count-eq-FIELDS : goal.returns-then-field_count-eq-FIELDS
 returns-then-field_count-eq-FIELDS c rules (Made listed) fits is =
-    ap Some (c.of_fields.ensures.binding (Some listed.entry.made) (Some 8) listed (omega (arith, fits.0)) (lit< tt)
+    ap Some (c.from_fields.ensures.binding (Some listed.entry.made) (Some 8) listed (omega (arith, fits.0)) (lit< tt)
     fits.1 (fields_read rules (Made listed) c.args.row.now is))
 returns-then-field_count-eq-FIELDS c rules (Ended listed) fits is =
-    ap Some (c.of_fields.ensures.binding listed.entry.end (Some 9) listed fits.0 (lit< tt) fits.1
+    ap Some (c.from_fields.ensures.binding listed.entry.end (Some 9) listed fits.0 (lit< tt) fits.1
     (fields_read rules (Ended listed) c.args.row.now is))
 returns-then-field_count-eq-FIELDS c rules (Living listed) fits is =
-    ap Some (c.of_fields.ensures.binding listed.entry.end None listed fits.0 tt fits.1
+    ap Some (c.from_fields.ensures.binding listed.entry.end None listed fits.0 tt fits.1
     (fields_read rules (Living listed) c.args.row.now is))
 returns-then-field_count-eq-FIELDS c rules (Refused shortage) fits is =
-    ap Some (c.of_fields.ensures.refusal (pair_of rules shortage.host) shortage (omega (arith, fits))
+    ap Some (c.from_fields.ensures.refusal (pair_of rules shortage.host) shortage (omega (arith, fits))
     (fields_read rules (Refused shortage) c.args.row.now is))
 
 pub returns-else-field_count-eq-FIELDS : goal.returns-else-field_count-eq-FIELDS

@@ -5,8 +5,8 @@ use Rattle.napt_records.proofs.stream_merger.StreamMergerInputSource.next.Goals 
 pub returns : goal.returns
 returns g c =
     Hands-any c.args.self.now
-    c.look.new.self c.take.new.self c.take.result c.look.ensures.same c.in_ok-look.ensures.looks c.take.ensures.takes
-    c.take.ensures.inside c.take.ensures.outside
+    c.look.new.self c.pop.new.self c.pop.result c.look.ensures.same c.in_ok-look.ensures.looks c.pop.ensures.takes
+    c.pop.ensures.inside c.pop.ensures.outside
 
 pub returns-in_err-look : goal.returns-in_err-look
 returns-in_err-look g c =

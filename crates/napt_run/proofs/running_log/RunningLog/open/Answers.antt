@@ -5,9 +5,9 @@ use Rattle.napt_run.proofs.running_log.RunningLog.open.Goals as goal
 
 pub returns : goal.returns
 returns g c from at =
-    subst (λ (l : TimeText). Adds from [] l c.args.self.now.output c.put.result c.put.new.self)
+    subst (λ (l : TimeText). Adds from [] l c.args.self.now.output c.write.result c.write.new.self)
     (c.deref.ensures ∙ ap string_bytes c.replace-opening.ensures.value)
-    (c.put.ensures.text from [] (record {
+    (c.write.ensures.text from [] (record {
       log = at.log;
       few = at.few;
       sound = at.sound;

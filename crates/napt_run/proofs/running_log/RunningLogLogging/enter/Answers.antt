@@ -22,6 +22,6 @@ returns-then-is_empty g c from before at =
 pub returns : goal.returns
 returns g c from before at =
     enter_written from before c.args.self.now
-    (record { now = c.args.now; first = c.args.first; second = c.args.second }) c.rows.new.self c.put_text.new.self _
+    (record { now = c.args.now; first = c.args.first; second = c.args.second }) c.rows.new.self c.write_text.new.self _
     c.as_bytes-rows.result.now at (c.in_ok-text.ensures from before at) c.as_bytes-rows.ensures.value
-    c.in_ok-put_text.ensures.ok
+    c.in_ok-write_text.ensures.ok

@@ -15,7 +15,7 @@ pub invariant_of-self : goal.invariant_of-self
 invariant_of-self c =
     let s = c.self.inside in
     let k = c.receive.ensures in
-    all_received_due s.timers c.keep_limits.ensures c.args.inbound s.held.address c.args.packet s.held
+    all_received_due s.timers c.are_within_limits.ensures c.args.inbound s.held.address c.args.packet s.held
     c.receive.new.self k.one c.receive.result k.absent k.found s.at s.due.entries
     (subst (λ (x : BindingsModel). x.at ≤ c.args.packet.now) (sym c.self.view_is) c.requires.later)
     c.self.invariant
@@ -26,7 +26,7 @@ returns-clause-receives c =
     let p = c.args.packet in
     let i = c.args.inbound in
     let k = c.receive.ensures in
-    let t = c.keep_limits.ensures in
+    let t = c.are_within_limits.ensures in
     let a = s.held.address in
     let new = c.receive.new.self in
     rw (← c.self.view_is) (λ list apart keeps.

@@ -11,7 +11,7 @@ returns-in-Some c =
     let b : Binding = c.in-Some.binding.now in
     let held_is : held_at c.self.inside.held c.args.protocol c.args.number ≡ Some b = sym c.in-Some.ensures.value in
     let end_is : c.end_of.result ≡ end_of timers (with_live_flows timers c.args.now b) = c.end_of.ensures
-    ∙ sym (end_without_dead timers c.keep_limits.ensures c.args.now b
+    ∙ sym (end_without_dead timers c.are_within_limits.ensures c.args.now b
     (sym c.is_live.ensures ∙ c.if-is_live.true)) in
     rw (← c.self.view_is)
     (ap (λ (r : _). let t : TimedRow = record { row = r; end = c.end_of.result } in Some t) c.row.ensures.row

@@ -2,6 +2,6 @@ use Rattle.std.proofs.Common.{sym, subst}
 use Rattle.napt_table.{specs.Tables.IsTable, proofs.ResumedTables.resumed_is_table}
 use Rattle.napt_table.proofs.table.Table.resumed.Goals as goal
 
-pub begun-requires : goal.begun-requires
-begun-requires c = subst IsTable (sym c.in_ok-resumed.ensures.shown)
+pub from_builder-requires : goal.from_builder-requires
+from_builder-requires c = subst IsTable (sym c.in_ok-resumed.ensures.shown)
     (resumed_is_table c.args.config.now c.args.address c.args.state.now c.in_ok-resumed.ensures.rules c.requires)

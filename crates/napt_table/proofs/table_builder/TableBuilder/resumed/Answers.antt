@@ -4,8 +4,8 @@ use Rattle.napt_rules.specs.Prelude.{Binding, Each, AreFlowsOwn, State, row, Are
 use Rattle.napt_table.{specs.{Beginnings.state_bindings_at, Tables.{TableModel}}, proofs.ResumedTables.{begun_to, next_apart, next_last, next_flows}}
 use Rattle.napt_table.proofs.table_builder.TableBuilder.resumed.Goals as goal
 
-pub take_up-requires-clause-apart : goal.take_up-requires-clause-apart
-take_up-requires-clause-apart c =
+pub restore-requires-clause-apart : goal.restore-requires-clause-apart
+restore-requires-clause-apart c =
     let k = c.loop-binding.binding-index in
     let x = c.binding-item.result in
     let config : Rules = c.args.config.now in
@@ -19,8 +19,8 @@ take_up-requires-clause-apart c =
     ++ state_bindings_at config.timers state.clock c.args.address (y ∷ [])))) is
     (next_apart config c.args.address state k x below c.in_ok-beginning.ensures.rules c.requires))
 
-pub take_up-requires-clause-last : goal.take_up-requires-clause-last
-take_up-requires-clause-last c =
+pub restore-requires-clause-last : goal.restore-requires-clause-last
+restore-requires-clause-last c =
     let k = c.loop-binding.binding-index in
     let x = c.binding-item.result in
     let config : Rules = c.args.config.now in
@@ -34,8 +34,8 @@ take_up-requires-clause-last c =
     (state_bindings_at config.timers state.clock c.args.address (y ∷ []))) is
     (next_last config c.args.address state k x below c.in_ok-beginning.ensures.rules c.requires))
 
-pub take_up-requires-clause-flows : goal.take_up-requires-clause-flows
-take_up-requires-clause-flows c =
+pub restore-requires-clause-flows : goal.restore-requires-clause-flows
+restore-requires-clause-flows c =
     let k = c.loop-binding.binding-index in
     let x = c.binding-item.result in
     let config : Rules = c.args.config.now in

@@ -21,7 +21,7 @@ write-requires c =
     (passes_of_read c.self.invariant.reads.0 c.self.inside.bytes.items c.self.inside.bytes.items
     c.self.invariant.reads.1)
     (error_of c.self.inside.bytes.items (rw c.self.view_is c.requires.error)) in
-    rw (c.of-rewrite.ensures, c.deref_mut.ensures.value, c.deref.ensures.value)
+    rw (c.from_packet-rewrite.ensures, c.deref_mut.ensures.value, c.deref.ensures.value)
     (error_there c.self.invariant.reads.0 c.args.way c.args.end c.self.inside.bytes.items passed)
 
 -- what the vector holds at the end
@@ -32,7 +32,7 @@ held c =
     vec-changed c.self.inside.bytes.items c.write.new.bytes c.self.inside.bytes.len
     (reverted_changes c.args.way c.args.end c.self.inside.bytes.items)
     (sym (ap length c.deref.ensures.value) ∙ c.deref.ensures.len)
-    (rw (c.write.ensures, c.of-rewrite.ensures, c.deref_mut.ensures.value, c.deref.ensures.value) refl)
+    (rw (c.write.ensures, c.from_packet-rewrite.ensures, c.deref_mut.ensures.value, c.deref.ensures.value) refl)
 
 kept_for : (c : After-self-1) (side : Side) → reading side c.self.inside.bytes.items ≡ Ok c.self.inside.bytes.items →
     KeepsError side c.self.inside.bytes.items

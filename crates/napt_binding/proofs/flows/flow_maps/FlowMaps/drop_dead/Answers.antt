@@ -10,11 +10,11 @@ returns-in_default-clause-none c given =
 pub returns-clause-kept : goal.returns-clause-kept
 returns-clause-kept c =
     let dead = c.in-Some.ensures.some in
-    rw c.take_out.ensures.slots (kept_emptied (life.is_live_flow c.args.timers c.args.now) c.args.self.now.slots.slots
+    rw c.remove.ensures.slots (kept_emptied (life.is_live_flow c.args.timers c.args.now) c.args.self.now.slots.slots
     c.in-Some.place dead.0 dead.1 dead.2)
 
 pub returns-clause-fewer : goal.returns-clause-fewer
 returns-clause-fewer c given =
     let dead = c.in-Some.ensures.some in
     let one = one_fewer c.args.self.now.slots.slots c.in-Some.place dead.0 dead.1 in
-    rw c.take_out.ensures.slots (omega (arith, one))
+    rw c.remove.ensures.slots (omega (arith, one))

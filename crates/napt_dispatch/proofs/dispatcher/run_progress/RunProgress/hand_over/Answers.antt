@@ -4,7 +4,7 @@ use Rattle.napt_dispatch.proofs.dispatcher.run_progress.RunProgress.hand_over.Go
 
 pub loop-self-preserved : goal.loop-self-preserved
 loop-self-preserved g c =
-    let taken = c.take_first-time in
+    let taken = c.pop-time in
     let pair : ℕ × InputResult g.row.P.Denot = taken.result in
     let went = c.loop-self.invariant.went in
     record {
@@ -12,13 +12,13 @@ loop-self-preserved g c =
       handed = rw c.keep_spare.ensures
           (over_more went (pair ∷ []) c.args.self.now c.loop-self.self taken.new.self
           c.loop-self.invariant.handed (leaves_over pair c.loop-self.self taken.new.self taken.ensures));
-      took = g.met.D.Departures.takes_more c.args.departures.now c.loop-self.departures c.leave.new.self went
+      took = g.met.D.Departures.takes_more c.args.departures.now c.loop-self.departures c.write.new.self went
           (pair ∷ []) c.loop-self.invariant.took c.in-Ok.ensures;
     }
 
 pub returns-in-Err-clause-handed : goal.returns-in-Err-clause-handed
 returns-in-Err-clause-handed g c =
-    let taken = c.take_first-time in
+    let taken = c.pop-time in
     let pair : ℕ × InputResult g.row.P.Denot = taken.result in
     let went = c.loop-self.invariant.went in
     record {

@@ -12,8 +12,8 @@ returns-in_default-get_index_mut-clause-found c = λ d s.
     ∙ lent_at c.self.inside _ c.self.view_is _ c.in-Some.place _ f.value f.entry in
     cc
 
-pub take_in-requires : goal.take_in-requires
-take_in-requires c =
+pub purge_and_receive-requires : goal.purge_and_receive-requires
+purge_and_receive-requires c =
     let f = c.in-Some.ensures in
     let l = c.in-Some-get_index_mut.ensures in
     (subst (AreUsedUpTo c.args.packet.now) (sym c.self.view_is) c.requires
@@ -26,7 +26,7 @@ invariant_of-self-2 c =
     let l = c.in-Some-get_index_mut.ensures in
     held_at_place c.self.inside _ c.self.view_is _ c.in-Some.place _ f.value f.entry
     _ l.value c.self.invariant l.unique _
-    (ap row c.take_in.ensures.left ∙ left_row c.args.inbound c.args.packet
+    (ap row c.purge_and_receive.ensures.left ∙ left_row c.args.inbound c.args.packet
     (with_live_flows c.args.timers c.args.packet.now c.in-Some-get_index_mut.binding.now))
 
 pub returns-clause-one : goal.returns-clause-one
@@ -58,8 +58,8 @@ returns-clause-found c = rw (← c.self.view_is) (λ d s.
     _ l.value c.args.timers p.now
     (sym c.is_live.ensures ∙ c.if-not-is_live.false) in
     let is : now ≡ d = same_Some now d (sym sees ∙ s) in (
-      c.take_in.ensures.answer ∙ ap (inbound_answer c.args.inbound p) is,
+      c.purge_and_receive.ensures.answer ∙ ap (inbound_answer c.args.inbound p) is,
       left_at_place c.self.inside _ c.self.view_is _ c.in-Some.place _ f.value f.entry
           _ l.value c.self.invariant l.unique _
-          ∙ ap (λ (x : Binding). Some x) (c.take_in.ensures.left ∙ ap (binding_after_inbound c.args.inbound p) is),
+          ∙ ap (λ (x : Binding). Some x) (c.purge_and_receive.ensures.left ∙ ap (binding_after_inbound c.args.inbound p) is),
     ))

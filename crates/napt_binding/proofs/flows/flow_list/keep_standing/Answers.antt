@@ -1,4 +1,0 @@
-use Rattle.napt_binding.proofs.flows.flow_list.keep_standing.Goals as goal
-
-pub returns-in-Tcp-clause-flows : goal.returns-in-Tcp-clause-flows
-returns-in-Tcp-clause-flows c = rw c.in-Tcp.is c.keep_live.ensures.flows
