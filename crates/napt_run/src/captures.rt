@@ -8,7 +8,7 @@ ghost use Rattle.napt_sequential.specs.Faults.{is_run_gate_fault};
 ghost use Rattle.napt_records.specs.Faults.{tells_shut_gate};
 
 use crate::kept_texts::KeptTexts;
-use crate::start::{OriginSetting, RunOrigin, unbegun, without_state};
+use crate::start::{OriginSetting, Start, unbegun, without_state};
 use crate::whole_captures::RunTally;
 use napt_capture::{Capture, Sink, Source, Watched, read_capture, write_text};
 use napt_config::Config;
@@ -205,7 +205,7 @@ pub fn run_captures<
     ensures report_flushed { OnOk result (U.is_flushed report.new) }
 {
     let state = unbegun(alloc);
-    let start = RunOrigin {
+    let start = Start {
         config,
         state: &state,
     };
@@ -231,7 +231,7 @@ pub fn resume_captures<
 >(
     rt: &T,
     alloc: Global,
-    start: RunOrigin<'_>,
+    start: Start<'_>,
     inside: &mut R,
     outside: &mut Q,
     to_outside: &mut W,

@@ -8,7 +8,7 @@ ghost use Rattle.napt_run.specs.Streams.{DeviceGets, DeviceGetsFrom, Explains, H
 use crate::capture_run::Totals;
 use crate::logging::{LoggingFault, Unlogged};
 use crate::report_output::reported;
-use crate::start::{OriginSetting, RunOrigin, unbegun, without_state};
+use crate::start::{OriginSetting, Start, unbegun, without_state};
 use napt_capture::{Sink, Source};
 use napt_config::Config;
 use napt_dispatch::RunSummary;
@@ -95,7 +95,7 @@ pub fn run_streams<
         inside.old inside.new outside.old outside.new result }
 {
     let state = unbegun(alloc);
-    let start = RunOrigin {
+    let start = Start {
         config,
         state: &state,
     };
@@ -120,7 +120,7 @@ pub fn resume_streams<
 >(
     rt: &T,
     alloc: Global,
-    start: RunOrigin<'_>,
+    start: Start<'_>,
     inside: &mut R,
     outside: &mut Q,
     to_outside: &mut W,
