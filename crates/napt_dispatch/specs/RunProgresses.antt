@@ -146,7 +146,7 @@ pub record RunLegs (P : Type 0) : Type 0 where
 abbrev pub whole_of : {P : Type 0} → (Passage → P) → Rules → State → List Arrival → RunLegs P
 whole_of tells rules start inputs = record {
   acts = (effect_from rules start inputs).acts;
-  input_results = input_results tells rules start inputs;
+  departed = input_results tells rules start inputs;
   firsts = map (λ trace. tells trace.first) (traces_of rules start inputs);
 }
 

@@ -19,7 +19,7 @@ pub agree : (rules : Rules) (address now : ℕ) (own list : List Binding) →
 agree rules address now own list same = record {
   same = sym (purge_taken rules.timers now own) ∙ (ap (purge rules.timers now) same
       ∙ purge_taken rules.timers now (bindings_at address list));
-  live_and_held = same;
+  taken = same;
 }
 
 module _ (rules : Rules) (address : ℕ) (leg : Leg) (own list : List Binding)

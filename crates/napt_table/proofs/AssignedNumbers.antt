@@ -228,7 +228,7 @@ module _ (old mid gone : BindingsModel) (packet : OutboundPacket) (same : Bindin
     gone_keeps : AllKeep old.timers packet.now address gone.held list
     gone_keeps = record {
       live = λ q n. keeps.live q n ∙ sym (gone_seen (external_key q n) packet.now (ago_before old.timers packet.now));
-      held_binding = λ q n at from. keeps.held q n at from ∙ sym (ap (option_map row) (gone_seen (external_key q n) at from));
+      held = λ q n at from. keeps.held q n at from ∙ sym (ap (option_map row) (gone_seen (external_key q n) at from));
     }
 
     gone_none : find (is_of_source address packet) (purge old.timers packet.now list) ≡ None

@@ -39,7 +39,7 @@ module _ (timers : Timers) (at now : ℕ) (le : at ≤ now) (address : ℕ) (all
   pub keeps_later : AllKeep timers now address all (live_and_held timers now list)
   keeps_later = record {
     live = subst (AllShow timers now address all) (sym (purge_taken timers now list)) live_later;
-    held_binding = held_later;
+    held = held_later;
   }
 
 -- A STEP

@@ -203,7 +203,7 @@ module _ (table : Inside) (is : KeepsItsList table) (now : ℕ) (later : table.b
           (subst (AreAlike timers now (live_and_held timers now (list_of table))) (sym made_is)
           (alike_taken timers now (list_of table) values held_alike))
           (alike_moved timers now made sorted moved);
-      live_and_held = purge_fresh timers (hold_ago timers now) sorted
+      taken = purge_fresh timers (hold_ago timers now) sorted
           (each_moved (IsFresh timers (hold_ago timers now)) made sorted moved
           (subst (Each (IsFresh timers (hold_ago timers now))) (sym made_is)
           (fresh_purged timers (hold_ago timers now) values)));

@@ -154,7 +154,7 @@ pub begun_keep : (timers : Timers) (at address : ℕ) (all : BindingIndexModel) 
     AreHeld address all list → AllKeep timers at address all list
 begun_keep timers at address all list apart are = record {
   live = λ q n. find_purged timers at address q n list apart ∙ ap (seen_binding timers at) (sym (are q n));
-  held_binding = λ q n t from. ap (λ (o : Option Binding). option_map row (seen_binding timers t o)) (sym (are q n));
+  held = λ q n t from. ap (λ (o : Option Binding). option_map row (seen_binding timers t o)) (sym (are q n));
 }
 
 -- each is there
