@@ -1,4 +1,4 @@
--- What a leg says of the binding that its packet went through.
+-- What a leg records of the binding that its packet went through.
 use Rattle.std.proofs.Common.{◌≡◌, ℕ, Bool, true, false, cond, List, Option, Some, None, Result, Ok, Err, refl, ◌∙◌, ap, subst, find}
 use Rattle.std.specs.Option.{option_map}
 use Rattle.napt_wire.specs.declared.Kind.TheVariants.{Udp, Tcp, Echo, ErrorOf}
@@ -7,7 +7,7 @@ use Rattle.napt_rules.specs.Prelude.{Binding, purge, live_and_held, permits, inb
 use Rattle.napt_laws.{specs.BindingUses.{BindingUseIsSaid, OutSaysItsBinding, InSaysItsBinding, ErrorsGoThroughNone, DroppedGoThroughNone}, proofs.Acts.of_act}
 use Rattle.napt_laws.proofs.{Endpoints.inside_it, Finds.{find_changed, find_pushed}, Passes.in_passed, StepsLive.{sent_seen, made_is_seen, received_seen}, SeenElements.purge_taken}
 
--- OUT
+-- OUTGOING PACKETS
 
 module _ (timers : Timers) (t : AreTimers timers) (granting : AssignmentRules) (address : ℕ) (packet : OutboundPacket)
     (list : List Binding) where
@@ -54,7 +54,7 @@ out_says_its_binding timers t granting address packet list =
     (purge_taken timers packet.now list)
     (out_says timers t granting address packet all (find (is_of_source address packet) (purge timers packet.now all)) refl)
 
--- IN
+-- INCOMING PACKETS
 
 module _ (timers : Timers) (t : AreTimers timers) (inbound : InboundRules) (address : ℕ) (packet : InboundPacket)
     (list : List Binding) where
@@ -92,7 +92,7 @@ in_says_its_binding timers t inbound address packet list =
     (in_says timers t inbound address packet all (find (is_of_destination address packet) (purge timers packet.now all))
     refl)
 
--- NONE
+-- PACKETS THROUGH NO BINDING
 
 module _ (rules : Rules) (address : ℕ) (leg : Leg) (list : List Binding) where
   error_none : (way : Way) (k : Kind) → is_error k ≡ true → (act_by rules address leg list way k).through ≡ None

@@ -7,12 +7,12 @@ use Rattle.napt_laws.proofs.Lists.{each_weaker, each_append}
 use Rattle.napt_laws.specs.Dispatching.{IsFrontOf, RightAnswersAreTheRuns, RunsGrow, outcome_told, OutcomeIsTold, AnswersTellOutcomes, OnwardIsForetold}
 use Rattle.napt_laws.proofs.{EachLeg.each_leg, OneMoreInput.grows, RunsLocal.translators_answer_from, OnwardLegs.{OnwardBy, onward}}
 
--- FRONTS
+-- PREFIXES
 
 front_front : {X : Type 0} (xs ys zs : List X) → IsFrontOf xs ys → IsFrontOf ys zs → IsFrontOf xs zs
 front_front xs ys zs h g = (h.0 ++ g.0, sym (append_assoc xs h.0 g.0) ∙ (ap (λ (l : List _). l ++ g.0) h.1 ∙ g.1))
 
--- the replies to a front are a front of the replies
+-- The replies to a prefix of the legs are a prefix of the replies.
 replies_front : (rules : Rules) (address : ℕ) (xs rest : List Leg) (own : LocalState) →
     IsFrontOf (local_replies rules address xs own) (local_replies rules address (xs ++ rest) own)
 replies_front rules address [] rest own = (local_replies rules address rest own, refl)
@@ -37,7 +37,7 @@ runs_grow rules state inputs input = grows rules 0 state.clock inputs input stat
 
 -- OUTCOMES
 
--- the acts of a step have its number, and one that does not go onward tells its outcome
+-- The acts of a step have its number, and one that does not end onward gives its outcome.
 abbrev TellsHere : ℕ → List Outcome → LegAct → Type 0
 TellsHere number outcomes a = (a.leg.number ≡ number) × IfSome (outcome_told a.end) (λ o. outcomes ≡ o ∷ [])
 
@@ -58,7 +58,7 @@ follow_tells rules address leg through list (Onward place packet) =
     let next : Leg = record leg { way = Incoming; packet = packet } in
     ((refl, tt), ((refl, end_told (act rules (destination packet).address next list).end), tt))
 
--- as IsTold, of outcomes that begin at a number
+-- The same as `OutcomeIsTold`, for outcomes that begin at a number.
 abbrev TellsFrom : ℕ → List Outcome → LegAct → Type 0
 TellsFrom number all a = (number ≤ a.leg.number)
     × IfSome (outcome_told a.end) (λ o. slice_get all (a.leg.number - number) ≡ Some o)
@@ -105,7 +105,7 @@ answers_tell rules state inputs =
     each_weaker (TellsFrom 0 course.outcomes) (OutcomeIsTold course.outcomes) (λ a h.
     told_from course.outcomes a (outcome_told a.end) h.1) course.acts (tells_from rules 0 state.clock inputs state.list)
 
--- ONWARD
+-- LEGS THAT END ONWARD
 
 pub foretold : SourcesLeaveDestinations → ErrorsLeaveDestinations → OnwardIsForetold
 foretold packets errors rules address leg list place packet side reads h =

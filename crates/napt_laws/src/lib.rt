@@ -1,7 +1,7 @@
-//! The laws of the definition of a run: what holds of every step, leg and run, whatever the code.
+//! Laws of the definition of a run: what holds of every step, leg and run, whatever the code.
 //!
-//! Each function is a law, which its contract states, and does nothing; `napt_rules` has the definition and the statements,
-//! `specs/` those for whoever runs each address apart, `proofs/` the lemmas.
+//! Each function is a law that its contract states, and does nothing. `napt_rules` has the definition
+//! and most statements, `specs/` those for translators of one address, `proofs/` the lemmas.
 #![tactic(auto)]
 
 mod dispatching;

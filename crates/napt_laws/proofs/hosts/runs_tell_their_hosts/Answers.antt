@@ -1,3 +1,4 @@
+-- `runs_tell_their_hosts`: the external endpoint of each binding after a run gives its inside host.
 use Rattle.napt_laws.proofs.Holders.{runs_tell}
 use Rattle.napt_laws.proofs.hosts.runs_tell_their_hosts.Goals as goal
 

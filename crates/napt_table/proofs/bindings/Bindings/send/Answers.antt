@@ -1,3 +1,4 @@
+-- `send`: the answer and the stored bindings are those of the definition, in each case of a packet's source.
 use Rattle.std.{proofs.Common.{◌≡◌, ℕ, true, false, cond, Option, sym, subst, ◌∙◌}, specs.Option.is_some}
 use Rattle.napt_config.specs.Rules.{AreTimers}
 use Rattle.napt_rules.specs.Prelude.{reaches_quota}
