@@ -6,7 +6,7 @@ use Rattle.std.proofs.lemmas.Bool.{and_from, and_parts, or_parts, not-true, le-l
 use Rattle.std.proofs.lemmas.List.{Elements.{All-head, All-tail}, Quantifiers.position-Some}
 use Rattle.napt_rules.specs.Prelude.{Each, IsPaired, IsBlockNumber, IsInItsBlock, RunsAreSound, RunsKeepToBlocks, PortBlock, PrefixModel, IsPrefix, prefix_has, prefix_size, do_prefixes_meet, are_prefixes_apart, host_index, address_at}
 use Rattle.napt_rules.specs.declared.Row.{Row}
-use Rattle.napt_laws.specs.Hosts.{BlocksTellTheirHosts, HostsHaveTheirBlocks, BlocksAreApart, HostIsTold, RunsTellTheirHosts}
+use Rattle.napt_laws.specs.Hosts.{BlocksNameTheirHosts, HostsHaveTheirBlocks, BlocksAreApart, HostIsNamed, RunsNameTheirHosts}
 use Rattle.napt_config.specs.Rules.{Rules, RulesInvariant, AreBlocks, IsPoolList, contains_address, pool_address_for, paired_address, pair_of, nth_block, block_in, block_of, block_has_number, host_at, host_of}
 use Rattle.napt_config.proofs.{Indices.size_pos, Pools.{has-at, position_of_member}}
 
@@ -277,7 +277,7 @@ keeps_at None inside pool pairs host number block is_pool are blocks e told = cc
 keeps_at (Some size) inside pool pairs host number block is_pool are blocks e told =
     keeps size inside pool pairs host is_pool are number block (omega (arith, blocks.low)) blocks.apart e told
 
-pub blocks_tell : BlocksTellTheirHosts
+pub blocks_tell : BlocksNameTheirHosts
 blocks_tell rules host number block kept e has =
     tells_at rules.block rules.inside rules.pool rules.pairs host number block kept.pool kept.inside.networks e has
 
@@ -311,10 +311,10 @@ module _ (rules : Rules) (kept : RulesInvariant rules) where
       ∙ blocks_tell rules one.inside.address one.external.number block kept e
       (and_from _ _ (le-leb _ _ own.first) (lt-ltb _ _ own.last))
 
-  row_told : (one : Row) → IsPaired (pair_of rules) one → IsInItsBlock rules one → HostIsTold rules one
+  row_told : (one : Row) → IsPaired (pair_of rules) one → IsInItsBlock rules one → HostIsNamed rules one
   row_told one paired own loose = told_at one (block_of rules one.inside.address) paired refl (own loose)
 
-pub runs_tell : RunsAreSound → RunsKeepToBlocks → RunsTellTheirHosts
+pub runs_tell : RunsAreSound → RunsKeepToBlocks → RunsNameTheirHosts
 runs_tell sound own rules kept inputs =
-    each_of_both (IsPaired (pair_of rules)) (IsInItsBlock rules) (HostIsTold rules) (row_told rules kept) _
+    each_of_both (IsPaired (pair_of rules)) (IsInItsBlock rules) (HostIsNamed rules) (row_told rules kept) _
     (sound rules kept inputs).each (own rules kept inputs)

@@ -3,7 +3,7 @@ use Rattle.std.proofs.Common.{◌≡◌, ◌≢◌, ℕ, ◌+◌, ◌≤◌, ◌
 use Rattle.std.proofs.lemmas.List.{map-append, Elements.filter-append}
 use Rattle.napt_rules.specs.Prelude.{BindingUse, Binding, Each, way_from, served_at, LegEffect, act, Arrival, admission, LegAct, RunEffect, with_second_leg, last_clock, State, effect_from, acts_at, legs_at, Way, Outgoing, destination, IsPacket, Rules}
 use Rattle.napt_rules.specs.declared.{Leg.Leg, End.{End, TheVariants.{ToOutside, ToInside, Onward, Dropped}}}
-use Rattle.napt_laws.{proofs.Lists.{each_weaker, each_append}, specs.Dispatching.{IsFrontOf, OnwardIsForetold}}
+use Rattle.napt_laws.{proofs.Lists.{each_weaker, each_append}, specs.Dispatching.{IsFrontOf, OnwardIsForeseen}}
 use Rattle.napt_laws.specs.SecondLegs.{first_act, acts_of, acts_of_number, all_but_first, second_legs, second_of, IsSeconded, AnswersFillPlaces, PlacesStandForLegs}
 use Rattle.napt_laws.proofs.{EachLeg.each_leg, OneInput.{acts_begin, grown}}
 
@@ -180,7 +180,7 @@ module _ (rules : Rules) (state : State) (done rest : List Arrival) (input : Arr
       at_seam (IsSeconded whole) before.acts (first_act rules at_first leg_of before.list) (head.0 ++ front.0)
       (subst (Each (IsSeconded whole)) is (answers_fill rules state ((done ++ input ∷ []) ++ rest))) way
 
-  pub place_stands : OnwardIsForetold → IsPacket packet → way_from input.side ≡ Outgoing → (address : ℕ) →
+  pub place_stands : OnwardIsForeseen → IsPacket packet → way_from input.side ≡ Outgoing → (address : ℕ) →
       legs_at address (effect_from rules state (done ++ input ∷ [])).acts
       ≡ legs_at address before.acts ++ (cond (at_first == address) (leg_of ∷ []) []
       ++ cond ((destination packet).address == address) (second_legs number whole) [])
@@ -196,7 +196,7 @@ module _ (rules : Rules) (state : State) (done rest : List Arrival) (input : Arr
       ∙ ap (λ (ls : List Leg). cond (at_first == address) (leg_of ∷ []) []
       ++ cond ((destination packet).address == address) ls []) (sym (filled way))))
 
-pub places_stand : OnwardIsForetold → PlacesStandForLegs
+pub places_stand : OnwardIsForeseen → PlacesStandForLegs
 places_stand foretold rules state done rest input packet side admitted is address =
     let number : ℕ = length done in
     let now : ℕ = max (last_clock state.clock done) input.clock in

@@ -26,26 +26,26 @@ RunsGrow = (rules : Rules) (state : State) (inputs : List Arrival) (input : Arri
     ≡ effect_then course (step rules (length inputs) (max (last_clock state.clock inputs) input.clock) input course.list)
 
 -- The outcome of an input by the end of its last leg; an end onward gives none.
-abbrev pub outcome_told : End → Option Outcome
-outcome_told (Onward place packet) = None
-outcome_told end = Some (outcome_of end)
+abbrev pub outcome_of_end : End → Option Outcome
+outcome_of_end (Onward place packet) = None
+outcome_of_end end = Some (outcome_of end)
 
 -- Each leg that does not end onward gives the outcome of its input.
-abbrev pub OutcomeIsTold : List Outcome → LegAct → Type 0
-OutcomeIsTold all a = IfSome (outcome_told a.end) (λ outcome. slice_get all a.leg.number ≡ Some outcome)
+abbrev pub OutcomeIsGiven : List Outcome → LegAct → Type 0
+OutcomeIsGiven all a = IfSome (outcome_of_end a.end) (λ outcome. slice_get all a.leg.number ≡ Some outcome)
 
-abbrev pub AnswersTellOutcomes : Type 0
-AnswersTellOutcomes = (rules : Rules) (state : State) (inputs : List Arrival) →
+abbrev pub AnswersGiveOutcomes : Type 0
+AnswersGiveOutcomes = (rules : Rules) (state : State) (inputs : List Arrival) →
     let course : RunEffect = effect_from rules state inputs in
-    Each (OutcomeIsTold course.outcomes) course.acts
+    Each (OutcomeIsGiven course.outcomes) course.acts
 
 -- A leg that ends onward is outgoing, and the place is that of its packet's destination (RFC 4787, REQ-9).
-pub record IsForetold (rules : Rules) (leg : Leg) (place : ℕ) (packet : List ℕ) : Type 0 where
+pub record IsEndForeseen (rules : Rules) (leg : Leg) (place : ℕ) (packet : List ℕ) : Type 0 where
   pub way : leg.way ≡ Outgoing
   pub served : pool_place rules (destination leg.packet).address ≡ Some place
   pub kept : (destination packet).address ≡ (destination leg.packet).address
 
-abbrev pub OnwardIsForetold : Type 0
-OnwardIsForetold = (rules : Rules) (address : ℕ) (leg : Leg) (list : List Binding) (place : ℕ) (packet : List ℕ)
+abbrev pub OnwardIsForeseen : Type 0
+OnwardIsForeseen = (rules : Rules) (address : ℕ) (leg : Leg) (list : List Binding) (place : ℕ) (packet : List ℕ)
     (side : Side) → reading side leg.packet ≡ Ok leg.packet →
-    (act rules address leg list).end ≡ Onward place packet → IsForetold rules leg place packet
+    (act rules address leg list).end ≡ Onward place packet → IsEndForeseen rules leg place packet

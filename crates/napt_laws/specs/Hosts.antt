@@ -5,8 +5,8 @@ use Rattle.napt_config.specs.Rules.{Rules, RulesInvariant, pair_of, block_of, bl
 use Rattle.napt_rules.specs.{declared.Row.Row, Prelude.{Each, row, Arrival, run, opening, PortBlock}}
 
 -- The host of each number of a host's block, at the host's external address, is that host.
-abbrev pub BlocksTellTheirHosts : Type 0
-BlocksTellTheirHosts = (rules : Rules) (host number : ℕ) (block : PortBlock) → RulesInvariant rules → block_of rules host
+abbrev pub BlocksNameTheirHosts : Type 0
+BlocksNameTheirHosts = (rules : Rules) (host number : ℕ) (block : PortBlock) → RulesInvariant rules → block_of rules host
     ≡ Some block → block_has_number block number ≡ true → host_of rules (pair_of rules host) number ≡ Some host
 
 -- A host has no numbers outside its block.
@@ -21,11 +21,11 @@ BlocksAreApart = (rules : Rules) (a b number : ℕ) (of_a of_b : PortBlock) → 
     ≡ true → block_has_number of_b number ≡ true → a ≡ b
 
 -- The host of a binding's external endpoint is the binding's own, unless it is a redirect or has no block.
-abbrev pub HostIsTold : Rules → Row → Type 0
-HostIsTold rules row = row.fixed ≡ false → IfSome (block_of rules row.inside.address)
+abbrev pub HostIsNamed : Rules → Row → Type 0
+HostIsNamed rules row = row.fixed ≡ false → IfSome (block_of rules row.inside.address)
     (λ block. host_of rules row.external.address row.external.number ≡ Some row.inside.address)
 
 -- This holds of each binding after any inputs: who had a number is known without a log.
-abbrev pub RunsTellTheirHosts : Type 0
-RunsTellTheirHosts = (rules : Rules) → RulesInvariant rules → (inputs : List Arrival) →
-    Each (HostIsTold rules) (map row (run rules inputs (opening rules)).list)
+abbrev pub RunsNameTheirHosts : Type 0
+RunsNameTheirHosts = (rules : Rules) → RulesInvariant rules → (inputs : List Arrival) →
+    Each (HostIsNamed rules) (map row (run rules inputs (opening rules)).list)

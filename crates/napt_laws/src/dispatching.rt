@@ -1,6 +1,6 @@
 //! Laws of runs for a dispatcher.
 
-ghost use Rattle.napt_laws.specs.Dispatching.{RightAnswersAreTheRuns, RunsGrow, AnswersTellOutcomes, OnwardIsForetold};
+ghost use Rattle.napt_laws.specs.Dispatching.{RightAnswersAreTheRuns, RunsGrow, AnswersGiveOutcomes, OnwardIsForeseen};
 ghost use Rattle.napt_laws.specs.SecondLegs.{AnswersFillPlaces, PlacesStandForLegs};
 
 use napt_wire::packets_keep_their_way;
@@ -9,8 +9,8 @@ use napt_wire::packets_keep_their_way;
 pub fn right_answers()
     ensures right { RightAnswersAreTheRuns }
     ensures grow { RunsGrow }
-    ensures told { AnswersTellOutcomes }
-    ensures foretold { OnwardIsForetold }
+    ensures told { AnswersGiveOutcomes }
+    ensures foretold { OnwardIsForeseen }
 {
     packets_keep_their_way();
 }

@@ -1,7 +1,7 @@
 //! Laws of legs.
 
 ghost use Rattle.napt_rules.specs.Prelude.{ErrorsChangeNothing, LegsEndAtTheirSide, InboundStaysInside, LegsAnswerAlone, LegsLeaveTheirOwn};
-ghost use Rattle.napt_laws.specs.BindingUses.{OutSaysItsBinding, InSaysItsBinding, ErrorsGoThroughNone, DroppedGoThroughNone};
+ghost use Rattle.napt_laws.specs.BindingUses.{OutboundNamesItsBinding, InboundNamesItsBinding, ErrorsGoThroughNone, DroppedGoThroughNone};
 
 /// Law: an ICMP error changes no binding and no time; what ends to the outside goes to no address of the
 /// pool, and what ends onward to the one at its place; an incoming packet reaches the inside or is dropped.
@@ -19,9 +19,9 @@ pub fn legs_are_local()
 
 /// Law: a leg records the binding that its packet went through: the one found after it, which it made if and only
 /// if none was found before (RFC 3022, section 4). An ICMP error, or a packet that is dropped, goes through none.
-pub fn legs_say_their_binding()
-    ensures outbound { OutSaysItsBinding }
-    ensures inbound { InSaysItsBinding }
+pub fn legs_name_their_binding()
+    ensures outbound { OutboundNamesItsBinding }
+    ensures inbound { InboundNamesItsBinding }
     ensures errors { ErrorsGoThroughNone }
     ensures dropped { DroppedGoThroughNone }
 {}

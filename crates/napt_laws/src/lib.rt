@@ -12,8 +12,8 @@ mod runs;
 mod steps;
 
 pub use dispatching::{places_stand_for_legs, right_answers};
-pub use hosts::{blocks_have_one_host, runs_tell_their_hosts};
-pub use legs::{legs_are_local, legs_keep_to_their_way, legs_say_their_binding};
+pub use hosts::{blocks_have_one_host, runs_name_their_hosts};
+pub use legs::{legs_are_local, legs_keep_to_their_way, legs_name_their_binding};
 pub use numbers::candidates_are_the_class;
 pub use runs::{
     own_states_stay, runs_are_sound, runs_go_on, runs_keep_the_quota, runs_keep_to_blocks,

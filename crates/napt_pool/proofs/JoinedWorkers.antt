@@ -8,7 +8,7 @@ use Rattle.napt_pool.{specs.declared.{closing.{ClosingWorker.ClosingWorker, Ende
 use Rattle.napt_pool.specs.{declared.thread_state.ThreadState.ThreadState, Faults.{is_shut, is_gate_shut, fault_of, IsFaultOf, IsFaultUpTo, IsLeastFault}}
 use Rattle.napt_pool.specs.Histories.{after, replies, ArePrefixesOf}
 use Rattle.napt_pool.specs.Workers.{IsEnd, AreEnds, closing_machine, closing_thread_state, closing_accepted, closing_taken, closing_heard}
-use Rattle.napt_pool.{specs.Pools.{initial_machines, accepted_items, taken_answers, handed_out_replies, thread_states, zip_with, HasTold, HaveReceived, CloseErr}, proofs.Ending.length-replies}
+use Rattle.napt_pool.{specs.Pools.{initial_machines, accepted_items, taken_answers, handed_out_replies, thread_states, zip_with, HasReported, HaveReceived, CloseErr}, proofs.Ending.length-replies}
 
 no_rest : {A : Type 0} (t rest : List A) → length (t ++ rest) ≡ length t → t ++ rest ≡ t
 no_rest [] [] e = refl
@@ -179,7 +179,7 @@ module _ {M G I A : Type 0} (g : Ghosts M I A) (open_gate : Bool) where
   pub told_is : {T : Type 0} (p : Pool M G I A) (items : T → List (Ended M I A)) (ws : List (ClosingWorker M G I A))
       (es : List (Result (Ended M I A) WorkerFault)) → AreEnds g open_gate ws es → map closing_heard ws ≡ handed_out_replies p
       → (r : Result T PoolFault) → IfOk r (λ v. map Ok (items v) ≡ es) → IfErr r (λ fault. IsLeastFault es fault)
-      → (w : ℕ) (fault : PoolFault) → HasTold p w fault → MatchResult r (λ _. ⊥) (IsFaultUpTo w fault)
+      → (w : ℕ) (fault : PoolFault) → HasReported p w fault → MatchResult r (λ _. ⊥) (IsFaultUpTo w fault)
   told_is p items ws es h listened (Ok v) ended least w fault told =
       let here = rw (← ended) at h in
       let c : Contains (get_or (map closing_heard ws) w []) (Failed told.0) = rw listened told.1 in

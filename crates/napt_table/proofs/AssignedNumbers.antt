@@ -7,7 +7,7 @@ use Rattle.napt_rules.specs.declared.{AssignmentRules.AssignmentRules, OutboundP
 use Rattle.napt_rules.specs.Prelude.{Binding, change_first, is_live, with_live_flows, purge, hold_ago, live_and_held, choice, count_for, reaches_quota, has_number, is_of_source, binding_after_out, new_binding, OutboundEffect, out_made, granted_again, out_found, out_taken, row, AreBindingsApart}
 use Rattle.napt_table.specs.{declared.bindings.keys.ExternalNumberKey.ExternalNumberKey, Keys.{key_eq, external_key}, HeldLists.{seen_binding, ShowsHeld}}
 use Rattle.napt_table.specs.BindingIndexes.{BindingIndexModel, held_binding, held_at, count_all, HasInside, IsNumberOf, IsNamed, HasNoInside, HoldsSame, KeepsSeen, WentThrough}
-use Rattle.napt_table.specs.Bindings.{BindingsModel, AllShow, AllKeep, KeepsUnseen, BindingsInvariant, IsPurged, shown_made, NewBindingOk, RenewedBindingOk}
+use Rattle.napt_table.specs.Bindings.{BindingsModel, AllShow, AllKeep, KeepsUnseen, BindingsUnchanged, IsPurged, shown_made, NewBindingOk, RenewedBindingOk}
 use Rattle.napt_table.proofs.{Hosts.count_is_held, SeenBindings.{seen_is, seen_seen, found_seen}, Keys.{by_key, at_key, key_number, past_key}}
 use Rattle.napt_table.proofs.{Steps.{by_protocol, sent_others}, OutboundSteps.{found, parts, known_shows, not_found, made_shows}, HeldThroughTime.{live_apart, keeps_on, out_stays}}
 use Rattle.napt_laws.proofs.{Endpoints.{not_has, inside_it, inside_parts, has_it, once_inside, once_number}, Finds.{passes, find_same, find_passed_over}}
@@ -43,7 +43,7 @@ same_then a b c p q = record {
   held_same = λ k. q.held_same k ∙ p.held_same k;
 }
 
-pub stands_then : (a b c : BindingsModel) → BindingsInvariant a b → BindingsInvariant b c → BindingsInvariant a c
+pub stands_then : (a b c : BindingsModel) → BindingsUnchanged a b → BindingsUnchanged b c → BindingsUnchanged a c
 stands_then a b c p q = record {
   timers_is = q.timers_is ∙ p.timers_is;
   at_is = q.at_is ∙ p.at_is;
@@ -174,7 +174,7 @@ made_answer list address packet (Ok number) = refl
 
 -- A PACKET WHOSE BINDING IS NOT FOUND: memory is reserved, and bindings whose hold time is over are removed
 
-module _ (old mid gone : BindingsModel) (packet : OutboundPacket) (same : BindingsInvariant old mid) (purged : IsPurged packet.now mid gone)
+module _ (old mid gone : BindingsModel) (packet : OutboundPacket) (same : BindingsUnchanged old mid) (purged : IsPurged packet.now mid gone)
     (none : (n : ℕ) (b : Binding) → seen_binding old.timers packet.now (held_at old.held packet.protocol n) ≡ Some b →
     b.row.inside ≢ packet.inside) (named : IsNamed old.held) (gone_named : IsNamed gone.held) where
   abbrev ago : ℕ

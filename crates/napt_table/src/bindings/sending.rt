@@ -15,11 +15,11 @@ impl Bindings {
     ghost use Rattle.napt_table.specs.Keys.{key_eq, key_of};
     ghost use Rattle.napt_table.specs.declared.bindings.keys.ExternalNumberKey.{ExternalNumberKey as Key};
     ghost use Rattle.napt_table.specs.BindingIndexes.{held_binding, IsSamePlace, HasNoInside, IsUsedBy};
-    ghost use Rattle.napt_table.specs.Bindings.{BindingsHaveRoom, BindingsInvariant};
+    ghost use Rattle.napt_table.specs.Bindings.{BindingsHaveRoom, BindingsUnchanged};
 
     /// Reserves memory for one more binding of the protocol. Fails if it is refused.
     fn make_room(&mut self, protocol: Protocol) -> Result<(), AllocError>
-        ensures same { BindingsInvariant self.old self.new }
+        ensures same { BindingsUnchanged self.old self.new }
         ensures room { OnOk result (BindingsHaveRoom self.new) }
     {
         let held = &mut self.held;
@@ -61,7 +61,7 @@ impl Bindings {
     ghost use Rattle.napt_table.specs.Keys.{key_eq, key_of};
     ghost use Rattle.napt_table.specs.declared.bindings.keys.ExternalNumberKey.{ExternalNumberKey as Key};
     ghost use Rattle.napt_table.specs.BindingIndexes.{held_binding, held_at, HasInside, IsSamePlace, HasNoInside, HoldsSame, IsUsedBy, SendKnownPost};
-    ghost use Rattle.napt_table.specs.Bindings.{BindingsHaveRoom, BindingsInvariant, NewBindingOk, RenewedBindingOk, SendPost, SendsKnown};
+    ghost use Rattle.napt_table.specs.Bindings.{BindingsHaveRoom, BindingsUnchanged, NewBindingOk, RenewedBindingOk, SendPost, SendsKnown};
 
     /// Stores a binding that is live or held and whose endpoints are free. A redirect never expires, so
     /// it is not queued. Fails if memory is refused; the stored bindings are then unchanged.
@@ -103,7 +103,7 @@ impl Bindings {
         ensures at { IfOk result (λ found.
             self.new.at ≡ cond (is_some found) packet.now self.old.at) }
         ensures went { IfOk result (SendKnownPost self.old.timers packet self.old.held self.new.held) }
-        ensures refused { OnErr result (BindingsInvariant self.old self.new) }
+        ensures refused { OnErr result (BindingsUnchanged self.old self.new) }
     {
         let timers = self.timers;
         timers.are_within_limits();
@@ -126,8 +126,8 @@ impl Bindings {
         ensures timers { self.new.timers ≡ self.old.timers }
         ensures known { IfOk result (λ found. IfSome found (λ number.
             SendsKnown packet self.old self.new number)) }
-        ensures unknown { result ≡ Ok None → BindingsInvariant self.old self.new }
-        ensures refused { OnErr result (BindingsInvariant self.old self.new) }
+        ensures unknown { result ≡ Ok None → BindingsUnchanged self.old self.new }
+        ensures refused { OnErr result (BindingsUnchanged self.old self.new) }
     {
         self.timers.are_within_limits();
         self.keep_names();
@@ -136,7 +136,7 @@ impl Bindings {
 
     /// Reserves memory for a new binding of the packet; returns its first flows. No binding changes.
     fn prepare(&mut self, alloc: Global, packet: OutboundPacket) -> Result<Flows, AllocError>
-        ensures same { BindingsInvariant self.old self.new }
+        ensures same { BindingsUnchanged self.old self.new }
         ensures room { OnOk result (BindingsHaveRoom self.new) }
         ensures flows { IfOk result (λ flows.
             live_flows self.old.timers packet.now packet.protocol flows ≡
@@ -222,7 +222,7 @@ impl Bindings {
         ensures place { IsSamePlace self.old.held self.new.held }
         ensures at { OnOk result (self.new.at ≡ packet.now) }
         ensures sends { IfOk result (SendPost packet self.old self.new) }
-        ensures refused { OnErr result (BindingsInvariant self.old self.new) }
+        ensures refused { OnErr result (BindingsUnchanged self.old self.new) }
     {
         self.timers.are_within_limits();
         self.keep_names();
