@@ -76,9 +76,7 @@ impl RefusedRun<'_> {
         side: Side,
         head: &'a [u8],
         source: &'a mut S,
-    ) -> Result<OpenCaptures<'a, S>, Exit>
-        requires { S.failed source.old < 2 ^ 64 - 1 }
-    {
+    ) -> Result<OpenCaptures<'a, S>, Exit> {
         match RecordReader::open(rt.alloc(), source) {
             Ok(records) => Ok(OpenCaptures {
                 head,

@@ -1,7 +1,7 @@
 //! Devices of a run that move a byte at a time, and go wrong at each of their calls in turn.
 
 use crate::calls::TestRuntime;
-use crate::captures::{Call, Device, HEADER, RunInput, captured, failing, told};
+use crate::captures::{Call, Device, HEADER, RunInput, captured, failing};
 use crate::gates::{GateMode, Hold};
 use napt_capture::{CaptureFault, FaultPlan, InjectedFault, WriteFault};
 use napt_pool::PoolFault;
@@ -53,7 +53,7 @@ fn assert_ends(
     };
     let written = captured(rt, &given, Hold::new(rt.alloc(), way)?)?;
     let (answer, [to_outside, to_inside, report]) = end;
-    assert_eq!(rt; written.answer, told(answer));
+    assert_eq!(rt; written.answer, answer);
     let texts: [(&[u8], &[u8], u16); 3] = [
         (&written.to_outside, &WRITTEN, to_outside),
         (&written.to_inside, &WRITTEN, to_inside),
