@@ -3,7 +3,6 @@ use Rattle.std.{proofs.Common.{◌≡◌, ◌++◌}, specs.Vec.Iter.into_iter_it
 use Rattle.napt_sequential.proofs.FollowedMore.{FollowedSoFar}
 use Rattle.napt_sequential.proofs.reply_run.follow_all.Given as goal
 
--- The inputs so far have been run, with these replies readdressed.
 abbrev pub invariant-loop-input : goal.invariant-loop-input
 invariant-loop-input l = record {
   split : l.yielded ++ into_iter_items l.input-iterator ≡ l.fn.inputs.items;

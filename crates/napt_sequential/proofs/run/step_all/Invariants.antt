@@ -4,7 +4,6 @@ use Rattle.napt_rules.specs.Prelude.{opening, run}
 use Rattle.napt_sequential.specs.SequentialRuns.{IsRunFromOpening}
 use Rattle.napt_sequential.proofs.run.step_all.Given as goal
 
--- The inputs so far have been run, with these outcomes.
 abbrev pub invariant-loop-input : goal.invariant-loop-input
 invariant-loop-input l = record {
   stands : IsRunFromOpening l.config (take l.input-index l.inputs) l.run;
