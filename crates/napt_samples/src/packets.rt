@@ -1,5 +1,5 @@
-//! Packets as on the wire, with correct checksums. The first row of each is version 4 and 5 words,
-//! total length, identification, offset 0, time to live 64, protocol and header checksum (RFC 791).
+//! Packets as on the wire, with correct checksums. The first row of each has version 4, 5 words,
+//! total length, identification, offset 0, time to live 64, protocol, header checksum (RFC 791).
 
 /// From inside: a UDP packet from 10.0.0.2:5000 to 198.51.100.7:53.
 pub const UDP_QUERY: [u8; 30] = [
