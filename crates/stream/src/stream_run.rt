@@ -26,42 +26,42 @@ use std::io::{BufWriter, Write};
 use std::rt::Files;
 use std::sync::Arc;
 
-/// What a run goes on from.
+/// The configuration, state and log entries with which a run starts, and its gate.
 #[derive(Drop)]
 pub struct StreamRun<'a> {
     pub options: &'a OptionsWithLog,
     pub config: &'a Config,
     pub state: &'a State,
-    /// What was kept of its log.
+    /// The saved entries of its log.
     pub kept: &'a SavedLogState,
     pub gate: Arc<CountingGate>,
 }
 
-/// The devices that both captures are read from.
+/// The devices from which both captures are read.
 #[derive(Drop)]
 pub struct CaptureDevices<A, B> {
     pub inside: A,
     pub outside: B,
 }
 
-/// The captures after a run, and what it came to.
+/// The captures after a run, and the result of the run.
 #[derive(Drop)]
 pub struct Ran<A, B> {
     pub captures: CaptureDevices<A, B>,
     pub answer: Result<StreamRemainder, Stop>,
 }
 
-/// What a run leaves.
+/// The result of a run that succeeded.
 #[derive(Drop)]
 pub struct StreamRemainder {
     pub passed: RunSummary,
-    /// Its log, if it has one and the state is to be saved.
+    /// The position of its log, if it has one and the state is to be saved.
     pub log: Option<LogPosition>,
 }
 
 impl<'a> StreamRun<'a> {
-    /// Says on standard error if the log, where there is one, begins new entries for the bindings of the state, because those
-    /// that were kept are not theirs.
+    /// Warns on standard error if the saved entries do not match the state's bindings, so that the
+    /// log, if there is one, begins new entries for them. Fails with `MEMORY` if memory is refused.
     pub fn print_new_entries<R: Eprint + AllocGlobal>(
         &self,
         rt: &R,
@@ -81,7 +81,8 @@ impl<'a> StreamRun<'a> {
         Ok(())
     }
 
-    /// Runs over the captures into the outputs, and into the log if there is one. Fails as the run does.
+    /// Runs over the captures and writes the outputs, and the log if there is one. Fails as the run
+    /// does, and with `Stop::Log` if the log could not be written.
     pub fn over<R: ProgramHost, A: Source, B: Source, T: Write + Drop, F: Write + OpenFile + Drop>(
         self,
         rt: &R,
@@ -173,7 +174,7 @@ impl<'a> StreamRun<'a> {
         }
     }
 
-    /// What the run goes on from.
+    /// Returns the start of the run.
     fn start(&self) -> Start<'a>
         ensures config { result.config ≡ self.now.config }
         ensures state { result.state ≡ self.now.state }
