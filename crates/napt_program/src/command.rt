@@ -136,7 +136,8 @@ fn entries_of(alloc: Global, log: Option<LogPosition>) -> SavedLogState
 pub fn stop_of_run(options: &OptionsWithLog, fault: Fault) -> Stop
     requires gate { is_shut_gate_fault fault ≡ false }
     requires log { IsOfLog (files_with_log options.now) fault }
-    ensures stop { (streams : StandardStreams) → IsRunStop streams (files_with_log options.now) result }
+    ensures stop { (streams : StandardStreams) →
+        IsRunStop streams (files_with_log options.now) result }
     ensures exact { result ≡ stop_after (files_with_log options.now) fault }
 {
     match fault {
