@@ -12,7 +12,7 @@ use napt_capture::{FaultPlan, Faulty, InjectedFault, Watched};
 use napt_config::Config;
 use napt_run::{
     Devices, Fault, LogStart, LogWriter, NoLog, RunEnd, Start, initial_state, run_captures,
-    run_streams,
+    run_streams, run_streams_with_log,
 };
 use napt_samples::hosts::{RESOLVER, external};
 use std::alloc::{AllocError, Global};
@@ -85,7 +85,7 @@ pub(crate) struct RunOutput {
     pub(crate) log: Vec<u8>,
 }
 
-/// What a run comes to, without what it leaves.
+/// Returns the result of a run without what the run leaves.
 fn ended(run: Result<RunEnd, Fault>) -> Result<(), Fault> {
     match run {
         Ok(_) => Ok(()),
@@ -152,7 +152,7 @@ pub(crate) fn captured(
         Call::StreamsWithLog => {
             let device = on!(Log, Vec::new(alloc));
             written_by!(
-                run_streams,
+                run_streams_with_log,
                 LogWriter {
                     start: log_start,
                     device
@@ -163,12 +163,12 @@ pub(crate) fn captured(
     })
 }
 
-/// The text of no log.
+/// Returns the text of a log that is not kept, which is empty.
 fn no_text(_log: NoLog) -> Vec<u8> {
     Vec::new(Global)
 }
 
-/// The text of a log.
+/// Returns the text of a log.
 fn text_of(log: LogWriter<'_, Faulty<Watched<Vec<u8>>>>) -> Vec<u8> {
     let LogWriter { device, .. } = log;
     device.into_inner().into_inner()

@@ -13,7 +13,9 @@ use crate::resumed_runs::nothing;
 use napt_account::SavedLogState;
 use napt_capture::{Watched, WriteFault};
 use napt_config::Config;
-use napt_run::{Devices, Fault, LogStart, LogWriter, Start, State, Which, run_streams};
+use napt_run::{
+    Devices, Fault, LogStart, LogWriter, Start, State, Which, run_streams_with_log,
+};
 use napt_samples::hosts::{CLIENT, RESOLVER};
 use napt_state::take_up;
 use std::alloc::{AllocError, Global};
@@ -119,7 +121,7 @@ fn run_on(
         },
     };
     let gate = Hold::new(alloc, GateMode::Open)?;
-    let end = run_streams(rt, alloc, start, &mut devices, gate)?;
+    let end = run_streams_with_log(rt, alloc, start, &mut devices, gate)?;
     let LogWriter { device, .. } = devices.log;
     Ok(Part {
         text: device.into_inner(),

@@ -16,8 +16,8 @@ use napt_program::{
     ProgramHost, Stop, stop_of_run,
 };
 use napt_run::{
-    Devices, Fault, LogStart, LogWriter, NoLog, RunEnd, RunLog, RunSummary, Start, State,
-    run_streams,
+    Devices, Fault, LogStart, LogWriter, NoLog, RunEnd, RunSummary, Start, State, run_streams,
+    run_streams_with_log,
 };
 use napt_state::LogPosition;
 use std::alloc::Global;
@@ -118,7 +118,7 @@ impl<'a> StreamRun<'a> {
     {
         let options = self.options;
         let start = self.start();
-        let mut devices = over_devices(captures, outputs, NoLog);
+        let mut devices = run_devices(captures, outputs, NoLog);
         let answer = run_streams(rt, rt.alloc(), start, &mut devices, self.gate);
         let answer = match answer {
             Ok(end) => Ok(StreamRemainder {
@@ -160,8 +160,8 @@ impl<'a> StreamRun<'a> {
             start: self.log_start(is_new),
             device,
         };
-        let mut devices = over_devices(captures, outputs, writer);
-        let answer = run_streams(rt, rt.alloc(), start, &mut devices, self.gate);
+        let mut devices = run_devices(captures, outputs, writer);
+        let answer = run_streams_with_log(rt, rt.alloc(), start, &mut devices, self.gate);
         let Devices {
             inside,
             outside,
@@ -185,7 +185,7 @@ impl<'a> StreamRun<'a> {
         }
     }
 
-    /// What its log goes on from, which has text or is new.
+    /// Returns the start of the run's log, which is new or already has text.
     fn log_start(&self, is_new: bool) -> LogStart<'a>
         ensures kept { result.kept ≡ self.now.kept }
         ensures is_new { result.is_new ≡ is_new }
@@ -201,8 +201,8 @@ impl<'a> StreamRun<'a> {
     }
 }
 
-/// The devices of a run.
-fn over_devices<A: Source, B: Source, T: Write + Drop, F: Write + Drop, L: RunLog>(
+/// Returns the devices of a run.
+fn run_devices<A: Source, B: Source, T: Write + Drop, F: Write + Drop, L: Drop>(
     captures: CaptureDevices<A, B>,
     outputs: OutputDevices<T, F>,
     log: L,
@@ -232,8 +232,8 @@ fn over_devices<A: Source, B: Source, T: Write + Drop, F: Write + Drop, L: RunLo
     }
 }
 
-/// What a run with a log leaves: its log too, if the state is saved. Fails as the run does, and with `Stop::Log` if the log
-/// cannot be brought to its disk.
+/// Returns the result of the program for that of a run with a log, whose position it keeps if the
+/// state is to be saved. Fails as the run does, and with `Stop::Log` on a failed sync.
 fn left_if_saved<T: Write + Drop, F: Write + OpenFile + Drop, R: Files + AllocGlobal>(
     options: &OptionsWithLog,
     answer: Result<RunEnd, Fault>,
@@ -257,7 +257,7 @@ fn left_if_saved<T: Write + Drop, F: Write + OpenFile + Drop, R: Files + AllocGl
     })
 }
 
-/// What is kept of a log that was written, beside a state that is saved. Fails with `Stop::Log`.
+/// Returns a log's position if the state is to be saved. Fails with `Stop::Log` on a failed sync.
 fn kept_if_saved<T: Write + Drop, F: Write + OpenFile + Drop, R: Files + AllocGlobal>(
     is_saved: bool,
     left: SavedLogState,
