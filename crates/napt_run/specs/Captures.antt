@@ -144,6 +144,7 @@ abbrev pub Explains : Option (List ℕ) → Option (List ℕ) → Fault → Type
 Explains inside outside (Capture sides.Inside fault) = IsFaultIn inside fault
 Explains inside outside (Capture sides.Outside fault) = IsReadable inside × IsFaultIn outside fault
 Explains inside outside (Run fault) = IsReadable inside × IsReadable outside
+Explains inside outside (Write Log fault) = ⊥
 Explains inside outside (Write which fault) = IsReadable inside × IsReadable outside
 
 -- how many reads of a side's capture failed, and how many writes of an output
@@ -192,5 +193,4 @@ abbrev pub IsWriteFaultOf : Which → Fault → Type 0
 IsWriteFaultOf Outside (Write Outside fault) = Unit {0}
 IsWriteFaultOf Inside (Write Inside fault) = Unit {0}
 IsWriteFaultOf Report (Write Report fault) = Unit {0}
-IsWriteFaultOf Log (Write Log fault) = Unit {0}
 IsWriteFaultOf which other = ⊥
