@@ -108,13 +108,18 @@ pub(crate) fn captured(
 ) -> Result<RunOutput, Fail> {
     let alloc = rt.alloc();
     let config = config_of(alloc, given.settings)?;
+    let state = initial_state(alloc);
+    let start = Start {
+        config: &config,
+        state: &state,
+    };
     macro_rules! on {
         ($device:ident, $text:expr) => {
             Faulty::new(Watched::new($text), plan_of(given.plans, Device::$device))
         };
     }
     macro_rules! written_by {
-        ($run:ident, $log:expr, $text:expr) => {{
+        ($run:ident, $log:expr, $left:pat => $text:expr) => {{
             let mut devices = Devices {
                 inside: on!(Inside, given.inside),
                 outside: on!(Outside, given.outside),
@@ -124,21 +129,16 @@ pub(crate) fn captured(
                 log: $log,
             };
             let run = $run(rt, alloc, start, &mut devices, gate);
-            let Devices { to_outside, to_inside, report, log, .. } = devices;
+            let Devices { to_outside, to_inside, report, log: $left, .. } = devices;
             RunOutput {
                 answer: ended(run),
                 to_outside: to_outside.into_inner().into_inner(),
                 to_inside: to_inside.into_inner().into_inner(),
                 report: report.into_inner().into_inner(),
-                log: $text(log),
+                log: $text,
             }
         }};
     }
-    let state = initial_state(alloc);
-    let start = Start {
-        config: &config,
-        state: &state,
-    };
     let kept = SavedLogState::none(alloc);
     let log_start = LogStart {
         kept: &kept,
@@ -147,31 +147,16 @@ pub(crate) fn captured(
         goes_on: false,
     };
     Ok(match given.call {
-        Call::Captures => written_by!(run_captures, NoLog, no_text),
-        Call::Streams => written_by!(run_streams, NoLog, no_text),
+        Call::Captures => written_by!(run_captures, NoLog, NoLog => Vec::new(alloc)),
+        Call::Streams => written_by!(run_streams, NoLog, NoLog => Vec::new(alloc)),
         Call::StreamsWithLog => {
-            let device = on!(Log, Vec::new(alloc));
-            written_by!(
-                run_streams_with_log,
-                LogWriter {
-                    start: log_start,
-                    device
-                },
-                text_of
-            )
+            let log = LogWriter {
+                start: log_start,
+                device: on!(Log, Vec::new(alloc)),
+            };
+            written_by!(run_streams_with_log, log, LogWriter { device, .. } => device.into_inner().into_inner())
         }
     })
-}
-
-/// Returns the text of a log that is not kept, which is empty.
-fn no_text(_log: NoLog) -> Vec<u8> {
-    Vec::new(Global)
-}
-
-/// Returns the text of a log.
-fn text_of(log: LogWriter<'_, Faulty<Watched<Vec<u8>>>>) -> Vec<u8> {
-    let LogWriter { device, .. } = log;
-    device.into_inner().into_inner()
 }
 
 /// All microseconds of a capture here.

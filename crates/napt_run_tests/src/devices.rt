@@ -102,10 +102,10 @@ fn each_write_of_a_run_goes_wrong(rt: HostRuntime) -> Result<(), Fail> {
         ] {
             for taken in 0..calls {
                 let written = u64::from(taken);
-                let lengths = match which {
-                    Which::Outside => [taken, 0, 0],
-                    Which::Inside => [70, taken, 0],
-                    Which::Report => [70, 24, taken],
+                let lengths = match device {
+                    Device::ToOutside => [taken, 0, 0],
+                    Device::ToInside => [70, taken, 0],
+                    _ => [70, 24, taken],
                 };
                 let end = (Err(Fault::Write(which, WriteFault { written })), lengths);
                 assert_ends(&rt, &[(device, slow(taken, trouble))], GateMode::Open, end)?;

@@ -13,9 +13,7 @@ use crate::resumed_runs::nothing;
 use napt_account::SavedLogState;
 use napt_capture::{Watched, WriteFault};
 use napt_config::Config;
-use napt_run::{
-    Devices, Fault, LogStart, LogWriter, Start, State, Which, run_streams_with_log,
-};
+use napt_run::{Devices, Fault, LogStart, LogWriter, Start, State, Which, run_streams_with_log};
 use napt_samples::hosts::{CLIENT, RESOLVER};
 use napt_state::take_up;
 use std::alloc::{AllocError, Global};
