@@ -8,7 +8,7 @@ use Rattle.napt_run.specs.declared.{devices.Devices.Devices, run_end.RunEnd.RunE
 
 module _ {R Q W V U L : Type 0} (A : source.Ghosts R) (B : source.Ghosts Q) (S : sink.Ghosts W) (T : sink.Ghosts V)
     (X : sink.Ghosts U) (is_kept : Bool) where
-  -- what each output has
+  -- What each output has after the run.
   pub record OutputsPost (origin : OriginModel) (old : Devices R Q W V U L) (result : Result (Unit {0}) Fault)
       (new : Devices R Q W V U L) : Type 0 where
     pub to_outside : CapturePost S is_kept Outside origin (A.remaining old.inside) (B.remaining old.outside) result old.to_outside
@@ -18,16 +18,16 @@ module _ {R Q W V U L : Type 0} (A : source.Ghosts R) (B : source.Ghosts Q) (S :
     pub report : ReportGetsFrom X origin (A.remaining old.inside) (B.remaining old.outside) result old.report new.report
 
 module _ {R Q W V U L : Type 0} (A : source.Ghosts R) (B : source.Ghosts Q) where
-  -- what is left
+  -- The result gives the state that the run leaves.
   abbrev pub EndPost : OriginModel → Devices R Q W V U L → RunEnd → Type 0
   EndPost origin old end = LeavesInTheEnd origin (A.remaining old.inside) (B.remaining old.outside) end.passed
 
-  -- which fault explains what
+  -- The fault is that of the captures, or comes of memory, a thread, a worker or an output.
   abbrev pub ExplainedBy : Bool → Bool → Devices R Q W V U L → Fault → Type 0
   ExplainedBy is_kept open_gate old fault =
       FaultPost is_kept open_gate (A.remaining old.inside) (B.remaining old.outside) fault
 
-  -- which reads failed: unless the run or its log did, those that are told; a failed write may hide one
+  -- Which reads failed: unless the run or its log did, those that the result says. A failed write may hide one.
   abbrev pub ReadsPost : Devices R Q W V U L → Result (Unit {0}) Fault → Devices R Q W V U L → Type 0
   ReadsPost old result new = (¬ IsOfRun result) →
       HasRead A.failed B.failed old.inside new.inside old.outside new.outside result

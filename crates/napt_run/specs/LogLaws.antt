@@ -1,4 +1,4 @@
--- A log has the same where the report of its run fails.
+-- If writing the report fails, the log is as it is after success.
 use Rattle.std.specs.Prelude.{◌≡◌, ℕ, ◌+◌, List, Option, Some, None, Result, Ok, Err}
 use Rattle.std.proofs.Common.{◌∙◌, add-zero, inl}
 use Rattle.napt_capture.specs.declared.device.Sink.{Ghosts}

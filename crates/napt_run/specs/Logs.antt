@@ -8,11 +8,11 @@ use Rattle.napt_run.specs.{LogOrigins.{IfTakenUp, texts_from}, LoggedStreams.Log
 use Rattle.napt_run.specs.declared.{logged_fault.LogRunFault.LogRunFault, capture_run.Totals.Totals, start.Start.Start, writer.LogWriter.LogWriter}
 use Rattle.napt_run.specs.declared.logged_fault.LogRunFault.TheVariants as logged
 
--- where there is none, what is kept of it has no entries
+-- Of a run without a log, what is saved of it has no entries.
 abbrev pub NoLogPost : Result LogStateModel Fault → Type 0
 NoLogPost result = IfOk result (λ log. log ≡ record { made = 0; living = [] })
 
--- one that goes on from here has its text, and what is kept of it is that of the state that the run leaves
+-- The log has its text as it goes on from this origin, and what is saved of it belongs to the state that the run leaves.
 pub record LogWriterPost {L : Type 0} (S : Ghosts L) (start : Start) (inside outside : Option (List ℕ))
     (result : Result LogStateModel Fault) (old new : LogWriter L) (origin : LogOrigin) : Type 0 where
   pub written : SinkPost S (texts_from start old.start origin) Log inside outside (stream_ended result) old.device new.device
@@ -24,12 +24,12 @@ abbrev pub LogPost : {L : Type 0} → Ghosts L → Start → Option (List ℕ) �
 LogPost S start inside outside result old new =
     IfTakenUp start old.start (LogWriterPost S start inside outside result old new)
 
--- a fault of the run, of an output, or of the log
+-- A fault of the run, of an output or of the log, as one type.
 abbrev pub fault_of : LogRunFault → Fault
 fault_of (logged.Run fault) = fault
 fault_of (logged.Log fault) = Write Log fault
 
--- what a run comes to before its report is written
+-- The result of a run before its report is written.
 abbrev pub with_log : Result Totals Fault → LogStateModel → Result (Totals × LogStateModel) Fault
 with_log (Ok totals) log = Ok (totals, log)
 with_log (Err fault) log = Err fault

@@ -1,6 +1,5 @@
--- What a run leaves over captures that are read as they arrive: how much each output has of its text, which fault it ends
--- with, and what is left. Each is by the result of the run. Nothing is claimed of the bytes of a reader or a writer that are
--- not known.
+-- What a run over captures that are read as they arrive leaves on its devices, by its result: how many bytes of its text
+-- each output has, and which fault the run returns. Nothing is said of the bytes of a device that are not known.
 use Rattle.std.specs.Prelude.{◌≡◌, ◌⊎◌, ⊤, ℕ, ◌+◌, ◌-◌, ◌^◌, ◌≤◌, min, List, length, take, Bool, true, false, Option, Result, Ok, Err, IsOk}
 use Rattle.std.specs.Io.KnownBytes.{Appends}
 use Rattle.napt_wire.specs.declared.Side.{Side}
@@ -16,43 +15,43 @@ use Rattle.napt_run.specs.Streams.{HasRead, IsStreamFaultOf, IsOfRun, IsSettledB
 
 -- THE TEXT OF AN OUTPUT
 
--- a capture needs nothing more at the end of a run
+-- The text of a capture. It has no part that is written only at the end of a run, as the log has.
 abbrev pub capture_to : Which → OriginModel → LogTexts
 capture_to which origin =
     record { so_far = capture_text origin (side_of which); whole = capture_text origin (side_of which) }
 
--- where a capture has a fault, a run does not come to its end
+-- After a fault of a capture, the text without the part that is written at the end.
 abbrev pub text_by : LogTexts → Result (Unit {0}) Fault → List Arrival → List ℕ
 text_by texts (Err (Capture side fault)) = texts.so_far
 text_by texts other = texts.whole
 
--- HOW MUCH OF IT AN OUTPUT HAS, by the result of the run: so many bytes, of the text of these inputs, which has this size
+-- HOW MANY BYTES OF IT AN OUTPUT HAS, by the result of the run: count, of the text of these inputs, which has this size
 
 abbrev pub ExtentPost : Which → Result (Unit {0}) Fault → MergedInputs → List Arrival → ℕ → ℕ → Type 0
--- all of it, and the captures end without a fault
+-- All of them, of all inputs, and the captures have no fault.
 ExtentPost which (Ok done) all inputs count size = IsOk all.end × (inputs ≡ all.arrivals) × (count ≡ size)
 ExtentPost which (Err (Write Report fault)) all inputs count size =
     IsOk all.end × (inputs ≡ all.arrivals) × (count ≡ size)
--- all that the inputs before the fault leave; before a failed read, some of them
+-- All of them, of the inputs before the fault, or of some first inputs if a read failed or memory was refused.
 ExtentPost which (Err (Capture side fault)) all inputs count size =
     IsReadFault fault (all ≡ record { arrivals = inputs; end = Err (record { side = side; fault = fault }) }) × (count ≡ size)
--- as many bytes as its own fault says, whose number saturates
+-- As many as its own fault says, whose number saturates.
 ExtentPost Outside (Err (Write Outside fault)) all inputs count size = fault.written ≡ min count (2 ^ 64 - 1)
 ExtentPost Inside (Err (Write Inside fault)) all inputs count size = fault.written ≡ min count (2 ^ 64 - 1)
 ExtentPost Log (Err (Write Log fault)) all inputs count size = fault.written ≡ min count (2 ^ 64 - 1)
--- whole records, unless the header of the other capture failed
+-- Those of whole records, unless writing the header of the other capture failed.
 ExtentPost Outside (Err (Write Inside fault)) all inputs count size = count ≡ size
 ExtentPost Inside (Err (Write Outside fault)) all inputs count size =
     (count ≡ size) ⊎ ((count ≡ 0) × (fault.written ≤ length file_header))
--- the header at least, where the run or its log failed
+-- At least the header, if the run or its log failed.
 ExtentPost Outside (Err (Write Log fault)) all inputs count size = length file_header ≤ count
 ExtentPost Inside (Err (Write Log fault)) all inputs count size = length file_header ≤ count
 ExtentPost Outside (Err (Run fault)) all inputs count size = length file_header ≤ count
 ExtentPost Inside (Err (Run fault)) all inputs count size = length file_header ≤ count
--- a part of the log, where anything else failed
+-- Some bytes of the log, if anything else failed.
 ExtentPost which other all inputs count size = ⊤
 
--- the first inputs, and what it has of their text
+-- An output has the first count bytes of the text of some first inputs.
 pub record OutputPost (texts : LogTexts) (which : Which) (result : Result (Unit {0}) Fault) (all : MergedInputs)
     (old new : Option (List ℕ)) : Type 0 where
   pub inputs : List Arrival
@@ -67,7 +66,7 @@ pub record OutputPost (texts : LogTexts) (which : Which) (result : Result (Unit 
 abbrev pub AtMostOneMore : ℕ → ℕ → Type 0
 AtMostOneMore old new = (new ≡ old) ⊎ (new ≡ old + 1)
 
--- those that the result says; a fault that came before may hide one
+-- As many as the result says. An earlier fault may hide one.
 abbrev pub FailedPost : Which → Result (Unit {0}) Fault → ℕ → ℕ → Type 0
 FailedPost Log (Err (Run fault)) old new = AtMostOneMore old new
 FailedPost Log (Err (Write Outside fault)) old new = AtMostOneMore old new
@@ -79,14 +78,14 @@ FailedPost which result old new = new ≡ old + failed_writings which result
 
 -- THE DEVICES
 
--- of a capture or the log
+-- What a capture or the log has, which of its calls failed, and whether it is flushed.
 pub record SinkPost {D : Type 0} (S : Ghosts D) (texts : LogTexts) (which : Which) (inside outside : Option (List ℕ))
     (result : Result (Unit {0}) Fault) (old new : D) : Type 0 where
   pub contents : IfHeld inside outside (λ all. OutputPost texts which result all (S.contents old) (S.contents new))
   pub failed : FailedPost which result (S.failed old) (S.failed new)
   pub flushed : IsSettledBy result → S.is_flushed new
 
--- of a capture, which is not touched where a log that is kept could not be begun
+-- The same of a capture, which is untouched if the log could not be begun.
 abbrev pub CapturePost : {D : Type 0} → Ghosts D → Bool → Which → OriginModel → Option (List ℕ) → Option (List ℕ) →
     Result (Unit {0}) Fault → D → D → Type 0
 CapturePost S is_kept which origin inside outside result old new =
@@ -95,7 +94,7 @@ CapturePost S is_kept which origin inside outside result old new =
 
 -- THE FAULT
 
--- only a log fails as a log, or has too many inputs
+-- The fault is explained. Only a run with a log fails by its log, or by too many inputs.
 abbrev pub ExplainsPost : Bool → Option (List ℕ) → Option (List ℕ) → Fault → Type 0
 ExplainsPost is_kept inside outside (Capture side fault) = IfHeld inside outside (IsStreamFaultOf side fault)
 ExplainsPost is_kept inside outside (Run reasons.TooMany) =
@@ -103,27 +102,27 @@ ExplainsPost is_kept inside outside (Run reasons.TooMany) =
 ExplainsPost is_kept inside outside (Write Log fault) = is_kept ≡ true
 ExplainsPost is_kept inside outside other = ⊤
 
--- and a gate that is open is not told to be shut
+-- It is explained, and a gate that is always open is not reported as shut.
 pub record FaultPost (is_kept open_gate : Bool) (inside outside : Option (List ℕ)) (fault : Fault) : Type 0 where
   pub explained : ExplainsPost is_kept inside outside fault
   pub gate : open_gate ≡ true → is_shut_gate_fault fault ≡ false
 
--- what is left of a log, by the result of the run
+-- What is saved of the log, by the result of the run.
 abbrev pub log_of : Result RunEnd Fault → Result LogStateModel Fault
 log_of (Ok end) = Ok end.log
 log_of (Err fault) = Err fault
 
--- the same before the report is written
+-- The same before the report is written.
 abbrev pub log_by : {T : Type 0} → Result (T × LogStateModel) Fault → Result LogStateModel Fault
 log_by (Ok (told, log)) = Ok log
 log_by (Err fault) = Err fault
 
--- the report is not written yet
+-- The fault is not one of writing the report.
 abbrev pub IsBeforeReport : Fault → Type 0
 IsBeforeReport (Write Report fault) = ⊥
 IsBeforeReport other = ⊤
 
--- the captures were read to their end
+-- Both captures were read to their ends.
 abbrev pub IsDone : Result (Unit {0}) Fault → Type 0
 IsDone (Ok done) = Unit {0}
 IsDone (Err (Write Report fault)) = Unit {0}

@@ -139,21 +139,24 @@ fn write_report<W: Sink>(output: &mut W, report: &str) -> Result<(), Fault>
     }
 }
 
-/// Translates both captures from a start, and writes what leaves to each side, and a report: exactly what the run on one thread
-/// gives, whatever the gate, the ring size or the schedule. Returns what the run leaves.
+/// Translates both captures from a start, and writes the packets that leave to each side, and a report.
+/// The bytes are exactly those of the run on one thread, whatever the gate, the ring size or the
+/// schedule. Returns what the run leaves.
 ///
-/// Reads everything first. Then runs in memory, with one worker thread for each external address; each worker asks the gate
-/// before each leg, and the gate only decides when it goes on. The workers are closed and joined before a fault of the run
-/// is returned. Finally writes the outputs: to the outside, to the inside, the report.
+/// Reads everything first. Then runs in memory, with one worker thread for each external address; each
+/// worker asks the gate before each leg, and the gate only decides when the worker goes on. The workers
+/// are closed and joined before a fault of the run is returned. Finally writes the outputs: to the
+/// outside, to the inside, the report.
 ///
 /// # Errors
 ///
-/// `Fault::Capture` if that side's capture is refused or cannot be read, the inside first; `Fault::Run`: `TooMany` if and
-/// only if the captures have more than 4,294,967,295 records, `Memory` if memory is refused, `Pool` if a worker could not be
-/// started or stopped early (never `GateShut` under a gate that promises yes). After these faults nothing has been written.
+/// `Fault::Capture` if that side's capture is malformed or could not be read, the inside first.
+/// `Fault::Run` with `TooMany` if and only if the captures have more than 4,294,967,295 records, with
+/// `Memory` if memory is refused, and with `Pool` if a worker could not be started or stopped early
+/// (never `GateShut` under a gate that is always open). After these faults nothing has been written.
 ///
-/// `Fault::Write` if that output could not be written: the outputs before it are complete, it has the first `written` bytes of
-/// its text, and those after it are untouched.
+/// `Fault::Write` if writing that output failed. The outputs before it are complete, it has the first
+/// `written` bytes of its text, and those after it are untouched. It is never the log.
 pub fn run_captures<
     T: Threads + Wait + Copy + Send + 'static,
     R: Source,
@@ -194,7 +197,7 @@ pub fn run_captures<
     })
 }
 
-/// The same, over each device by itself.
+/// Does what `run_captures` does, over the devices one by one.
 fn run_whole<
     T: Threads + Wait + Copy + Send + 'static,
     R: Source,

@@ -8,13 +8,14 @@ use napt_log_text::logs_join;
 use napt_rules::State;
 use std::alloc::Global;
 
-/// The state before any input: no bindings, at time 0. A run from there begins with the redirects of its configuration.
+/// Returns the state before any input, which has no bindings, at time 0. A run from there begins with
+/// the redirects of its configuration.
 pub fn initial_state(alloc: Global) -> State
     ensures taken { (rules : Rules) → TakesState rules result }
     ensures opens { (rules : Rules) → resumed_origin rules result ≡ initial_origin rules }
     ensures texts { (rules : Rules) (inside outside : List ℕ) →
         texts_from (resumed_origin rules result) inside outside ≡ texts rules inside outside }
-    // Its log is that of a run that begins anew.
+    // The log of a run from there is that of a run over all of its inputs.
     ensures log { BeginsLogsAnew result }
 {
     logs_join();

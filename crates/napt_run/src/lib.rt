@@ -1,7 +1,8 @@
-//! A run from captures to captures, from a [`Start`] over its [`Devices`]: [`run_captures`] reads both captures whole, runs in
-//! memory and then writes; [`run_streams`] reads, translates and writes as the packets arrive, in bounded memory, and [`run_streams_with_log`]
-//! a log beside. If both succeed, they write the same bytes ([`streams_write_the_same`]). Both
-//! give what the run leaves ([`RunEnd`]), from which another one goes on.
+//! A run from captures to captures, from a [`Start`] over its [`Devices`]. [`run_captures`] reads
+//! both captures whole, runs in memory and then writes. [`run_streams`] reads, translates and writes
+//! as the packets arrive, in bounded memory, and [`run_streams_with_log`] also writes the log of the
+//! run. If both succeed, they write the same bytes ([`streams_write_the_same`]). Each returns a
+//! [`RunEnd`], from which the next run goes on.
 //!
 //! [`merge`] makes the inputs of a run from the records of both captures. [`run_plain`] takes them through the translators of
 //! all external addresses on one thread; [`run_workers`] does so by [`dispatch`], with one worker thread for each address,

@@ -42,7 +42,7 @@ pub(crate) trait Logging {
         enters x xs y → fails y ys fault z → fails x (xs ++ ys) fault z };
 }
 
-/// No log. It takes no memory and no time.
+/// A log that is not kept. It takes no memory and no time.
 #[derive(Drop)]
 pub struct NoLog;
 

@@ -3,11 +3,11 @@
 use napt_account::SavedLogState;
 use napt_dispatch::RunSummary;
 
-/// What a run leaves: a further run goes on from there.
+/// What a run leaves. The next run goes on from there.
 #[derive(Drop)]
 pub struct RunEnd {
-    /// What gives the state.
+    /// The counts of the run, with the bindings at its end, from which its state is made.
     pub passed: RunSummary,
-    /// What is kept of the log beside the state. It has no entries if the run keeps no log.
+    /// What is saved of the log with the state. It has no entries if the run keeps no log.
     pub log: SavedLogState,
 }

@@ -25,7 +25,7 @@ impl<
     T: Threads + Wait + Copy + Send + 'static,
     G: Gate + Send + Sync + Drop + 'static,
 > OriginSetting<'_, '_, T, G> {
-    /// Runs over the captures into both outputs. Returns what the report is made from, and what is kept of no log.
+    /// Runs over the captures and writes both outputs. Returns the data of the report, and a saved log without entries.
     pub(crate) fn stream_plain<R: Source, Q: Source, W: Sink, V: Sink>(
         self,
         inside: &mut R,
@@ -54,7 +54,7 @@ impl<
         with_log(unlogged(streamed), kept)
     }
 
-    /// Runs over the captures into both outputs and the log. Returns what the report is made from, and what is kept of the log.
+    /// Runs over the captures and writes both outputs and the log. Returns the data of the report, and what is saved of the log.
     pub(crate) fn stream_to<R: Source, Q: Source, W: Sink, V: Sink, L: Sink>(
         self,
         inside: &mut R,
@@ -92,7 +92,7 @@ impl<
     }
 }
 
-/// What a run comes to without a log.
+/// Returns the result of a run without a log.
 fn unlogged(streamed: Result<Totals, LoggingFault<NoFault>>) -> Result<Totals, Fault>
     ensures { result ≡ as_run streamed }
 {
@@ -103,7 +103,7 @@ fn unlogged(streamed: Result<Totals, LoggingFault<NoFault>>) -> Result<Totals, F
     }
 }
 
-/// What a run comes to, a fault of its log among those of its outputs.
+/// Returns the result of a run with a log, whose fault becomes one of the outputs' faults.
 fn unified(told: Result<Totals, LogRunFault>) -> Result<Totals, Fault>
     ensures { result ≡ unified told }
 {
@@ -114,7 +114,7 @@ fn unified(told: Result<Totals, LogRunFault>) -> Result<Totals, Fault>
     }
 }
 
-/// What a run comes to, with what is kept of its log.
+/// Returns the result of a run with what is saved of its log.
 fn with_log(
     told: Result<Totals, Fault>,
     log: SavedLogState,

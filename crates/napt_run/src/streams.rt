@@ -17,30 +17,33 @@ use std::alloc::Global;
 use std::sync::{Arc, Wait};
 use std::thread::Threads;
 
-/// Translates both captures from a start, as the packets arrive: each is read, translated and written before a device is
-/// asked for more. Writes what leaves to each side, the log of the run, and a report at the end. Returns what the run leaves.
+/// Translates both captures from a start, as the packets arrive: each is read, translated and written
+/// before a device is asked for more. Writes the packets that leave to each side, and a report at the
+/// end. Returns what the run leaves.
 ///
-/// Memory is bounded by the bindings (an expired one stays until a new one is made at its address), the 131,072 packets that
-/// may be in flight, and 16,384 buffers that are kept. If the run succeeds, each output holds exactly what `run_captures`
-/// writes. Captures may be of any length. The header of each capture is written before anything is read. Before a device is
-/// asked for more bytes, every packet read so far has been answered, written and flushed. Merging needs the next record of
-/// both sides; an empty record lets time pass on its side.
+/// Memory is bounded by the bindings (an expired one stays until a new one is made at its address), the
+/// 131,072 packets that may be in flight, and 16,384 buffers that are kept. If the run succeeds, each
+/// output has exactly the bytes that `run_captures` writes. Captures may be of any length. The header of
+/// each capture is written before anything is read. Before a device is asked for more bytes, every
+/// packet read so far has been answered, written and flushed. Merging needs the next record of both
+/// sides; an empty record lets time pass on its side.
 ///
 /// # Errors
 ///
-/// Each output then has a part of its text, as said here; `OutputPost` says it of all. The workers are closed and joined
-/// before any fault is returned.
+/// Each output then has a part of its text, as said here and by `OutputPost`. The workers are closed and
+/// joined before any fault is returned.
 ///
-/// `Fault::Capture` if that side's capture is refused or cannot be read, once merging needs the record at fault. The packets
-/// before it are written and flushed, with their rows of the log, and there is no report.
+/// `Fault::Capture` if that side's capture is malformed or could not be read, once merging needs the
+/// record at fault. The packets before it are written and flushed, and there is no report.
 ///
-/// `Fault::Write` if that output could not be written: it has the first `written` bytes of its text, a number that saturates.
-/// The other outputs have the text of some first packets, or of all if the report failed. The inside capture is empty if the
-/// header of the outside one failed, and both may be if the log failed. A failed read before such a write is not reported.
+/// `Fault::Write` if writing that output failed. It has the first `written` bytes of its text, a number
+/// that saturates. The other capture has the text of some first packets, or both have all of it if the
+/// report failed. The inside capture is empty if the header of the outside one failed. A failed read
+/// before such a write is not reported.
 ///
-/// `Fault::Run` with `Memory` if memory is refused, and with `Pool` if a worker could not be started or stopped early (never
-/// `GateShut` under a gate that promises yes). Each capture has then at least its header, or nothing if the log could not be
-/// begun. With a log also `TooMany`, at input 4,611,686,018,427,387,904.
+/// `Fault::Run` with `Memory` if memory is refused, and with `Pool` if a worker could not be started or
+/// stopped early (never `GateShut` under a gate that is always open). Each capture then has at least its
+/// header.
 pub fn run_streams<
     T: Threads + Wait + Copy + Send + 'static,
     R: Source,
@@ -85,11 +88,14 @@ pub fn run_streams<
     })
 }
 
-/// Translates both captures as [`run_streams`] does, and writes the log of the run beside ([`LogWriter`]).
+/// Translates both captures as [`run_streams`] does, and also writes the log of the run
+/// ([`LogWriter`]).
 ///
 /// # Errors
 ///
-/// Fails as `run_streams` does, and with `Fault::Write` of `Which::Log` if the log could not be written.
+/// Fails as `run_streams` does, with `Fault::Write` of `Which::Log` if writing the log failed, and with
+/// `TooMany` at input 4,611,686,018,427,387,904. After a fault of a capture the log has the rows of the
+/// packets before it, and is flushed. Both captures are empty if the log could not be begun.
 pub fn run_streams_with_log<
     T: Threads + Wait + Copy + Send + 'static,
     R: Source,
