@@ -129,7 +129,7 @@ fn run_on(
     )?;
     Ok(Part {
         text: log.into_inner(),
-        state: left.passed.final_bindings(alloc)?,
+        state: left.passed.into_state_if(true, alloc)?.ok_or("a state")?,
         kept: left.log,
     })
 }

@@ -48,7 +48,8 @@ pub struct CaptureDevices<A, B> {
 /// What a run leaves.
 #[derive(Drop)]
 pub struct StreamRemainder {
-    pub passed: RunSummary,
+    /// Its state, if that is to be saved.
+    pub state: Option<State>,
     /// Its log, if it has one and the state is to be saved.
     pub log: Option<LogPosition>,
 }
@@ -99,13 +100,16 @@ impl<'a> StreamRun<'a> {
         let is_saved = self.options.files.save.is_some();
         let Some(mut log) = log else {
             let passed = self.without_log(rt, captures, outputs)?;
-            return Ok(StreamRemainder { passed, log: None });
+            let state = passed.into_state_if(is_saved, rt.alloc())?;
+            return Ok(StreamRemainder { state, log: None });
         };
         let LoggedRunSummary { passed, log: left } = self.with_log(
             rt, captures, outputs, &mut log,
         )?;
+        // a fault of the log is reported before that of the state
+        let state = passed.into_state_if(is_saved, rt.alloc());
         let log = kept_if_saved(is_saved, left, log)?;
-        Ok(StreamRemainder { passed, log })
+        Ok(StreamRemainder { state: state?, log })
     }
 
     fn without_log<

@@ -1,7 +1,7 @@
 use Rattle.std.proofs.Common.{map, take}
 use Rattle.napt_sequential.specs.CountedTranslators.{AreBindingsOfAll}
 use Rattle.napt_dispatch.proofs.LeftTranslators.{uncounted}
-use Rattle.napt_dispatch.proofs.workers.RunSummary.final_bindings.Given as goal
+use Rattle.napt_dispatch.proofs.workers.RunSummary.into_state_if.Given as goal
 
 abbrev pub invariant-loop-translator : goal.invariant-loop-translator
 invariant-loop-translator l =
