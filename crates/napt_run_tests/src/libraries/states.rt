@@ -1,8 +1,8 @@
 //! A state with a line of each kind is written and read back; damaged texts are refused, with a line that says why.
 
-use crate::{StateFileContents, read_state, take_up, write_state};
 use napt_config::Config;
 use napt_rules::Misfit;
+use napt_state::{StateFileContents, read_state, take_up, write_state};
 use std::alloc::{AllocError, Global};
 use std::io;
 use std::io::Write;

@@ -2,7 +2,7 @@
 
 ghost use Rattle.std.specs.Prelude.{◌<◌};
 
-use crate::captures::{Shape, at_most, shape_of};
+use super::captures::{Shape, at_most, shape_of};
 use napt_capture::{
     CaptureFault, FaultPlan, Faulty, InjectedFault, NextRead, RecordReader, Watched,
 };
