@@ -1,10 +1,10 @@
--- What each leg of a run has, by the number of its input: an induction over runs.
+-- A property of each leg of a run, by the number of its input: an induction over runs.
 use Rattle.std.proofs.Common.{ℕ, ◌+◌, max, Option, List, [], ◌∷◌, ◌++◌}
 use Rattle.napt_rules.specs.Prelude.{BindingUse, Binding, Each, LegEffect, act, Arrival, LegAct, RunEffect, effect_then, with_second_leg, first_leg, step, run_from, Rules}
 use Rattle.napt_rules.specs.declared.{Leg.Leg, End.End}
 use Rattle.napt_laws.proofs.{AnyStep.of_step, OneMoreInput.{IsOfOne, step_one}}
 
--- of the course of the input with a number, and of that of inputs from a number on
+-- `Here` is the property in the effect of one input, `From` that in the effect of inputs from a number on.
 module _ (rules : Rules) (Here From : ℕ → RunEffect → LegAct → Type 0)
     (followed : (address : ℕ) (leg : Leg) (through : Option BindingUse) (list : List Binding) (end : End) →
     (let first : LegEffect = record { end = end; through = through; list = list } in

@@ -1,4 +1,4 @@
--- A run that goes on, from what another left: what has gone never counts, and the numbers go on.
+-- A run that goes on from the state after another: ended bindings have no effect, and input numbers continue.
 use Rattle.std.proofs.Common.{◌≡◌, ℕ, ◌+◌, ◌≤◌, max, List, [], ◌∷◌, ◌++◌, map, length, flat_map, Bool, Option, None, Result, Ok, Err, refl, sym, ◌∙◌, ap, arith, find}
 use Rattle.std.proofs.lemmas.List.{map-append}
 use Rattle.napt_wire.specs.declared.Protocol.TheVariants as protocols
@@ -7,7 +7,7 @@ use Rattle.napt_rules.specs.Prelude.{Binding, bindings_at, purge, hold_ago, live
 use Rattle.napt_rules.specs.declared.{Row.Row, Leg.Leg, Outcome.Outcome, End.{End, TheVariants.{ToOutside, ToInside, Onward, Dropped}}}
 use Rattle.napt_laws.proofs.{RunsBeside.{AreBeside, run_both}, OneMoreInput.{run_append, clock_on}, Purges.of_purge, SeenElements.{taken_later, taken_twice, purge_taken}}
 
--- THE NUMBERS
+-- THE NUMBERS OF INPUTS
 
 abbrev pub renumbered : ℕ → RunEffect → RunEffect
 renumbered before course = record course { acts = map (act_behind before) course.acts }
@@ -35,7 +35,7 @@ ahead_behind : (before : ℕ) (first rest : RunEffect) → effect_then (renumber
 ahead_behind before first rest = ap (λ (acts : List LegAct). record (effect_then first rest) { acts = acts })
     (sym (map-append (act_behind before) first.acts rest.acts))
 
--- a run from a later number on has the same legs, by later numbers
+-- A run from a later number on has the same legs with later numbers.
 pub run_behind : (rules : Rules) (before number at clock : ℕ) (inputs : List Arrival) (list : List Binding) →
     before + number ≡ at → run_from rules at clock inputs list
     ≡ renumbered before (run_from rules number clock inputs list)
@@ -51,9 +51,9 @@ run_behind rules before number at clock (input ∷ inputs) list e =
     (run_behind rules before (number + 1) (at + 1) now inputs first.list (omega (arith, e)))
     ∙ ahead_behind before first (run_from rules (number + 1) now inputs first.list))
 
--- WHAT HAS GONE
+-- BINDINGS THAT ARE GONE
 
--- lists that are one in what is taken at a time
+-- Two lists with the same live and held bindings at a time.
 abbrev AreAsOne : Rules → ℕ → List Binding → List Binding → Type 0
 AreAsOne rules now a b = live_and_held rules.timers now a ≡ live_and_held rules.timers now b
 
@@ -61,11 +61,11 @@ as_one_later : (rules : Rules) (n m : ℕ) → n ≤ m → (a b : List Binding) 
 as_one_later rules n m le a b same = sym (taken_later rules.timers n m le a)
     ∙ (ap (live_and_held rules.timers m) same ∙ taken_later rules.timers n m le b)
 
--- a leg, and what is taken at its time of the list that it leaves
+-- The effect of a leg, with the live and held bindings at its time as its list.
 abbrev acted_taken : Rules → ℕ → LegEffect → LegEffect
 acted_taken rules now acted = record acted { list = live_and_held rules.timers now acted.list }
 
--- one that leaves the list as it is
+-- The effect of a leg that leaves the list unchanged.
 abbrev unmoved : End → List Binding → LegEffect
 unmoved end list = record { end = end; through = None; list = list }
 
@@ -91,7 +91,7 @@ module _ (rules : Rules) (address : ℕ) (leg : Leg) (a b : List Binding) (same 
       acted_taken rules leg.now
       (record { end = end_in leg.packet came.inside; through = came.through; list = came.list })) same
 
-  -- an error finds a binding that lives, and leaves the list as it is
+  -- An error finds a live binding and leaves the list unchanged.
   seen : purge rules.timers leg.now a ≡ purge rules.timers leg.now b
   seen = sym (purge_taken rules.timers leg.now a)
       ∙ (ap (purge rules.timers leg.now) same ∙ purge_taken rules.timers leg.now b)
@@ -119,7 +119,7 @@ module _ (rules : Rules) (address : ℕ) (leg : Leg) (a b : List Binding) (same 
   act_same : acted_taken rules leg.now (act rules address leg a) ≡ acted_taken rules leg.now (act rules address leg b)
   act_same = same_by leg.way (kind leg.packet)
 
--- runs of lists that are one at their clock are one
+-- Runs from lists that have the same live and held bindings at the clock are the same.
 pub run_same : (rules : Rules) (number clock : ℕ) (inputs : List Arrival) (a b : List Binding) →
     AreAsOne rules clock a b → (let last : ℕ = last_clock clock inputs in
     course_taken rules last (run_from rules number clock inputs a)
@@ -139,7 +139,7 @@ run_same rules number clock inputs a b same =
     ∙ (ap (λ (acts : List LegAct). record { outcomes = y.outcomes; acts = acts; list = live_and_held rules.timers last x.list })
     beside.acts ∙ ap (λ (l : List Binding). record { outcomes = y.outcomes; acts = y.acts; list = l }) beside.list)
 
--- WHAT A RUN GIVES
+-- THE RESULT OF A RUN
 
 rows_same : (rules : Rules) (now address : ℕ) (list : List Binding) →
     rows rules.timers now (bindings_at address (live_and_held rules.timers now list)) ≡ rows rules.timers now (bindings_at address list)
@@ -152,7 +152,7 @@ flat_same f g same [] = refl
 flat_same f g same (x ∷ xs) = ap (λ (l : List _). l ++ flat_map f xs) (same x)
     ∙ ap (λ (l : List _). g x ++ l) (flat_same f g same xs)
 
--- with what is taken at its clock alone, a course gives the same
+-- The result of a run is that of its live and held bindings at the clock.
 ran_taken : (rules : Rules) (now : ℕ) (course : RunEffect) → run_result_of rules now (course_taken rules now course)
     ≡ run_result_of rules now course
 ran_taken rules now course = ap (λ (rows : List Row). record (run_result_of rules now course) { bindings = rows })
@@ -207,7 +207,7 @@ module _ (rules : Rules) (state : State) (first rest : List Arrival) where
   abbrev goes : RunEffect
   goes = effect_from rules (next_state rules state first) rest
 
-  -- the whole course, with what is taken in the end
+  -- The effect of the whole run, with the live and held bindings at the end.
   course_on : course_taken rules last (effect_from rules state (first ++ rest))
       ≡ course_taken rules last (effect_then begins (renumbered (length first) goes))
   course_on = ap (course_taken rules last)

@@ -1,4 +1,4 @@
--- A run of one input more.
+-- A run over one more input.
 use Rattle.std.proofs.Common.{◌≡◌, ℕ, suc, ◌+◌, ◌*◌, ◌≤◌, max, List, [], ◌∷◌, ◌++◌, length, refl, ◌∙◌, ap, arith, append-nil, append_assoc, length-append}
 use Rattle.napt_rules.specs.Prelude.{Binding, LegEffect, act, Arrival, RunEffect, effect_then, with_second_leg, first_leg, step, run_from, last_clock, opening, run_result, Rules}
 use Rattle.napt_rules.specs.declared.{Leg.Leg, End.{End, TheVariants.{ToOutside, ToInside, Onward, Dropped}}, Outcome.Outcome}
@@ -13,7 +13,7 @@ ahead_all first course next = rw (
   append_assoc first.acts course.acts next.acts,
 ) refl
 
--- a run is that of its first inputs, ahead of that of the others
+-- A run over two lists is the run over the first, followed by the run over the second.
 pub run_append : (rules : Rules) (number clock : ℕ) (xs ys : List Arrival) (list : List Binding) (at : ℕ) →
     number + length xs ≡ at → run_from rules number clock (xs ++ ys) list
     ≡ effect_then (run_from rules number clock xs list)
@@ -45,9 +45,9 @@ pub clock_more : (clock : ℕ) (inputs : List Arrival) (input : Arrival) → las
     ≡ max (last_clock clock inputs) input.clock
 clock_more clock inputs input = clock_on clock inputs (input ∷ [])
 
--- HOW MANY OUTCOMES, AND LEGS
+-- THE NUMBER OF OUTCOMES AND OF LEGS
 
--- one outcome, and two legs at most
+-- An input has one outcome and at most two legs.
 abbrev pub IsOfOne : RunEffect → Type 0
 IsOfOne course = ((outcome : Outcome) × (course.outcomes ≡ outcome ∷ [])) × (length course.acts ≤ 2)
 

@@ -1,5 +1,5 @@
--- A run keeps of each binding that is no redirect what its configuration asks of a state's: its host is inside, it was
--- not used after the clock, and no two of its flows are of one remote.
+-- A run keeps what its configuration requires of a state's bindings except redirects: the host is inside, the binding
+-- was not used after the clock, and no two of its flows are of one remote.
 use Rattle.std.proofs.Common.{◌≡◌, ℕ, ◌≤◌, Bool, true, false, not, ◌||◌, cond, List, [], ◌∷◌, ◌++◌, map, refl, sym, ◌∙◌, ap, subst, arith, filter}
 use Rattle.std.{specs.List.list_any, proofs.lemmas.Bool.{or_parts, true≢false}}
 use Rattle.napt_wire.specs.declared.Kind.TheVariants as kinds

@@ -1,5 +1,5 @@
--- The list of a run begins with the redirects, which no packet changes, and none comes after them: so what a run leaves
--- goes on as it is, and is taken.
+-- The list of a run begins with the redirects, which no packet changes, and has no others: so the state after a run
+-- goes on unchanged, and its configuration takes it.
 use Rattle.std.proofs.Common.{◌≡◌, ℕ, Bool, true, false, not, ◌&&◌, ◌||◌, cond, List, [], ◌∷◌, ◌++◌, map, Option, Some, None, refl, sym, ◌∙◌, ap, subst, arith, append-nil, filter, find, nat_lt, ◌≤◌, le-leb, eq-eqb, IfSome}
 use Rattle.std.{specs.List.list_any, proofs.lemmas.{List.map-append, Bool.{and_from, not-true, Decides.nat_tests}}}
 use Rattle.napt_rules.specs.declared.{Flow.Flow, Row.Row, InboundRules.InboundRules, OutboundPacket.OutboundPacket, InboundPacket.InboundPacket, Leg.Leg, Misfit.Misfit}
@@ -9,10 +9,10 @@ use Rattle.napt_laws.proofs.{Acts.of_act, Endpoints.{end_is, protocol_is}, Openi
 use Rattle.napt_laws.proofs.{Lists.{each_changed, each_pushed, each_kept, each_less, each_mid}, StepsSound.{out_stays_sound, in_stays_sound, purge_stays_sound}}
 use Rattle.napt_laws.proofs.{RunsSound.run_sound, RunsBlocks.blocks_run, OwnBindings.{or_none, IsKept, owned_taken, taken_own}, TakenStates.{turned, state_sound, state_blocks}}
 
--- REDIRECTS FIRST
+-- REDIRECTS ARE FIRST
 
 module _ (pair : ℕ → ℕ) where
-  -- a list that begins with redirects, and has none behind them
+  -- The list begins with these redirects, and has no redirect after them.
   abbrev Begins : List Redirect → List Binding → Type 0
   Begins [] list = Each (λ b. not b.row.fixed ≡ true) list
   Begins (r ∷ redirects) [] = ⊥
@@ -51,7 +51,7 @@ module _ (pair : ℕ → ℕ) where
         | false ↦ (h.0, begins_changed t f stays same redirects list h.1)
       ]
 
-  -- a source that has no live binding has no redirect: those are found
+  -- A source without a live binding has no redirect, since redirects are live.
   begins_others : (timers : Timers) (now : ℕ) (its : Row → Bool) (redirects : List Redirect) (list : List Binding) →
       Begins redirects list → find (λ b. its b.row) (purge timers now list) ≡ None →
       Begins redirects (filter (λ b. not (its b.row)) list)
@@ -75,7 +75,7 @@ module _ (pair : ℕ → ℕ) where
   begins_pushed (r ∷ redirects) [] b is h = absurd h
   begins_pushed (r ∷ redirects) (x ∷ list) b is h = (h.0, begins_pushed redirects list b is h.1)
 
-  -- nothing else is there before any input
+  -- Before any input the list has the redirects alone.
   opening_stays : (timers : Timers) (now : ℕ) (redirects : List Redirect) →
       filter (λ b. not b.row.fixed) (purge timers now (map (redirect_binding pair) redirects)) ≡ []
   opening_stays timers now [] = refl
@@ -121,7 +121,7 @@ module _ (rules : Rules) where
     kept_leg = of_act rules address leg list (λ (a : LegEffect). Keeps a.list) kept_out kept_in (λ end. h) leg.way
         (kind leg.packet)
 
-  -- what a run from a state under the configuration leaves, with what has gone
+  -- The list after a run from a state that the configuration takes, with bindings that are gone.
   module _ (state : State) (inputs : List Arrival) where
     abbrev now : ℕ
     now = last_clock state.clock inputs
@@ -152,7 +152,7 @@ own_states_stay rules = (
       ∙ sym (left_is rules state inputs))),
 )
 
--- WHAT IS LEFT FITS
+-- THE STATE AFTER A RUN FITS
 
 open_by : {X : Type 0} (t : Bool) (x : X) (others : Option X) → t ≡ false → others ≡ None → cond t (Some x) others
     ≡ None

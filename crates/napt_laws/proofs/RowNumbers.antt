@@ -1,4 +1,4 @@
--- The numbers that a sound list of bindings tells are numbers of their protocol.
+-- The numbers in the rows of a sound list of bindings are numbers of their protocol.
 use Rattle.std.proofs.Common.{◌≡◌, ℕ, Bool, true, false, List, Option, Some, None, Result, Ok, Err, refl, eqb-true, find, IfOk, IfSome}
 use Rattle.std.{specs.Option.option_map, proofs.lemmas.Bool.and_parts}
 use Rattle.napt_rules.specs.declared.{AssignmentRules.AssignmentRules, InboundRules.InboundRules}

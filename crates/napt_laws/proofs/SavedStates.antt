@@ -1,4 +1,4 @@
--- A state as it is saved, one address after another, is alike, taken if it was, and goes on.
+-- A state that is saved one address after another is alike, is taken if the original is, and goes on.
 use Rattle.std.proofs.Common.{◌≡◌, ℕ, zero, suc, ◌^◌, ◌<◌, ◌≤◌, Bool, true, false, not, ◌||◌, cond, List, [], ◌∷◌, ◌++◌, map, filter, flat_map, length, Some, None, get_or, refl, sym, ◌∙◌, ap, subst, arith, eqb-true, slice_get, ◌==◌}
 use Rattle.std.{specs.List.{list_any, Sorted.IsPermutation}, proofs.lemmas.{Bool.{or_parts, Decides.nat_tests}, List.{length-map, Elements.filter-append}, Option.{same_Some, slice_get_within, slice_get-get_or}}}
 use Rattle.std.proofs.lemmas.List.Sorted.{IsPermutation-refl, IsPermutation-sym, IsPermutation-trans, IsPermutation-cons, IsPermutation-middle, IsPermutation-append_right}
@@ -13,7 +13,7 @@ use Rattle.napt_laws.proofs.{TakenStates.{all, state_sound, taken_sound}, OwnSta
 
 -- A LIST, SPLIT BY ADDRESS
 
--- the address is one of these, at one place
+-- The address of the row is one of these, at one place.
 abbrev IsOneOf : List ℕ → Row → Type 0
 IsOneOf pool r = Once (λ address. is_at address r) pool × (list_any (λ address. is_at address r) pool ≡ true)
 
@@ -55,7 +55,7 @@ all_split pool [] each = subst (IsPermutation []) (sym (nothing_split pool)) (Is
 all_split pool (b ∷ list) each =
     IsPermutation-trans _ _ _ (IsPermutation-cons b _ _ (all_split pool list each.1)) (split_with pool b list each.0)
 
--- parts that are alike, address by address
+-- The parts are alike to the bindings of their addresses.
 module _ (timers : Timers) (now : ℕ) (list : List Binding) where
   abbrev AreParts : List ℕ → List (List Binding) → Type 0
   AreParts pool parts = (place address : ℕ) (part : List Binding) → slice_get pool place ≡ Some address →
@@ -119,10 +119,10 @@ ordered_are_alike rules keeps state ordered sound order =
     (joined_alike rules.timers state.clock state.list rules.pool (all_in_pool rules keeps state.list sound.each)
     order.parts order.many (λ place address part at is. (order.each place address part at is).alike))
 
--- TAKEN
+-- THE SAVED STATE IS TAKEN
 
 module _ (timers : Timers) (now : ℕ) where
-  -- parts of which each is taken at a time
+  -- Parts whose bindings are all live or held are together live or held.
   parts_taken : (parts : List (List Binding)) → ((i : ℕ) (part : List Binding) → slice_get parts i ≡ Some part →
       live_and_held timers now part ≡ part) →
       live_and_held timers now (flat_map (λ part. part) parts) ≡ flat_map (λ part. part) parts
@@ -146,7 +146,7 @@ filter_joined p (part ∷ parts) =
     ap (λ (l : List Binding). filter p part ++ l) (filter_joined p parts)
     ∙ sym (filter-append p part (flat_map (λ part. part) parts))
 
--- the part of a filtered list of parts
+-- A part of a filtered list of parts is a filtered part.
 part_of : (p : Binding → Bool) (parts : List (List Binding)) (i : ℕ) (part : List Binding) →
     slice_get (map (filter p) parts) i ≡ Some part →
     (whole : List Binding) × (slice_get parts i ≡ Some whole) × (filter p whole ≡ part)
@@ -162,7 +162,7 @@ module _ (rules : Rules) (keeps : RulesInvariant rules) (state ordered : State)
   abbrev is_loose : Binding → Bool
   is_loose b = not b.row.fixed
 
-  -- the part of a place is that of some address
+  -- The part at a place is that of some address of the pool.
   here : (i : ℕ) (part : List Binding) → slice_get order.parts i ≡ Some part → (address : ℕ)
       × AreBindingsLeft rules.timers now (bindings_at address state.list) part
   here i part is =
@@ -244,7 +244,7 @@ module _ (rules : Rules) (keeps : RulesInvariant rules) (state ordered : State)
 pub ordered_are_taken : OrderedStatesAreTaken
 ordered_are_taken rules keeps state ordered takes order = ordered_is_taken rules keeps state ordered order takes
 
--- GOING ON
+-- THE RUN GOES ON
 
 module _ (carry : PacketsCarryNumbers) (rules : Rules) (keeps : RulesInvariant rules) (state saved : State)
     (takes : TakesState rules state) (first rest : List Arrival)

@@ -7,7 +7,7 @@ use Rattle.napt_capture.specs.declared.device.Sink.{Ghosts}
 use Rattle.napt_dispatch.specs.declared.workers.RunSummary.{RunSummary}
 use Rattle.napt_run.specs.Origins.{OriginModel, ran_by}
 use Rattle.napt_records.specs.{Counts.AreCountsOf, Report.{report_of, report_text}, declared.{Fault.{Fault, TheVariants.{Run, Write}}, Which.Which}}
-use Rattle.napt_records.specs.{declared.Which.TheVariants.{Outside, Inside, Report}, Faults.tells_shut_gate}
+use Rattle.napt_records.specs.{declared.Which.TheVariants.{Outside, Inside, Report}, Faults.is_shut_gate_fault}
 use Rattle.napt_rules.specs.{Prelude.{Arrival}, declared.Outcome.Outcome}
 use Rattle.napt_run.specs.{Captures.{failed_readings, failed_writings}, Runs.{IfHeld, IsToldOf, passed_if}}
 use Rattle.napt_run.specs.Streams.{DeviceGetsFrom, Explains, GetsReport, HasAll, HasPart, HasRead, HasText, IsOfRun, IsReading, IsReportFault, IsSettledBy, IsStopFault, LeavesInTheEnd, ReportGetsFrom, Reports, ReportsAll, Streams, stream_ended}
@@ -65,11 +65,11 @@ explains_ends inside outside = at_end (λ told result. IfErr told (Explains insi
     (λ totals p. IfHeld-all (λ all. Unit {0}) inside outside (λ all. tt)) (λ fault p. p)
 
 pub gate_of : (open_gate : Bool) (fault : Fault) → open_gate ≡ true → IsStopFault open_gate fault →
-    tells_shut_gate fault ≡ false
+    is_shut_gate_fault fault ≡ false
 gate_of open_gate fault is p = grind (arith, common_steps, nat_tests)
 
 pub gate_ends : (open_gate : Bool) (told : Result Totals Fault) (result : Result (Unit {0}) Fault) → Ends told result →
-    IfErr told (IsStopFault open_gate) → open_gate ≡ true → IfErr result (λ fault. tells_shut_gate fault ≡ false)
+    IfErr told (IsStopFault open_gate) → open_gate ≡ true → IfErr result (λ fault. is_shut_gate_fault fault ≡ false)
 gate_ends open_gate told result ends stop is = grind (arith, common_steps, nat_tests, at_end, gate_of)
 
 pub few_ends : (open_gate : Bool) (told : Result Totals Fault) (result : Result (Unit {0}) Fault) → Ends told result →

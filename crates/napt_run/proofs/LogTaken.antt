@@ -9,8 +9,8 @@ use Rattle.napt_log_text.specs.{Logs.{LogOrigin, LogsBeginAnew, first_text, log_
 use Rattle.napt_account.specs.TrackedLogs.{KnownTraces}
 use Rattle.napt_capture.specs.declared.device.Sink.{Ghosts}
 use Rattle.napt_run.specs.LogOrigins.{IsTakenAs, LogTexts, LoggedOrigin, ending, text_so_far, texts_anew, texts_from, texts_of, whole_text}
-use Rattle.napt_run.specs.{Origins.{OriginModel, initial_origin, origin_of, resumed_origin}, RunningLogs.{IsReady, running_log_of}, declared.{start.RunOrigin.RunOrigin, running_log.RunningLog.RunningLog}}
-use Rattle.napt_run.specs.declared.log_start.{LogOriginStart.LogOriginStart, TakenLog.TakenLog}
+use Rattle.napt_run.specs.{Origins.{OriginModel, initial_origin, origin_of, resumed_origin}, RunningLogs.{IsReady, running_log_of}, declared.{start.Start.Start, running_log.RunningLog.RunningLog}}
+use Rattle.napt_run.specs.declared.log_start.{LogStart.LogStart, TakenLog.TakenLog}
 
 -- THERE IS ONE
 
@@ -134,7 +134,7 @@ same_origin : (origin : OriginModel) (a b : TimeText) (log other : LogStateModel
     } in f) ≡ record { origin = origin; opening = b; log = other; each = same; goes_on = also }
 same_origin origin a b log other each same goes_on also text kept pieces goes = cc
 
-module _ {L : Type 0} {S : Ghosts L} (start : RunOrigin) (log_start : LogOriginStart) (taken : TakenLog)
+module _ {L : Type 0} {S : Ghosts L} (start : Start) (log_start : LogStart) (taken : TakenLog)
     (is_taken : IsTakenAs start log_start taken) where
   log_of : (it : RunningLog L S) → it.log ≡ taken.log → it.log.begun.log ≡ is_taken.log
   log_of it is = ap (λ (k : KnownTraces). k.begun.log) (is ∙ is_taken.known)

@@ -6,7 +6,7 @@ use Rattle.napt_capture.specs.declared.{device.Sink.Ghosts, fault.CaptureFault.C
 use Rattle.napt_config.specs.Rules.{Rules}
 use Rattle.napt_laws.specs.Dispatching.{IsFrontOf}
 use Rattle.napt_account.specs.ResumedLogRuns.{LogStateModel, log_left}
-use Rattle.napt_records.specs.{RecordMerging.MergedInputs, declared.{Fault.Fault, Which.Which}, Faults.tells_shut_gate}
+use Rattle.napt_records.specs.{RecordMerging.MergedInputs, declared.{Fault.Fault, Which.Which}, Faults.is_shut_gate_fault}
 use Rattle.napt_records.specs.declared.Fault.TheVariants as faults
 use Rattle.napt_records.specs.declared.Which.TheVariants as outputs
 use Rattle.napt_rules.specs.Prelude.{Arrival}
@@ -116,7 +116,7 @@ LoggedExplains inside outside (Run fault) = Explains inside outside fault
 
 -- a gate that is open is not told to be shut
 abbrev pub IsRunUnderOpenGate : LogRunFault → Type 0
-IsRunUnderOpenGate (Run fault) = tells_shut_gate fault ≡ false
+IsRunUnderOpenGate (Run fault) = is_shut_gate_fault fault ≡ false
 IsRunUnderOpenGate (Log fault) = Unit {0}
 
 -- STEPS

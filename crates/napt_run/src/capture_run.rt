@@ -6,7 +6,7 @@ ghost use Rattle.napt_run.specs.{LoggedOutputSinks.IsSameSinkPlace, LogRuns.as_r
 
 use crate::logged_output_sinks::{LeavingFault, LeavingWithLog};
 use crate::logging::{Logging, LoggingFault};
-use crate::start::{OriginSetting, RunOrigin};
+use crate::start::{OriginSetting, Start};
 use napt_capture::{Sink, Source};
 use napt_dispatch::{PassFault, RunSummary, run_through};
 use napt_pool::Gate;
@@ -46,7 +46,7 @@ impl<
             start,
             gate,
         } = self;
-        let RunOrigin { config, state } = start;
+        let Start { config, state } = start;
         run_through(rt, alloc, config, state, inputs, both, gate)
     }
 

@@ -1,4 +1,4 @@
--- What is held stays found by both its ends, and counted, when a binding comes, goes or changes.
+-- The index stays consistent when a binding is stored, removed or changed: found by both keys, and counted.
 use Rattle.std.proofs.Common.{◌≡◌, ◌≢◌, ℕ, zero, suc, ◌+◌, ◌*◌, ◌<◌, ◌≤◌, ◌^◌, Bool, true, false, not, ◌&&◌, cond, List, [], ◌∷◌, Option, Some, None, refl, sym, ◌∙◌, ap, subst, arith, eqb}
 use Rattle.std.{specs.{Prelude.{find, slice_get, IfSome}, Option.{is_some, option_map}, Map.{lookup, values_of}}, proofs.lemmas.Bool.true≢false}
 use Rattle.std.proofs.lemmas.Option.{same_Some}
@@ -52,7 +52,7 @@ not_counted_by : (o : Option AddressCounts) (host : ℕ) → is_some o ≡ false
 not_counted_by None host off = refl
 not_counted_by (Some counts) host off = cc
 
--- a count is that of some of the numbers
+-- A host's count is at most the number of all external numbers.
 pub hosts_few : (it : Inside) → IsHeld it → (host : ℕ) → count_in it.hosts host ≤ 3 * 2 ^ 16
 hosts_few it is host = elim (are_counted it.hosts) as (λ v. are_counted it.hosts ≡ v → count_in it.hosts host
     ≤ 3 * 2 ^ 16) [
@@ -78,14 +78,14 @@ number_found it is protocol inside number = (
   λ has. ap (number_of_inside it protocol) (sym has.2) ∙ is.inside_is (external_key protocol number) has.0 has.1,
 )
 
--- A STEP AT ONE NUMBER: what was held there makes way for what is left, and its inside end goes with it
+-- A STEP AT ONE NUMBER: the binding there, with its inside endpoint, is replaced
 
--- the one of which there is a number
+-- An optional binding that has a number.
 numbered : (o : Option Binding) (m n : ℕ) → option_map (λ b. m) o ≡ Some n → (b : Binding) × (o ≡ Some b) × (m ≡ n)
 numbered None m n h = cc
 numbered (Some b) m n h = (b, refl, same_Some m n h)
 
--- the binding is named by the key and the inside endpoint
+-- The binding has the protocol and number of the key, and the inside endpoint.
 abbrev pub IsAt : ℕ → ExternalNumberKey → Endpoint → Binding → Type 0
 IsAt address key inside b = (b.row.protocol ≡ key.protocol)
     × (b.row.external ≡ record { address = address; number = key.number }) × (b.row.inside ≡ inside)
@@ -192,7 +192,7 @@ same_held old new is address granting holds insides numbers counting counts = re
       ∙ sym (count_all_same (holdings_of old) (holdings_of new) host holds));
 }
 
--- NOTHING IS HELD
+-- NOTHING IS STORED
 
 pub none_held : (it : Inside) → it.by_number.entries ≡ [] → it.by_inside.entries ≡ [] → AreByProtocol it.numbers →
     ((key : ExternalNumberKey) → is_in_use it.numbers key ≡ false) → are_counted it.hosts ≡ is_some it.granting.quota →
@@ -225,7 +225,7 @@ find_agree_each p q (x ∷ xs) same =
     ap (λ v. cond v (Some x) (find p xs)) same.0
     ∙ ap (λ (o : Option ℕ). cond (q x) (Some x) o) (find_agree_each p q xs same.1)
 
--- a number is in use where a binding has it
+-- A number is in use if and only if a binding has it.
 pub choice_held : (it : Inside) → IsHeld it → (choosing : NumberAssignment) (block : Option PortBlock) → IfSome block IsPortBlock →
     (protocol : Protocol) (inside : Endpoint) →
     find (λ n. not (is_in_use it.numbers (external_key protocol n))) (candidates choosing block protocol inside)
@@ -236,7 +236,7 @@ choice_held it is choosing block keeps protocol inside =
     find_agree_each p q (candidates choosing block protocol inside) (each_small choosing block keeps (λ n. p n ≡ q n)
     protocol inside (λ n small. ap not (is.used_is (external_key protocol n) small)))
 
--- A BINDING CHANGES, and keeps its ends
+-- A BINDING CHANGES, and keeps its endpoints
 
 count_kept : (then now one other : ℕ) → one ≡ other → now + one ≡ then + other → then ≡ now
 count_kept then now one other alike moved = omega arith
@@ -250,7 +250,7 @@ module _ (old new : Inside) (key : ExternalNumberKey) (is : IsHeld old) (b w : B
   written_others : (k : ExternalNumberKey) → k ≢ key → held_in new k ≡ held_in old k
   written_others k d = holds k ∙ past_key key (Some w) (held_in old k) k d
 
-  -- what is found by an inside endpoint is found again
+  -- Each inside endpoint still has its number.
   found_again : (q : Protocol) (e : Endpoint) → number_of_inside old q e
       ≡ cond (inside_eq (inside_key key.protocol b.row.inside) (inside_key q e)) (Some key.number) (number_of_inside old q e)
   found_again q e = by_inside key.protocol q b.row.inside e (λ q e. number_of_inside old q e
@@ -287,7 +287,7 @@ module _ (old new : Inside) (key : ExternalNumberKey) (is : IsHeld old) (b w : B
         (written_there ∙ (ap (λ (x : Binding). Some x) e ∙ sym there)) (written_others k);
   }
 
--- A BINDING CHANGES AT ITS PLACE
+-- A BINDING CHANGES AT ITS INDEX
 
 value_at : (es : List (ExternalNumberKey × Binding)) (i : ℕ) (key : ExternalNumberKey) (b : Binding) →
     slice_get es i ≡ Some (key, b) → slice_get (values_of es) i ≡ Some b
@@ -306,7 +306,7 @@ module _ (it : Inside) (all : BindingIndexModel) (view : holdings_of it ≡ all)
   pub found_there : held_in it key ≡ Some found
   found_there = ap (λ (h : BindingIndexModel). held_binding h key) view ∙ sym there
 
-  -- what is lent there is the binding that was found
+  -- The binding that is borrowed at the index is the one that was found.
   module _ (b : Binding) (lent : Some b ≡ slice_get (values_of it.by_number.entries) place) where
     lent_is : found ≡ b
     lent_is = same_Some found b (sym lent_at ∙ sym lent)
@@ -314,7 +314,7 @@ module _ (it : Inside) (all : BindingIndexModel) (view : holdings_of it ≡ all)
     pub lent_there : held_in it key ≡ Some b
     lent_there = found_there ∙ ap (λ (x : Binding). Some x) lent_is
 
-    -- and it is seen, if that one is live
+    -- It is visible if the one that was found is live.
     pub lent_seen : (timers : Timers) (now : ℕ) → is_live timers now found ≡ true → seen_binding timers now (held_in it key)
         ≡ Some (with_live_flows timers now b)
     lent_seen timers now live = ap (seen_binding timers now) lent_there

@@ -1,4 +1,4 @@
--- What is held and the list, through time and steps: what lives at the time, and what lived the hold before.
+-- The stored bindings agree with the list as time passes and packets come, now and from the hold before on.
 use Rattle.std.proofs.Common.{◌≡◌, ℕ, ◌<◌, ◌≤◌, nat_le, Bool, true, false, not, ◌&&◌, cond, List, [], ◌∷◌, ◌++◌, map, filter, find, Option, Some, None, ◌⊎◌, inl, inr, Ok, refl, sym, ◌∙◌, ap, subst, arith, eqb, true≢false}
 use Rattle.std.{specs.Option.{option_map, is_some}, proofs.lemmas.Bool.{leb-true, leb-false, and_parts}}
 use Rattle.napt_wire.specs.declared.Protocol.{Protocol}
@@ -12,7 +12,7 @@ use Rattle.napt_laws.proofs.{StepsLive.{sent_is_fresh, made_is_fresh, received_i
 use Rattle.napt_table.specs.{declared.bindings.keys.ExternalNumberKey.ExternalNumberKey, Keys.external_key, HeldLists.{seen_binding, LivesInBoth}, BindingIndexes.{BindingIndexModel, held_binding, held_at}, Bindings.{AllShow, AllKeep, KeepsUnseen}}
 use Rattle.napt_table.proofs.{SeenBindings.{seen_is, find_purged, seen_seen, shows_later}, InboundSteps.fresh_seen, TableBuilders.none_earlier}
 
--- no two of what lives at a time share an endpoint
+-- No two bindings that are live at a time share an endpoint.
 pub live_apart : (timers : Timers) (now : ℕ) (list : List Binding) → AreBindingsApart (map row list) →
     AreBindingsApart (map row (purge timers now list))
 live_apart = purge_keeps AreBindingsApart apart_kept
@@ -39,12 +39,12 @@ module _ (timers : Timers) (at now : ℕ) (le : at ≤ now) (address : ℕ) (all
   pub keeps_later : AllKeep timers now address all (live_and_held timers now list)
   keeps_later = record {
     live = subst (AllShow timers now address all) (sym (purge_taken timers now list)) live_later;
-    held_binding = held_later;
+    held = held_later;
   }
 
 -- A STEP
 
--- the row of what is seen lives at each time before
+-- A row that is visible was live at each earlier time.
 row_before : (timers : Timers) (now : ℕ) (o : Option Binding) (b : Binding) → seen_binding timers now o ≡ Some b → (t : ℕ) →
     t ≤ now → option_map row (seen_binding timers t o) ≡ Some (row b)
 row_before timers now o b is t le =
@@ -88,7 +88,7 @@ module _ (timers : Timers) (now address : ℕ) (old new : BindingIndexModel) (al
   pub keeps_on : AllKeep timers now address new left
   keeps_on = record { live = live; held = held_on }
 
--- what had ended the hold before goes
+-- The agreement is kept when bindings whose hold time is over are removed.
 pub purged_keeps : (timers : Timers) (now address : ℕ) (old new : BindingIndexModel) (all : List Binding) →
     AllKeep timers now address old all →
     ((k : ExternalNumberKey) → seen_binding timers (hold_ago timers now) (held_binding new k) ≡ seen_binding timers (hold_ago timers now)
@@ -107,7 +107,7 @@ some_seen : (o : Option Binding) → is_some (option_map row o) ≡ is_some o
 some_seen None = refl
 some_seen (Some b) = refl
 
--- at a time, as much is found in the list as is seen of what is held
+-- At a time, a number is found in the list if and only if its stored binding is visible.
 pub some_agree : (timers : Timers) (t address : ℕ) (q : Protocol) (n : ℕ) (list : List Binding) → AreBindingsApart (map row list) →
     (held_ : Option Binding) → option_map row (seen_binding timers t (find (λ b. has_number address q n b.row) list))
     ≡ option_map row (seen_binding timers t held_) →
@@ -117,10 +117,10 @@ some_agree timers t address q n list apart held_ same =
     ∙ (sym (some_seen (seen_binding timers t (find (λ b. has_number address q n b.row) list)))
     ∙ (ap is_some same ∙ some_seen (seen_binding timers t held_)))
 
--- WHAT A STEP LEAVES OF THE LIST, where it is not seen
+-- WHAT A STEP LEAVES UNCHANGED of bindings that are not visible
 
 module _ {X : Type 0} (s p : X → Bool) (f : X → X) (same : (x : X) → s (f x) ≡ s x) where
-  -- what is found after a change is what was, or the changed one
+  -- What is found after a change is what was found before, or the changed element.
   find_either : (xs : List X) → (find s (change_first p f xs) ≡ find s xs)
       ⊎ ((x : X) × (find s (change_first p f xs) ≡ Some (f x)) × (p x ≡ true))
   find_either [] = inl refl
@@ -155,7 +155,7 @@ module _ {X : Type 0} (s t : X → Bool) where
         | false ↦ λ e. ap (λ (o : Option X). cond (s x) (Some x) o) (find_without xs h.1)
       ] refl
 
-  -- what holds of the found one holds of each that passes, where one at most does
+  -- A property of the found element holds of each that passes, if at most one does.
   each_found : (xs : List X) (b : X) → Once t xs → find t xs ≡ Some b → s b ≡ false →
       Each (λ x. t x ≡ true → s x ≡ false) xs
   each_found [] b o e h = tt
@@ -170,7 +170,7 @@ module _ {X : Type 0} (s t : X → Bool) where
         | false ↦ λ is e. (λ g. absurd (true≢false (sym g ∙ is)), each_found xs b o.1 e h)
       ] refl e
 
--- a packet that comes in changes no row
+-- An incoming packet changes no row.
 pub in_apart : (timers : Timers) (inbound : InboundRules) (address : ℕ) (packet : InboundPacket) (all : List Binding) →
     AreBindingsApart (map row all) → AreBindingsApart (map row (in_taken timers inbound address packet all).list)
 in_apart timers inbound address packet all apart =
@@ -182,7 +182,7 @@ module _ (timers : Timers) (t : AreTimers timers) (address : ℕ) (all : List Bi
   abbrev at : Binding → Bool
   at b = has_number address q n b.row
 
-  -- a found one is what was found before, if it is not seen
+  -- A binding that is not visible afterwards is the one that was found before.
   abbrev Stays : ℕ → List Binding → Type 0
   Stays now left = seen_binding timers now (find at left) ≡ None → find at left ≡ find at all
 

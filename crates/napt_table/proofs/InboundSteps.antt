@@ -1,4 +1,4 @@
--- A packet that comes in, on what is held and on the list.
+-- An incoming packet, on the stored bindings and on the list.
 use Rattle.std.proofs.Common.{◌≡◌, ◌≢◌, ℕ, ◌+◌, ◌*◌, ◌<◌, ◌≤◌, Bool, true, false, ◌||◌, cond, List, [], ◌∷◌, Option, Some, None, Result, Ok, Err, refl, sym, ◌∙◌, ap, subst, arith, eqb, eqb-true}
 use Rattle.std.{specs.{Prelude.find, Option.option_map, List.list_any}, proofs.lemmas.Bool.{eq-eqb, true≢false}}
 use Rattle.napt_wire.specs.declared.{Protocol.{Protocol, TheVariants.{Icmp, Tcp, Udp}}, Way.TheVariants.Incoming, Cause.Cause}
@@ -13,7 +13,7 @@ use Rattle.napt_table.proofs.{Queues.{due_later, same_due, changed_due}, Keys.by
 use Rattle.napt_binding.{specs.{Ends.least_timer, Inbounds.{inbound_answer, binding_after_inbound}, Slots.NoneUsedAfter}, proofs.LastUses.live_flows_used}
 use Rattle.napt_laws.proofs.{FreshBindings.{binding_of, IsFresh, received_fresh}, Endpoints.{changed_other, changed_here}}
 
--- WHAT IS SEEN IS FRESH
+-- A VISIBLE BINDING IS FRESH
 
 seen_fresh : (timers : Timers) (now : ℕ) (o : Option Binding) (b : Binding) → seen_binding timers now o ≡ Some b →
     IsFresh timers now b
@@ -44,7 +44,7 @@ left_row inbound packet b = elim (permits inbound b packet.remote) as (λ v.
     row (cond v (binding_after_in inbound packet b) b) ≡ row b)
     [ true ↦ refl | false ↦ refl ]
 
--- IT STAYS DUE
+-- THE BINDING STAYS QUEUED
 
 any_changed : (p test : Flow → Bool) (f : Flow → Flow) → ((x : Flow) → p (f x) ≡ true) → (xs : List Flow) →
     list_any p xs ≡ true → list_any p (change_first test f xs) ≡ true
@@ -88,7 +88,7 @@ left_lives timers t inbound packet u after b lt h = elim (permits inbound b pack
     is_live timers u (cond v (binding_after_in inbound packet b) b) ≡ true)
     [ true ↦ received_lives timers t packet.remote packet.flags packet.now u after inbound b lt h | false ↦ h ]
 
--- THE QUEUE AFTER A PACKET CAME IN TO A LIVE BINDING
+-- THE QUEUE AFTER A PACKET CAME IN THROUGH A LIVE BINDING
 
 module _ (timers : Timers) (t : AreTimers timers) (inbound : InboundRules) (packet : InboundPacket) (at : ℕ) (old new : BindingIndexModel)
     (entries : List (ℕ × ExternalNumberKey)) (due : AreDue timers at old entries) (later : at ≤ packet.now)
@@ -232,7 +232,7 @@ module _ (timers : Timers) (t : AreTimers timers) (inbound : InboundRules) (addr
           )
         ] refl
 
-    -- what is not seen is as before
+    -- What is not visible is unchanged.
     pub received_unseen : KeepsUnseen timers packet.now old new
     received_unseen k none at from = by_key (external_key packet.protocol packet.number) k (λ n.
         seen_binding timers packet.now (held_binding new n) ≡ None → seen_binding timers at (held_binding new n) ≡ seen_binding timers at (held_binding old n))
@@ -249,7 +249,7 @@ module _ (timers : Timers) (t : AreTimers timers) (inbound : InboundRules) (addr
         ] refl)
         (λ d h. ap (seen_binding timers at) (one.others k d)) none
 
-    -- what is due stays so
+    -- The queue stays valid.
     pub all_received_due : (at : ℕ) (entries : List (ℕ × ExternalNumberKey)) → at ≤ packet.now →
         AreDue timers at old entries → AreDue timers packet.now new entries
     all_received_due at entries later due =

@@ -1,4 +1,4 @@
--- A packet that goes out, on what is held and on the list.
+-- An outgoing packet, on the stored bindings and on the list.
 use Rattle.std.proofs.Common.{◌≡◌, ◌≢◌, ℕ, ◌+◌, ◌*◌, ◌<◌, ◌≤◌, Bool, true, false, not, ◌&&◌, ◌||◌, cond, List, [], ◌∷◌, ◌++◌, map, Option, Some, None, refl, sym, ◌∙◌, ap, subst, arith, eqb, eqb-true, ◌-◌, min}
 use Rattle.std.{specs.{Prelude.find, Option.{option_map, is_some}, List.list_any}, proofs.lemmas.{List.Elements.All-nil, Bool.{eq-eqb, lt-ltb, or_parts, true≢false}}}
 use Rattle.napt_wire.specs.declared.{Protocol.{Protocol, TheVariants.{Icmp, Tcp, Udp}}, Way.TheVariants.Outgoing, Endpoint.Endpoint, Flags.Flags}
@@ -12,10 +12,10 @@ use Rattle.napt_binding.{specs.{Ends.least_timer, Slots.NoneUsedAfter}, proofs.{
 use Rattle.napt_laws.proofs.{FreshBindings.{binding_of, sent_fresh, no_flows}, Finds.{passes, find_same, change_same, find_pushed, find_passed_over}}
 use Rattle.napt_laws.proofs.Endpoints.{end_itself, number_of_it, once_number, once_inside, has_it, inside_it, inside_parts, changed_other, changed_here}
 
--- A PACKET KEEPS A BINDING FOR THE LEAST TIMER
+-- A PACKET REFRESHES A BINDING FOR THE LEAST TIMER
 
 module _ (timers : Timers) (t : AreTimers timers) (remote : Endpoint) (flags : Flags) (now : ℕ) where
-  -- what lives now and is sent through lives on
+  -- A live binding through which a packet is sent stays live.
   any_used : (p test : Flow → Bool) (f : Flow → Flow) → ((x : Flow) → p (f x) ≡ true) → (xs : List Flow) →
       list_any test xs ≡ true → list_any p (change_first test f xs) ≡ true
   any_used p test f all [] h = cc
@@ -49,7 +49,7 @@ module _ (timers : Timers) (t : AreTimers timers) (remote : Endpoint) (flags : F
           | false ↦ recent timers.transitory (omega arith)
         ]
 
-    -- a binding through which a packet went out
+    -- A binding through which a packet went out is live for the least timer.
     sent_lives_by : (protocol : Protocol) → u < now + least_timer protocol timers * ns_per_second →
         (inside external : Endpoint) (fixed : Bool) (last : ℕ) (flows : List Flow) →
         is_live timers u (sent_through remote flags now (binding_of protocol inside external fixed last flows)) ≡ true
@@ -129,7 +129,7 @@ module _ (timers : Timers) (address : ℕ) (packet : OutboundPacket) (held_ : �
     (protocols : (n : ℕ) (b : Binding) → held_ n ≡ Some b → b.row.protocol ≡ packet.protocol)
     (externals : (n : ℕ) (b : Binding) → held_ n ≡ Some b → b.row.external ≡ record { address = address; number = n })
   where
-    -- IT IS KNOWN
+    -- THE PACKET'S SOURCE HAS A LIVE BINDING
     module _ (number : ℕ) (b : Binding) (is : seen_binding timers packet.now (held_ number) ≡ Some b)
         (inside : b.row.inside ≡ packet.inside) where
       there : find (λ b. has_number address packet.protocol number b.row) list ≡ Some b
@@ -182,7 +182,7 @@ module _ (timers : Timers) (address : ℕ) (packet : OutboundPacket) (held_ : �
                 packet.protocol n (λ p. d) ∙ (shows n ∙ ap (seen_binding timers packet.now) (sym (others n d)))
           ] refl
 
-    -- IT IS NEW
+    -- THE PACKET'S SOURCE HAS NONE
     pub not_found : ((n : ℕ) (b : Binding) → seen_binding timers packet.now (held_ n) ≡ Some b → b.row.inside ≢ packet.inside) →
         find (is_of_source address packet) list ≡ None
     not_found none = elim (find (is_of_source address packet) list) as (λ o.
@@ -199,9 +199,9 @@ module _ (timers : Timers) (address : ℕ) (packet : OutboundPacket) (held_ : �
               absurd (none b.row.external.number b (sym (shows b.row.external.number) ∙ at) (sym p.inside_is))
         ] refl
 
--- A NEW ONE
+-- THE CHOICE OF A NUMBER
 
--- where the list has the rows of what is held, the same is free
+-- Where the list has the rows of the stored bindings, the same numbers are free.
 pub choice_is : (address : ℕ) (packet : OutboundPacket) (held_ : ℕ → Option Binding) (list : List Binding) →
     ((n : ℕ) → option_map row (find (λ b. has_number address packet.protocol n b.row) list) ≡ option_map row
     (held_ n)) →
@@ -272,7 +272,7 @@ module _ (timers : Timers) (t : AreTimers timers) (address : ℕ) (packet : Outb
   pub made_seen : seen_binding timers packet.now (Some made) ≡ Some (binding_after_out packet (new_binding address packet number))
   made_seen = seen_live timers packet.now made (binding_after_out packet (new_binding address packet number)) made_live made_is
 
-  -- a binding of its row that begins anew
+  -- A stored binding with the row of the new one is renewed.
   module _ (old new : BindingIndexModel) (b : Binding) (row_is : b.row ≡ (new_binding address packet number).row)
       (here : held_at old packet.protocol number ≡ Some b)
       (one : ChangesOne (external_key packet.protocol number) old new)
@@ -306,7 +306,7 @@ module _ (timers : Timers) (t : AreTimers timers) (address : ℕ) (packet : Outb
         ∙ sent_lives timers t packet.remote packet.flags packet.now u after (new_binding address packet number)
         (subst (λ (r : Row). u < packet.now + least_timer r.protocol timers * ns_per_second) row_is lt))))
 
--- the row of a binding that is held for a source is that of one that begins
+-- The row of a stored binding of the packet's source is that of the new binding.
 pub row_again : (timers : Timers) (all : BindingIndexModel) → IsNamed all → (packet : OutboundPacket) (number : ℕ) (b : Binding) →
     held_at all packet.protocol number ≡ Some b → b.row.inside ≡ packet.inside →
     seen_binding timers packet.now (Some b) ≡ None → b.row ≡ (new_binding all.address packet number).row

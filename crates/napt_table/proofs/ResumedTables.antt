@@ -1,4 +1,4 @@
--- What a table takes up of a state, binding by binding.
+-- The bindings that a table restores from a saved state, one after another.
 use Rattle.std.proofs.Common.{◌≡◌, ℕ, ◌+◌, ◌<◌, ◌≤◌, Bool, true, false, not, cond, List, [], ◌∷◌, ◌++◌, length, get_or, take, drop, map, filter, Some, refl, sym, ◌∙◌, ap, subst, arith}
 use Rattle.std.proofs.lemmas.{Bool.{or_parts, eq-eqb}, Option.same_Some, List.{take_more, take_all, take-append-drop, append_assoc, map-append, Elements.{filter-append, All-nil, All-cons}}}
 use Rattle.napt_config.specs.{Rules.{Rules, RulesInvariant, pair_of}, declared.settings.Timers.Timers}
@@ -40,7 +40,7 @@ module _ (timers : Timers) (at address : ℕ) (b : Binding) where
       pub one_distinct : Each (λ x. AreFlowsOwn at x.flows) one → AreDistinct (with_live_flows timers ago b).flows
       one_distinct own = distinct_flows _ (subst (Each (λ x. AreFlowsOwn at x.flows)) one_is own).0.single
 
-    -- the one that is seen
+    -- The binding that is visible.
     module _ (x : Binding) (is : seen_binding timers ago (Some b) ≡ Some x) where
       b_lives : is_live timers ago b ≡ true
       b_lives = let s = seen_is timers ago (Some b) x is in
@@ -59,7 +59,7 @@ module _ (timers : Timers) (at address : ℕ) (b : Binding) where
         (subst (Each (λ x. x.last ≤ at)) (one_is b_lives) last).0,
       )
 
--- ALL OF THEM
+-- ALL BINDINGS OF THE STATE
 
 taken_up_append : (timers : Timers) (at address : ℕ) (xs ys : List Binding) → state_bindings_at timers at address (xs ++ ys)
     ≡ state_bindings_at timers at address xs ++ state_bindings_at timers at address ys
@@ -81,7 +81,7 @@ apart_front : (xs ys : List Row) → AreBindingsApart (xs ++ ys) → AreBindings
 apart_front [] ys h = tt
 apart_front (x ∷ xs) ys h = ((each_parts (AreRowsApart x) xs ys h.0).0, apart_front xs ys h.1)
 
--- a purge of what is taken up changes nothing
+-- A purge does not change the restored bindings.
 taken_up_twice : (timers : Timers) (at address : ℕ) (list : List Binding) →
     live_and_held timers at (state_bindings_at timers at address list) ≡ state_bindings_at timers at address list
 taken_up_twice timers at address list =
@@ -100,7 +100,7 @@ purge_append timers now xs ys =
     ∙ map-append (with_live_flows timers now) (filter (is_live timers now) xs) (filter (is_live timers now) ys)
 
 module _ (rules : Rules) (address : ℕ) (state : State) where
-  -- the redirects, and then the first bindings of the state
+  -- The redirects, and then the first k bindings of the state.
   abbrev pub begun_to : ℕ → List Binding
   begun_to k = bindings_at address (opening rules) ++ state_bindings_at rules.timers state.clock address (take k state.list)
 

@@ -1,4 +1,4 @@
--- What happened to a table, and the list that it leaves.
+-- The events of a table, and the list of bindings after them.
 use Rattle.std.specs.Prelude.{ℕ, List, [], ◌∷◌}
 use Rattle.napt_rules.specs.{declared.{AssignmentRules.AssignmentRules, InboundRules.InboundRules}, Prelude.{Binding, live_and_held, step_out, step_in}}
 use Rattle.napt_config.specs.declared.settings.Timers.{Timers}
@@ -9,7 +9,7 @@ list_after_event timers granting inbound address (Sent packet) list = (step_out 
 list_after_event timers granting inbound address (Received packet) list = (step_in timers inbound address packet list).list
 list_after_event timers granting inbound address (Purged now) list = live_and_held timers now list
 
--- one after another; the time beside each, in ns, is not read
+-- The list after all events in order. The time in ns that comes with each event is not read.
 abbrev pub list_after_events : Timers → AssignmentRules → InboundRules → ℕ → List (ℕ × TableEvent) → List Binding → List Binding
 list_after_events timers granting inbound address [] list = list
 list_after_events timers granting inbound address (event ∷ events) list = list_after_events timers granting inbound address events

@@ -1,3 +1,4 @@
+-- `requeue_or_remove`: a binding that is queued again has an entry that is valid and not yet due.
 use Rattle.std.proofs.{Common.{◌≡◌, ◌<◌, ◌+◌, ◌*◌, true, refl, sym, ◌∙◌, subst, arith}, lemmas.Option.same_Some}
 use Rattle.napt_rules.specs.Prelude.{Binding, ns_per_second, is_live, hold_ago}
 use Rattle.napt_binding.specs.Ends.{least_timer}

@@ -1,3 +1,4 @@
+-- `insert_new`: the number is the first free candidate, and the stored bindings agree with the list that has it.
 use Rattle.std.{proofs.Common.{◌≡◌, ◌∙◌, ℕ, List, [], map, find, None, Some, Ok, cond, refl, sym, ap, subst, arith, not, true, false}, specs.{Prelude.ok_or, Option.{is_some, option_map}}}
 use Rattle.std.proofs.lemmas.Bool.{not-true}
 use Rattle.napt_wire.specs.declared.{Way.TheVariants.Outgoing, Cause.TheVariants.NoPort}

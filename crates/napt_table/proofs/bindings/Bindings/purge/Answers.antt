@@ -1,3 +1,4 @@
+-- `purge`: each binding whose hold time is over was removed.
 use Rattle.std.proofs.Common.{◌≡◌, ℕ, ◌≤◌, true, All, subst, sym, ◌∙◌}
 use Rattle.napt_config.specs.declared.settings.Timers.{Timers}
 use Rattle.napt_rules.specs.Prelude.{is_live, hold_ago}

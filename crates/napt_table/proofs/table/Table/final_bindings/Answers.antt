@@ -1,3 +1,4 @@
+-- `final_bindings`: the sorted bindings are alike to the live and held ones of the list.
 use Rattle.std.proofs.{Common.{rules, ◌≤◌, sym, subst}, lemmas.List.Sorted.{answers_always, IsNonDecreasingBy-from_sort}}
 use Rattle.napt_rules.specs.Prelude.{Binding, live_and_held, rank, AreBindingsLeft}
 use Rattle.napt_table.{specs.Tables.TableModel, proofs.LeftBindings.left_is}

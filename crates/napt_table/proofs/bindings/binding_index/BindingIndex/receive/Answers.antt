@@ -1,3 +1,4 @@
+-- `receive`: the binding changes as `binding_after_inbound` says, if it is live, and the invariant is kept.
 use Rattle.std.proofs.{Common.{◌≡◌, Some, None, sym, subst, ap, ◌∙◌}, lemmas.Option.same_Some}
 use Rattle.napt_rules.specs.Prelude.{Binding, with_live_flows, row}
 use Rattle.napt_binding.specs.Inbounds.{inbound_answer, binding_after_inbound}
