@@ -96,13 +96,15 @@ pub next_within_text : (s : CaptureFormat) (n : ℕ) (text : List ℕ) (entry : 
     16 + length entry.bytes ≤ length text
 next_within_text s n text entry is = (whole_of s n text entry (first_of s n text) is).within
 
-pub next_asked : (s : CaptureFormat) (n : ℕ) (text : List ℕ) (entry : RecordModel) → next_in s n text ≡ Ok (Whole entry) →
+pub next_asked : (s : CaptureFormat) (n : ℕ) (text : List ℕ) (entry : RecordModel) →
+    next_in s n text ≡ Ok (Whole entry) →
     bytes_asked_first s text ≡ 16 + length entry.bytes
 next_asked s n text entry is = (whole_of s n text entry (first_of s n text) is).asked
 
 -- ALL RECORDS
 
-skips : (s : CaptureFormat) (n skipped : ℕ) (text : List ℕ) → records_from s n skipped text ≡ records_from s n 0 (drop skipped text)
+skips : (s : CaptureFormat) (n skipped : ℕ) (text : List ℕ) →
+    records_from s n skipped text ≡ records_from s n 0 (drop skipped text)
 unfolding records_from
 skips s n zero [] = refl
 skips s n (suc skipped) [] = refl
@@ -114,7 +116,8 @@ with_first entry more = record { records = entry ∷ more.records; end = more.en
 
 pub held_record : (s : CaptureFormat) (n : ℕ) (text : List ℕ) (entry : RecordModel) →
     next_in s n text ≡ Ok (Whole entry) →
-    records_from s n 0 text ≡ with_first entry (records_from s (number_behind n) 0 (drop (16 + length entry.bytes) text))
+    records_from s n 0 text ≡ with_first entry (records_from s (number_behind n) 0
+    (drop (16 + length entry.bytes) text))
 unfolding records_from
 held_record s n [] entry is = absurd cc
 held_record s n (byte ∷ text) entry is =
@@ -128,16 +131,19 @@ pub held_end : (s : CaptureFormat) (n : ℕ) (text : List ℕ) (cut : Bool) → 
     records_from s n 0 text ≡ record { records = []; end = Ok cut }
 unfolding records_from
 held_end s n [] cut is = let same : Ok (End false) ≡ Ok (End cut) = is in cc
-held_end s n (byte ∷ text) cut is = ap (λ r. records_after_skip r (λ skipped. records_from s (number_behind n) skipped text)) is
+held_end s n (byte ∷ text) cut is = ap (λ r. records_after_skip r
+    (λ skipped. records_from s (number_behind n) skipped text)) is
 
 pub held_fault : (s : CaptureFormat) (n : ℕ) (text : List ℕ) (fault : CaptureFault) → next_in s n text ≡ Err fault →
     records_from s n 0 text ≡ record { records = []; end = Err fault }
 unfolding records_from
 held_fault s n [] fault is = absurd cc
-held_fault s n (byte ∷ text) fault is = ap (λ r. records_after_skip r (λ skipped. records_from s (number_behind n) skipped text)) is
+held_fault s n (byte ∷ text) fault is = ap (λ r. records_after_skip r
+    (λ skipped. records_from s (number_behind n) skipped text)) is
 
 -- The bytes of the records are no more than those of the text.
-records_by : (s : CaptureFormat) (n : ℕ) (text : List ℕ) (others : ℕ → CaptureReading) (next : Result NextRead CaptureFault) →
+records_by : (s : CaptureFormat) (n : ℕ) (text : List ℕ) (others : ℕ →
+    CaptureReading) (next : Result NextRead CaptureFault) →
     next_in s n text ≡ next
     → ((skipped : ℕ) → bytes_asked_for_records (others skipped).records ≤ (length text - 1) - skipped)
     → bytes_asked_for_records (records_after_skip next others).records ≤ length text
@@ -146,7 +152,8 @@ records_by s n text others (Err fault) is few = omega arith
 records_by s n text others (Ok (Whole entry)) is few =
     omega (arith, few (15 + length entry.bytes), next_within_text s n text entry is)
 
-pub records_within : (s : CaptureFormat) (n skipped : ℕ) (text : List ℕ) → bytes_asked_for_records (records_from s n skipped text).records
+pub records_within : (s : CaptureFormat) (n skipped : ℕ) (text : List ℕ) →
+    bytes_asked_for_records (records_from s n skipped text).records
     ≤ length text - skipped
 unfolding records_from
 records_within s n skipped [] = omega arith
@@ -167,18 +174,21 @@ next_never : (s : CaptureFormat) (n : ℕ) (text : List ℕ) → FirstOf s n tex
 next_never s n text h k =
     grind (arith, common_steps, nat_tests, next_short, next_fault, size_never, next_cut, next_whole)
 
-held_by_never : (s : CaptureFormat) (n : ℕ) (text : List ℕ) (others : ℕ → CaptureReading) (next : Result NextRead CaptureFault)
+held_by_never : (s : CaptureFormat) (n : ℕ) (text : List ℕ) (others : ℕ →
+    CaptureReading) (next : Result NextRead CaptureFault)
     →
     next_in s n text ≡ next → ((skipped : ℕ) → (others skipped).end ≡ Err TooLarge → ⊥)
     → (records_after_skip next others).end ≡ Err TooLarge → ⊥
 held_by_never s n text others next h k g = grind (arith, common_steps, nat_tests, next_never)
 
-held_never : (s : CaptureFormat) (n skipped : ℕ) (text : List ℕ) → (records_from s n skipped text).end ≡ Err TooLarge → ⊥
+held_never : (s : CaptureFormat) (n skipped : ℕ) (text : List ℕ) →
+    (records_from s n skipped text).end ≡ Err TooLarge → ⊥
 unfolding records_from
 held_never s n skipped [] is = cc
 held_never s n (suc skipped) (byte ∷ text) is = held_never s n skipped text is
 held_never s n zero (byte ∷ text) is =
-    held_by_never s n (byte ∷ text) (λ skipped. records_from s (number_behind n) skipped text) (next_in s n (byte ∷ text)) refl
+    held_by_never s n (byte ∷ text) (λ skipped. records_from s (number_behind n) skipped text)
+    (next_in s n (byte ∷ text)) refl
     (λ skipped. held_never s (number_behind n) skipped text) is
 
 spelling_by_never : (header : List ℕ) (o : Option CaptureFormat) → format_by header o ≡ Err TooLarge → ⊥

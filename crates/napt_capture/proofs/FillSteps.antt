@@ -12,7 +12,8 @@ pub Says-err : (T U : Type 0) (fault : CaptureFault) {P Q : Type 0} → (P → Q
     IsReadResult {T = U} (Err fault) Q
 Says-err T U fault h k = grind (arith, common_steps, nat_tests)
 
-pub Says-map : {T : Type 0} (result : Result T CaptureFault) {P Q : Type 0} → (P → Q) → IsReadResult result P → IsReadResult result Q
+pub Says-map : {T : Type 0} (result : Result T CaptureFault) {P Q : Type 0} → (P → Q) → IsReadResult result P →
+    IsReadResult result Q
 Says-map (Ok value) f p = f p
 Says-map {T} (Err fault) f p = Says-err T T fault f p
 
@@ -24,7 +25,8 @@ Gives-map (Some bytes) None f p = absurd p
 Gives-map (Some bytes) (Some left) f p = f bytes left p
 
 pub Gives-both : (old mid new : Option (List ℕ)) {P Q R : List ℕ → List ℕ → Type 0} →
-    ((bytes text left : List ℕ) → P bytes text → Q text left → R bytes left) → LeavesBytes old mid P → LeavesBytes mid new Q
+    ((bytes text left : List ℕ) → P bytes text → Q text left → R bytes left) → LeavesBytes old mid P →
+    LeavesBytes mid new Q
     → LeavesBytes old new R
 Gives-both None mid new f p q = tt
 Gives-both (Some bytes) None new f p q = absurd p
@@ -43,7 +45,8 @@ fills filled buffer bytes left within consumed at_end =
     grind (arith, common_steps, length-take-le, drop_of_length-le)
 
 pub filled_by : (old new : Option (List ℕ)) (filled : ℕ) (buffer : List ℕ) → filled ≤ length buffer →
-    Consumes old new (take filled buffer) → (filled < length buffer → IsAtEnd new) → LeavesBytes old new (Fills filled buffer)
+    Consumes old new (take filled buffer) → (filled < length buffer → IsAtEnd new) →
+    LeavesBytes old new (Fills filled buffer)
 filled_by None new filled buffer within consumed at_end = tt
 filled_by (Some bytes) None filled buffer within consumed at_end = absurd consumed
 filled_by (Some bytes) (Some left) filled buffer within consumed at_end =

@@ -18,7 +18,8 @@ pub next_none : (s : CaptureFormat) (asked n : ℕ) (text : List ℕ) → asked 
 next_none s asked n text room large = grind (arith, common_steps, nat_tests, large_is, asked_least)
 
 -- The bytes end inside the header.
-pub next_early : (s : CaptureFormat) (asked n filled : ℕ) (buffer text left : List ℕ) → length buffer ≡ 16 → filled < 16 →
+pub next_early : (s : CaptureFormat) (asked n filled : ℕ) (buffer text left : List ℕ) → length buffer ≡ 16 →
+    filled < 16 →
     asked + 16 ≤ MOST_ASKED → Fills filled buffer text left → NextPost s asked n (Ok (End (nat_lt 0 filled))) text left
 next_early s asked n filled buffer text left size early room p =
     grind (arith, common_steps, nat_tests, asked_short, few_is, next_short, drop_of_length-le)
@@ -75,7 +76,8 @@ next_part s asked n filled header buffer text mid left f room p fields size earl
     }
 
 -- The record is whole.
-pub next_all : (s : CaptureFormat) (asked n filled : ℕ) (header buffer text mid left items : List ℕ) (f : RecordHeader) →
+pub next_all : (s : CaptureFormat) (asked n filled : ℕ) (header buffer text mid left items : List ℕ)
+    (f : RecordHeader) →
     asked + (16 + f.captured) ≤ MOST_ASKED → HeaderRead header text mid → HeaderShows s n header f
     → length buffer ≡ f.captured → f.captured ≤ filled → Fills filled buffer mid left → items ≡ buffer
     → NextPost s asked n (Ok (Whole (record { time = f.time; bytes = items; original = f.original }))) text left

@@ -62,7 +62,8 @@ takes_first (Ok n) old new bytes count is some most appended = rw is (most, appe
 
 -- After the first write the remaining bytes were written.
 pub puts_more : (before count : ℕ) (old mid new : Option (List ℕ)) (bytes : List ℕ) (r : Result ℕ WriteFault)
-    → count ≤ length bytes → Appends old mid (take count bytes) → PutPost (before + count) mid new (drop count bytes) r →
+    → count ≤ length bytes → Appends old mid (take count bytes) →
+    PutPost (before + count) mid new (drop count bytes) r →
     PutPost before old new bytes r
 puts_more before count old mid new bytes r within appended rest =
     subst (λ text. PutPost before old new text r) (take-append-drop count bytes)

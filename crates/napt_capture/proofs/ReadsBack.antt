@@ -95,7 +95,8 @@ captured_text rs h =
     let header : take 24 (text rs) ≡ file_header = take_at file_header more 24 length-file_header in
     let behind : drop 24 (text rs) ≡ more = drop_at file_header more 24 length-file_header in
     ap (λ l. capture_by_format (format_in l) (drop 24 (text rs))) header
-    ∙ ap (λ s. capture_by_format s (drop 24 (text rs))) spelling_in-written ∙ ap (records_from written_spelling 1 0) behind
+    ∙ ap (λ s. capture_by_format s (drop 24 (text rs))) spelling_in-written
+    ∙ ap (records_from written_spelling 1 0) behind
     ∙ held-written 1 rs h
 
 -- READING THE WHOLE TEXT

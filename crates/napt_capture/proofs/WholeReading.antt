@@ -20,7 +20,8 @@ captured_is : (s : CaptureFormat) (bytes : List ℕ) → format_in (take 24 byte
     ≡ records_from s 1 0 (drop 24 bytes)
 captured_is s bytes is = ap (λ r. capture_by_format r (drop 24 bytes)) is
 
-pub asked_joined : (xs ys : List RecordModel) → bytes_asked_for_records (xs ++ ys) ≡ bytes_asked_for_records xs + bytes_asked_for_records ys
+pub asked_joined : (xs ys : List RecordModel) → bytes_asked_for_records (xs ++ ys) ≡ bytes_asked_for_records xs
+    + bytes_asked_for_records ys
 asked_joined [] ys = omega arith
 asked_joined (x ∷ xs) ys = omega (arith, asked_joined xs ys)
 
@@ -59,7 +60,8 @@ pub record Progress (s : CaptureFormat) (records : List RecordModel) (asked : �
   pub left_is : left ≡ drop asked bytes
   pub held_is : records_from s 1 0 (drop 24 bytes) ≡ joined records (records_from s (length records + 1) 0 left)
 
-pub Progress-start : (s : CaptureFormat) (bytes left : List ℕ) → format_in (take 24 bytes) ≡ Ok s → left ≡ drop 24 bytes →
+pub Progress-start : (s : CaptureFormat) (bytes left : List ℕ) → format_in (take 24 bytes) ≡ Ok s →
+    left ≡ drop 24 bytes →
     Progress s [] 24 bytes left
 Progress-start s bytes left is left_is = grind (arith, common_steps, nat_tests)
 
@@ -95,7 +97,8 @@ Progress-more s records asked bytes text left entry few p q =
       held_is = p.held_is ∙ ap (joined records) (held_record s (length records + 1) text entry next)
           ∙ ap (λ l. record { records = l; end = more.end }) (sym (append_assoc records (entry ∷ []) more.records))
           ∙ ap (λ n. joined (records ++ entry ∷ []) (records_from s n 0 (drop (16 + length entry.bytes) text))) number
-          ∙ ap (λ l. joined (records ++ entry ∷ []) (records_from s (length (records ++ entry ∷ []) + 1) 0 l)) (sym left_is);
+          ∙ ap (λ l. joined (records ++ entry ∷ []) (records_from s (length (records ++ entry ∷ []) + 1) 0 l))
+          (sym left_is);
     }
 
 -- AT THE END
@@ -166,7 +169,8 @@ asked_more s records asked bytes text counted p =
 -- The result, if no record is left and the limit is not exceeded.
 read_last : (s : CaptureFormat) (records : List RecordModel) (asked : ℕ) (bytes text : List ℕ)
     (end : Result Bool CaptureFault) →
-    asked ≡ 24 + bytes_asked_for_records records → Progress s records asked bytes text → asked + bytes_asked_first s text ≤ MOST_ASKED
+    asked ≡ 24 + bytes_asked_for_records records → Progress s records asked bytes text →
+    asked + bytes_asked_first s text ≤ MOST_ASKED
     → records_from s (length records + 1) 0 text ≡ record { records = []; end = end }
     → read_whole bytes ≡ contents_by records end
 read_last s records asked bytes text end counted p few none =
@@ -207,7 +211,8 @@ read_fault s records asked bytes text left fault counted p q =
 takes : (s : CaptureFormat) (records : List RecordModel) (asked : ℕ) (bytes text left : List ℕ)
     (result : Result NextRead CaptureFault)
     → asked ≡ 24 + bytes_asked_for_records records → Progress s records asked bytes text
-    → NextPost s asked (length records + 1) result text left → TakesAtMost (min MOST_ASKED (bytes_asked bytes)) bytes left
+    → NextPost s asked (length records + 1) result text left →
+    TakesAtMost (min MOST_ASKED (bytes_asked bytes)) bytes left
 takes s records asked bytes text left result counted p q = (
   asked + q.taken,
   omega (arith, q.room, q.within, asked_more s records asked bytes text counted p),
@@ -291,7 +296,8 @@ refuses old new fault says =
     let asks = refused_asks bytes fault p.0 in
     record {
       is = rw (le-ltb MOST_ASKED (bytes_asked bytes) (omega (arith, asks)))
-          (ap (λ r. contents_by (capture_by_format r (drop 24 bytes)).records (capture_by_format r (drop 24 bytes)).end) p.0);
+          (ap (λ r. contents_by (capture_by_format r (drop 24 bytes)).records
+          (capture_by_format r (drop 24 bytes)).end) p.0);
       takes = (24, omega (arith, asks), p.1);
       leaves = subst (λ r. LeavesRest (Err fault) r bytes left) (sym p.0) p.1;
     })) says

@@ -10,4 +10,7 @@ pub use Rattle.napt_capture.specs.declared.fault.CaptureFault.TheVariants.{NoHea
 pub use Rattle.napt_capture.specs.declared.{reading.NextRead.{NextRead, TheVariants.{Whole, End}}, record_reader.RecordReader.RecordReader}
 pub use Rattle.napt_capture.specs.declared.capture_format.{NumberOrder.TheVariants.Little, CaptureFormat.CaptureFormat}
 pub use Rattle.napt_capture.specs.declared.capture_format.FractionUnit.TheVariants.{Nanosecond}
-unfoldable pub use Rattle.napt_capture.specs.{Capture.records_from, Text.{file_header, record_header, record_text, text}}
+unfoldable pub use Rattle.napt_capture.specs.{
+  Capture.records_from,
+  Text.{file_header, record_header, record_text, text},
+}

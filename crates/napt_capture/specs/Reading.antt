@@ -57,7 +57,8 @@ TakesBytes asked (Ok (End cut)) text taken = drop taken text ≡ []
 TakesBytes asked (Err fault) text taken = taken ≡ header_within asked
 
 -- The reader returned what comes next, and consumed no more bytes than it asks for.
-pub record NextPost (s : CaptureFormat) (asked number : ℕ) (result : Result NextRead CaptureFault) (text left : List ℕ) : Type
+pub record NextPost (s : CaptureFormat) (asked number : ℕ) (result : Result NextRead CaptureFault)
+    (text left : List ℕ) : Type
     0 where
   pub is : next_within s asked number text ≡ result
   pub taken : ℕ

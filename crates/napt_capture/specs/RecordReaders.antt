@@ -33,7 +33,8 @@ next_number (Whole entry) number = number_behind number
 next_number (End cut) number = number
 
 -- The reader returned nothing of the text: what remains, the record number and the format are unchanged.
-pub record HandsOutNothing (old : RecordReader) (before : Option (List ℕ)) (new : RecordReader) (after : Option (List ℕ)) : Type 0 where
+pub record HandsOutNothing (old : RecordReader) (before : Option (List ℕ)) (new : RecordReader)
+    (after : Option (List ℕ)) : Type 0 where
   pub left : Keeps (remaining_text old before) (remaining_text new after)
   pub number : new.number ≡ old.number
   pub spelling : new.spelling ≡ old.spelling

@@ -90,7 +90,8 @@ impl<D: Source> Source for Faulty<D> {
         ensures bound { ReadsAtMost result buffer.new }
         ensures bytes { ReadConsumes
             (faulty_known_bytes (plan_of self.old).trouble (D.remaining (device_of self.old)))
-            (faulty_known_bytes (plan_of self.new).trouble (D.remaining (device_of self.new))) result buffer.new }
+            (faulty_known_bytes (plan_of self.new).trouble (D.remaining (device_of self.new)))
+            result buffer.new }
         ensures count { own_failed self.new + D.failed (device_of self.new)
             ≡ own_failed self.old + D.failed (device_of self.old) + failed_calls result }
         // In addition to the clauses of the trait, the plan is followed.

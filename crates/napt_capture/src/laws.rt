@@ -8,20 +8,26 @@ ghost use Rattle.napt_capture.specs.{Capture.{capture_of_bytes, contents_by, rec
 pub fn records_follow()
     ensures record { (s : CaptureFormat) (number : ℕ) (text : List ℕ) (entry : RecordModel) →
         next_in s number text ≡ Ok (Whole entry) → records_from s number 0 text ≡ record {
-          records = entry ∷ (records_from s (number_behind number) 0 (drop (16 + length entry.bytes) text)).records;
+          records = entry ∷ (records_from s (number_behind number) 0
+              (drop (16 + length entry.bytes) text)).records;
           end = (records_from s (number_behind number) 0 (drop (16 + length entry.bytes) text)).end;
         } }
     ensures end { (s : CaptureFormat) (number : ℕ) (text : List ℕ) (cut : Bool) →
-        next_in s number text ≡ Ok (End cut) → records_from s number 0 text ≡ record { records = []; end = Ok cut } }
+        next_in s number text ≡ Ok (End cut) →
+        records_from s number 0 text ≡ record { records = []; end = Ok cut } }
     ensures fault { (s : CaptureFormat) (number : ℕ) (text : List ℕ) (fault : CaptureFault) →
-        next_in s number text ≡ Err fault → records_from s number 0 text ≡ record { records = []; end = Err fault } }
+        next_in s number text ≡ Err fault →
+        records_from s number 0 text ≡ record { records = []; end = Err fault } }
 {}
 
 /// Law: what is written reads back, uncut, with the same times and bytes, and the length of each as
 /// its original length. It reads whole up to 68,719,476,720 bytes, where the end can be asked for.
 pub fn reads_back()
     ensures captured { (records : List RecordModel) → All IsWritable records →
-        capture_of_bytes (text records) ≡ record { records = map as_written records; end = Ok false } }
+        capture_of_bytes (text records) ≡ record {
+          records = map as_written records;
+          end = Ok false;
+        } }
     ensures whole { (records : List RecordModel) → All IsWritable records →
         length (text records) ≤ 68719476720
         → read_whole (text records) ≡ Ok (record { records = map as_written records; cut = false }) }

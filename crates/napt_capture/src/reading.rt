@@ -95,7 +95,8 @@ fn fill<R: Source>(reader: &mut R, buffer: &mut [u8]) -> Result<usize, DeviceFau
 /// Reads the header of a file and returns its byte order and time unit, or its fault.
 pub(crate) fn read_file_header<R: Source>(reader: &mut R) -> Result<CaptureFormat, CaptureFault>
     requires { R.failed reader.old < 2 ^ 64 - 1 }
-    ensures header { IsReadResult result (LeavesBytes (R.remaining reader.old) (R.remaining reader.new)
+    ensures header { IsReadResult result (LeavesBytes (R.remaining reader.old)
+        (R.remaining reader.new)
         (λ bytes left. (format_in (take 24 bytes) ≡ result) × (left ≡ drop 24 bytes))) }
     ensures memory { result ≢ Err CaptureFault.Memory }
     ensures count { R.failed reader.new ≡ R.failed reader.old + failed_reads result }
@@ -137,7 +138,8 @@ fn read_record<R: Source>(
 ) -> Result<NextRead, CaptureFault>
     requires can_fail { R.failed reader.old < 2 ^ 64 - 1 }
     requires within { asked ≤ MOST_ASKED }
-    ensures next { IsReadResult result (LeavesBytes (R.remaining reader.old) (R.remaining reader.new)
+    ensures next { IsReadResult result (LeavesBytes (R.remaining reader.old)
+        (R.remaining reader.new)
         (NextPost spelling asked number result)) }
     ensures room { IfOk result (IsWithin asked) }
     ensures memory { TakesMemory result → IfSome (R.remaining reader.old) (λ all. 16 ≤ length all) }

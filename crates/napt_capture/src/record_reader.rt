@@ -78,7 +78,8 @@ impl RecordReader {
         vector: Vec<u8>,
     ) -> Result<NextRead, CaptureFault>
         requires can_fail { R.failed source.old < 2 ^ 64 - 1 }
-        ensures next { IsReadResult result (LeavesBytes (remaining_text self.old (R.remaining source.old))
+        ensures next { IsReadResult result
+            (LeavesBytes (remaining_text self.old (R.remaining source.old))
             (remaining_text self.new (R.remaining source.new)) (HandsOutNext self.old result)) }
         ensures number { IfOk result (λ next. self.new.number ≡ next_number next self.old.number) }
         ensures kept { OnErr result (HandsOutNothing self.old (R.remaining source.old)
@@ -159,7 +160,8 @@ impl RecordReader {
         ensures kept { HandsOutNothing self.old (R.remaining source.old)
             self.new (R.remaining source.new) }
         ensures known { OnOk result (RecordsAskSource self.new → IsAtEnd (R.remaining source.new)) }
-        ensures asks { (¬ RecordsAskSource self.old) → (source.new ≡ source.old) × (self.new ≡ self.old) }
+        ensures asks { (¬ RecordsAskSource self.old) → (source.new ≡ source.old) ×
+            (self.new ≡ self.old) }
         ensures count { R.failed source.new ≡ R.failed source.old + failed_calls result }
     {
         while !self.has_whole() {
@@ -174,7 +176,8 @@ impl RecordReader {
     /// Removes what comes next from the bytes read ahead and returns it.
     #[inline(always)]
     fn consume(&mut self, vector: Vec<u8>) -> Result<NextRead, CaptureFault>
-        ensures next { IsReadResult result (HandsOutNext self.old result self.old.ahead self.new.ahead) }
+        ensures next { IsReadResult result
+            (HandsOutNext self.old result self.old.ahead self.new.ahead) }
         ensures number { IfOk result (λ next. self.new.number ≡ next_number next self.old.number) }
         ensures read { result ≢ Err Read }
         ensures kept { OnErr result (self.new ≡ self.old) }

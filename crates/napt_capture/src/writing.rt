@@ -16,7 +16,8 @@ pub fn write_capture<W: Sink>(writer: &mut W, records: &[Record]) -> Result<(), 
         (text records.now)) }
     ensures flushed { OnOk result (W.is_flushed writer.new) }
     ensures err { IfErr result (λ fault. (fault.written ≤ length (text records.now))
-        × Appends (W.contents writer.old) (W.contents writer.new) (take fault.written (text records.now))) }
+        × Appends (W.contents writer.old) (W.contents writer.new)
+        (take fault.written (text records.now))) }
     ensures count { W.failed writer.new ≡ W.failed writer.old + failed_calls result }
 {
     let mut written = CaptureWriter::create(writer)?;

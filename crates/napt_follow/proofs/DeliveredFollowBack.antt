@@ -21,8 +21,10 @@ same_way : (rules : Rules) (now : ℕ) (list : List Binding) (packet : List ℕ)
 same_way rules now list packet k inside = grind (arith, common_steps, nat_tests)
 
 sent_to : (rules : Rules) (now : ℕ) (list : List Binding) (packet : List ℕ) (k : Kind) (inside x : Endpoint) →
-    kind packet ≡ kind_with_inner_source inside k → local_of (kind_with_inner_source inside k) Incoming packet ≡ inside →
-    reply_target rules now list (protocol_by k) inside ≡ Some x → packet_followed rules now list packet ≡ readdressed k x packet
+    kind packet ≡ kind_with_inner_source inside k →
+    local_of (kind_with_inner_source inside k) Incoming packet ≡ inside →
+    reply_target rules now list (protocol_by k) inside ≡ Some x →
+    packet_followed rules now list packet ≡ readdressed k x packet
 unfolding local_end
 sent_to rules now list packet k inside x k_is local_is to = grind (arith, common_steps, nat_tests, same_way)
 

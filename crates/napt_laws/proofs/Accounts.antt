@@ -149,7 +149,8 @@ module _ (timers : Timers) (ago : ℕ) (h : Holder) where
             (live_same timers ago ago (omega arith) b ∙ alive)
       ] refl
 
-  one_purged : (xs : List Binding) → HasOne (HolderCoversBinding timers h) xs → IsAccounted timers ago (purge timers ago xs) h
+  one_purged : (xs : List Binding) → HasOne (HolderCoversBinding timers h) xs →
+      IsAccounted timers ago (purge timers ago xs) h
   one_purged [] o = absurd o
   one_purged (x ∷ xs) o = elim (is_live timers ago x) as (λ v. is_live timers ago x ≡ v →
       IsAccounted timers ago (map (with_live_flows timers ago)
@@ -301,7 +302,8 @@ module _ (timers : Timers) (tm : AreTimers timers) (inbound : InboundRules) (add
   alive_in : (b : Binding) → find (is_of_live_destination timers address packet) all ≡ Some b →
       is_live timers packet.now (live_binding_after_in timers inbound packet b) ≡ true
   alive_in b is =
-      let passes = find_passes (is_of_live_destination timers address packet) (λ b. Unit {0}) all b (each_true all) is in
+      let passes = find_passes (is_of_live_destination timers address packet) (λ b. Unit {0}) all b (each_true all) is
+      in
       (received_is_fresh timers tm inbound packet b
       (and_parts (is_of_destination address packet b) (is_live timers packet.now b) passes.0).1).live
 
@@ -318,7 +320,8 @@ module _ (timers : Timers) (tm : AreTimers timers) (inbound : InboundRules) (add
 pub in_keeps_accounts : InKeepsAccounts
 in_keeps_accounts timers tm inbound address packet list now le holders a =
     let all : List Binding = live_and_held timers packet.now list in
-    subst (λ (o : Option Binding). AreBindingsAccounted timers packet.now (in_found timers inbound all address packet o).list
+    subst (λ (o : Option Binding). AreBindingsAccounted timers packet.now
+    (in_found timers inbound all address packet o).list
     (holders_after timers packet.now (in_found timers inbound all address packet o).through holders))
     (sym (find_seen (is_live timers packet.now) (is_of_destination address packet) (with_live_flows timers packet.now)
     (λ b. refl) all))
@@ -357,7 +360,8 @@ module _ (granting : AssignmentRules) (timers : Timers) (tm : AreTimers timers) 
   alive_out b = (sent_is_fresh timers tm packet b).live
 
   found_kept : (b : Binding) → find (is_of_live_source timers address packet) all ≡ Some b →
-      AreBindingsAccounted timers packet.now (change_first (is_of_live_source timers address packet) (live_binding_after_out timers packet) all)
+      AreBindingsAccounted timers packet.now (change_first (is_of_live_source timers address packet)
+      (live_binding_after_out timers packet) all)
       (map (holder_after timers packet.now (live_binding_after_out timers packet b)) holders)
   found_kept b is = found_accounted timers packet.now all (is_of_live_source timers address packet)
       (live_binding_after_out timers packet) (λ b. refl) b is (alive_out b) holders a
@@ -373,7 +377,8 @@ module _ (granting : AssignmentRules) (timers : Timers) (tm : AreTimers timers) 
           | false ↦ λ e. refl
         ] refl
 
-    module _ (n : ℕ) (sound : AreBindingsApart (map row (others ++ binding_after_out packet (new_binding address packet n) ∷ [])))
+    module _ (n : ℕ) (sound : AreBindingsApart (map row
+        (others ++ binding_after_out packet (new_binding address packet n) ∷ [])))
         (again : (b : Binding) → find t all ≡ Some b → b.row.external.number ≡ n) where
       abbrev new : Binding
       new = binding_after_out packet (new_binding address packet n)
@@ -381,7 +386,8 @@ module _ (granting : AssignmentRules) (timers : Timers) (tm : AreTimers timers) 
       new_alive : is_live timers packet.now new ≡ true
       new_alive = (made_is_fresh timers tm address packet n).live
 
-      covers_new : (h : Holder) (b : Binding) → find t all ≡ Some b → HolderCoversBinding timers h b → HolderCoversBinding timers h new
+      covers_new : (h : Holder) (b : Binding) → find t all ≡ Some b → HolderCoversBinding timers h b →
+          HolderCoversBinding timers h new
       covers_new h b is c =
           let passes = find_passes t (λ b. Unit {0}) all b (each_true all) is in
           let p = inside_parts address packet.protocol packet.inside (row b) passes.0 in
@@ -396,7 +402,8 @@ module _ (granting : AssignmentRules) (timers : Timers) (tm : AreTimers timers) 
                 (c.lives at l)) new new_alive;
           }
 
-      made_one : (found : Option Binding) → find t all ≡ found → (h : Holder) → HasOne (HolderCoversBinding timers h) all →
+      made_one : (found : Option Binding) → find t all ≡ found → (h : Holder) →
+          HasOne (HolderCoversBinding timers h) all →
           HasOne (HolderCoversBinding timers h) (others ++ new ∷ [])
       made_one None is h o = one_left (HolderCoversBinding timers h) others (new ∷ [])
           (one_kept (HolderCoversBinding timers h) t all (find_none t all is) o)
@@ -505,7 +512,8 @@ module _ (timers : Timers) (now : ℕ) where
   each_begun before [] = tt
   each_begun before (x ∷ xs) = (
     inr (subst (HasOne (HolderCoversBinding timers (begun x))) (append_assoc before (x ∷ []) xs)
-        (one_left (HolderCoversBinding timers (begun x)) (before ++ x ∷ []) xs (one_last (HolderCoversBinding timers (begun x)) before x
+        (one_left (HolderCoversBinding timers (begun x)) (before ++ x ∷ []) xs
+        (one_last (HolderCoversBinding timers (begun x)) before x
         (record { ends = record { protocol = refl; external = refl; inside = refl }; lives = λ at l. l })))),
     subst (λ (l : List Binding). Each (IsAccounted timers (hold_ago timers now) l) (map begun xs))
         (append_assoc before (x ∷ []) xs) (each_begun (before ++ x ∷ []) xs),

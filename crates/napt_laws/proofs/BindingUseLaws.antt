@@ -40,7 +40,8 @@ module _ (timers : Timers) (t : AreTimers timers) (granting : AssignmentRules) (
     went = record { binding = binding_after_out packet b; made = false };
     is = refl;
     binding = ap (find (is_of_source address packet)) (sent_seen timers t address packet list)
-        ∙ (find_changed (is_of_source address packet) (binding_after_out packet) (λ x. refl) (purge timers packet.now list)
+        ∙ (find_changed (is_of_source address packet) (binding_after_out packet) (λ x. refl)
+        (purge timers packet.now list)
         ∙ ap (option_map (binding_after_out packet)) is);
     made = (λ made. cc, λ none. cc);
   }
@@ -52,7 +53,8 @@ out_says_its_binding timers t granting address packet list =
     subst (λ (live : List Binding). BindingUseIsSaid out.number (find (is_of_source address packet) live)
     (find (is_of_source address packet) (purge timers packet.now out.list)) out.through)
     (purge_taken timers packet.now list)
-    (out_says timers t granting address packet all (find (is_of_source address packet) (purge timers packet.now all)) refl)
+    (out_says timers t granting address packet all (find (is_of_source address packet) (purge timers packet.now all))
+    refl)
 
 -- INCOMING PACKETS
 

@@ -264,7 +264,8 @@ place_inside (Some seed) false block is protocol inside =
     let some : 0 < block.size = omega (arith, is.some) in mod_below (mixed seed protocol inside) block.size some
 
 -- A property of each number of the block holds of each candidate there.
-pub each_of_block : (P : ℕ → Type 0) (choosing : NumberAssignment) (block : PortBlock) → IsPortBlock block → (protocol : Protocol)
+pub each_of_block : (P : ℕ → Type 0) (choosing : NumberAssignment) (block : PortBlock) → IsPortBlock block →
+    (protocol : Protocol)
     (inside : Endpoint) → ((n : ℕ) → IsBlockNumber block n → P n) →
     Each P (candidates choosing (Some block) protocol inside)
 each_of_block P choosing block is protocol inside holds =

@@ -47,7 +47,8 @@ end_told (ToInside packet) = refl
 end_told (Onward place packet) = tt
 end_told (Dropped cause) = refl
 
-follow_tells : (rules : Rules) (address : ℕ) (leg : Leg) (through : Option BindingUse) (list : List Binding) (end : End) →
+follow_tells : (rules : Rules) (address : ℕ) (leg : Leg) (through : Option BindingUse) (list : List Binding)
+    (end : End) →
     (let first : LegEffect = record { end = end; through = through; list = list } in
     Each (TellsHere leg.number (with_second_leg rules address leg first end).outcomes)
     (with_second_leg rules address leg first end).acts)
@@ -103,7 +104,8 @@ pub answers_tell : AnswersGiveOutcomes
 answers_tell rules state inputs =
     let course : RunEffect = effect_from rules state inputs in
     each_weaker (TellsFrom 0 course.outcomes) (OutcomeIsGiven course.outcomes) (λ a h.
-    told_from course.outcomes a (outcome_of_end a.end) h.1) course.acts (tells_from rules 0 state.clock inputs state.list)
+    told_from course.outcomes a (outcome_of_end a.end) h.1) course.acts
+    (tells_from rules 0 state.clock inputs state.list)
 
 -- LEGS THAT END ONWARD
 

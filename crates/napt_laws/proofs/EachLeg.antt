@@ -10,15 +10,17 @@ module _ (rules : Rules) (Here From : ℕ → RunEffect → LegAct → Type 0)
     (let first : LegEffect = record { end = end; through = through; list = list } in
     let course : RunEffect = with_second_leg rules address leg first end in Each (Here leg.number course) course.acts))
     (more : (number : ℕ) (first rest : RunEffect) → IsOfOne first → Each (Here number first) first.acts →
-    Each (From (number + 1) rest) rest.acts → Each (From number (effect_then first rest)) (first.acts ++ rest.acts)) where
-  pub each_leg : (number clock : ℕ) (inputs : List Arrival) (list : List Binding) →
-      Each (From number (run_from rules number clock inputs list)) (run_from rules number clock inputs list).acts
-  each_leg number clock [] list = tt
-  each_leg number clock (input ∷ inputs) list =
-      let now : ℕ = max clock input.clock in
-      let first : RunEffect = step rules number now input list in
-      more number first (run_from rules (number + 1) now inputs first.list) (step_one rules number now input list)
-      (of_step rules number now list (λ (s : RunEffect). Each (Here number s) s.acts) (λ cause. tt)
-      (λ address side packet. let leg : Leg = first_leg number now side packet in
-      let acted : LegEffect = act rules address leg list in followed address leg acted.through acted.list acted.end) input)
-      (each_leg (number + 1) now inputs first.list)
+    Each (From (number + 1) rest) rest.acts → Each (From number (effect_then first rest)) (first.acts ++ rest.acts))
+  where
+    pub each_leg : (number clock : ℕ) (inputs : List Arrival) (list : List Binding) →
+        Each (From number (run_from rules number clock inputs list)) (run_from rules number clock inputs list).acts
+    each_leg number clock [] list = tt
+    each_leg number clock (input ∷ inputs) list =
+        let now : ℕ = max clock input.clock in
+        let first : RunEffect = step rules number now input list in
+        more number first (run_from rules (number + 1) now inputs first.list) (step_one rules number now input list)
+        (of_step rules number now list (λ (s : RunEffect). Each (Here number s) s.acts) (λ cause. tt)
+        (λ address side packet. let leg : Leg = first_leg number now side packet in
+        let acted : LegEffect = act rules address leg list in followed address leg acted.through acted.list acted.end)
+        input)
+        (each_leg (number + 1) now inputs first.list)

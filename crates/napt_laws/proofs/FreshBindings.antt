@@ -120,7 +120,8 @@ module _ (timers : Timers) (t : AreTimers timers) (remote : Endpoint) (flags : F
       (sent_through remote flags now b)
   sent_fresh b = sent_by b.row.protocol b.row.inside b.row.external b.row.fixed b.last b.flows
 
-  received_by : (filter : Filter) (refresh : MappingRefresh) (protocol : Protocol) (inside external : Endpoint) (fixed : Bool)
+  received_by : (filter : Filter) (refresh : MappingRefresh) (protocol : Protocol) (inside external : Endpoint)
+      (fixed : Bool)
       (last : ℕ) (flows : List Flow) → IsFresh timers now (binding_of protocol inside external fixed last flows) →
       IsFresh timers now (received_through (record { filter = filter; refresh = refresh }) remote flags now
       (binding_of protocol inside external fixed last flows))

@@ -136,13 +136,18 @@ run_same rules number clock inputs a b same =
     }) number clock inputs a b same in
     ap (λ (os : List Outcome). record { outcomes = os; acts = x.acts; list = live_and_held rules.timers last x.list })
     beside.outcomes
-    ∙ (ap (λ (acts : List LegAct). record { outcomes = y.outcomes; acts = acts; list = live_and_held rules.timers last x.list })
+    ∙ (ap (λ (acts : List LegAct). record {
+      outcomes = y.outcomes;
+      acts = acts;
+      list = live_and_held rules.timers last x.list;
+    })
     beside.acts ∙ ap (λ (l : List Binding). record { outcomes = y.outcomes; acts = y.acts; list = l }) beside.list)
 
 -- THE RESULT OF A RUN
 
 rows_same : (rules : Rules) (now address : ℕ) (list : List Binding) →
-    rows rules.timers now (bindings_at address (live_and_held rules.timers now list)) ≡ rows rules.timers now (bindings_at address list)
+    rows rules.timers now (bindings_at address (live_and_held rules.timers now list))
+    ≡ rows rules.timers now (bindings_at address list)
 rows_same rules now address list = ap rows_of
     (ap (purge rules.timers now) (of_purge rules.timers (hold_ago rules.timers now) address list)
     ∙ purge_taken rules.timers now (bindings_at address list))
@@ -156,7 +161,8 @@ flat_same f g same (x ∷ xs) = ap (λ (l : List _). l ++ flat_map f xs) (same x
 ran_taken : (rules : Rules) (now : ℕ) (course : RunEffect) → run_result_of rules now (course_taken rules now course)
     ≡ run_result_of rules now course
 ran_taken rules now course = ap (λ (rows : List Row). record (run_result_of rules now course) { bindings = rows })
-    (flat_same (λ (address : ℕ). rows rules.timers now (bindings_at address (live_and_held rules.timers now course.list)))
+    (flat_same (λ (address : ℕ). rows rules.timers now
+    (bindings_at address (live_and_held rules.timers now course.list)))
     (λ address. rows rules.timers now (bindings_at address course.list))
     (λ address. rows_same rules now address course.list) rules.pool)
 
@@ -172,7 +178,8 @@ legs_added : (address : ℕ) (first rest : List LegAct) → length (legs_at addr
 legs_added address [] rest = omega arith
 legs_added address (a ∷ first) rest = grind (arith, legs_added address first rest)
 
-counts_added : (f g h : ℕ → ℕ) → ((x : ℕ) → f x ≡ g x + h x) → (xs : List ℕ) → map f xs ≡ added_counts (map g xs) (map h xs)
+counts_added : (f g h : ℕ → ℕ) → ((x : ℕ) → f x ≡ g x + h x) → (xs : List ℕ) →
+    map f xs ≡ added_counts (map g xs) (map h xs)
 counts_added f g h sum [] = refl
 counts_added f g h sum (x ∷ xs) = ap (λ (n : ℕ). n ∷ map f xs) (sum x)
     ∙ ap (λ (l : List ℕ). (g x + h x) ∷ l) (counts_added f g h sum xs)
@@ -189,7 +196,8 @@ gone_change_nothing rules state inputs =
     (taken_twice rules.timers state.clock state.list) in
     record {
       ran = sym (ran_taken rules last (run_from rules 0 state.clock inputs here))
-          ∙ (ap (run_result_of rules last) same ∙ ran_taken rules last (run_from rules 0 state.clock inputs state.list));
+          ∙ (ap (run_result_of rules last) same ∙ ran_taken rules last
+          (run_from rules 0 state.clock inputs state.list));
       acts = ap (λ (r : RunEffect). r.acts) same;
       left = ap (λ (r : RunEffect). record { clock = last; list = r.list }) same;
     }
@@ -222,7 +230,8 @@ module _ (rules : Rules) (state : State) (first rest : List Arrival) where
       ≡ run_then (run_result_from rules state first) (run_result_from rules (next_state rules state first) rest)
   ran_on = ap (λ (counts : List ℕ).
       record (run_result_of rules last (effect_then begins (renumbered (length first) goes))) { legs = counts })
-      (counts_added (λ (address : ℕ). length (legs_at address (begins.acts ++ map (act_behind (length first)) goes.acts)))
+      (counts_added (λ (address : ℕ). length (legs_at address
+      (begins.acts ++ map (act_behind (length first)) goes.acts)))
       (λ address. length (legs_at address begins.acts)) (λ address. length (legs_at address goes.acts))
       (λ address. legs_added address begins.acts (map (act_behind (length first)) goes.acts)
       ∙ ap (λ (n : ℕ). length (legs_at address begins.acts) + n) (numbers_apart (length first) address goes.acts))
@@ -230,7 +239,8 @@ module _ (rules : Rules) (state : State) (first rest : List Arrival) where
 
   go_on : RunGoesOn rules state first rest
   go_on = record {
-    ran = ap (λ (t : ℕ). run_result_of rules t (effect_from rules state (first ++ rest))) (clock_on state.clock first rest)
+    ran = ap (λ (t : ℕ). run_result_of rules t (effect_from rules state (first ++ rest)))
+        (clock_on state.clock first rest)
         ∙ (sym (ran_taken rules last (effect_from rules state (first ++ rest)))
         ∙ (ap (run_result_of rules last) course_on
         ∙ (ran_taken rules last (effect_then begins (renumbered (length first) goes)) ∙ ran_on)));

@@ -94,7 +94,8 @@ both_meet a b host is_a is_b of_a of_b = elim (cases_lt a.bits b.bits) [
   | inr more ↦ or_right (prefix_has a b.address) _ (larger_has b a host more is_a.bits of_b of_a)
 ]
 
-meets_none : (a b : PrefixModel) (networks : List PrefixModel) (host index : ℕ) (here : Bool) → prefix_has b host ≡ here →
+meets_none : (a b : PrefixModel) (networks : List PrefixModel) (host index : ℕ) (here : Bool) →
+    prefix_has b host ≡ here →
     IsPrefix a → IsPrefix b → prefix_has a host ≡ true
     → (list_any (do_prefixes_meet a) networks ≡ false → (i : ℕ) → host_index networks host ≡ Some i → ⊥)
     → list_any (do_prefixes_meet a) (b ∷ networks) ≡ false
@@ -107,7 +108,8 @@ meets_none a b networks host index false here is_a is_b of_a more apart e =
     more (or_parts (do_prefixes_meet a b) _ apart).1 i found
 
 not_shared : (a : PrefixModel) (networks : List PrefixModel) (host index : ℕ) → IsPrefix a → All IsPrefix networks →
-    prefix_has a host ≡ true → list_any (do_prefixes_meet a) networks ≡ false → host_index networks host ≡ Some index → ⊥
+    prefix_has a host ≡ true → list_any (do_prefixes_meet a) networks ≡ false →
+    host_index networks host ≡ Some index → ⊥
 not_shared a [] host index is_a are of_a apart e = cc
 not_shared a (b ∷ networks) host index is_a are of_a apart e =
     meets_none a b networks host index (prefix_has b host) refl is_a (All-head IsPrefix b networks are) of_a
@@ -134,7 +136,8 @@ module _ (network : PrefixModel) (networks : List PrefixModel) (host index : ℕ
       let whole : prefix_size network + (index - prefix_size network) ≡ index = omega (arith, above) in
       rw (elsewhere, found) (ap Some whole)
 
-pub index_of-address : (inside : List PrefixModel) (host index : ℕ) → All IsPrefix inside → are_prefixes_apart inside ≡ true →
+pub index_of-address : (inside : List PrefixModel) (host index : ℕ) → All IsPrefix inside →
+    are_prefixes_apart inside ≡ true →
     address_at inside index ≡ Some host → host_index inside host ≡ Some index
 index_of-address [] host index are apart e = cc
 index_of-address (network ∷ networks) host index are apart e =
@@ -176,7 +179,8 @@ of_block size nth number some low is =
 
 -- ---- places in a pool
 
-seated : (inside : List PrefixModel) (pool : List ℕ) (k : ℕ) (at : Option ℕ) → IsPoolList inside pool → k < length pool →
+seated : (inside : List PrefixModel) (pool : List ℕ) (k : ℕ) (at : Option ℕ) → IsPoolList inside pool →
+    k < length pool →
     position (λ other. other == get_or pool k 0) pool ≡ at → IsSome at → at ≡ Some k
 seated inside pool k None is within found some = absurd (false≢true some)
 seated inside pool k (Some i) is within found some =
@@ -257,7 +261,8 @@ module _ (size : ℕ) (inside : List PrefixModel) (pool : List ℕ) (pairs : Lis
       (of_block size (index / length pool) number some low (sym nth))
 
 tells_at : (size : Option ℕ) (inside : List PrefixModel) (pool : List ℕ) (pairs : List (ℕ × ℕ)) (host number : ℕ)
-    (block : PortBlock) → IsPoolList inside pool → All IsPrefix inside → block_in size inside (length pool) host ≡ Some block
+    (block : PortBlock) → IsPoolList inside pool → All IsPrefix inside →
+    block_in size inside (length pool) host ≡ Some block
     → block_has_number block number ≡ true
     → option_and_then (λ s. option_and_then (host_at s inside (length pool) number)
     (position (λ other. other == paired_address size inside pool pairs host) pool)) size ≡ Some host

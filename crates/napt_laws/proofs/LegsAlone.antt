@@ -10,7 +10,8 @@ record SeenAlone (rules : Rules) (address last : ℕ) (own : List Binding) (acts
   pub leaves : LocalListAgrees rules address last (list_after_legs rules address (map (λ a. a.leg) acts) own) new
 
 seen_alone : (rules : Rules) (inputs : List Arrival) (list : List Binding) (address : ℕ) →
-    SeenAlone rules address (last_clock 0 inputs) (bindings_at address list) (acts_at address (run rules inputs list).acts)
+    SeenAlone rules address (last_clock 0 inputs) (bindings_at address list)
+    (acts_at address (run rules inputs list).acts)
     (run rules inputs list).list
 seen_alone rules inputs list address =
     let is = run_alone rules address (λ own leg. (act rules address leg own).list)

@@ -36,7 +36,8 @@ module _ (rules : Rules) (state : State) (done rest : List Arrival) (input : Arr
       runs_grow rules state done input
       ∙ (ap (λ (n : ℕ). effect_then r (step rules n (max (last_clock state.clock done) input.clock) input r.list)) long
       ∙ (ap (λ (t : ℕ). effect_then r (step rules number t input r.list)) clock
-      ∙ ap (λ (a : Result (List ℕ) Cause). effect_then r (step_as rules (first_leg number now input.side) a r.list)) is))
+      ∙ ap (λ (a : Result (List ℕ) Cause). effect_then r (step_as rules (first_leg number now input.side) a r.list))
+      is))
 
 -- ONE ROUND OF THE LOOP
 

@@ -4,10 +4,12 @@ use Rattle.napt_rules.specs.Prelude.{Binding, LegEffect, act, Arrival, RunEffect
 use Rattle.napt_rules.specs.declared.{Leg.Leg, End.{End, TheVariants.{ToOutside, ToInside, Onward, Dropped}}, Outcome.Outcome}
 use Rattle.napt_laws.proofs.AnyStep.{of_step}
 
-ahead_none : (course : RunEffect) → effect_then course (record { outcomes = []; acts = []; list = course.list }) ≡ course
+ahead_none : (course : RunEffect) → effect_then course (record { outcomes = []; acts = []; list = course.list })
+    ≡ course
 ahead_none course = rw (append-nil course.outcomes, append-nil course.acts) refl
 
-ahead_all : (first course next : RunEffect) → effect_then first (effect_then course next) ≡ effect_then (effect_then first course) next
+ahead_all : (first course next : RunEffect) → effect_then first (effect_then course next)
+    ≡ effect_then (effect_then first course) next
 ahead_all first course next = rw (
   append_assoc first.outcomes course.outcomes next.outcomes,
   append_assoc first.acts course.acts next.acts,
@@ -30,7 +32,8 @@ run_append rules number clock (i ∷ xs) ys list at e =
 pub grows : (rules : Rules) (number clock : ℕ) (inputs : List Arrival) (input : Arrival) (list : List Binding)
     (at : ℕ) → number + length inputs ≡ at →
     run_from rules number clock (inputs ++ input ∷ []) list
-    ≡ effect_then (run_from rules number clock inputs list) (step rules at (max (last_clock clock inputs) input.clock) input
+    ≡ effect_then (run_from rules number clock inputs list)
+    (step rules at (max (last_clock clock inputs) input.clock) input
     (run_from rules number clock inputs list).list)
 grows rules number clock inputs input list at e =
     run_append rules number clock inputs (input ∷ []) list at e

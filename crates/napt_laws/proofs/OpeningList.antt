@@ -42,7 +42,8 @@ port_number : (tcp : Bool) (port : ℕ) → 0 < port → IsNumber (redirect_prot
 port_number true port some = some
 port_number false port some = some
 
-each_paired : (pair : ℕ → ℕ) (inside : List PrefixModel) (redirects : List Redirect) → All (IsRedirect inside) redirects →
+each_paired : (pair : ℕ → ℕ) (inside : List PrefixModel) (redirects : List Redirect) →
+    All (IsRedirect inside) redirects →
     Each (IsPaired pair) (map row (map (redirect_binding pair) redirects))
 each_paired pair inside [] all = tt
 each_paired pair inside (r ∷ redirects) all =
@@ -101,11 +102,13 @@ module _ (timers : Timers) (now : ℕ) (pair : ℕ → ℕ) where
 
   -- A redirect never expires.
   pub redirects_stay : (address : ℕ) (redirects : List Redirect) →
-      purge timers now (bindings_at address (map (redirect_binding pair) redirects)) ≡ bindings_at address (map (redirect_binding pair) redirects)
+      purge timers now (bindings_at address (map (redirect_binding pair) redirects))
+      ≡ bindings_at address (map (redirect_binding pair) redirects)
   redirects_stay address [] = refl
   redirects_stay address (r ∷ redirects) =
       let rest : List Binding = bindings_at address (map (redirect_binding pair) redirects) in
-      elim (is_at address (redirect_binding pair r).row) as (λ v. purge timers now (cond v (redirect_binding pair r ∷ rest) rest)
+      elim (is_at address (redirect_binding pair r).row) as
+      (λ v. purge timers now (cond v (redirect_binding pair r ∷ rest) rest)
       ≡ cond v (redirect_binding pair r ∷ rest) rest) [
         | true ↦ ap (λ (b : Binding). b ∷ purge timers now rest) (redirect_stays r)
             ∙ ap (λ (list : List Binding). redirect_binding pair r ∷ list) (redirects_stay address redirects)

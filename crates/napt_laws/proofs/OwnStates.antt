@@ -28,7 +28,8 @@ module _ (pair : ℕ → ℕ) where
   begins_is [] list h = sym (filter_all (λ b. not b.row.fixed) list h)
   begins_is (r ∷ redirects) [] h = absurd h
   begins_is (r ∷ redirects) (b ∷ list) h = subst (λ (x : Binding). x ∷ list
-      ≡ redirect_binding pair r ∷ (map (redirect_binding pair) redirects ++ filter (λ b. not b.row.fixed) (x ∷ list))) (sym h.0)
+      ≡ redirect_binding pair r ∷ (map (redirect_binding pair) redirects ++ filter (λ b. not b.row.fixed) (x ∷ list)))
+      (sym h.0)
       (ap (λ (l : List Binding). redirect_binding pair r ∷ l) (begins_is redirects list h.1))
 
   begins_purged : (timers : Timers) (now : ℕ) (redirects : List Redirect) (list : List Binding) →
@@ -62,7 +63,8 @@ module _ (pair : ℕ → ℕ) where
       let others : List Binding = filter (λ b. not (its b.row)) list in
       subst (λ (x : Binding). find (λ b. its b.row) (purge timers now (x ∷ list)) ≡ None →
       Begins (r ∷ redirects) (filter (λ b. not (its b.row)) (x ∷ list))) (sym h.0)
-      (elim (its (redirect_binding pair r).row) as (λ v. cond v (Some (with_live_flows timers now (redirect_binding pair r)))
+      (elim (its (redirect_binding pair r).row) as
+      (λ v. cond v (Some (with_live_flows timers now (redirect_binding pair r)))
       (find (λ b. its b.row) (purge timers now list)) ≡ None →
       Begins (r ∷ redirects) (cond (not v) (redirect_binding pair r ∷ others) others)) [
         | true ↦ λ e. cc
@@ -100,7 +102,8 @@ module _ (rules : Rules) where
     kept_out protocol flags =
         let packet : OutboundPacket = outbound_packet rules protocol flags leg.now leg.packet in
         of_out Keeps rules.timers address all_taken kept (assignment_rules rules) packet
-        (begins_changed (pair_of rules) (is_of_live_source rules.timers address packet) (live_binding_after_out rules.timers packet)
+        (begins_changed (pair_of rules) (is_of_live_source rules.timers address packet)
+        (live_binding_after_out rules.timers packet)
         (λ r. ap (binding_after_out packet) (redirect_stays rules.timers leg.now (pair_of rules) r)) (λ b. refl)
         rules.redirects all_taken kept)
         (λ n none is. begins_pushed (pair_of rules) rules.redirects (other_bindings address packet all_taken)
@@ -163,7 +166,8 @@ tested Icmp n h = refl
 tested Tcp n h = le-leb 1 n h
 tested Udp n h = le-leb 1 n h
 
-its_number : (block : Option PortBlock) (n : ℕ) → IfSome block (λ block. IsBlockNumber block n) → is_its_number block n ≡ true
+its_number : (block : Option PortBlock) (n : ℕ) → IfSome block (λ block. IsBlockNumber block n) →
+    is_its_number block n ≡ true
 its_number None n h = refl
 its_number (Some block) n h = and_from _ _ (le-leb _ _ h.first) (le-leb _ _ h.last)
 
@@ -241,7 +245,8 @@ module _ (carry : PacketsCarryNumbers) (rules : Rules) (keeps : RulesInvariant r
   blocks : Each (IsInItsBlock rules) (map row left)
   blocks = purge_keeps (Each (IsInItsBlock rules)) (λ p list h. each_kept (IsInItsBlock rules) row p list h)
       rules.timers (hold_ago rules.timers clock) _
-      (blocks_run rules keeps 0 state.clock inputs (with_redirects rules state).list (state_blocks rules keeps state takes))
+      (blocks_run rules keeps 0 state.clock inputs (with_redirects rules state).list
+      (state_blocks rules keeps state takes))
 
   own : AreAllOwn rules clock left
   own = owned_taken rules clock clock _ (taken_own rules keeps state takes inputs)
@@ -254,7 +259,8 @@ module _ (carry : PacketsCarryNumbers) (rules : Rules) (keeps : RulesInvariant r
       (each_less (IsKept rules clock) (λ b. not b.row.fixed) left own)
       (each_kept (IsPaired (pair_of rules)) row (λ b. not b.row.fixed) left sound.each)
       (each_kept (IsInItsBlock rules) row (λ b. not b.row.fixed) left blocks)
-      (subst AreBindingsApart (ap (map row) (left_is rules state inputs) ∙ map-append row (opening rules) free) sound.apart)
+      (subst AreBindingsApart (ap (map row) (left_is rules state inputs) ∙ map-append row (opening rules) free)
+      sound.apart)
 
 pub own_states_are_taken : PacketsCarryNumbers → OwnStatesAreTaken
 own_states_are_taken carry rules = (

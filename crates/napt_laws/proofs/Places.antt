@@ -10,17 +10,20 @@ use Rattle.napt_laws.proofs.{EachLeg.each_leg, OneInput.{acts_begin, grown}}
 -- The legs of an address in two lists of acts are those of the first and then those of the second.
 pub legs_append : (address : ℕ) (xs ys : List LegAct) → legs_at address (xs ++ ys) ≡ legs_at address xs
     ++ legs_at address ys
-legs_append address xs ys = ap (map (λ (a : LegAct). a.leg)) (filter-append (λ (a : LegAct). a.address == address) xs ys)
+legs_append address xs ys = ap (map (λ (a : LegAct). a.leg))
+    (filter-append (λ (a : LegAct). a.address == address) xs ys)
     ∙ map-append (λ (a : LegAct). a.leg) (acts_at address xs) (acts_at address ys)
 
-numbered_all : (k : ℕ) (P : LegAct → Type 0) → ((a : LegAct) → P a → a.leg.number ≡ k) → (acts : List LegAct) → Each P acts →
+numbered_all : (k : ℕ) (P : LegAct → Type 0) → ((a : LegAct) → P a → a.leg.number ≡ k) → (acts : List LegAct) →
+    Each P acts →
     acts_of_number k acts ≡ acts
 numbered_all k P is [] h = refl
 numbered_all k P is (a ∷ acts) h =
     ap (λ b. cond b (a ∷ acts_of_number k acts) (acts_of_number k acts)) (eq-eqb a.leg.number k (is a h.0))
     ∙ ap (λ (xs : List LegAct). a ∷ xs) (numbered_all k P is acts h.1)
 
-numbered_none : (k : ℕ) (P : LegAct → Type 0) → ((a : LegAct) → P a → a.leg.number ≢ k) → (acts : List LegAct) → Each P acts →
+numbered_none : (k : ℕ) (P : LegAct → Type 0) → ((a : LegAct) → P a → a.leg.number ≢ k) → (acts : List LegAct) →
+    Each P acts →
     acts_of_number k acts ≡ []
 numbered_none k P isnt [] h = refl
 numbered_none k P isnt (a ∷ acts) h =
@@ -54,7 +57,8 @@ module _ (number : ℕ) (firsts rests : List LegAct) (here : Each (SecondsHere n
   of_first : acts_of_number number (firsts ++ rests) ≡ firsts
   of_first =
       filter-append (λ (a : LegAct). a.leg.number == number) firsts rests
-      ∙ (ap (λ (xs : List LegAct). acts_of_number number firsts ++ xs) (numbered_none number (SecondsFrom (number + 1) rests)
+      ∙ (ap (λ (xs : List LegAct). acts_of_number number firsts ++ xs)
+      (numbered_none number (SecondsFrom (number + 1) rests)
       (λ a h. let le : number + 1 ≤ a.leg.number = h.0 in λ e. absurd (omega arith)) rests later)
       ∙ (append-nil (acts_of_number number firsts) ∙ numbered_all number (SecondsHere number firsts) (λ a h.
       h.0) firsts here))
@@ -77,7 +81,8 @@ module _ (number : ℕ) (firsts rests : List LegAct) (here : Each (SecondsHere n
   rest_seconded a h =
       let le : number + 1 ≤ a.leg.number = h.0 in (
         omega arith,
-        λ way. ap (λ (xs : List LegAct). map (λ (x : LegAct). x.leg) (all_but_first xs)) (of_rest a.leg.number le) ∙ h.1 way,
+        λ way. ap (λ (xs : List LegAct). map (λ (x : LegAct). x.leg) (all_but_first xs)) (of_rest a.leg.number le)
+            ∙ h.1 way,
       )
 
   seconds_more : Each (SecondsFrom number (firsts ++ rests)) (firsts ++ rests)
@@ -104,7 +109,8 @@ cond_none : (b : Bool) → cond b (let ls : List Leg = [] in ls) [] ≡ []
 cond_none true = refl
 cond_none false = refl
 
-cond_two : (b c : Bool) (x y : LegAct) → map (λ (a : LegAct). a.leg) (cond b (x ∷ cond c (y ∷ []) []) (cond c (y ∷ []) []))
+cond_two : (b c : Bool) (x y : LegAct) → map (λ (a : LegAct). a.leg)
+    (cond b (x ∷ cond c (y ∷ []) []) (cond c (y ∷ []) []))
     ≡ cond b (x.leg ∷ []) [] ++ cond c (y.leg ∷ []) []
 cond_two true true x y = refl
 cond_two true false x y = refl
@@ -162,7 +168,8 @@ module _ (rules : Rules) (state : State) (done rest : List Arrival) (input : Arr
 
   pub acts_grow : (effect_from rules state (done ++ input ∷ [])).acts ≡ before.acts
       ++ acts_of rules at_first leg_of before.list
-  acts_grow = ap (λ (r : RunEffect). r.acts) (grown rules state done rest input number now long clock (Ok packet) admitted)
+  acts_grow = ap (λ (r : RunEffect). r.acts) (grown rules state done rest input number now long clock (Ok packet)
+      admitted)
 
   -- In the run over all inputs, the end of the first leg says which second leg there is.
   filled : way_from input.side ≡ Outgoing → second_legs number whole

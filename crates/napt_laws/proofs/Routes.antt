@@ -16,7 +16,8 @@ some_is (Some x) h = refl
 some_is None h = cc
 
 -- The address that serves a packet that is not refused is in the pool.
-served_in_pool : (rules : Rules) → RulesInvariant rules → (side : Side) (packet : List ℕ) → side_refusal rules side packet
+served_in_pool : (rules : Rules) → RulesInvariant rules → (side : Side) (packet : List ℕ) →
+    side_refusal rules side packet
     ≡ None → IsSome (pool_place rules (served_at rules (way_from side) packet))
 served_in_pool rules keeps Inside packet h = pair_in_pool rules keeps (local_end Outgoing packet).address
 served_in_pool rules keeps Outside packet h = some_is (pool_place rules (destination packet).address)
@@ -32,7 +33,8 @@ placed (Some place) cause some h = cc
 placed None cause some h = cc
 
 routed_err : (rules : Rules) (address : ℕ) (refused : Option Cause) (cause : Cause) →
-    (refused ≡ None → IsSome (pool_place rules address)) → routed_by_refusal rules address refused ≡ Err cause → refused ≡ Some cause
+    (refused ≡ None → IsSome (pool_place rules address)) → routed_by_refusal rules address refused ≡ Err cause →
+    refused ≡ Some cause
 routed_err rules address (Some other) cause served h = cc
 routed_err rules address None cause served h = absurd (placed (pool_place rules address) cause (served refl) h)
 
@@ -67,5 +69,6 @@ module _ (rules : Rules) (number now : ℕ) (input : Arrival) (list : List Bindi
   step_refused cause against = judged (Some cause) against
 
   pub step_admitted : side_refusal rules input.side packet ≡ None → step rules number now input list
-      ≡ admitted_effect rules (served_at rules (way_from input.side) packet) (first_leg number now input.side packet) list
+      ≡ admitted_effect rules (served_at rules (way_from input.side) packet) (first_leg number now input.side packet)
+      list
   step_admitted free = judged None free

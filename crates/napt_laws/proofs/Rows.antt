@@ -41,7 +41,8 @@ apart_put x [] here h = AllPairs-cons AreRowsApart x [] here h
 apart_put x (y ∷ xs) here h = elim (nat_le (rank x) (rank y)) as (λ v.
     AllPairs AreRowsApart (cond v (x ∷ y ∷ xs) (y ∷ insert_row x xs))) [
       | true ↦ AllPairs-cons AreRowsApart x (y ∷ xs) here h
-      | false ↦ AllPairs-cons AreRowsApart y (insert_row x xs) (All-permutation (AreRowsApart y) (x ∷ xs) (insert_row x xs)
+      | false ↦ AllPairs-cons AreRowsApart y (insert_row x xs)
+          (All-permutation (AreRowsApart y) (x ∷ xs) (insert_row x xs)
           (put-moves x xs) (All-cons (AreRowsApart y) x xs (turned x y (All-head (AreRowsApart x) y xs here))
           (head_pairs AreRowsApart y xs h)))
           (apart_put x xs (All-tail (AreRowsApart x) y xs here) (tail_pairs AreRowsApart y xs h))

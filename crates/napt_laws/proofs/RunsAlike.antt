@@ -71,7 +71,8 @@ module _ (rules : Rules) (now : ℕ) (pair : ℕ → ℕ) (a b : List Binding) (
         let low : Each IsSmall (here a) = each_moved IsSmall (sorted_rows (here a)) (here a)
         (IsPermutation-sym _ _ (in_order-moves (here a))) small in
         let apart : AreBindingsApart (here a) =
-        (purge_stays_sound (λ host. address) rules.timers now (bindings_at address a) (sound_at pair address a sound)).apart in
+        (purge_stays_sound (λ host. address) rules.timers now (bindings_at address a)
+        (sound_at pair address a sound)).apart in
         sym (in_order_alike (here a) (here b) (λ x. filter_once (same_rank x) (here a) (here b) moved
         (once_ranked address x (here a) apart (at_address, low))))
 

@@ -24,7 +24,8 @@ module _ (rules : Rules) (R : ℕ → List Binding → List Binding → Type 0)
     once_both : AreBeside R leg.now (leg_effect address leg x) (leg_effect address leg y)
     once_both = record {
       outcomes = ap (λ (e : End). outcome_of e ∷ []) same.end;
-      acts = ap (λ (e : End). (let a : LegAct = record { address = address; leg = leg; end = e; through = x.through } in a)
+      acts = ap (λ (e : End). (let a : LegAct = record { address = address; leg = leg; end = e; through = x.through }
+          in a)
           ∷ []) same.end
           ∙ ap (λ (t : Option BindingUse). (let a : LegAct =
           record { address = address; leg = leg; end = y.end; through = t } in a) ∷ []) same.through;
@@ -43,7 +44,8 @@ module _ (rules : Rules) (R : ℕ → List Binding → List Binding → Type 0)
         legs to next x.list y.list (record { at = refl; read = λ out. cc; ours = λ out. cc }) same.list in
         record {
           outcomes = ap (λ (e : End). outcome_of e ∷ []) second.end;
-          acts = ap (λ (acts : List LegAct). acts ++ (leg_effect to next (act rules to next x.list)).acts) once_both.acts
+          acts = ap (λ (acts : List LegAct). acts ++ (leg_effect to next (act rules to next x.list)).acts)
+              once_both.acts
               ∙ ap (λ (e : End). (leg_effect address leg y).acts ++ (let a : LegAct =
               record { address = to; leg = next; end = e; through = (act rules to next x.list).through } in a) ∷ [])
               second.end ∙ ap (λ (t : Option BindingUse). (leg_effect address leg y).acts ++ (let a : LegAct =

@@ -36,7 +36,8 @@ module _ (rules : Rules) (keeps : RulesInvariant rules) where
     granted_in_block : (held : Option Binding) → find (is_of_source address packet) list ≡ held →
         granted_again (assignment_rules rules) list address packet held ≡ Ok n →
         IsInItsBlock rules (row (new_binding address packet n))
-    granted_in_block None is e = λ loose. subst (λ (b : Option PortBlock). IfSome b (λ block. IsBlockNumber block n)) its
+    granted_in_block None is e = λ loose. subst (λ (b : Option PortBlock). IfSome b (λ block. IsBlockNumber block n))
+        its
         (found_in_block rules.choosing packet.block
         (subst (λ (b : Option PortBlock). IfSome b IsPortBlock) (sym its) (keeps.blocks packet.inside.address))
         (is_free list address packet.protocol) packet.protocol packet.inside n
@@ -49,7 +50,8 @@ module _ (rules : Rules) (keeps : RulesInvariant rules) where
         (is_of_source address packet) (with_live_flows rules.timers packet.now) (λ b. refl) list none b is in
         let same : b.row.external.number ≡ n = cc in
         subst (λ m. IfSome (block_of rules packet.inside.address) (λ block. IsBlockNumber block m)) same
-        (subst (λ (e : Endpoint). IfSome (block_of rules e.address) (λ block. IsBlockNumber block b.row.external.number))
+        (subst (λ (e : Endpoint). IfSome (block_of rules e.address)
+        (λ block. IsBlockNumber block b.row.external.number))
         (sym p.inside_is) (found.1 (or_parts b.row.fixed _ dead).0))
 
   -- ONE LEG
@@ -60,7 +62,8 @@ module _ (rules : Rules) (keeps : RulesInvariant rules) where
     blocks_sent protocol flags =
         let packet : OutboundPacket = outbound_packet rules protocol flags leg.now leg.packet in
         out_keeps AreInBlocks fewer rules.timers address (assignment_rules rules) packet (λ all n kept none is.
-        each_pushed (IsInItsBlock rules) (map row (other_bindings address packet all)) (row (new_binding address packet n))
+        each_pushed (IsInItsBlock rules) (map row (other_bindings address packet all))
+        (row (new_binding address packet n))
         (fewer (λ b. not (is_of_source address packet b)) all kept)
         (granted_in_block address packet refl all none kept n (find (is_of_source address packet) all) refl is)) list h
 

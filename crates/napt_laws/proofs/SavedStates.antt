@@ -41,7 +41,8 @@ split_with (address ∷ pool) b list one =
     IsPermutation (b ∷ split (address ∷ pool) list)
     (cond v (b ∷ bindings_at address list) (bindings_at address list) ++ split pool (b ∷ list))) [
       | true ↦ λ e is.
-          subst (λ (l : List Binding). IsPermutation (b ∷ split (address ∷ pool) list) ((b ∷ bindings_at address list) ++ l))
+          subst (λ (l : List Binding). IsPermutation (b ∷ split (address ∷ pool) list)
+          ((b ∷ bindings_at address list) ++ l))
           (sym (split_without pool b list (one.0.0 e))) (IsPermutation-refl _)
       | false ↦ λ e is.
           IsPermutation-trans _ _ _
@@ -216,7 +217,8 @@ module _ (rules : Rules) (keeps : RulesInvariant rules) (state ordered : State)
   loose_rows paired =
       subst (λ (l : List Binding). IsPermutation (map row l) (map row (dynamic_bindings rules ordered)))
       (loose_twice _ (taken_twice rules.timers now state.list))
-      (subst (λ (l : List Binding). IsPermutation (map row (live_and_held rules.timers now (dynamic_bindings rules state))) (map row l))
+      (subst (λ (l : List Binding). IsPermutation (map row
+      (live_and_held rules.timers now (dynamic_bindings rules state))) (map row l))
       (ap (live_and_held rules.timers now) loose_is ∙ (loose_twice _ ordered_taken ∙ sym loose_is))
       ((loose_alike paired).held (hold_ago rules.timers now) (omega arith)))
 
@@ -271,7 +273,8 @@ module _ (carry : PacketsCarryNumbers) (rules : Rules) (keeps : RulesInvariant r
       (loose_alike rules keeps left saved order (all rules keeps left left_taken).paired))
 
   same : AlikeRunGoesOn rules left (with_redirects rules saved) rest
-  same = alike_go_on carry rules keeps left (with_redirects rules saved) left_sound (state_sound rules keeps saved saved_taken)
+  same = alike_go_on carry rules keeps left (with_redirects rules saved) left_sound
+      (state_sound rules keeps saved saved_taken)
       order.clock under_alike rest
 
   whole : RunGoesOn rules (with_redirects rules state) first rest
@@ -281,13 +284,15 @@ module _ (carry : PacketsCarryNumbers) (rules : Rules) (keeps : RulesInvariant r
   goes_on_saved = record {
     taken = saved_taken;
     outcomes = ap (λ (r : RunResult). r.outcomes) whole.ran
-        ∙ ap (λ (os : List Outcome). (effect_from rules (with_redirects rules state) first).outcomes ++ os) (sym same.outcomes);
+        ∙ ap (λ (os : List Outcome). (effect_from rules (with_redirects rules state) first).outcomes ++ os)
+        (sym same.outcomes);
     acts = whole.acts ∙ ap (λ (acts : List LegAct). (effect_from rules (with_redirects rules state) first).acts
         ++ map (act_behind (length first)) acts) (sym same.acts);
     ran = λ small. whole.ran ∙ ap (run_then (run_result_from rules (with_redirects rules state) first))
         (sym (same.ran (subst (Each (λ r. r.external.number < 2 ^ 16))
         (ap (λ (r : RunResult). r.bindings) whole.ran) small)));
-    left = subst (λ (t : ℕ). AreAlike rules.timers t (next_state rules (with_redirects rules state) (first ++ rest)).list
+    left = subst (λ (t : ℕ). AreAlike rules.timers t
+        (next_state rules (with_redirects rules state) (first ++ rest)).list
         (next_state rules (with_redirects rules saved) rest).list) (sym (clock_on state.clock first rest))
         (subst (λ (s : State). AreAlike rules.timers (last_clock left.clock rest) s.list
         (next_state rules (with_redirects rules saved) rest).list) (sym whole.left) same.left);

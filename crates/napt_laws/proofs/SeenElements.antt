@@ -43,7 +43,8 @@ pub taken_later : (timers : Timers) (n m : ℕ) → n ≤ m → (list : List Bin
     live_and_held timers m (live_and_held timers n list) ≡ live_and_held timers m list
 taken_later timers n m le = purge_purge timers (hold_ago timers n) (hold_ago timers m) (ago_later timers n m le)
 
-pub taken_twice : (timers : Timers) (now : ℕ) (list : List Binding) → live_and_held timers now (live_and_held timers now list)
+pub taken_twice : (timers : Timers) (now : ℕ) (list : List Binding) →
+    live_and_held timers now (live_and_held timers now list)
     ≡ live_and_held timers now list
 taken_twice timers now = taken_later timers now now (omega arith)
 

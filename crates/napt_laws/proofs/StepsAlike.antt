@@ -24,7 +24,8 @@ module _ (a b : List Binding) (rows : IsPermutation (map row a) (map row b)) whe
       let long = λ (l : List Binding). sym (length-map (filter (λ b. q b.row) l) row) ∙ ap length (filter_of row q l) in
       long a ∙ (sym (length_permutation _ _ (filter_moved q _ _ rows)) ∙ sym (long b))
 
-  granted_same : (granting : AssignmentRules) (address : ℕ) (packet : OutboundPacket) → assigned_number granting a address packet
+  granted_same : (granting : AssignmentRules) (address : ℕ) (packet : OutboundPacket) →
+      assigned_number granting a address packet
       ≡ assigned_number granting b address packet
   granted_same granting address packet =
       ap (λ n. cond (reaches_quota granting.quota n) (Err OverQuota)
@@ -98,9 +99,11 @@ module _ (timers : Timers) (now : ℕ) (q : Row → Bool) (g : Binding → Bindi
       (seen_last b once_b in_b)
 
 -- A step on the live and held bindings.
-module _ (timers : Timers) (a b : List Binding) (one : AreBindingsApart (map row a)) (other : AreBindingsApart (map row b))
+module _ (timers : Timers) (a b : List Binding) (one : AreBindingsApart (map row a))
+    (other : AreBindingsApart (map row b))
     (rows : IsPermutation (map row a) (map row b)) where
-  module _ (granting : AssignmentRules) (address : ℕ) (packet : OutboundPacket) (alike : AreAlike timers packet.now a b) where
+  module _ (granting : AssignmentRules) (address : ℕ) (packet : OutboundPacket)
+      (alike : AreAlike timers packet.now a b) where
     abbrev source : Row → Bool
     source = is_of_inside address packet.protocol packet.inside
 
@@ -130,30 +133,32 @@ module _ (timers : Timers) (a b : List Binding) (one : AreBindingsApart (map row
           (once_inside address packet.protocol packet.inside b other) alike in_a in_b;
     }
 
-  module _ (inbound : InboundRules) (address : ℕ) (packet : InboundPacket) (alike : AreAlike timers packet.now a b) where
-    in_alike : (o : Option Binding) → find (is_of_destination address packet) (purge timers packet.now a) ≡ o →
-        find (is_of_destination address packet) (purge timers packet.now b) ≡ o → AreInAlike timers packet.now
-        (in_found timers inbound a address packet o) (in_found timers inbound b address packet o)
-    in_alike None in_a in_b = record { inside = refl; through = refl; list = alike }
-    in_alike (Some binding) in_a in_b =
-        let by : Bool → List Binding → InboundEffect = λ v list. cond v
-        (record {
-          inside = Ok binding.row.inside;
-          through = Some (record { binding = binding_after_in inbound packet binding; made = false });
-          list = change_first (is_of_live_destination timers address packet) (live_binding_after_in timers inbound packet) list;
-        })
-        (record { inside = Err Filtered; through = None; list = list }) in
-        elim (permits inbound binding packet.remote) as (λ v. AreInAlike timers packet.now (by v a) (by v b)) [
-          | true ↦ record {
-            inside = refl;
-            through = refl;
-            list = changed_alike timers packet.now (has_number address packet.protocol packet.number)
-                (binding_after_in inbound packet) binding a b
-                (once_number address packet.protocol packet.number a one)
-                (once_number address packet.protocol packet.number b other) alike in_a in_b;
-          }
-          | false ↦ record { inside = refl; through = refl; list = alike }
-        ]
+  module _ (inbound : InboundRules) (address : ℕ) (packet : InboundPacket) (alike : AreAlike timers packet.now a b)
+    where
+      in_alike : (o : Option Binding) → find (is_of_destination address packet) (purge timers packet.now a) ≡ o →
+          find (is_of_destination address packet) (purge timers packet.now b) ≡ o → AreInAlike timers packet.now
+          (in_found timers inbound a address packet o) (in_found timers inbound b address packet o)
+      in_alike None in_a in_b = record { inside = refl; through = refl; list = alike }
+      in_alike (Some binding) in_a in_b =
+          let by : Bool → List Binding → InboundEffect = λ v list. cond v
+          (record {
+            inside = Ok binding.row.inside;
+            through = Some (record { binding = binding_after_in inbound packet binding; made = false });
+            list = change_first (is_of_live_destination timers address packet)
+                (live_binding_after_in timers inbound packet) list;
+          })
+          (record { inside = Err Filtered; through = None; list = list }) in
+          elim (permits inbound binding packet.remote) as (λ v. AreInAlike timers packet.now (by v a) (by v b)) [
+            | true ↦ record {
+              inside = refl;
+              through = refl;
+              list = changed_alike timers packet.now (has_number address packet.protocol packet.number)
+                  (binding_after_in inbound packet) binding a b
+                  (once_number address packet.protocol packet.number a one)
+                  (once_number address packet.protocol packet.number b other) alike in_a in_b;
+            }
+            | false ↦ record { inside = refl; through = refl; list = alike }
+          ]
 
 -- A LEG
 

@@ -6,7 +6,8 @@ use Rattle.napt_rules.specs.Prelude.{Binding, same_protocol, same_endpoint, is_a
 use Rattle.napt_rules.specs.declared.{Row.Row, OutboundPacket.OutboundPacket, InboundPacket.InboundPacket}
 use Rattle.napt_laws.proofs.{Lists.{find_filter, filter_swap, filter_narrow, filter_change, filter_change_other}, Purges.of_purge, Passes.{in_passed, of_out, of_in}, Quotas.granted_local}
 
-of_push : (address : ℕ) (list : List Binding) (b : Binding) → is_at address b.row ≡ true → bindings_at address (list ++ b ∷ [])
+of_push : (address : ℕ) (list : List Binding) (b : Binding) → is_at address b.row ≡ true →
+    bindings_at address (list ++ b ∷ [])
     ≡ bindings_at address list ++ b ∷ []
 of_push address list b h = filter-append (λ b. is_at address b.row) list (b ∷ [])
     ∙ ap (λ v. bindings_at address list ++ cond v (b ∷ []) []) h
@@ -38,7 +39,8 @@ module _ (timers : Timers) (granting : AssignmentRules) (address : ℕ) (packet 
       ≡ bindings_at address (other_bindings address packet list)
   others_local = filter_swap (λ b. not (is_of_source address packet b)) (λ b. is_at address b.row)
 
-  out_made_local : (list : List Binding) (granted : Result ℕ Cause) → out_made (bindings_at address list) address packet granted
+  out_made_local : (list : List Binding) (granted : Result ℕ Cause) →
+      out_made (bindings_at address list) address packet granted
       ≡ record {
         number = (out_made list address packet granted).number;
         through = (out_made list address packet granted).through;
@@ -65,13 +67,15 @@ module _ (timers : Timers) (granting : AssignmentRules) (address : ℕ) (packet 
       }
   out_found_local list (Some b) =
       ap (λ (l : List Binding). record (out_found timers granting list address packet (Some b)) { list = l })
-      (sym (filter_change (λ b. is_at address b.row) (is_of_live_source timers address packet) (live_binding_after_out timers packet)
+      (sym (filter_change (λ b. is_at address b.row) (is_of_live_source timers address packet)
+      (live_binding_after_out timers packet)
       list is_there (λ b. refl)))
   out_found_local list None =
       ap (λ (held : Option Binding). out_made (bindings_at address list) address packet
       (granted_again granting (bindings_at address list) address packet held))
       (find_filter (λ b. is_at address b.row) is_its list)
-      ∙ (ap (out_made (bindings_at address list) address packet) (again_local list (find (is_of_source address packet) list))
+      ∙ (ap (out_made (bindings_at address list) address packet)
+      (again_local list (find (is_of_source address packet) list))
       ∙ out_made_local list (granted_again granting list address packet (find (is_of_source address packet) list)))
 
   -- An outgoing packet depends on the bindings of its address alone.
@@ -99,10 +103,13 @@ module _ (timers : Timers) (granting : AssignmentRules) (address : ℕ) (packet 
     pub out_other : (list : List Binding) →
         bindings_at other (out_taken timers granting address packet list).list ≡ bindings_at other list
     out_other list =
-        of_out (λ (l : List Binding). bindings_at other l ≡ bindings_at other list) timers address list refl granting packet
-        (filter_change_other (λ b. is_at other b.row) (is_of_live_source timers address packet) (live_binding_after_out timers packet)
+        of_out (λ (l : List Binding). bindings_at other l ≡ bindings_at other list) timers address list refl granting
+        packet
+        (filter_change_other (λ b. is_at other b.row) (is_of_live_source timers address packet)
+        (live_binding_after_out timers packet)
         list (λ b h. not_at b.row (is_there b h)) (λ b. refl))
-        (λ n none is. of_push_other other (other_bindings address packet list) (binding_after_out packet (new_binding address packet n))
+        (λ n none is. of_push_other other (other_bindings address packet list)
+        (binding_after_out packet (new_binding address packet n))
         (ne_eqb address other (λ e. differ (sym e)))
         ∙ filter_narrow (λ b. not (is_of_source address packet b)) (λ b. is_at other b.row) list not_its)
 

@@ -45,7 +45,8 @@ used_by clock n h = grind (arith, nat_tests, h)
 pub turned : (a b : Row) → AreRowsApart b a → AreRowsApart a b
 turned a b apart = λ same. let parts = apart (sym same) in ((λ e. parts.0 (sym e)), (λ e. parts.1 (sym e)))
 
-apart_with : (xs ys : List Row) (r : Row) → Each (AreRowsApart r) xs → Each (AreRowsApart r) ys → AreBindingsApart (xs ++ ys) →
+apart_with : (xs ys : List Row) (r : Row) → Each (AreRowsApart r) xs → Each (AreRowsApart r) ys →
+    AreBindingsApart (xs ++ ys) →
     AreBindingsApart (xs ++ r ∷ ys)
 apart_with [] ys r before behind h = (behind, h)
 apart_with (x ∷ xs) ys r before behind h =
@@ -149,5 +150,6 @@ taken_blocks rules keeps state takes inputs =
 
 pub taken_quota : TakenStatesKeepQuota
 taken_quota rules quota is state inputs address host =
-    within_run in_keeps_quota rules quota is (max quota (count_for address host (with_redirects rules state).list)) (omega arith)
+    within_run in_keeps_quota rules quota is (max quota (count_for address host (with_redirects rules state).list))
+    (omega arith)
     address host 0 state.clock inputs (with_redirects rules state).list (omega arith)

@@ -14,19 +14,22 @@ pub record IsThrough (before after : Option Binding) (through : Option BindingUs
   pub made : (went.made ≡ true) ↔ (before ≡ None)
 
 -- A packet that was translated went through a binding, and one that was refused through none.
-abbrev pub BindingUseIsSaid : {X : Type 0} → Result X Cause → Option Binding → Option Binding → Option BindingUse → Type 0
+abbrev pub BindingUseIsSaid : {X : Type 0} → Result X Cause → Option Binding → Option Binding → Option BindingUse →
+    Type 0
 BindingUseIsSaid (Ok translated) before after through = IsThrough before after through
 BindingUseIsSaid (Err cause) before after through = through ≡ None
 
 abbrev pub OutboundNamesItsBinding : Type 0
-OutboundNamesItsBinding = (timers : Timers) → AreTimers timers → (granting : AssignmentRules) (address : ℕ) (packet : OutboundPacket)
+OutboundNamesItsBinding = (timers : Timers) → AreTimers timers →
+    (granting : AssignmentRules) (address : ℕ) (packet : OutboundPacket)
     (list : List Binding) →
     let out : OutboundEffect = step_out timers granting address packet list in
     BindingUseIsSaid out.number (by_inside timers address packet.now packet.protocol packet.inside list)
     (by_inside timers address packet.now packet.protocol packet.inside out.list) out.through
 
 abbrev pub InboundNamesItsBinding : Type 0
-InboundNamesItsBinding = (timers : Timers) → AreTimers timers → (inbound : InboundRules) (address : ℕ) (packet : InboundPacket)
+InboundNamesItsBinding = (timers : Timers) → AreTimers timers →
+    (inbound : InboundRules) (address : ℕ) (packet : InboundPacket)
     (list : List Binding) →
     let came : InboundEffect = step_in timers inbound address packet list in
     BindingUseIsSaid came.inside (by_number timers address packet.now packet.protocol packet.number list)

@@ -15,7 +15,8 @@ RightAnswersAreTheRuns = (rules : Rules) (state : State) (inputs : List Arrival)
     (taken : List Answer) →
     let course : RunEffect = effect_from rules state inputs in
     IsFrontOf given (legs_at address course.acts) →
-    IsFrontOf taken (local_replies rules address given (record { list = bindings_at address state.list; at = state.clock })) →
+    IsFrontOf taken (local_replies rules address given
+    (record { list = bindings_at address state.list; at = state.clock })) →
     IsFrontOf taken (answers_at address course.acts)
 
 -- A run over one more input is the run, followed by the step of that input.
@@ -23,7 +24,8 @@ abbrev pub RunsGrow : Type 0
 RunsGrow = (rules : Rules) (state : State) (inputs : List Arrival) (input : Arrival) →
     let course : RunEffect = effect_from rules state inputs in
     effect_from rules state (inputs ++ input ∷ [])
-    ≡ effect_then course (step rules (length inputs) (max (last_clock state.clock inputs) input.clock) input course.list)
+    ≡ effect_then course (step rules (length inputs) (max (last_clock state.clock inputs) input.clock) input
+    course.list)
 
 -- The outcome of an input by the end of its last leg; an end onward gives none.
 abbrev pub outcome_of_end : End → Option Outcome

@@ -57,7 +57,8 @@ pub record HolderCoversBinding (timers : Timers) (holder : Holder) (binding : Bi
 
 -- The holder's binding ended before `ago`, or the list has a binding that covers it.
 abbrev pub IsAccounted : Timers → ℕ → List Binding → Holder → Type 0
-IsAccounted timers ago list holder = (is_live timers ago holder.binding ≡ false) ⊎ HasOne (HolderCoversBinding timers holder) list
+IsAccounted timers ago list holder = (is_live timers ago holder.binding ≡ false) ⊎
+    HasOne (HolderCoversBinding timers holder) list
 
 pub record AreBindingsAccounted (timers : Timers) (now : ℕ) (list : List Binding) (holders : List Holder) : Type 0 where
   pub apart : HoldersStayApart timers holders

@@ -6,12 +6,14 @@ use Rattle.napt_rules.specs.{declared.Row.Row, Prelude.{Each, row, Arrival, run,
 
 -- The host of each number of a host's block, at the host's external address, is that host.
 abbrev pub BlocksNameTheirHosts : Type 0
-BlocksNameTheirHosts = (rules : Rules) (host number : ℕ) (block : PortBlock) → RulesInvariant rules → block_of rules host
+BlocksNameTheirHosts = (rules : Rules) (host number : ℕ) (block : PortBlock) → RulesInvariant rules →
+    block_of rules host
     ≡ Some block → block_has_number block number ≡ true → host_of rules (pair_of rules host) number ≡ Some host
 
 -- A host has no numbers outside its block.
 abbrev pub HostsHaveTheirBlocks : Type 0
-HostsHaveTheirBlocks = (rules : Rules) (host number : ℕ) (block : PortBlock) → RulesInvariant rules → block_of rules host
+HostsHaveTheirBlocks = (rules : Rules) (host number : ℕ) (block : PortBlock) → RulesInvariant rules →
+    block_of rules host
     ≡ Some block → host_of rules (pair_of rules host) number ≡ Some host → block_has_number block number ≡ true
 
 -- No two hosts of one external address have a number in common.

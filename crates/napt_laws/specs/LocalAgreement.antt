@@ -8,6 +8,7 @@ pub record LocalListAgrees (rules : Rules) (address now : ℕ) (own list : List 
   pub taken : live_and_held rules.timers now own ≡ live_and_held rules.timers now (bindings_at address list)
 
 -- A translator's list agrees with the whole list from a clock on, and its time is not past the clock.
-pub record IsTranslatorCurrent (rules : Rules) (address clock : ℕ) (own : LocalState) (list : List Binding) : Type 0 where
-  pub agrees : LocalListAgrees rules address clock own.list list
-  pub past : own.at ≤ clock
+pub record IsTranslatorCurrent (rules : Rules) (address clock : ℕ) (own : LocalState) (list : List Binding) : Type 0
+  where
+    pub agrees : LocalListAgrees rules address clock own.list list
+    pub past : own.at ≤ clock

@@ -24,7 +24,8 @@ module _ {I A : Type 0} (e e' more out : List (Reply I A)) (ys ys' : List A)
   stays = ap (λ r. r ++ map Done ys') handed ∙ whole
 
 -- The next one of the answers at hand is handed out, where `b` was handed out before.
-module _ {I A : Type 0} (e b : List (Reply I A)) (ys ys' : List A) (hand : all_but_last (length ys) e ++ map Done ys ≡ e)
+module _ {I A : Type 0} (e b : List (Reply I A)) (ys ys' : List A)
+    (hand : all_but_last (length ys) e ++ map Done ys ≡ e)
     (base : all_but_last (length ys) e ≡ b) where
   abbrev out_of : Option A → List (Reply I A)
   out_of got = map Done (option_to_list got)

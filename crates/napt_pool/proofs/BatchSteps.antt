@@ -12,7 +12,8 @@ module _ {I A : Type 0} where
   told_each stop s s' (inr silent) = inr (silent.0, ap each_reply silent.1)
 
   pub told_each_if_err : {U : Type 0} (P : WorkerFault → Type 0) (s s' : List (Reply I A)) (r : Result U WorkerFault)
-      → IfErr r (λ stop. StopIsReported stop s s' × P stop) → IfErr r (λ stop. StopIsReported stop (each_reply s) (each_reply s') × P stop)
+      → IfErr r (λ stop. StopIsReported stop s s' × P stop) →
+      IfErr r (λ stop. StopIsReported stop (each_reply s) (each_reply s') × P stop)
   told_each_if_err P s s' (Ok u) told = tt
   told_each_if_err P s s' (Err stop) told = (told_each stop s s' told.0, told.1)
 
@@ -31,7 +32,8 @@ module _ {M I A : Type 0} (g : Ghosts M I A) (m : M) (xs : List I) (n : M) where
 
   -- The worker stopped at the first item.
   pub stopped_at_once : (s s' : List (Reply I A)) (given : List A) (stop : WorkerFault) → given ≡ []
-      → HasAnsweredFirst g m xs given n → StopIsReported stop s s' → HasStoppedAmong g m xs stop (each_reply s) (each_reply s') n
+      → HasAnsweredFirst g m xs given n → StopIsReported stop s s' →
+      HasStoppedAmong g m xs stop (each_reply s) (each_reply s') n
   stopped_at_once s s' given stop none first told = grind (arith, append-nil, told_each)
 
   -- The worker stopped after these answers.

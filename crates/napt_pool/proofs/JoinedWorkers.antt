@@ -31,7 +31,8 @@ shut_is GateShut w = refl
 shut_is Ring w = refl
 
 module _ {M G I A : Type 0} (g : Ghosts M I A) (open_gate : Bool) where
-  pub AreEnds-push : (ws : List (ClosingWorker M G I A)) (es : List (Result (Ended M I A) WorkerFault)) (w : ClosingWorker M G I A)
+  pub AreEnds-push : (ws : List (ClosingWorker M G I A)) (es : List (Result (Ended M I A) WorkerFault))
+      (w : ClosingWorker M G I A)
       (e : Result (Ended M I A) WorkerFault)
       → AreEnds g open_gate ws es → IsEnd g open_gate w e → AreEnds g open_gate (ws ++ w ∷ []) (es ++ e ∷ [])
   AreEnds-push [] [] w e h k = (k, tt)
@@ -101,7 +102,8 @@ module _ {M G I A : Type 0} (g : Ghosts M I A) (open_gate : Bool) where
   gate_at (w ∷ ws) [] stop rest h is_open = h.0.gate is_open
   gate_at (w ∷ ws) (b ∷ bs) stop rest h is_open = gate_at ws bs stop rest h.1 is_open
 
-  least_not_shut : (ws : List (ClosingWorker M G I A)) (es : List (Result (Ended M I A) WorkerFault)) (fault : PoolFault)
+  least_not_shut : (ws : List (ClosingWorker M G I A)) (es : List (Result (Ended M I A) WorkerFault))
+      (fault : PoolFault)
       → AreEnds g open_gate ws es → IsLeastFault es fault → open_gate ≡ true → is_shut fault ≡ false
   least_not_shut ws es fault h least is_open = grind (arith, shut_is, gate_at)
 
@@ -148,8 +150,10 @@ module _ {M G I A : Type 0} (g : Ghosts M I A) (open_gate : Bool) where
 
   pub least_if_err : {T : Type 0} (p : Pool M G I A) (ws : List (ClosingWorker M G I A))
       (es : List (Result (Ended M I A) WorkerFault))
-      → map closing_machine ws ≡ initial_machines p → map closing_accepted ws ≡ accepted_items p → map closing_taken ws ≡ taken_answers p
-      → map closing_heard ws ≡ handed_out_replies p → map closing_thread_state ws ≡ thread_states p → AreEnds g open_gate ws es
+      → map closing_machine ws ≡ initial_machines p → map closing_accepted ws ≡ accepted_items p →
+      map closing_taken ws ≡ taken_answers p
+      → map closing_heard ws ≡ handed_out_replies p → map closing_thread_state ws ≡ thread_states p →
+      AreEnds g open_gate ws es
       → (r : Result T PoolFault) → IfErr r (λ fault. IsLeastFault es fault) →
       IfErr r (λ fault. CloseErr g open_gate p fault)
   least_if_err p ws es h k j q s t r u = grind (arith, machines_are, taken_are)
@@ -177,7 +181,8 @@ module _ {M G I A : Type 0} (g : Ghosts M I A) (open_gate : Bool) where
   least_up_to (v ∷ ws) (b ∷ bs) s rest h (suc w) stop c = grind (arith, least_up_to ws bs s rest h.1 w stop c)
 
   pub told_is : {T : Type 0} (p : Pool M G I A) (items : T → List (Ended M I A)) (ws : List (ClosingWorker M G I A))
-      (es : List (Result (Ended M I A) WorkerFault)) → AreEnds g open_gate ws es → map closing_heard ws ≡ handed_out_replies p
+      (es : List (Result (Ended M I A) WorkerFault)) → AreEnds g open_gate ws es →
+      map closing_heard ws ≡ handed_out_replies p
       → (r : Result T PoolFault) → IfOk r (λ v. map Ok (items v) ≡ es) → IfErr r (λ fault. IsLeastFault es fault)
       → (w : ℕ) (fault : PoolFault) → HasReported p w fault → MatchResult r (λ _. ⊥) (IsFaultUpTo w fault)
   told_is p items ws es h listened (Ok v) ended least w fault told =

@@ -143,7 +143,8 @@ module _ (told : Result Totals Fault) (result : Result (Unit {0}) Fault) (ends :
   settled_by holds settled = holds (settled_ends told result ends settled)
 
   module _ {D : Type 0} (S : Ghosts D) (origin : OriginModel) (inside outside : Option (List ℕ)) (old new : D) where
-    device_by : (which : Which) → (Streams origin which (stream_ended told) inside outside (S.contents old) (S.contents new) →
+    device_by : (which : Which) → (Streams origin which (stream_ended told) inside outside (S.contents old)
+        (S.contents new) →
         Streams origin which (stream_ended result) inside outside (S.contents old) (S.contents new)) →
         ((¬ IsOfRun result) → failed_writings which (stream_ended told) ≡ failed_writings which (stream_ended result)) →
         DeviceGetsFrom S origin which inside outside told old new →
@@ -259,7 +260,8 @@ pub ended_passed : (told : Result Totals Fault) (written : Result (Unit {0}) Fau
     result ≡ passed_if told written → stream_ended result ≡ result_and told written
 ended_passed told written result is = grind (arith, common_steps, nat_tests)
 
-pub err_ended : {T : Type 0} (result : Result T Fault) (P : Fault → Type 0) → IfErr (stream_ended result) P → IfErr result P
+pub err_ended : {T : Type 0} (result : Result T Fault) (P : Fault → Type 0) → IfErr (stream_ended result) P →
+    IfErr result P
 err_ended result P p = grind (arith, common_steps, nat_tests)
 
 pub left_if : (origin : OriginModel) (inside outside : Option (List ℕ)) (told : Result Totals Fault)

@@ -124,7 +124,8 @@ pub texts_go_on : (origin : OriginModel) (log : LogOrigin) (each : Option ℕ) (
 unfolding text_so_far whole_text ending log_so_far_from log_text_from rows_from
 texts_go_on origin log each goes_on = refl
 
-same_origin : (origin : OriginModel) (a b : TimeText) (log other : LogStateModel) (each same : Option ℕ) (goes_on also : Bool) →
+same_origin : (origin : OriginModel) (a b : TimeText) (log other : LogStateModel) (each same : Option ℕ)
+    (goes_on also : Bool) →
     a ≡ b → log ≡ other → each ≡ same → goes_on ≡ also → (let f : LoggedOrigin = record {
       origin = origin;
       opening = a;
@@ -174,7 +175,8 @@ module _ {L : Type 0} {S : Ghosts L} (start : Start) (log_start : LogStart) (tak
   texts_taken log told also it is opens each goes =
       let once = taken_once start.config.now (origin_of start).state log_start.kept.now is_taken.log is_taken.told log
       told is_taken.is also in
-      let origin : LogStateModel → LogDelta → LogOrigin = λ l t. record { log = l; told = t; is_new = log_start.is_new } in
+      let origin : LogStateModel → LogDelta → LogOrigin =
+      λ l t. record { log = l; told = t; is_new = log_start.is_new } in
       let opening : string_bytes it.opening ≡ first_text start.config.now (origin log told) =
       opens ∙ (is_taken.opening ∙ ap₂ (λ (l : LogStateModel) (t : LogDelta). first_text start.config.now (origin l t))
       once.log_is once.told_is) in

@@ -61,7 +61,8 @@ abbrev pub HasPart : LogTexts → MergedInputs → Option (List ℕ) → Option 
 HasPart texts all old new = (count : ℕ) × HasBytes texts count all old new
 
 -- by the result of the run
-abbrev pub LogsOf : {T : Type 0} → LogTexts → Result T LogRunFault → MergedInputs → Option (List ℕ) → Option (List ℕ) → Type 0
+abbrev pub LogsOf : {T : Type 0} → LogTexts → Result T LogRunFault → MergedInputs → Option (List ℕ) →
+    Option (List ℕ) → Type 0
 LogsOf texts (Ok done) all old new = HasLog texts all old new
 LogsOf texts (Err (Log fault)) all old new = HasWritten texts fault.written all old new
 LogsOf texts (Err (Run (faults.Capture side fault))) all old new = HasRows texts side fault all old new

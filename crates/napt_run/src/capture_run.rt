@@ -58,7 +58,8 @@ impl<
     ) -> Result<Totals, LoggingFault<K::Fault>>
         ensures outputs { PassesOr G.is_open (origin_of self.entry.start) inputs.old
             both.old.leaving inputs.new both.new.leaving (as_run result) }
-        ensures log { EntersBy K.Told.tells (origin_of self.entry.start) HandsOutInputs MergeEndsWith K.enters
+        ensures log { EntersBy K.Told.tells (origin_of self.entry.start) HandsOutInputs
+            MergeEndsWith K.enters
             K.fails K.is_settled inputs.old both.old.log.now inputs.new both.new.log.now
             (passed_as result) }
         ensures same { IsSameSinkPlace both.old both.new }

@@ -246,18 +246,22 @@ pub fn resume_captures<
     requires to_inside { V.failed to_inside.old < 2 ^ 64 - 1 }
     requires report { U.failed report.old < 2 ^ 64 - 1 }
     ensures to_outside { GetsFrom (origin_of start.entry) Which.Outside
-        (share_of Which.Outside (stream_ended result)) (R.remaining inside.old) (Q.remaining outside.old)
+        (share_of Which.Outside (stream_ended result)) (R.remaining inside.old)
+        (Q.remaining outside.old)
         (W.contents to_outside.old) (W.contents to_outside.new) }
     ensures to_inside { GetsFrom (origin_of start.entry) Which.Inside
-        (share_of Which.Inside (stream_ended result)) (R.remaining inside.old) (Q.remaining outside.old)
+        (share_of Which.Inside (stream_ended result)) (R.remaining inside.old)
+        (Q.remaining outside.old)
         (V.contents to_inside.old) (V.contents to_inside.new) }
     ensures report { GetsFrom (origin_of start.entry) Which.Report
-        (share_of Which.Report (stream_ended result)) (R.remaining inside.old) (Q.remaining outside.old)
+        (share_of Which.Report (stream_ended result)) (R.remaining inside.old)
+        (Q.remaining outside.old)
         (U.contents report.old) (U.contents report.new) }
     ensures left { IfOk result
         (OutputIsLeft (origin_of start.entry) (R.remaining inside.old) (Q.remaining outside.old)) }
     ensures answer { IfKnown (R.remaining inside.old) (Q.remaining outside.old)
-        (λ bytes others. Answers (texts_from (origin_of start.entry) bytes others) (stream_ended result)) }
+        (λ bytes others. Answers (texts_from (origin_of start.entry) bytes others)
+        (stream_ended result)) }
     ensures fault { IfErr result
         (Explains (R.remaining inside.old) (Q.remaining outside.old)) }
     ensures gate { G.is_open ≡ true → IfErr result (λ fault. is_shut_gate_fault fault ≡ false) }

@@ -50,7 +50,8 @@ stands_then a b c p q = record {
   same = same_then a.held b.held c.held p.same q.same;
 }
 
-pub keeps_then : (timers : Timers) (at : ℕ) (a b c : BindingIndexModel) → KeepsSeen timers at a b → KeepsSeen timers at b c →
+pub keeps_then : (timers : Timers) (at : ℕ) (a b c : BindingIndexModel) → KeepsSeen timers at a b →
+    KeepsSeen timers at b c →
     KeepsSeen timers at a c
 keeps_then timers at a b c p q = record {
   place = record {
@@ -62,7 +63,8 @@ keeps_then timers at a b c p q = record {
 
 -- A PACKET WHOSE BINDING IS FOUND
 
-module _ (timers : Timers) (t : AreTimers timers) (granting : AssignmentRules) (packet : OutboundPacket) (old new : BindingIndexModel)
+module _ (timers : Timers) (t : AreTimers timers) (granting : AssignmentRules) (packet : OutboundPacket)
+    (old new : BindingIndexModel)
     (named : IsNamed old) (number : ℕ) (went : WentThrough timers packet old new number) (list : List Binding)
     (apart : AreBindingsApart (map row list)) (keeps : AllKeep timers packet.now old.address old list) where
   abbrev live : List Binding
@@ -100,7 +102,8 @@ module _ (timers : Timers) (t : AreTimers timers) (granting : AssignmentRules) (
 
   left_is : purge timers packet.now (out_taken timers granting old.address packet list).list
       ≡ change_first (is_of_source old.address packet) (binding_after_out packet) live
-  left_is = ap (λ (o : OutboundEffect). purge timers packet.now o.list) out_is ∙ sent_seen timers t old.address packet list
+  left_is = ap (λ (o : OutboundEffect). purge timers packet.now o.list) out_is
+      ∙ sent_seen timers t old.address packet list
 
   went_shows : AllShow timers packet.now old.address new
       (change_first (is_of_source old.address packet) (binding_after_out packet) live)
@@ -115,7 +118,8 @@ module _ (timers : Timers) (t : AreTimers timers) (granting : AssignmentRules) (
 
   went_unseen : KeepsUnseen timers packet.now old new
   went_unseen k none at from = by_key (external_key packet.protocol number) k (λ n.
-      seen_binding timers packet.now (held_binding new n) ≡ None → seen_binding timers at (held_binding new n) ≡ seen_binding timers at (held_binding old n))
+      seen_binding timers packet.now (held_binding new n) ≡ None →
+      seen_binding timers at (held_binding new n) ≡ seen_binding timers at (held_binding old n))
       (λ h. let z : None ≡ Some (binding_after_out packet went.binding) = sym h ∙ went.left in cc)
       (λ d h. ap (seen_binding timers at) (went.one.others k d)) none
 
@@ -128,11 +132,13 @@ module _ (timers : Timers) (t : AreTimers timers) (granting : AssignmentRules) (
 
 -- A NEW BINDING
 
-pub made_all : (timers : Timers) (address : ℕ) (packet : OutboundPacket) (old new : BindingIndexModel) (number : ℕ) (binding : Binding)
+pub made_all : (timers : Timers) (address : ℕ) (packet : OutboundPacket) (old new : BindingIndexModel) (number : ℕ)
+    (binding : Binding)
     (list : List Binding) → AllShow timers packet.now address old list →
     ((k : ExternalNumberKey) → held_binding new k ≡ cond (key_eq (external_key packet.protocol number) k) (Some binding)
     (held_binding old k)) → seen_binding timers packet.now (held_at old packet.protocol number) ≡ None →
-    seen_binding timers packet.now (Some binding) ≡ Some (binding_after_out packet (new_binding address packet number)) →
+    seen_binding timers packet.now (Some binding) ≡ Some
+    (binding_after_out packet (new_binding address packet number)) →
     AllShow timers packet.now address new (shown_made list address packet (Ok number))
 made_all timers address packet old new number binding list shows holds free is q =
     let p : Protocol = packet.protocol in
@@ -140,7 +146,8 @@ made_all timers address packet old new number binding list shows holds free is q
     (shown_made list address packet (Ok number)))
     (made_shows timers address packet (held_at old p) list (shows p) number binding (held_at new p)
     (λ n. holds (external_key p n) ∙ ap (λ v. cond v (Some binding) (held_at old p n)) (key_number p number n)) free is)
-    (λ d n. find_passed_over (λ b. has_number address q n b.row) list (binding_after_out packet (new_binding address packet number))
+    (λ d n. find_passed_over (λ b. has_number address q n b.row) list
+    (binding_after_out packet (new_binding address packet number))
     (not_has address q n (binding_after_out packet (new_binding address packet number)).row d)
     ∙ (shows q n ∙ ap (seen_binding timers packet.now) (sym (holds (external_key q n)
     ∙ past_key (external_key p number) (Some binding) (held_at old q n) (external_key q n)
@@ -149,14 +156,17 @@ made_all timers address packet old new number binding list shows holds free is q
 pub made_unseen : (timers : Timers) (address : ℕ) (packet : OutboundPacket) (old new : BindingIndexModel) (number : ℕ)
     (binding : Binding) →
     ((k : ExternalNumberKey) → held_binding new k ≡ cond (key_eq (external_key packet.protocol number) k) (Some binding)
-    (held_binding old k)) → seen_binding timers packet.now (Some binding) ≡ Some (binding_after_out packet (new_binding address packet number)) →
+    (held_binding old k)) → seen_binding timers packet.now (Some binding)
+    ≡ Some (binding_after_out packet (new_binding address packet number)) →
     KeepsUnseen timers packet.now old new
 made_unseen timers address packet old new number binding holds is k none at from =
     let key : ExternalNumberKey = external_key packet.protocol number in
-    by_key key k (λ n. seen_binding timers packet.now (held_binding new n) ≡ None → seen_binding timers at (held_binding new n) ≡ seen_binding timers at
+    by_key key k (λ n. seen_binding timers packet.now (held_binding new n) ≡ None →
+    seen_binding timers at (held_binding new n) ≡ seen_binding timers at
     (held_binding old n))
     (λ h. let z : None ≡ Some (binding_after_out packet (new_binding address packet number)) =
-    sym h ∙ (ap (seen_binding timers packet.now) (holds key ∙ at_key key (Some binding) (held_binding old key)) ∙ is) in cc)
+    sym h ∙ (ap (seen_binding timers packet.now) (holds key ∙ at_key key (Some binding) (held_binding old key)) ∙ is)
+    in cc)
     (λ d h. ap (seen_binding timers at) (holds k ∙ past_key key (Some binding) (held_binding old k) k d)) none
 
 -- What is visible of the list after the packet.
@@ -174,7 +184,8 @@ made_answer list address packet (Ok number) = refl
 
 -- A PACKET WHOSE BINDING IS NOT FOUND: memory is reserved, and bindings whose hold time is over are removed
 
-module _ (old mid gone : BindingsModel) (packet : OutboundPacket) (same : BindingsUnchanged old mid) (purged : IsPurged packet.now mid gone)
+module _ (old mid gone : BindingsModel) (packet : OutboundPacket) (same : BindingsUnchanged old mid)
+    (purged : IsPurged packet.now mid gone)
     (none : (n : ℕ) (b : Binding) → seen_binding old.timers packet.now (held_at old.held packet.protocol n) ≡ Some b →
     b.row.inside ≢ packet.inside) (named : IsNamed old.held) (gone_named : IsNamed gone.held) where
   abbrev ago : ℕ
@@ -189,7 +200,8 @@ module _ (old mid gone : BindingsModel) (packet : OutboundPacket) (same : Bindin
   gone_granting : gone.held.granting ≡ old.held.granting
   gone_granting = purged.keeps.place.granting_is ∙ same.same.place.granting_is
 
-  gone_then : (k : ExternalNumberKey) → seen_binding old.timers ago (held_binding gone.held k) ≡ seen_binding old.timers ago (held_binding old.held k)
+  gone_then : (k : ExternalNumberKey) → seen_binding old.timers ago (held_binding gone.held k)
+      ≡ seen_binding old.timers ago (held_binding old.held k)
   gone_then k = subst (λ (t : Timers). seen_binding t (hold_ago t packet.now) (held_binding gone.held k)
       ≡ seen_binding t (hold_ago t packet.now) (held_binding mid.held k))
       same.timers_is (purged.keeps.seen_same k) ∙ ap (seen_binding old.timers ago) (same.same.held_same k)
@@ -199,14 +211,16 @@ module _ (old mid gone : BindingsModel) (packet : OutboundPacket) (same : Bindin
   gone_seen k at from = sym (seen_seen old.timers ago at from (held_binding gone.held k))
       ∙ (ap (seen_binding old.timers at) (gone_then k) ∙ seen_seen old.timers ago at from (held_binding old.held k))
 
-  gone_live : (k : ExternalNumberKey) (b : Binding) → held_binding gone.held k ≡ Some b → is_live old.timers ago b ≡ true
+  gone_live : (k : ExternalNumberKey) (b : Binding) → held_binding gone.held k ≡ Some b →
+      is_live old.timers ago b ≡ true
   gone_live k b h = subst (λ (t : Timers). is_live t (hold_ago t packet.now) b ≡ true) same.timers_is
       (purged.live k b h)
 
   -- A stored binding of the packet's source is not visible.
   pub gone_unseen : (n : ℕ) → HasInside gone.held packet.protocol packet.inside n →
       seen_binding gone.timers packet.now (held_at gone.held packet.protocol n) ≡ None
-  gone_unseen n (b, h, inside) = subst (λ (t : Timers). seen_binding t packet.now (held_at gone.held packet.protocol n) ≡ None)
+  gone_unseen n (b, h, inside) = subst (λ (t : Timers). seen_binding t packet.now
+      (held_at gone.held packet.protocol n) ≡ None)
       (sym gone_timers) (elim (seen_binding old.timers packet.now (held_at gone.held packet.protocol n)) as (λ o.
       seen_binding old.timers packet.now (held_at gone.held packet.protocol n) ≡ o → o ≡ None) [
         | None ↦ λ e. refl
@@ -284,13 +298,16 @@ module _ (old mid gone : BindingsModel) (packet : OutboundPacket) (same : Bindin
     gone_reached : reaches_quota old.held.granting.quota (count_for address packet.inside.address list)
         ≡ reaches_quota gone.held.granting.quota (count_all gone.held packet.inside.address)
     gone_reached =
-        ap (reaches_quota old.held.granting.quota) (count_is_held address packet.inside.address (held_at gone.held) list apart
+        ap (reaches_quota old.held.granting.quota)
+        (count_is_held address packet.inside.address (held_at gone.held) list apart
         gone_rows (λ q n b h. gone_named.small (external_key q n) b h))
-        ∙ ap (λ (g : AssignmentRules). reaches_quota g.quota (count_all gone.held packet.inside.address)) (sym gone_granting)
+        ∙ ap (λ (g : AssignmentRules). reaches_quota g.quota (count_all gone.held packet.inside.address))
+        (sym gone_granting)
 
     -- A binding is made, or the packet is refused.
     module _ (answer : Result ℕ Cause)
-        (granted : granted_again old.held.granting list address packet (find (is_of_source address packet) list) ≡ answer)
+        (granted : granted_again old.held.granting list address packet (find (is_of_source address packet) list)
+        ≡ answer)
       where
         made_is : out_taken old.timers old.held.granting address packet list ≡ out_made list address packet answer
         made_is = ap (out_found old.timers old.held.granting list address packet) gone_none
@@ -314,7 +331,8 @@ module _ (old mid gone : BindingsModel) (packet : OutboundPacket) (same : Bindin
 
     abbrev Out_is : BindingsModel → Result ℕ Cause → Type 0
     Out_is new answer = (let out : OutboundEffect = out_taken old.timers old.held.granting address packet list in
-        AreBindingsApart (map row out.list) → (answer ≡ out.number) × AllKeep old.timers packet.now address new.held out.list)
+        AreBindingsApart (map row out.list) → (answer ≡ out.number) ×
+        AllKeep old.timers packet.now address new.held out.list)
 
     -- The quota is reached.
     pub over_sends : HasNoInside gone.held packet.protocol packet.inside →

@@ -124,9 +124,11 @@ two_apart class apart q =
     ap (λ (n : ℕ). number_place_in_map (class.least + n)) twice ∙ omega arith
 
 -- The same, where the search starts at the place of the least number.
-module _ (used : ℕ → Bool) (class : CandidateClass) (apart : class.apart ≡ 2) (k : ℕ) (within : k ≤ class.many) (start : ℕ)
+module _ (used : ℕ → Bool) (class : CandidateClass) (apart : class.apart ≡ 2) (k : ℕ) (within : k ≤ class.many)
+    (start : ℕ)
     (starts : start ≡ number_place_in_map class.least) where
-  abbrev run_is : (q : ℕ) → q < class.many → number_place_in_map (class.least + class.apart * q) ≡ number_place_in_map class.least + q
+  abbrev run_is : (q : ℕ) → q < class.many → number_place_in_map (class.least + class.apart * q)
+      ≡ number_place_in_map class.least + q
   run_is = λ q lt. two_apart class apart q
 
   abbrev free_number : ℕ → Bool
@@ -154,12 +156,14 @@ module _ (used : ℕ → Bool) (class : CandidateClass) (apart : class.apart ≡
       Some (class.least + 2 * (x - start)) ≡ find free_number (from_place class k)
   far_choice none x h =
       number_is x
-      ∙ sym (found_far used number_place_in_map class run_is k within x (moved k class.many None none) (moved_first (Some x) h))
+      ∙ sym (found_far used number_place_in_map class run_is k within x (moved k class.many None none)
+      (moved_first (Some x) h))
 
   pub no_choice : IsFirstAbsent used (start + k) (start + class.many) None →
       IsFirstAbsent used start (start + k) None → None ≡ find free_number (from_place class k)
   no_choice none h =
-      sym (found_nowhere used number_place_in_map class run_is k within (moved k class.many None none) (moved_first None h))
+      sym (found_nowhere used number_place_in_map class run_is k within (moved k class.many None none)
+      (moved_first None h))
 
 -- A CLASS WITHOUT GAPS
 

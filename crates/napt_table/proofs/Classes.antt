@@ -373,7 +373,8 @@ module _ (keeps : Bool) (protocol : Protocol) (inside : Endpoint) (small : insid
       ap (λ n. upwards n numbers) first
       ∙ both_parts fits (member class place) place class (from_other fits inside.number own class is_own place within)
 
-pub candidates_by_class : (choosing : NumberAssignment) (protocol : Protocol) (inside : Endpoint) → inside.number < 65536 →
+pub candidates_by_class : (choosing : NumberAssignment) (protocol : Protocol) (inside : Endpoint) →
+    inside.number < 65536 →
     (class : CandidateClass) → class ≡ class_of choosing.keeps_parity protocol inside.number →
     (place : ℕ) → place ≡ place_of_class choosing.seed class protocol inside →
     from_place class place ≡ candidates_in_class choosing protocol inside

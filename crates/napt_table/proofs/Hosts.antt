@@ -82,7 +82,8 @@ count_changed held held' host number less same =
     (λ n differs. ap (held_counts_for host) (same n differs))
 
 pub count_none : (held : ℕ → Option Binding) (host : ℕ) → ((n : ℕ) → held n ≡ None) → count_held held host ≡ 0
-count_none held host none = below_none (λ n. held_counts_for host (held n)) (2 ^ 16) (λ n. ap (held_counts_for host) (none n))
+count_none held host none = below_none (λ n. held_counts_for host (held n)) (2 ^ 16)
+    (λ n. ap (held_counts_for host) (none n))
 
 pub count_few : (held : ℕ → Option Binding) (host : ℕ) → count_held held host ≤ 2 ^ 16
 count_few held host = below_few (λ n. held_counts_for host (held n)) (2 ^ 16)
@@ -141,7 +142,8 @@ module _ (many address host : ℕ) where
         once_number address q number (x ∷ xs) apart in
         let none : find (λ b. has_number address q number b.row) xs ≡ None = find_nowhere _ xs (once.0 has) in
         let before : one (found_for xs q number) ≡ 0 = ap (λ o. one (held_counts_for host o)) none in
-        let after : one (found_for (x ∷ xs) q number) ≡ one counted = ap (λ v. one (held_counts_for host (head v))) has in
+        let after : one (found_for (x ∷ xs) q number)
+        ≡ one counted = ap (λ v. one (held_counts_for host (head v))) has in
         let changed : found (x ∷ xs) q + one (found_for xs q number)
         ≡ found xs q + one (found_for (x ∷ xs) q number) =
         below_changed (found_for (x ∷ xs) q) (found_for xs q) number many (below q number x (ap head has))

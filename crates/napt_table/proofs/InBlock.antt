@@ -82,7 +82,8 @@ module _ (block : PortBlock) (is : IsPortBlock block) where
       ∙ (ap (λ n. block.first + n) (add-mod_left block.size k ∙ mod-eq_of_lt less) ∙ omega arith))
 
   -- The same, for a class and a place that equal those of the block.
-  pub each_by : (choosing : NumberAssignment) → choosing.keeps_parity ≡ false → (protocol : Protocol) (inside : Endpoint)
+  pub each_by : (choosing : NumberAssignment) → choosing.keeps_parity ≡ false →
+      (protocol : Protocol) (inside : Endpoint)
       (class : CandidateClass) → class ≡ class_of_block block → (place : ℕ) →
       place ≡ place_in choosing.seed choosing.keeps_parity block.size protocol inside → place < block.size →
       from_place class place ≡ candidates_in_block choosing block protocol inside

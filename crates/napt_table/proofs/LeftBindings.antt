@@ -61,7 +61,8 @@ module _ (address : ℕ) where
       once_values es each.1 (IsDistinct-tail key_eq e.0 (keys_of es) distinct),
     )
 
-each_value : (P : Binding → Type 0) (es : List (ExternalNumberKey × Binding)) → Each (λ e. P e.1) es → Each P (values_of es)
+each_value : (P : Binding → Type 0) (es : List (ExternalNumberKey × Binding)) → Each (λ e. P e.1) es →
+    Each P (values_of es)
 each_value P [] h = tt
 each_value P (e ∷ es) h = (h.0, each_value P es h.1)
 

@@ -68,8 +68,10 @@ in_others inbound timers address packet list q differs n =
           ]
     ]
 
-pub sent_others : (address : ℕ) (packet : OutboundPacket) (list : List Binding) (q : Protocol) → q ≢ packet.protocol → (n : ℕ) →
-    find (λ b. has_number address q n b.row) (change_first (is_of_source address packet) (binding_after_out packet) list)
+pub sent_others : (address : ℕ) (packet : OutboundPacket) (list : List Binding) (q : Protocol) → q ≢ packet.protocol →
+    (n : ℕ) →
+    find (λ b. has_number address q n b.row) (change_first (is_of_source address packet) (binding_after_out packet)
+    list)
     ≡ find (λ b. has_number address q n b.row) list
 sent_others address packet list q differs n =
     find_other (is_of_source address packet) (binding_after_out packet) (λ b. has_number address q n b.row)
@@ -95,10 +97,12 @@ same_everywhere old new number others here n = elim (eqb n number) as (λ v. eqb
 ] refl
 
 -- The list after one more event.
-pub played_more : (timers : Timers) (granting : AssignmentRules) (inbound : InboundRules) (address : ℕ) (events : List (ℕ × TableEvent))
+pub played_more : (timers : Timers) (granting : AssignmentRules) (inbound : InboundRules) (address : ℕ)
+    (events : List (ℕ × TableEvent))
     (event : ℕ × TableEvent) (list : List Binding) →
     list_after_events timers granting inbound address (events ++ event ∷ []) list
-    ≡ list_after_event timers granting inbound address event.1 (list_after_events timers granting inbound address events list)
+    ≡ list_after_event timers granting inbound address event.1
+    (list_after_events timers granting inbound address events list)
 played_more timers granting inbound address [] event list = refl
 played_more timers granting inbound address (e ∷ events) event list = played_more timers granting inbound address
     events event

@@ -47,7 +47,8 @@ module _ (rules : Rules) (address k : ℕ) where
 
     begun_more : begun rules address (k + 1) ≡ begun rules address k ++ cond (is_at address next.row) (next ∷ []) []
     begun_more =
-        ap (filter (λ b. is_at address b.row)) (map_more (redirect_binding (pair_of rules)) rules.redirects k other below)
+        ap (filter (λ b. is_at address b.row)) (map_more (redirect_binding (pair_of rules)) rules.redirects k other
+        below)
         ∙ (filter-append (λ b. is_at address b.row) (map (redirect_binding (pair_of rules)) (take k rules.redirects))
         (redirect_binding (pair_of rules) (get_or rules.redirects k other) ∷ [])
         ∙ ap (λ (r : Redirect). begun rules address k ++ filter (λ b. is_at address b.row)
@@ -109,7 +110,8 @@ module _ (address : ℕ) (list : List Binding) (fresh : Binding) (at : fresh.row
         (inside_it address fresh.row.protocol fresh.row.inside fresh.row refl at refl) list
         (once_inside address fresh.row.protocol fresh.row.inside (list ++ fresh ∷ []) apart)
 
-    module _ (old : BindingIndexModel) (named : IsNamed old) (its : old.address ≡ address) (are : AreHeld address old list) where
+    module _ (old : BindingIndexModel) (named : IsNamed old) (its : old.address ≡ address)
+        (are : AreHeld address old list) where
       -- Neither its number nor its inside endpoint is taken.
       pub free : held_binding old (key_of fresh) ≡ None
       free = are fresh.row.protocol fresh.row.external.number ∙ free_number
@@ -130,7 +132,8 @@ module _ (address : ℕ) (list : List Binding) (fresh : Binding) (at : fresh.row
 
       -- It is stored as the others are.
       pub held_more : (new : BindingIndexModel) →
-          ((k : ExternalNumberKey) → held_binding new k ≡ cond (key_eq (key_of fresh) k) (Some fresh) (held_binding old k)) →
+          ((k : ExternalNumberKey) → held_binding new k
+          ≡ cond (key_eq (key_of fresh) k) (Some fresh) (held_binding old k)) →
           AreHeld address new (list ++ fresh ∷ [])
       held_more new holds q n =
           by_key (key_of fresh) (external_key q n) (λ k. held_binding new k
@@ -144,13 +147,15 @@ module _ (address : ℕ) (list : List Binding) (fresh : Binding) (at : fresh.row
           ∙ (are q n ∙ sym (find_passed_over (λ b. has_number address q n b.row) list fresh (lacks q n d)))))
 
 -- No binding is stored, and the list is empty.
-pub none_held : (address : ℕ) (all : BindingIndexModel) → ((key : ExternalNumberKey) → held_binding all key ≡ None) → AreHeld address all []
+pub none_held : (address : ℕ) (all : BindingIndexModel) → ((key : ExternalNumberKey) → held_binding all key ≡ None) →
+    AreHeld address all []
 none_held address all none q n = none (external_key q n)
 
 -- THE TABLE
 
 -- The stored bindings agree with the list if they are those of the list.
-pub begun_keep : (timers : Timers) (at address : ℕ) (all : BindingIndexModel) (list : List Binding) → AreBindingsApart (map row list) →
+pub begun_keep : (timers : Timers) (at address : ℕ) (all : BindingIndexModel) (list : List Binding) →
+    AreBindingsApart (map row list) →
     AreHeld address all list → AllKeep timers at address all list
 begun_keep timers at address all list apart are = record {
   live = λ q n. find_purged timers at address q n list apart ∙ ap (seen_binding timers at) (sym (are q n));
@@ -160,11 +165,13 @@ begun_keep timers at address all list apart are = record {
 -- All redirects are stored.
 pub all_begun : (rules : Rules) (address k : ℕ) → length rules.redirects ≤ k → begun rules address k
     ≡ bindings_at address (opening rules)
-all_begun rules address k end = ap (λ (rs : List Redirect). bindings_at address (map (redirect_binding (pair_of rules)) rs))
+all_begun rules address k end = ap (λ (rs : List Redirect). bindings_at address
+    (map (redirect_binding (pair_of rules)) rs))
     (take_all k rules.redirects end)
 
 pub begun_keeps_its_list : (table : Inside) (list : List Binding) → list_of table ≡ list →
-    IsTable (record (table_model table) { list = list }) → AreHeld table.bindings.held.address table.bindings.held list →
+    IsTable (record (table_model table) { list = list }) →
+    AreHeld table.bindings.held.address table.bindings.held list →
     KeepsItsList table
 begun_keeps_its_list table list is state are = record {
   state = subst IsTable (λ i. record (table_model table) { list = sym is i }) state;

@@ -24,4 +24,5 @@ builder_model it = record {
 
 -- The bindings of a list that are at the address, are no redirects, and are live or held at the time.
 abbrev pub state_bindings_at : Timers → ℕ → ℕ → List Binding → List Binding
-state_bindings_at timers at address list = bindings_at address (filter (λ b. not b.row.fixed) (live_and_held timers at list))
+state_bindings_at timers at address list = bindings_at address
+    (filter (λ b. not b.row.fixed) (live_and_held timers at list))

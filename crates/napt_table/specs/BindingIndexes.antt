@@ -28,7 +28,8 @@ count_all all host =
 
 -- Each binding has the external address, and the protocol and number of its key; the number has 16 bits.
 pub record IsNamed (all : BindingIndexModel) : Type 0 where
-  pub protocol_is : (key : ExternalNumberKey) (b : Binding) → held_binding all key ≡ Some b → b.row.protocol ≡ key.protocol
+  pub protocol_is : (key : ExternalNumberKey) (b : Binding) → held_binding all key ≡ Some b →
+      b.row.protocol ≡ key.protocol
   pub external_is : (key : ExternalNumberKey) (b : Binding) → held_binding all key ≡ Some b → b.row.external ≡ record {
     address = all.address;
     number = key.number;
@@ -52,7 +53,8 @@ IsNumberOf all protocol inside found = (number : ℕ) → (found ≡ Some number
 
 -- No stored binding is that of the inside endpoint.
 abbrev pub HasNoInside : BindingIndexModel → Protocol → Endpoint → Type 0
-HasNoInside all protocol inside = (number : ℕ) (b : Binding) → held_at all protocol number ≡ Some b → b.row.inside ≢ inside
+HasNoInside all protocol inside = (number : ℕ) (b : Binding) → held_at all protocol number ≡ Some b →
+    b.row.inside ≢ inside
 
 -- STEPS, from the old index to the new
 
@@ -73,15 +75,18 @@ pub record ChangesOne (key : ExternalNumberKey) (old new : BindingIndexModel) : 
 -- What is visible of the stored bindings at the time is the same.
 pub record KeepsSeen (timers : Timers) (at : ℕ) (old new : BindingIndexModel) : Type 0 where
   pub place : IsSamePlace old new
-  pub seen_same : (key : ExternalNumberKey) → seen_binding timers at (held_binding new key) ≡ seen_binding timers at (held_binding old key)
+  pub seen_same : (key : ExternalNumberKey) → seen_binding timers at (held_binding new key)
+      ≡ seen_binding timers at (held_binding old key)
 
 -- A packet went out through its inside endpoint's live binding, which has the number; no other binding changed.
-pub record WentThrough (timers : Timers) (packet : OutboundPacket) (old new : BindingIndexModel) (number : ℕ) : Type 0 where
-  pub binding : Binding
-  pub found : seen_binding timers packet.now (held_at old packet.protocol number) ≡ Some binding
-  pub inside_is : binding.row.inside ≡ packet.inside
-  pub one : ChangesOne (external_key packet.protocol number) old new
-  pub left : seen_binding timers packet.now (held_at new packet.protocol number) ≡ Some (binding_after_out packet binding)
+pub record WentThrough (timers : Timers) (packet : OutboundPacket) (old new : BindingIndexModel) (number : ℕ) : Type 0
+  where
+    pub binding : Binding
+    pub found : seen_binding timers packet.now (held_at old packet.protocol number) ≡ Some binding
+    pub inside_is : binding.row.inside ≡ packet.inside
+    pub one : ChangesOne (external_key packet.protocol number) old new
+    pub left : seen_binding timers packet.now (held_at new packet.protocol number)
+        ≡ Some (binding_after_out packet binding)
 
 -- No live binding is that of the packet's inside endpoint, and no stored binding changed.
 pub record HasNone (timers : Timers) (packet : OutboundPacket) (old new : BindingIndexModel) : Type 0 where

@@ -8,4 +8,5 @@ use Rattle.napt_table.specs.{declared.table_event.TableEvent.TableEvent, Events.
 abbrev pub PlayedKeepsQuota : Type 0
 PlayedKeepsQuota = (timers : Timers) (granting : AssignmentRules) (quota : ℕ) → granting.quota ≡ Some quota →
     (inbound : InboundRules) (address : ℕ) (events : List (ℕ × TableEvent)) (begun : List Binding) (at host : ℕ) →
-    count_for at host (list_after_events timers granting inbound address events begun) ≤ max quota (count_for at host begun)
+    count_for at host (list_after_events timers granting inbound address events begun)
+    ≤ max quota (count_for at host begun)

@@ -106,7 +106,8 @@ impl Bindings {
         ensures at { IfOk result (λ bindings. bindings.at ≡ at) }
         ensures address { IfOk result (λ bindings. bindings.held.address ≡ address) }
         ensures granting { IfOk result (λ bindings. bindings.held.granting ≡ granting) }
-        ensures none { IfOk result (λ bindings. (key : Key) → held_binding bindings.held key ≡ None) }
+        ensures none { IfOk result (λ bindings. (key : Key) →
+            held_binding bindings.held key ≡ None) }
     {
         Ok(Bindings {
             timers,

@@ -56,7 +56,8 @@ impl HostCounts {
         requires fits { count_in self.old binding.now.row.inside.address + 1 < 2 ^ 64 }
         ensures counted { are_counted self.new ≡ are_counted self.old }
         ensures counts { are_counted self.old ≡ true →
-            (host : ℕ) → count_in self.new host ≡ count_in self.old host + cond {A = ℕ} (held_counts_for host (Some binding.now)) 1 0 }
+            (host : ℕ) → count_in self.new host ≡ count_in self.old host
+            + cond {A = ℕ} (held_counts_for host (Some binding.now)) 1 0 }
     {
         match &mut self.counts {
             Some(counts) if !binding.row.is_fixed() => counts.increment(
@@ -70,7 +71,8 @@ impl HostCounts {
     pub(crate) fn decrement(&mut self, binding: &TableBinding)
         ensures counted { are_counted self.new ≡ are_counted self.old }
         ensures counts { (host : ℕ) →
-            count_in self.new host ≡ count_in self.old host - cond {A = ℕ} (held_counts_for host (Some binding.now)) 1 0 }
+            count_in self.new host ≡ count_in self.old host - cond {A = ℕ}
+            (held_counts_for host (Some binding.now)) 1 0 }
         ensures room { host_place self.old ≤ host_place self.new }
     {
         match &mut self.counts {

@@ -150,7 +150,8 @@ impl TableBuilder {
         config: &Config,
         at: u64,
     ) -> Result<TableBuilder, AllocError>
-        ensures shown { IfOk result (λ it. it ≡ record (initial_table config.now address) { at = at }) }
+        ensures shown { IfOk result (λ it. it
+            ≡ record (initial_table config.now address) { at = at }) }
         ensures rules { OnOk result (RulesInvariant config.now) }
     {
         let mut beginning = TableBuilder::new(alloc, address, config, at)?;

@@ -14,7 +14,11 @@ pub record TranslatorModel : Type 0 where
 
 -- The translator at a place of a configuration's pool, before any leg.
 abbrev pub initial_translator : ℕ → Rules → TranslatorModel
-initial_translator index rules = record { index = index; rules = rules; table = initial_table rules (slice_index rules.pool index) }
+initial_translator index rules = record {
+  index = index;
+  rules = rules;
+  table = initial_table rules (slice_index rules.pool index);
+}
 
 -- The translator at a place of the pool that goes on from a saved state.
 abbrev pub resumed_translator : ℕ → Rules → State → TranslatorModel
@@ -41,11 +45,13 @@ with_local_state state kept = record state { table = record state.table { list =
 
 -- The translator after a leg.
 abbrev pub translator_after : Leg → TranslatorModel → TranslatorModel
-translator_after leg state = with_local_state state (local_after state.rules state.table.address leg (local_state state.table))
+translator_after leg state = with_local_state state
+    (local_after state.rules state.table.address leg (local_state state.table))
 
 -- What the step of an outgoing packet gives at the translator's address, at a time; then the same of an incoming one.
 abbrev pub outbound_at : TranslatorModel → ℕ → Protocol → Flags → List ℕ → OutboundEffect
-outbound_at state now protocol flags packet = step_out state.rules.timers (assignment_rules state.rules) state.table.address
+outbound_at state now protocol flags packet = step_out state.rules.timers (assignment_rules state.rules)
+    state.table.address
     (outbound_packet state.rules protocol flags now packet) state.table.list
 
 abbrev pub inbound_at : TranslatorModel → ℕ → Protocol → Flags → List ℕ → InboundEffect

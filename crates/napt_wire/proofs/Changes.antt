@@ -12,7 +12,8 @@ length-changed [] bytes = refl
 length-changed (c ∷ changes) bytes = length-changed changes (with_word_at c.place c.new bytes)
     ∙ length-put_word c.place c.new bytes
 
-pub changed-append : (xs ys : List Change) (bytes : List ℕ) → with_changes (xs ++ ys) bytes ≡ with_changes ys (with_changes xs bytes)
+pub changed-append : (xs ys : List Change) (bytes : List ℕ) →
+    with_changes (xs ++ ys) bytes ≡ with_changes ys (with_changes xs bytes)
 changed-append [] ys bytes = refl
 changed-append (c ∷ xs) ys bytes = changed-append xs ys (with_word_at c.place c.new bytes)
 
@@ -189,7 +190,8 @@ pub part-changed_other : (at n low high : ℕ) (changes : List Change) (bytes : 
     (low < at + n → at < high → ⊥) → part at n (with_changes changes bytes) ≡ part at n bytes
 part-changed_other at n low high changes bytes within out =
     let long = length-changed changes bytes in
-    same_number_lists (part at n (with_changes changes bytes)) (part at n bytes) (simp (length-take, length-drop, long) refl)
+    same_number_lists (part at n (with_changes changes bytes)) (part at n bytes)
+    (simp (length-take, length-drop, long) refl)
     (λ k h.
     let below : k < min n (length (drop at (with_changes changes bytes))) = simp length-take at h in
     slice_index-part at n k (with_changes changes bytes) (omega (arith, below))
@@ -300,7 +302,8 @@ sum-part-changed at n (c ∷ changes) bytes there edits =
     sum-words-put_word k c.new (part at n bytes) (omega (arith, long, fits)) in
     let whole : sum (words (part at n after)) ≡ sum (words (with_word_at (2 * k) c.new (part at n bytes))) =
     ap (λ (xs : List ℕ). sum (words xs)) one in
-    let rest : sum (words (part at n (with_changes changes after))) + sum (old_words changes) ≡ sum (words (part at n after))
+    let rest : sum (words (part at n (with_changes changes after))) + sum (old_words changes)
+    ≡ sum (words (part at n after))
     + sum (new_words changes) =
     sum-part-changed at n changes after (omega (arith, there, length-put_word c.place c.new bytes))
     (edits-put_word at (at + n) c changes bytes edits.4 edits.5) in

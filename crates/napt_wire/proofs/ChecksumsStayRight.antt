@@ -88,7 +88,8 @@ is_there a b h = grind (arith, nat_tests)
 whole_tcp : (start place size number check : ℕ) (bytes : List ℕ) → start + 18 ≤ length bytes →
     part start size (with_changes (word_change bytes (start + place) number
     ∷ (if nat_le (start + 18) (length bytes) then word_change bytes (start + 16) check ∷ [] else [])) bytes)
-    ≡ part start size (with_changes (word_change bytes (start + place) number ∷ word_change bytes (start + 16) check ∷ []) bytes)
+    ≡ part start size (with_changes (word_change bytes (start + place) number ∷ word_change bytes (start + 16) check
+    ∷ []) bytes)
 whole_tcp start place size number check bytes there =
     ap (λ (l : List Change). part start size (with_changes (word_change bytes (start + place) number ∷ l) bytes))
     (if_true (nat_le (start + 18) (length bytes)) (word_change bytes (start + 16) check ∷ [])
@@ -104,7 +105,8 @@ pseudo_sum at Destination new size bytes after read same protocol = rw (read, sa
 
 -- UDP and TCP: after an end is replaced, the sums of the pseudo-header and of the message change together. `place` is
 -- the offset of one of the ports.
-module _ (at place : ℕ) (end : DatagramEnd) (new : Endpoint) (bytes after : List ℕ) (small : place ≤ 2) (even : place % 2 ≡ 0)
+module _ (at place : ℕ) (end : DatagramEnd) (new : Endpoint) (bytes after : List ℕ) (small : place ≤ 2)
+    (even : place % 2 ≡ 0)
     (keeps : KeepsHeader at bytes after) (read : address at end after ≡ new.address)
     (same : address at (other end) after ≡ address at (other end) bytes) where
   abbrev begin : ℕ
@@ -166,7 +168,8 @@ module _ (at place : ℕ) (end : DatagramEnd) (new : Endpoint) (bytes after : Li
 
 echo_right : (begin size number : ℕ) (bytes after : List ℕ) →
     (let old : ℕ = word_at (begin + 4) bytes in
-    part begin size after ≡ part begin size (with_changes (word_change bytes (begin + 4) number ∷ word_change bytes (begin + 2)
+    part begin size after ≡ part begin size (with_changes
+    (word_change bytes (begin + 4) number ∷ word_change bytes (begin + 2)
     (canon (word_at (begin + 2) bytes) (old ∷ []) (number ∷ [])) ∷ []) bytes)) →
     option_map is_right (if nat_lt size 6 || nat_lt (length bytes) (begin + size) then None
     else Some (words (part begin size after)))
@@ -179,7 +182,8 @@ echo_right begin size number bytes after parts =
     let both = or_parts (nat_lt size 6) (nat_lt (length bytes) (begin + size)) there in
     let enough : 6 ≤ size = at_least size 6 both.0 in
     echo_residue _ _ (word_at (begin + 2) bytes) (word_at (begin + 4) bytes) number
-    (rw parts (sum-part-changed begin size (word_change bytes (begin + 4) number ∷ word_change bytes (begin + 2) _ ∷ []) bytes
+    (rw parts (sum-part-changed begin size (word_change bytes (begin + 4) number ∷ word_change bytes (begin + 2) _
+    ∷ []) bytes
     (at_least (length bytes) (begin + size) both.1) (omega arith))))
 
 -- A datagram whose end was replaced, by the form of its transport header: the end before, and the words of the

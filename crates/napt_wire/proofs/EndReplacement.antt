@@ -95,12 +95,14 @@ other Source = Destination
 other Destination = Source
 
 -- The changes leave the IPv4 header alone, except the header checksum and the address.
-pub end-clear : (at i n : ℕ) (end : DatagramEnd) (new : Endpoint) (bytes : List ℕ) → HasHeaders at bytes → i + n ≤ at + 20 →
+pub end-clear : (at i n : ℕ) (end : DatagramEnd) (new : Endpoint) (bytes : List ℕ) → HasHeaders at bytes →
+    i + n ≤ at + 20 →
     AreClear i n (address_changes at end new.address bytes) → AreClear i n (end_changes at end new bytes)
 unfolding end_changes
 end-clear at i n end new bytes room before clear =
     clear-append i n _ (address_changes at end new.address bytes)
-    (clear-within (transport_start at bytes) (length bytes) i n _ (number-there (form_at at bytes) end (transport_start at bytes)
+    (clear-within (transport_start at bytes) (length bytes) i n _
+    (number-there (form_at at bytes) end (transport_start at bytes)
     (end_at at end bytes) new bytes room.transport_start) (omega (arith, room.header))) clear
 
 pub other_clear : (at : ℕ) (end : DatagramEnd) (new : ℕ) (bytes : List ℕ) →
@@ -130,11 +132,13 @@ address_same at Destination new bytes after room w =
 -- The number and the checksum of the end are the ones that were written.
 pub numbers-written : (at : ℕ) (end : DatagramEnd) (new : Endpoint) (bytes after : List ℕ) → HasHeaders at bytes →
     IsWritten at (end_changes at end new bytes) bytes after →
-    IsWritten (transport_start at bytes) (numbers (form_at at bytes) end (transport_start at bytes) (end_at at end bytes) new bytes)
+    IsWritten (transport_start at bytes) (numbers (form_at at bytes) end (transport_start at bytes)
+    (end_at at end bytes) new bytes)
     bytes after
 unfolding end_changes
 numbers-written at end new bytes after room w =
-    written-front at (transport_start at bytes) (at + 10) (at + 20) _ (address_changes at end new.address bytes) bytes after
+    written-front at (transport_start at bytes) (at + 10) (at + 20) _ (address_changes at end new.address bytes) bytes
+    after
     (omega (arith, room.header)) room.header (address-within at end new.address bytes) w
 
 -- A TCP checksum, if it is present.
@@ -166,5 +170,6 @@ there-rest [] ys bytes h = h
 there-rest (c ∷ xs) ys bytes h = there-rest xs ys bytes (All-tail (λ (d : Change). d.place + 2 ≤ length bytes) c
     (xs ++ ys) h)
 
-pub there-changed : (xs ys : List Change) (bytes : List ℕ) → AreWordsThere ys bytes → AreWordsThere ys (with_changes xs bytes)
+pub there-changed : (xs ys : List Change) (bytes : List ℕ) → AreWordsThere ys bytes →
+    AreWordsThere ys (with_changes xs bytes)
 there-changed xs ys bytes h = λ k d l. rw length-changed (h k d l)

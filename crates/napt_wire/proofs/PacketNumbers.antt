@@ -7,7 +7,8 @@ use Rattle.napt_wire.proofs.ReadingChecks.{AllPass, passes_of_read}
 module _ (side : Side) (bytes : List ℕ) where
   no_zero_port : (form : TransportForm) → has_zero_port (form_at 0 bytes) (transport_start 0 bytes) bytes ≡ false →
       form ≡ form_at 0 bytes → has_zero_port form (transport_start 0 bytes) bytes ≡ false
-  no_zero_port form h e = subst (λ (f : TransportForm). has_zero_port f (transport_start 0 bytes) bytes ≡ false) (sym e) h
+  no_zero_port form h e = subst (λ (f : TransportForm). has_zero_port f (transport_start 0 bytes) bytes ≡ false)
+      (sym e) h
 
   carried_by : (form : TransportForm) → AllPass (message_checks form side bytes) → form ≡ form_at 0 bytes →
       is_error (kind_of form bytes) ≡ false →

@@ -96,7 +96,8 @@ pub reads_again : (side : Side) (bytes packet : List ℕ) → reading side bytes
 reads_again side bytes packet h = reads_of_passes side packet (passes_of_read side bytes packet h)
 
 -- A valid transport header has at least eight bytes.
-pub long_transport : (form : TransportForm) (payload : List ℕ) → has_bad_transport form payload ≡ false → 8 ≤ length payload
+pub long_transport : (form : TransportForm) (payload : List ℕ) → has_bad_transport form payload ≡ false →
+    8 ≤ length payload
 long_transport form payload h = grind (arith, common_steps, nat_tests)
 
 pub room_of : (side : Side) (bytes : List ℕ) → Passes side bytes → HasHeaders 0 bytes

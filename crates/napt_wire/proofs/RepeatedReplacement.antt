@@ -69,7 +69,8 @@ overwritten low high old (x ∷ xs) (y ∷ ys) bytes same edits =
 -- `again` are changes made after `first`, and `last` those made without them: all have the same offsets, and `again`
 -- and `last` write the same words.
 abbrev pub Again : List Change → List Change → List Change → Type 0
-Again first again last = (places first ≡ places last) × (places again ≡ places last) × (new_words again ≡ new_words last)
+Again first again last = (places first ≡ places last) × (places again ≡ places last) ×
+    (new_words again ≡ new_words last)
 
 pub again-twice : (low high : ℕ) (first again last : List Change) (bytes : List ℕ) → Again first again last →
     AreEdits low high bytes first → with_changes again (with_changes first bytes) ≡ with_changes last bytes
@@ -147,7 +148,8 @@ tcp_again a true place check first last v w x bytes after e h =
     rw e (refl, refl, ap (λ (n : ℕ). last ∷ n ∷ []) (h refl))
 tcp_again a false place check first last v w x bytes after e h = rw e (refl, refl, refl)
 
-numbers_again : (form : TransportForm) (end : DatagramEnd) (start address : ℕ) (old first last : Endpoint) (bytes after : List ℕ) →
+numbers_again : (form : TransportForm) (end : DatagramEnd) (start address : ℕ) (old first last : Endpoint)
+    (bytes after : List ℕ) →
     length after ≡ length bytes → address ≡ first.address → Stands (numbers form end start old first bytes) after →
     Again (numbers form end start old first bytes) (numbers form end start (read_end form end start address after) last
     after) (numbers form end start old last bytes)
@@ -156,7 +158,8 @@ numbers_again form end start address old first last bytes after h k g =
 
 -- Replacing an end that was replaced before writes the same words as if it had not been, also after other changes.
 pub end_again : (at : ℕ) (end : DatagramEnd) (first last : Endpoint) (bytes after : List ℕ) →
-    form_at at after ≡ form_at at bytes → transport_start at after ≡ transport_start at bytes → length after ≡ length bytes →
+    form_at at after ≡ form_at at bytes → transport_start at after ≡ transport_start at bytes →
+    length after ≡ length bytes →
     Stands (end_changes at end first bytes) after →
     Again (end_changes at end first bytes) (end_changes at end last after) (end_changes at end last bytes)
 unfolding end_changes
@@ -237,14 +240,17 @@ module _ (bytes : List ℕ) (small : (i : ℕ) → slice_index bytes i < 256) wh
       grind (arith, common_steps, nat_tests, udp_same, word_small, if_own, canon_same)
 
   end_own : (at : ℕ) (end : DatagramEnd) → word_at (at + 10) bytes < 65535 →
-      IsQuotedCanonical (protocol_of (form_at at bytes)) (transport_start at bytes) bytes → HasNumber (form_at at bytes) end →
+      IsQuotedCanonical (protocol_of (form_at at bytes)) (transport_start at bytes) bytes →
+      HasNumber (form_at at bytes) end →
       Stands (end_changes at end (end_at at end bytes) bytes) bytes
   unfolding end_changes
   end_own at end header canonical has =
       grind (arith, common_steps, nat_tests, stands-join, numbers, numbers_own, address_own)
 
-  own_source : PassesError Outside bytes → word_at 10 bytes < 65535 → word_at (transport_start 0 bytes + 2) bytes < 65535 →
-      word_at (inner_datagram_start bytes + 10) bytes < 65535 → IsQuotedCanonical (protocol_of (form_at (inner_datagram_start bytes) bytes))
+  own_source : PassesError Outside bytes → word_at 10 bytes < 65535 →
+      word_at (transport_start 0 bytes + 2) bytes < 65535 →
+      word_at (inner_datagram_start bytes + 10) bytes < 65535 →
+      IsQuotedCanonical (protocol_of (form_at (inner_datagram_start bytes) bytes))
       (transport_start (inner_datagram_start bytes) bytes) bytes →
       with_changes (reverted_changes Incoming (end_at (inner_datagram_start bytes) Source bytes) bytes) bytes ≡ bytes
   unfolding reverted_changes
@@ -270,7 +276,8 @@ small_at [] h i = omega arith
 small_at (x ∷ xs) h zero = All-head (λ (b : ℕ). b < 256) x xs h
 small_at (x ∷ xs) h (suc i) = small_at xs (All-tail (λ (b : ℕ). b < 256) x xs h) i
 
-canonical_at : (form : TransportForm) (bytes : List ℕ) → IsCanonicalAt (kind_of form bytes) bytes → HasNumber form Destination →
+canonical_at : (form : TransportForm) (bytes : List ℕ) → IsCanonicalAt (kind_of form bytes) bytes →
+    HasNumber form Destination →
     IsQuotedCanonical (protocol_of form) (transport_start 0 bytes) bytes
 canonical_at form bytes h k = grind (arith, common_steps, nat_tests)
 
@@ -375,7 +382,11 @@ module _ (side : Side) (way : Way) (first last : Endpoint) (bytes : List ℕ) (p
   check_new =
       let check = outside.0 in
       let same_news = quoted_again.2 in
-      cc (canon_twice (word_at (start + 2) bytes) (old_words quoted) (new_words quoted) (new_words only), again_olds, only_olds)
+      cc (
+        canon_twice (word_at (start + 2) bytes) (old_words quoted) (new_words quoted) (new_words only),
+        again_olds,
+        only_olds,
+      )
 
   all_again : Again (all_of at (start + 2) way first bytes) (all_of at (start + 2) way last after)
       (all_of at (start + 2) way last bytes)

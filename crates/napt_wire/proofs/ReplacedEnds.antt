@@ -54,7 +54,8 @@ module _ (at : ℕ) (end : DatagramEnd) (new : Endpoint) (bytes after : List ℕ
 -- A PACKET
 
 -- A packet from outside that is not an error has a number at its destination.
-pub comes_to : (form : TransportForm) (type : ℕ) → IsPlain form → not (is_translated_message Outside form type) ≡ false →
+pub comes_to : (form : TransportForm) (type : ℕ) → IsPlain form →
+    not (is_translated_message Outside form type) ≡ false →
     HasNumber form Destination
 comes_to form type h k = grind (arith, common_steps, nat_tests)
 
@@ -132,7 +133,8 @@ module _ (new : Endpoint) (bytes : List ℕ) (p : PassesError Outside bytes)
       let a : address 0 Source got ≡ address 0 Source bytes = long-stays 12 (reverted_changes Incoming new bytes) bytes
       (error-clear Outside Incoming new bytes p 12 4 (omega arith) (other_clear 0 Destination new.address bytes)) in
       let n : number_at (transport_start 0 got) (number_place (form_at 0 got) Source) got
-      ≡ number_at (transport_start 0 bytes) (number_place (form_at 0 bytes) Source) bytes = rw (form_got, p.form_is) refl in
+      ≡ number_at (transport_start 0 bytes) (number_place (form_at 0 bytes) Source) bytes =
+      rw (form_got, p.form_is) refl in
       λ i. record { address = a i; number = n i }
 
   pub is_given : IsErrorGiven bytes got new

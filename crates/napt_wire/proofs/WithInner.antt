@@ -46,7 +46,8 @@ pub record PassesError (side : Side) (bytes : List ℕ) : Type 0 where
   pub form_is : form_at 0 bytes ≡ Error
   pub right : sum (words (drop (transport_start 0 bytes) bytes)) % 65535 ≡ 0
   pub inner_good : GoodInner side (inner_datagram_start bytes) bytes
-  pub ports : has_zero_port (form_at (inner_datagram_start bytes) bytes) (transport_start (inner_datagram_start bytes) bytes) bytes ≡ false
+  pub ports : has_zero_port (form_at (inner_datagram_start bytes) bytes)
+      (transport_start (inner_datagram_start bytes) bytes) bytes ≡ false
 
 pub passes_error : (side : Side) (bytes : List ℕ) → Passes side bytes → form_at 0 bytes ≡ Error → PassesError side bytes
 passes_error side bytes p form_is = grind (arith, common_steps, nat_tests, residue_zero, good_inner)
@@ -153,7 +154,8 @@ module _ (side : Side) (way : Way) (new : Endpoint) (bytes : List ℕ) (p : Pass
   unfolding reverted_changes
   quoted-part begin size behind =
       ap (part begin size) (changed-append quoted (check ∷ outer) bytes)
-      ∙ part-changed_other begin size 0 (message + 4) (check ∷ outer) (with_changes quoted bytes) outer-within (omega arith)
+      ∙ part-changed_other begin size 0 (message + 4) (check ∷ outer) (with_changes quoted bytes) outer-within
+      (omega arith)
 
   outer_last : after ≡ with_changes outer (with_changes (quoted ++ check ∷ []) bytes)
   unfolding reverted_changes
@@ -259,7 +261,8 @@ ours_kept side Incoming new bytes p =
     end_address (inner_datagram_start bytes) Source new bytes _ (quoted-written side Incoming new bytes p).stands
     ∙ sym (outer_address side Incoming new bytes p)
 ours_kept side Outgoing new bytes p =
-    address_same (inner_datagram_start bytes) Destination new bytes _ (inner_room side (inner_datagram_start bytes) bytes p.inner_good)
+    address_same (inner_datagram_start bytes) Destination new bytes _
+    (inner_room side (inner_datagram_start bytes) bytes p.inner_good)
     (quoted-written side Outgoing new bytes p)
     ∙ same_number (address (inner_datagram_start bytes) Source bytes) (address 0 Destination bytes) p.inner_good.ours
     ∙ sym (long-stays 16 (reverted_changes Outgoing new bytes) bytes (error-clear side Outgoing new bytes p 16 4
@@ -306,7 +309,8 @@ quoted_form bytes start body quoted found h = body_error (form_at 0 bytes) bytes
 
 pub not_error : (bytes : List ℕ) (start : ℕ) (body : Body) → BodyIsFound bytes start body → form_at 0 bytes ≡ Error →
     ((quoted : Quoted) → body ≡ bodies.Error quoted → ⊥) → ⊥
-not_error bytes start body found e h = h (quoted_of bytes) (found.body_is ∙ ap (λ (f : TransportForm). body_of f bytes) e)
+not_error bytes start body found e h = h (quoted_of bytes)
+    (found.body_is ∙ ap (λ (f : TransportForm). body_of f bytes) e)
 
 pub error_found : (side : Side) (start : ℕ) (body : Body) (old new : List ℕ) →
     BodyIsFound old start body → form_at 0 old ≡ Error → KeepsError side old new → BodyIsFound new start body

@@ -12,5 +12,11 @@ pub use Rattle.napt_wire.specs.declared.{Way.TheVariants.{Outgoing, Incoming}, p
 pub use Rattle.napt_wire.specs.declared.{transport_form.DatagramEnd.TheVariants.{Source, Destination}, header_rewrite.Change.Change}
 unfoldable pub use Rattle.napt_wire.specs.{Checksum.{canon, canon_udp}, Reading.{reading, has_bad_inner}}
 unfoldable pub use Rattle.napt_wire.specs.Fields.{source, destination, kind, form_at, inner, local_end, flags}
-unfoldable pub use Rattle.napt_wire.specs.Rewriting.{end_changes, reverted_changes, with_destination, reverted, with_source}
+unfoldable pub use Rattle.napt_wire.specs.Rewriting.{
+  end_changes,
+  reverted_changes,
+  with_destination,
+  reverted,
+  with_source,
+}
 unfoldable pub use Rattle.napt_wire.specs.TransportChecksum.{transport_right}

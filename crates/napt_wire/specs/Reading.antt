@@ -89,7 +89,11 @@ abbrev pub error_checks : Side → List ℕ → List (Bool × Cause)
 error_checks side bytes =
     (not (is_right (words (drop (transport_start 0 bytes) bytes))), BadChecksum)
     ∷ (has_bad_inner side (inner_datagram_start bytes) bytes, BadInner)
-    ∷ (has_zero_port (form_at (inner_datagram_start bytes) bytes) (transport_start (inner_datagram_start bytes) bytes) bytes, BadPort) ∷ []
+    ∷ (
+      has_zero_port (form_at (inner_datagram_start bytes) bytes) (transport_start (inner_datagram_start bytes) bytes)
+          bytes,
+      BadPort,
+    ) ∷ []
 
 -- The checks on a message that follow the two on its transport header: those on an error, or those on the ports.
 abbrev pub message_checks : TransportForm → Side → List ℕ → List (Bool × Cause)

@@ -32,7 +32,8 @@ end_words end = end.address / 65536 ∷ end.address % 65536 ∷ end.number ∷ [
 -- The changes that replace an address of the datagram at `at`, and the header checksum, which covers that address.
 abbrev pub address_changes : ℕ → DatagramEnd → ℕ → List ℕ → List Change
 address_changes at end new bytes =
-    word_change bytes (at + 10) (canon (word_at (at + 10) bytes) (address_words (address at end bytes)) (address_words new))
+    word_change bytes (at + 10) (canon (word_at (at + 10) bytes) (address_words (address at end bytes))
+    (address_words new))
     ∷ word_change bytes (at + address_place end) (new / 65536)
     ∷ word_change bytes (at + address_place end + 2) (new % 65536) ∷ []
 

@@ -25,7 +25,8 @@ message_length at bytes = total_length at bytes - header_length at bytes
 abbrev pub checksummed_words : TransportForm → ℕ → List ℕ → Option (List ℕ)
 checksummed_words Udp at bytes =
     let size : ℕ = word_at (transport_start at bytes + 4) bytes in
-    if word_at (transport_start at bytes + 6) bytes == 0 || nat_lt size 8 || nat_lt (length bytes) (transport_start at bytes + size)
+    if word_at (transport_start at bytes + 6) bytes == 0 || nat_lt size 8
+    || nat_lt (length bytes) (transport_start at bytes + size)
     then None else Some (pseudo_words at size bytes ++ message_words at size bytes)
 checksummed_words Tcp at bytes =
     let size : ℕ = message_length at bytes in

@@ -170,7 +170,8 @@ impl Rewrite {
 
     /// Returns `check` after these changes, where it is a checksum that covers all the words.
     pub(crate) fn fix(&self, check: u16) -> u16
-        ensures { result ≡ canon check (old_words (changes_of self.now)) (new_words (changes_of self.now)) }
+        ensures { result ≡ canon check (old_words (changes_of self.now))
+            (new_words (changes_of self.now)) }
     {
         let fixed = self.address.fix(check);
         let fixed = fix_option(fixed, self.number);
@@ -181,7 +182,8 @@ impl Rewrite {
 /// Returns `check` after the change, if any, where it is a checksum that covers the word.
 fn fix_option(check: u16, change: Option<Change>) -> u16
     requires { check < 65535 }
-    ensures { result ≡ canon check (old_words (option_to_list change)) (new_words (option_to_list change)) }
+    ensures { result ≡ canon check (old_words (option_to_list change))
+        (new_words (option_to_list change)) }
 {
     match change {
         Some(change) => change.fix(check),

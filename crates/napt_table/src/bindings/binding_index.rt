@@ -291,14 +291,17 @@ impl BindingIndex {
     ) -> Result<Endpoint, Cause>
         requires { AreUsedUpTo packet.now self.old }
         ensures one { ChangesOne (external_key packet.protocol packet.number) self.old self.new }
-        ensures absent { seen_binding timers packet.now (held_at self.old packet.protocol packet.number)
+        ensures absent { seen_binding timers packet.now
+            (held_at self.old packet.protocol packet.number)
             ≡ None →
             (result ≡ Err NoBinding) × (held_at self.new packet.protocol packet.number
             ≡ held_at self.old packet.protocol packet.number) }
         ensures found { (b : Binding) →
-            seen_binding timers packet.now (held_at self.old packet.protocol packet.number) ≡ Some b →
+            seen_binding timers packet.now (held_at self.old packet.protocol packet.number)
+            ≡ Some b →
             (result ≡ inbound_answer inbound packet b)
-            × (held_at self.new packet.protocol packet.number ≡ Some (binding_after_inbound inbound packet b)) }
+            × (held_at self.new packet.protocol packet.number
+            ≡ Some (binding_after_inbound inbound packet b)) }
     {
         let key = ExternalNumberKey {
             number: packet.number,

@@ -41,7 +41,8 @@ impl Bindings {
         ensures timers { self.new.timers ≡ self.old.timers }
         ensures at { self.new.at ≡ self.old.at }
         ensures place { IsSamePlace self.old.held self.new.held }
-        ensures held { (key : Key) → held_binding self.new.held key ≡ cond (key_eq (key_of binding) key)
+        ensures held { (key : Key) → held_binding self.new.held key
+            ≡ cond (key_eq (key_of binding) key)
             (Some binding) (held_binding self.old.held key) }
     {
         let key = key_of(&binding);
@@ -102,7 +103,8 @@ impl Bindings {
         ensures timers { self.new.timers ≡ self.old.timers }
         ensures at { IfOk result (λ found.
             self.new.at ≡ cond (is_some found) packet.now self.old.at) }
-        ensures went { IfOk result (SendKnownPost self.old.timers packet self.old.held self.new.held) }
+        ensures went { IfOk result (SendKnownPost self.old.timers packet self.old.held
+            self.new.held) }
         ensures refused { OnErr result (BindingsUnchanged self.old self.new) }
     {
         let timers = self.timers;
@@ -140,7 +142,8 @@ impl Bindings {
         ensures room { OnOk result (BindingsHaveRoom self.new) }
         ensures flows { IfOk result (λ flows.
             live_flows self.old.timers packet.now packet.protocol flows ≡
-            change_first (is_flow_of packet.remote) (flow_after packet.protocol WayOut packet.flags packet.now)
+            change_first (is_flow_of packet.remote)
+            (flow_after packet.protocol WayOut packet.flags packet.now)
             (with_flow packet.remote packet.now [])) }
     {
         self.make_room(packet.protocol)?;
@@ -156,7 +159,8 @@ impl Bindings {
         requires absent { HasNoInside self.old.held packet.protocol packet.inside }
         requires block { IfSome packet.block IsPortBlock }
         requires flows { live_flows self.old.timers packet.now packet.protocol flows ≡
-            change_first (is_flow_of packet.remote) (flow_after packet.protocol WayOut packet.flags packet.now)
+            change_first (is_flow_of packet.remote)
+            (flow_after packet.protocol WayOut packet.flags packet.now)
             (with_flow packet.remote packet.now []) }
         ensures timers { self.new.timers ≡ self.old.timers }
         ensures at { self.new.at ≡ self.old.at }
@@ -194,7 +198,8 @@ impl Bindings {
         requires unseen { seen_binding self.old.timers packet.now
             (held_at self.old.held packet.protocol number) ≡ None }
         requires flows { live_flows self.old.timers packet.now packet.protocol flows ≡
-            change_first (is_flow_of packet.remote) (flow_after packet.protocol WayOut packet.flags packet.now)
+            change_first (is_flow_of packet.remote)
+            (flow_after packet.protocol WayOut packet.flags packet.now)
             (with_flow packet.remote packet.now []) }
         ensures timers { self.new.timers ≡ self.old.timers }
         ensures at { self.new.at ≡ self.old.at }

@@ -66,7 +66,8 @@ returns-clause-fault g c =
 
 pub returns-clause-too_many : goal.returns-clause-too_many
 returns-clause-too_many g c is =
-    few_ends g.G.Gate.is_open c.unlogged-told.result (stream_ended c.passed_if.result) (ends g c) (says g c).stop (ap stream_ended is)
+    few_ends g.G.Gate.is_open c.unlogged-told.result (stream_ended c.passed_if.result) (ends g c) (says g c).stop
+    (ap stream_ended is)
 
 pub returns-clause-gate : goal.returns-clause-gate
 returns-clause-gate g c is =

@@ -26,7 +26,8 @@ returns-clause-answer c =
     let le : t.bindings.at ≤ now = subst (λ (s : TableModel). s.at ≤ now) (sym c.self.view_is) c.requires.later in
     let ago = hold_ago t.bindings.timers now in
     let apart = c.self.invariant.state.sound.apart in
-    rw (← c.self.view_is) (first_agrees (λ n. is_some (seen_binding t.bindings.timers ago (held_at t.bindings.held protocol n)))
+    rw (← c.self.view_is) (first_agrees (λ n. is_some
+    (seen_binding t.bindings.timers ago (held_at t.bindings.held protocol n)))
     (λ n. is_some (by_number t.bindings.timers t.bindings.held.address ago protocol n (list_of t))) 1 65536
     (λ n small. sym (some_agree t.bindings.timers ago t.bindings.held.address protocol n (list_of t) apart
     (held_at t.bindings.held protocol n) (c.self.invariant.keeps.held protocol n ago

@@ -56,7 +56,8 @@ invariant_of-self c =
 
 pub returns-clause-value : goal.returns-clause-value
 unfolding reverted
-returns-clause-value c = held c ∙ ap (λ (bytes : List ℕ). with_changes (reverted_changes c.args.way c.args.end bytes) bytes)
+returns-clause-value c = held c ∙ ap (λ (bytes : List ℕ). with_changes (reverted_changes c.args.way c.args.end bytes)
+    bytes)
     c.self.view_is
 
 pub returns-clause-reads : goal.returns-clause-reads

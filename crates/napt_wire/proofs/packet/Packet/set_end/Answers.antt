@@ -37,7 +37,8 @@ invariant_of-self c =
     }
 
 pub returns-clause-value : goal.returns-clause-value
-returns-clause-value c = is_new c ∙ ap (λ (bytes : List ℕ). with_changes (end_changes 0 c.args.end c.args.new bytes) bytes)
+returns-clause-value c = is_new c ∙ ap (λ (bytes : List ℕ). with_changes (end_changes 0 c.args.end c.args.new bytes)
+    bytes)
     c.self.view_is
 
 pub returns-clause-reads : goal.returns-clause-reads
