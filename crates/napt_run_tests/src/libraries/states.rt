@@ -1,9 +1,7 @@
 //! A state with a line of each kind is written and read back; damaged texts are refused, with a line that says why.
 
-use napt_config::Config;
-use napt_rules::Misfit;
-use napt_state::{StateFileContents, read_state, take_up, write_state};
-use std::alloc::{AllocError, Global};
+use napt_state::{read_state, write_state};
+use std::alloc::Global;
 use std::io;
 use std::io::Write;
 use std::test::Fail;
@@ -22,10 +20,6 @@ const WITH_LOG: &str = "clock 1800000000000000000\n\
     entry 1 redirect tcp 10.0.0.9 80 203.0.113.1 8080 0 never 3 2305843009213693952 7 8\n\
     entry 17 binding udp 10.0.0.2 5001 203.0.113.1 1025 5 340282366920938463463374607431768211455 1 2 9 10\n\
     end 2 0 2\n";
-
-const TWO_LINES: &str = "binding udp 10.0.0.2 5001 203.0.113.1 1025 1000000000\n\
-    binding udp 10.0.0.2 5002 203.0.113.1 1027 0\n\
-    end 2 0\n";
 
 /// What is written of the state that a text says, or why the text is refused.
 fn written(alloc: Global, text: &str) -> io::Result<Vec<u8>> {
@@ -152,70 +146,5 @@ fn what_is_no_state_is_refused(rt: HostRuntime) -> Result<(), Fail> {
         format!(in rt.alloc(); "{fault}")?.as_str(),
         "line 1: not UTF-8"
     );
-    Ok(())
-}
-
-const CONFIG: &str = "pool = [\"203.0.113.1\"]\n\
-    inside = [\"10.0.0.0/8\"]\n\
-    [[redirect]]\n\
-    protocol = \"tcp\"\n\
-    inside = \"10.0.0.9:80\"\n\
-    external = 8080\n";
-
-/// The first reason against a state with these lines behind its clock.
-fn misfit(alloc: Global, lines: &str) -> Result<Option<Misfit>, AllocError> {
-    let text = format!(in alloc; "clock 1000000000\n{lines}")?;
-    let Ok(StateFileContents { mut state, .. }) = read_state(alloc, text.as_bytes()) else {
-        return Err(AllocError);
-    };
-    let Ok(config) = Config::read(alloc, CONFIG.as_bytes()) else {
-        return Err(AllocError);
-    };
-    match take_up(alloc, &config, &mut state)? {
-        Some((_, misfit)) => Ok(Some(misfit)),
-        None => Ok(None),
-    }
-}
-
-#[test]
-fn what_fits_is_taken_up(rt: HostRuntime) -> Result<(), Fail> {
-    let cases = [
-        (TWO_LINES, None),
-        (
-            "redirect udp 11.0.0.2 1 203.0.113.1 1 0\nbinding tcp 11.0.0.2 1 203.0.113.1 1 9\nend 2 0\n",
-            None,
-        ),
-        (
-            "binding udp 11.0.0.2 1 203.0.113.1 1 9\nend 1 0\n",
-            Some(Misfit::NotInside),
-        ),
-        (
-            "binding udp 10.0.0.2 1 203.0.113.2 1 9\nend 1 0\n",
-            Some(Misfit::NotPaired),
-        ),
-        (
-            "binding udp 10.0.0.2 0 203.0.113.1 1 9\nend 1 0\n",
-            Some(Misfit::NotItsNumber),
-        ),
-        (
-            "binding udp 10.0.0.2 1 203.0.113.1 1 1000000001\nend 1 0\n",
-            Some(Misfit::UsedLater),
-        ),
-        (
-            "binding udp 10.0.0.2 1 203.0.113.1 1 9\nflow 198.51.100.7 4 1 0 0 0 0 0\nflow 198.51.100.7 4 2 0 0 0 0 0\nend 1 2\n",
-            Some(Misfit::FlowsShare),
-        ),
-        (
-            "binding tcp 10.0.0.2 1 203.0.113.1 8080 9\nflow 198.51.100.7 4 9 1 1 0 0 0\nend 1 1\n",
-            Some(Misfit::Redirected),
-        ),
-        (
-            "binding udp 10.0.0.2 1 203.0.113.1 1 9\nbinding udp 10.0.0.3 1 203.0.113.1 1 9\nend 2 0\n",
-            Some(Misfit::Shared),
-        ),
-    ];
-    for (lines, wanted) in cases {
-        assert_eq!(rt; misfit(rt.alloc(), lines)?, wanted);
-    }
     Ok(())
 }
