@@ -3,10 +3,10 @@
 use crate::calls::TestRuntime;
 use crate::captures::{Call, Device, HEADER, RunInput, captured, failing, told};
 use crate::gates::{GateMode, Hold};
+use crate::samples::captures::{ONE_PACKET, WRITTEN};
 use napt_capture::{CaptureFault, FaultPlan, InjectedFault, WriteFault};
 use napt_pool::PoolFault;
 use napt_run::{Fault, RunFault, Which};
-use napt_samples::captures::{ONE_PACKET, WRITTEN};
 use napt_wire::Side;
 use std::test::Fail;
 

@@ -37,5 +37,6 @@ mod resumed_runs;
 #[cfg(test)]
 mod running_logs;
 pub mod sample_inputs;
+pub mod samples;
 #[cfg(test)]
 mod taken_answers;

@@ -3,12 +3,12 @@
 ghost use Rattle.std.specs.Prelude.{◌<◌, ◌*◌, ◌^◌, length, All, IfOk};
 ghost use Rattle.napt_capture.specs.Text.{IsWritable};
 
+use crate::packets::UDP_QUERY;
+use crate::samples::captures::{ONE_PACKET, WRITTEN};
 use napt_capture::{
     CaptureFault, FaultPlan, Faulty, InjectedFault, Record, Sink, Source, Watched, WriteFault,
     read_capture, write_capture, write_text,
 };
-use napt_samples::captures::{ONE_PACKET, WRITTEN};
-use napt_samples::packets::UDP_QUERY;
 use std::alloc::Global;
 use std::io;
 use std::io::{Read, Write};

@@ -1,6 +1,10 @@
 //! Dates around which the calendar is not plain, as Python's `datetime` has them, and a row, a line and an object of each
 //! kind.
 
+use crate::packets::UDP_QUERY;
+use crate::samples::captures::WRITTEN;
+use crate::samples::hosts::CLIENT;
+use crate::samples::settings::ONE_ADDRESS;
 use napt_account::{Entry, LogNote, Party, Shortage};
 use napt_config::Config;
 use napt_log_text::{
@@ -8,10 +12,6 @@ use napt_log_text::{
     TimeStamp, add_holder, add_mark, add_nobody, header,
 };
 use napt_rules::{Outcome, Row};
-use napt_samples::captures::WRITTEN;
-use napt_samples::hosts::CLIENT;
-use napt_samples::packets::UDP_QUERY;
-use napt_samples::settings::ONE_ADDRESS;
 use napt_sequential::Input;
 use napt_wire::{Cause, Endpoint, Packet, Protocol, Side};
 use std::alloc::Global;

@@ -1,7 +1,7 @@
 //! Which number an inside endpoint gets where its class is full. Others are told in `tests/calls` and `tests/numbers`.
 
+use crate::samples::hosts::host;
 use napt_config::NumberAssignment;
-use napt_samples::hosts::host;
 use napt_table::Numbers;
 use napt_wire::Protocol;
 use std::test::Fail;

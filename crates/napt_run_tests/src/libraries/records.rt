@@ -3,10 +3,10 @@
 ghost use Rattle.std.specs.Prelude.{◌<◌};
 
 use super::captures::{Shape, at_most, shape_of};
+use crate::samples::captures::ONE_PACKET;
 use napt_capture::{
     CaptureFault, FaultPlan, Faulty, InjectedFault, NextRead, RecordReader, Watched,
 };
-use napt_samples::captures::ONE_PACKET;
 use std::alloc::Global;
 use std::test::*;
 
