@@ -1,4 +1,4 @@
--- Many flows, when one begins, changes or goes.
+-- Flows in maps, when one begins, changes or is removed.
 use Rattle.std.proofs.lemmas.{Grind.common_steps, Bool.Decides.nat_tests}
 use Rattle.std.proofs.Common.{◌≡◌, ◌≢◌, ℕ, ◌+◌, ◌-◌, ◌≤◌, ◌⊎◌, inl, inr, true, false, cond, List, [], ◌∷◌, ◌++◌, length, set, get_or, Option, Some, None, slice_get, refl, sym, ◌∙◌, ap, arith, eqb, eqb-true}
 use Rattle.std.{specs.{List.list_any, HashMap.hash_map_len}, proofs.lemmas.Bool.{eq-eqb, and_from, and_parts, true≢false}}
@@ -18,7 +18,7 @@ endpoint_same a b e =
     (eq-eqb a.address b.address (ap (λ (x : Endpoint). x.address) e))
     (eq-eqb a.number b.number (ap (λ (x : Endpoint). x.number) e))
 
--- which of two a remote is
+-- Two endpoints are equal, or they differ.
 either : (a b : Endpoint) → ((a ≡ b) × (same_endpoint a b ≡ true)) ⊎ ((a ≢ b) × (same_endpoint a b ≡ false))
 either a b = grind (arith, common_steps, nat_tests, endpoint_is, endpoint_same)
 
@@ -54,7 +54,7 @@ no_place many remote is h = elim (place_of_remote many remote) as (λ o. place_o
   | Some i ↦ λ e. absurd (true≢false (sym (has_found many remote i is e) ∙ h))
 ] refl
 
--- WHAT IS KEPT
+-- WHAT DOES NOT CHANGE, AND THE INVARIANT
 
 pub same_many : (old new : FlowMaps) → FlowMapsInvariant old → new.slots.slots ≡ old.slots.slots →
     ((e : Endpoint) → place_of_remote new e ≡ place_of_remote old e) →

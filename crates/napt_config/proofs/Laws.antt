@@ -1,4 +1,4 @@
--- What a table configures keeps the rules of a configuration.
+-- The configuration of a table satisfies the rules of a configuration.
 use Rattle.std.proofs.lemmas.Grind.{common_steps}
 use Rattle.std.proofs.Common.{◌≡◌, ℕ, ◌+◌, ◌-◌, ◌%◌, ◌^◌, ◌<◌, ◌≤◌, ◌==◌, Bool, true, false, not, List, [], ◌∷◌, ◌++◌, length, get_or, Option, Some, None, Ok, nat_lt, nat_le, nat_cmp, is_some, refl, sym, ap, subst, ◌∙◌, ltb-true, leb-true, eqb-true, length-append, arith, All, IfSome, ok_or, codes}
 use Rattle.std.specs.{BTreeMap.insert_entry, List.{list_any, before_first, after_first, Sorted.IsStrictlySortedBy}, Map.{keys_of, values_of}}
@@ -175,7 +175,7 @@ block_size_at-keeps : (size : ℕ) (value : Data) → block_size_at value ≡ Ok
 unfolding block_size_at
 block_size_at-keeps size value is = grind (arith, common_steps, reads, holds, number_at-range, eqb-true)
 
--- a size of blocks, and what it asks of the rest of the table
+-- A valid size of blocks, and what it requires of the rest of the table.
 pub record SizeRules (pool : List ℕ) (inside : List PrefixModel) (table : Members) (size : ℕ) : Type 0 where
   pub is_size : IsSize size
   pub apart : are_prefixes_apart inside ≡ true
@@ -294,7 +294,7 @@ without_pairs pool inside table (Some size) kept = record {
 
 -- ---- the whole
 
--- the blocks that a table gives are blocks
+-- The blocks that a table gives satisfy `IsPortBlock`.
 pub blocks-keep : (table : Members) (pool : List ℕ) (inside : List PrefixModel) (hold : ℕ) (block : Option ℕ) →
     1 ≤ length pool → block_size_in pool inside hold table ≡ Ok block
     → (host : ℕ) → IfSome (block_in block inside (length pool) host) IsPortBlock
@@ -302,7 +302,7 @@ blocks-keep table pool inside hold block some is =
     block_in-is block inside pool [] some (without_pairs pool inside table block
     (block_size_in-keeps pool inside hold table block is))
 
--- what a table configures keeps the rules
+-- The configuration of a table satisfies the rules.
 pub configured-keeps : (table : Members) (rules : Rules) → configured table ≡ Ok rules → RulesInvariant rules
 unfolding configured
 configured-keeps table rules is =

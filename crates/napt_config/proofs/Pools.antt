@@ -14,7 +14,7 @@ found : (p : ℕ → Bool) (xs : List ℕ) → list_any p xs ≡ true → positi
 found p [] none = cc
 found p (x ∷ xs) some = first_or_later (p x) (list_any p xs) (position_or_len p xs) (length xs) some (found p xs)
 
--- an address of the pool has a place
+-- Every address of the pool has a place in it.
 pub position_of_member : (pool : List ℕ) (address : ℕ) → contains_address pool address ≡ true →
     IsSome (position (λ other. other == address) pool)
 position_of_member pool address member = rw (lt-ltb _ _ (found (λ other. other == address) pool member))
@@ -22,7 +22,7 @@ position_of_member pool address member = rw (lt-ltb _ _ (found (λ other. other 
 pub has-at : (pool : List ℕ) (i d : ℕ) → i < length pool → contains_address pool (get_or pool i d) ≡ true
 has-at pool i d lt = list_any_at (λ other. other == get_or pool i d) pool i d lt (eq-eqb _ _ refl)
 
--- no address stands twice
+-- No address is in the pool twice.
 abbrev pub AreDistinct : List ℕ → Type 0
 AreDistinct pool = (i j : ℕ) → i < length pool → j < length pool → get_or pool i 0 ≡ get_or pool j 0 → i ≡ j
 
@@ -39,7 +39,7 @@ has_either : (pool : List ℕ) (own : Option ℕ) (other : ℕ) → IfSome own (
 has_either pool None other of_own of_other = of_other
 has_either pool (Some external) other of_own of_other = of_own
 
--- the external address of a host is in the pool
+-- The external address of a host is in the pool.
 pub paired_in_pool : (block : Option ℕ) (inside : List PrefixModel) (pool : List ℕ) (pairs : List (ℕ × ℕ)) (host : ℕ) →
     1 ≤ length pool → All (λ external. contains_address pool external ≡ true) (values_of pairs)
     → contains_address pool (paired_address block inside pool pairs host) ≡ true

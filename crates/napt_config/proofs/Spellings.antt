@@ -1,4 +1,4 @@
--- What is spelled is read back, and what is read is spelled so.
+-- A value that is spelled is read back, and a text that is read is the spelling of its value.
 use Rattle.std.proofs.lemmas.Grind.{common_steps}
 use Rattle.std.proofs.Common.{◌≡◌, ℕ, zero, suc, ◌+◌, ◌-◌, ◌%◌, ◌^◌, ◌<◌, ◌≤◌, ◌==◌, ◌&&◌, ◌||◌, Bool, true, false, cond, not, List, [], ◌∷◌, ◌++◌, length, get_or, take, drop, Option, Some, None, nat_lt, nat_le, decimal, refl, sym, ap, ◌∙◌, inl, inr, le-leb, le-ltb, lt-ltb, ltb-true, leb-true, eq-eqb, eqb-true, ne_eqb, append_assoc, take-append-drop, arith, ok_or, option_and_then}
 use Rattle.std.specs.{Char.is_ascii_digit, Int.{w32, to_be_bytes}, List.{list_all, list_any, position_or_len, before_first, after_first}, Net.Grammar.IsDotted}
@@ -126,7 +126,7 @@ no_digit_is_slash c digit = grind (arith, nat_tests)
 no_digit_is_colon : (c : ℕ) → is_ascii_digit c ≡ true → is_colon c ≡ false
 no_digit_is_colon c digit = grind (arith, nat_tests)
 
--- what is read after a separator is not empty, so the separator is there
+-- A text with a number after the separator has the separator, since the number is not empty.
 separated : (p : ℕ → Bool) (least most n : ℕ) (text : List ℕ) → number_of least most (after_first p text) ≡ Some n →
     position_or_len p text < length text
 separated p least most n text read = grind (arith, common_steps, cases_lt, number_of-nothing)
@@ -141,7 +141,7 @@ both_read : {A : Type 0} (f : ℕ → ℕ → Option A) (first second : Option �
     second ≡ Some y → f x y ≡ r → option_and_then (λ x. option_and_then (f x) second) first ≡ r
 both_read f first second x y r first_is second_is made = rw (first_is, second_is) made
 
--- an address, a mark that stands in none, and a number
+-- An address, a separator that is no digit and no dot, and a number.
 module _ (at least most : ℕ) (bound : most < 2 ^ 64) (no_digit : (c : ℕ) → is_ascii_digit c ≡ true → (c == at) ≡ false)
     (no_dot : (46 == at) ≡ false) where
   marked_text-of : (text : List ℕ) (address n : ℕ) → address_of (before_first (λ c. c == at) text) ≡ Some address →

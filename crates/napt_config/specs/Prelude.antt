@@ -1,4 +1,4 @@
--- The words of this crate, for one import.
+-- All names of this crate's definitions, for one import.
 pub use Rattle.napt_config.specs.Configured.{number_between, each_in_order, item_count, optional, text_in, table_in, default_timers, required, first_in_order}
 pub use Rattle.napt_config.specs.{Fault.{◌>>=◌, ◌>>◌, require_rule}, declared.fault.ConfigFault.ConfigFault}
 pub use Rattle.napt_config.specs.Prefixes.{PrefixModel, host_index, IsPrefix, prefix_has, prefix_size, host_count, prefixes_have, are_prefixes_apart, TransportAddressModel, IsTransportAddress}

@@ -1,4 +1,4 @@
-//! Reading the redirects of a configuration's table.
+//! Reads the redirects of a configuration's table.
 ghost use Rattle.std.specs.Prelude.{◌≡◌, ◌≤◌, ℕ, length, IfSome};
 ghost use Rattle.toml.specs.View.{view, table_view, items_view};
 ghost use Rattle.napt_config.specs.{Fault.{ReadPost, MakePost, FirstFaultComesFirst}, Rules.{paired_address, block_in, may_redirect, share_inside, share_external, is_double, IsPortBlock}};
@@ -11,10 +11,10 @@ use std::alloc::Global;
 use std::collections::BTreeMap;
 use toml::{Table, Value};
 
-/// The most entries of `redirect`.
+/// The maximum number of entries of `redirect`.
 const MOST_REDIRECTS: usize = 256;
 
-/// Whether the protocol of an entry is TCP; else it is UDP.
+/// Returns whether the protocol of an entry is TCP; otherwise it is UDP.
 #[tactic(auto, unfolding(crate::specs::Configured::is_tcp_in, crate::specs::Configured::word_at_key))]
 fn is_tcp_in(keys: &Table) -> Result<bool, ConfigFault>
     ensures { ReadPost (λ tcp. tcp) result (is_tcp_in (table_view keys.now)) }
@@ -26,7 +26,7 @@ fn is_tcp_in(keys: &Table) -> Result<bool, ConfigFault>
     }
 }
 
-/// The transport address at a required key.
+/// Reads the transport address at a required key.
 #[tactic(auto, unfolding(crate::specs::Configured::transport_address_in))]
 fn transport_address_in(keys: &Table, key: &str) -> Result<TransportAddress, ConfigFault>
     ensures { ReadPost (λ socket. socket) result (transport_address_in key.now (table_view keys.now)) }
@@ -35,7 +35,7 @@ fn transport_address_in(keys: &Table, key: &str) -> Result<TransportAddress, Con
     TransportAddress::read(text).ok_or(ConfigFault::BadAddress)
 }
 
-/// The port at a required key.
+/// Reads the port at a required key, which must not be 0.
 #[tactic(auto, unfolding(crate::specs::Configured::port_in))]
 fn port_in(keys: &Table, key: &str) -> Result<u16, ConfigFault>
     ensures { ReadPost (λ port. port) result (port_in key.now (table_view keys.now)) }
@@ -43,7 +43,7 @@ fn port_in(keys: &Table, key: &str) -> Result<u16, ConfigFault>
     Ok(number_at(required(keys, key)?, 1, 65535)? as u16)
 }
 
-/// Whether a host may have the external port: if hosts have blocks, it is below 1024, or in the host's block.
+/// Returns whether a host may have the external port: with blocks, below 1024 or in its block.
 fn may_have(
     host: u32,
     external: u16,
@@ -60,7 +60,7 @@ fn may_have(
     blocks::may_redirect(own, external)
 }
 
-/// The redirect of an inside host in an entry.
+/// Reads the redirect in an entry, which must be of an inside host.
 #[tactic(auto, unfolding(crate::specs::Configured::redirect_in))]
 fn redirect_in(
     entry: &Value,
@@ -92,14 +92,14 @@ fn redirect_in(
     })
 }
 
-/// Whether both share an inside endpoint.
+/// Returns whether both have the same inside endpoint, whatever the protocol.
 fn share_inside(a: &Redirect, b: &Redirect) -> bool
     ensures { result ≡ share_inside a.now b.now }
 {
     a.address == b.address && a.port == b.port
 }
 
-/// Whether both share an external endpoint.
+/// Returns whether both have the same external endpoint, whatever the protocol.
 fn share_external(
     a: &Redirect,
     b: &Redirect,
@@ -118,7 +118,7 @@ fn share_external(
     a_address == b_address && a.external == b.external
 }
 
-/// Whether both are of one protocol and share an inside or an external endpoint.
+/// Returns whether both are of one protocol and share an inside or an external endpoint.
 fn is_double(
     a: &Redirect,
     b: &Redirect,
@@ -134,7 +134,7 @@ fn is_double(
     a.tcp == b.tcp && (share_inside(a, b) || share_external(a, b, block, inside, pool, pairs))
 }
 
-/// Whether one of the redirects clashes with a later one.
+/// Returns whether the later redirect is a double of one of the earlier ones.
 #[tactic(auto, unfolding(crate::specs::Configured::have_double_redirect))]
 fn have_double(
     earlier: &[Redirect],
@@ -215,8 +215,8 @@ fn redirects_at(
     Ok(redirects)
 }
 
-/// The redirects of the table: at most 256, each of an inside host; no two of one protocol share an inside or
-/// an external endpoint.
+/// Reads the redirects: at most 256, each of an inside host. No two of one protocol may share an
+/// inside or an external endpoint.
 #[tactic(auto, unfolding(crate::specs::Configured::redirects_in))]
 pub(crate) fn redirects(
     alloc: Global,

@@ -1,4 +1,4 @@
--- What the workers are left with shows what a run gives, and from what a run goes on.
+-- The workers, as they ended, hold the bindings and the state after the run.
 use Rattle.std.proofs.lemmas.{Grind.common_steps, Bool.Decides.nat_tests, Option.get_or_from_slice_get}
 use Rattle.std.proofs.Common.{◌≡◌, ℕ, zero, suc, ◌+◌, ◌<◌, ◌≤◌, max, List, [], ◌∷◌, ◌++◌, length, map, Result, Ok, refl, sym, ◌∙◌, ap, subst, arith, append-nil}
 use Rattle.std.{proofs.lemmas.List.{length-map, Folds.flat_map-map}, specs.Prelude.{slice_index, slice_index_or, flat_map, OnOk}}
@@ -101,7 +101,7 @@ module _ (f : TranslatorModel → List Leg → TranslatorModel) where
         ∙ ap rows_of (at_once address).agrees.same)) in
         rw (done.outcomes_are, shown, done.numbers_are, all) refl
 
-    -- and what they hand on
+    -- Their translators are those of the state after the run.
     pub workers_left : (passed : RunSummary) → passed.translators.items ≡ machines → passed.clock ≡ last →
         LeavesState rules (run_left_by rules start inputs) passed
     workers_left passed are at_last = record {
@@ -126,7 +126,7 @@ pub started_more : (rules : Rules) (start : State) (n : ℕ) → started_from ru
     ≡ started_from rules start n ++ with_local_state (initial_translator n rules) (local_bindings start (slice_index rules.pool n)) ∷ []
 started_more rules start n = let e : n + 1 ≡ suc n = omega arith in ap (started_from rules start) e
 
--- A STATE WITHOUT BINDINGS, from which a run goes on as from the redirects alone
+-- A STATE WITHOUT BINDINGS: a run from it is the run from the redirects alone
 
 nothing : (state : State) → state.clock ≡ 0 → state.list ≡ [] → state ≡ record { clock = 0; list = [] }
 nothing state at none = λ i. record { clock = at i; list = none i }
@@ -142,7 +142,7 @@ pub started_anew : (rules : Rules) (state : State) (starts : List TranslatorMode
 started_anew rules state starts at none is =
     is ∙ ap (λ (start : State). started_from rules start (length rules.pool)) (under_nothing rules state at none)
 
--- the rows of the workers as they ended, by their translators
+-- The rows of the ended workers are those of their translators.
 pub rows_shown : {A : Type 0} (last : ℕ) (bindings : List Row) (ended lent : List (Ended TranslatorModel Leg A)) →
     bindings ≡ flat_map (λ e. rows_after last e.machine) lent → lent ≡ ended →
     bindings ≡ flat_map (rows_after last) (map (λ e. e.machine) ended)

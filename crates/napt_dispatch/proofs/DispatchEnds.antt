@@ -1,4 +1,4 @@
--- What the end of a dispatch tells.
+-- What holds of the answers and the translators when dispatching ends.
 use Rattle.std.proofs.lemmas.{Grind.common_steps, Bool.Decides.nat_tests}
 use Rattle.std.proofs.Common.{◌≡◌, ℕ, zero, suc, ◌<◌, List, [], ◌∷◌, length, map, refl, sym, ap, ◌∙◌, arith, append-nil, length-append, inl, inr}
 use Rattle.std.{specs.Prelude.{slice_index, slice_index_or}, proofs.{lemmas.Bool.cases_eq, Math.{ListN.get_or-append, Seq.get_or-append_seam}}}
@@ -77,7 +77,7 @@ module _ {P : Type 0} (tells : Passage → P) {g : Ghosts TranslatorModel Leg (T
   replies_kept stepped_is reply_is s (leg ∷ legs) =
       rw (reply_is s leg, stepped_is s leg, replies_kept stepped_is reply_is (translator_after leg s) legs) refl
 
-  -- what the workers answered is right
+  -- If the workers answered with their translators, the answers are right.
   pub right_since : (rules : Rules) (start : State) (starts : List TranslatorModel) (offered : List (List Leg))
       (taken : List (List (TracedAnswer P))) → starts ≡ started_from rules start (length rules.pool) →
       taken ≡ zip_with (replies g) starts offered →
@@ -99,7 +99,7 @@ module _ {P : Type 0} (tells : Passage → P) {g : Ghosts TranslatorModel Leg (T
       (of_worker offered w)) in
       ([], append-nil (of_worker taken w) ∙ is)
 
-  -- so is what begins it
+  -- The same holds if only the first of their answers were taken.
   pub right_begin : (rules : Rules) (start : State) (starts : List TranslatorModel) (offered : List (List Leg))
       (taken : List (List (TracedAnswer P))) → starts ≡ started_from rules start (length rules.pool) →
       ArePrefixesOf taken (zip_with (replies g) starts offered) →

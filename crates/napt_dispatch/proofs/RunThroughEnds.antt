@@ -1,4 +1,4 @@
--- What a run from arrivals to departures comes to.
+-- The endings of a run from an input source to an outcome sink.
 use Rattle.std.proofs.lemmas.{Grind.common_steps, Bool.Decides.nat_tests, List.length-map}
 use Rattle.std.proofs.Common.{◌≡◌, ℕ, Bool, false, inr, List, [], ◌++◌, length, replicate, Option, MatchOption, refl, sym, ◌∙◌, ap, subst, arith, append-nil}
 use Rattle.napt_config.specs.Rules.{Rules}
@@ -13,7 +13,7 @@ use Rattle.napt_dispatch.proofs.{DispatchEnds.same_lengths, Passing.many_read, L
 use Rattle.napt_dispatch.{proofs.Standing.{begin_stands, all_taken, dispatched, left_right, right_before}, specs.declared.outcome_sink.InputResult.InputResult}
 use Rattle.napt_dispatch.specs.declared.dispatcher.DispatchEnd.TheVariants as endings
 
--- before the first input
+-- The invariant holds before the first input.
 pub begun : {P : Type 0} {tells : Passage → P} {M G : Type 0} (rules : Rules) (start : State)
     (pool : Pool M G Leg (TracedAnswer P)) (d : Dispatcher P) (workers : ℕ) → workers ≡ length rules.pool →
     d.queues ≡ replicate workers unused_queue → d.progress.left ≡ [] → d.progress.under_way ≡ [] → accepted_items pool ≡ replicate
@@ -32,7 +32,7 @@ module _ {P : Type 0} {tells : Passage → P} {M G : Type 0} {rules : Rules} {st
   stand_now = subst (λ all. DispatcherInvariant tells rules start inputs all (dispatcher_state later_pool later)) (append-nil inputs)
       (r.served start at [] (begun (inputs ++ [])))
 
-  -- as many workers as addresses
+  -- There are as many workers as external addresses.
   many_offered : length (accepted_items later_pool) ≡ length rules.pool
   many_offered = length-map _ accepted_of ∙ (sym (length-map _ machine_of) ∙ (sym r.sized ∙ stand_now.many))
 
@@ -99,7 +99,7 @@ module _ {P : Type 0} {tells : Passage → P} {A F S B M G : Type 0} {rules : Ru
           (stand_now at begun r.reads) r.reads.times_are right);
     }
 
-    -- and where there was a fault of dispatching
+    -- The ending if there was a fault of dispatching.
     pub ends_halted : (open_gate : Bool) (fault : RunFault) →
         ReadsToHalt tells rules hands ends takes fails is_settled pool d from before later_pool later left after
         open_gate fault → DispatchErr tells rules start hands ends takes fails is_settled from before later_pool left
@@ -123,7 +123,7 @@ module _ {P : Type 0} {tells : Passage → P} {A F S B M G : Type 0} {rules : Ru
               (departed_long tells rules start all));
         }
 
-    -- also where all left before it
+    -- The same ending if all outcomes had left before the fault.
     pub ends_after : (end : EndOfInputs F) →
         ReadsAll tells rules hands ends takes fails is_settled pool d from before later_pool later left after end →
         DispatchErr tells rules start hands ends takes fails is_settled from before later_pool left after

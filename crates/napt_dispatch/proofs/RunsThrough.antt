@@ -1,4 +1,4 @@
--- What a run passes on, by what dispatching came to and the answers that the workers were right to give.
+-- The result of a run, from the ending of dispatching and the right answers of the workers.
 use native.Mathlib.Omega.{arith}
 use Rattle.std.{proofs.lemmas.{Grind.common_steps, Bool.Decides.nat_tests}, specs.Prelude.{IfOk, OnErr}}
 use Rattle.std.proofs.Common.{◌≡◌, ℕ, List, [], ◌++◌, length, map, Option, None, Some, Result, Ok, Err, ◌∙◌, ap, subst, append-nil, inl, inr}
@@ -56,7 +56,7 @@ module _ {P : Type 0} {tells : Passage → P} {A F S B M G : Type 0} {rules : Ru
     failed = e.failed;
   }
 
-  -- where the run itself failed, however dispatching ended
+  -- The result if the run itself failed, however dispatching ended.
   passes_late : (end : Option F) (done : DispatchResult F B) →
       DispatchOk tells rules start hands ends takes fails is_settled from before pool left after end done →
       RunThroughErr tells rules start hands ends takes fails is_settled from before left after
@@ -98,7 +98,7 @@ module _ {P : Type 0} {tells : Passage → P} {A F S B M G : Type 0} {rules : Ru
     took = inl early.took;
   }
 
--- WHERE THE INPUTS COME OFF A LIST
+-- INPUTS FROM A LIST
 
 module _ {tells : Passage → NoTrace} {A F B M G : Type 0} (rules : Rules) (start : State) (list : A → List Arrival)
     (fails : OutcomeList → List (ℕ × InputResult NoTrace) → B → OutcomeList → Type 0) (is_settled : OutcomeList → Type 0)

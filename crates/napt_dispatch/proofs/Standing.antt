@@ -1,4 +1,4 @@
--- What stands while a dispatcher hands out the legs of a run.
+-- The invariant of dispatching is kept while the legs of a run are offered and answered.
 use Rattle.std.proofs.lemmas.{Grind.common_steps, Bool.Decides.nat_tests}
 use Rattle.std.proofs.Common.{◌≡◌, ◌≢◌, ℕ, zero, suc, ◌+◌, ◌<◌, ◌≤◌, ◌==◌, max, Bool, false, cond, List, [], ◌∷◌, ◌++◌, length, map, replicate, Option, Some, None, option_to_list, Ok, Err, refl, sym, ◌∙◌, ap, subst, arith, inl, inr, append_assoc, append-nil, length-append}
 use Rattle.std.{specs.Prelude.{IfSome, drop, flat_map, slice_index, slice_get, slice_set}, proofs.lemmas.Bool.{cases_eq, eq-eqb, ne_eqb}}
@@ -27,9 +27,9 @@ use Rattle.napt_sequential.specs.{declared.{leg_trace.TracedAnswer.TracedAnswer,
 use Rattle.napt_sequential.{specs.{Steps.{steps_of, traced_replies}, Traces.{passage_of, traces_of}}, proofs.{JoinedSteps.{steps_get, refused_trace}, TracesAlone.right_told}}
 use Rattle.napt_sequential.{proofs.TracedLegs.{IsTraced, IsPlaced, legs_traced}, specs.declared.passage.Passage.Passage}
 
--- FRONTS
+-- PREFIXES
 
--- a front that is short enough is a front of the front
+-- A prefix of an appended list that is no longer than its first part is a prefix of that part.
 short_front : {X : Type 0} (xs ys : List X) (zs : List X) → length xs ≤ length ys → IsFrontOf xs (ys ++ zs) →
     IsFrontOf xs ys
 short_front [] ys zs le h = (ys, refl)
@@ -53,7 +53,7 @@ replies_more {P} tells rules address (l ∷ legs) more kept =
     let rest = replies_more tells rules address legs more (local_after rules address l kept) in
     (rest.0, ap (λ (xs : List (TracedAnswer P)). traced_by tells rules address l kept ∷ xs) rest.1)
 
--- answers that are right at last were right before
+-- If the last answers are right, so were those taken before.
 pub right_before : {P : Type 0} {tells : Passage → P} {M G : Type 0} (rules : Rules) (start : State)
     (done all : List Arrival) (pool last_pool : Pool M G Leg (TracedAnswer P))
     (d : Dispatcher P) → DispatcherInvariant tells rules start done all (dispatcher_state pool d) → PoolGrows pool last_pool →
@@ -75,13 +75,13 @@ right_before {P} {tells} rules start done all pool last_pool d s grows right = �
     short_front lane.taken (traced_replies tells rules address lane.offered (local_bindings start address)) others.0
     (omega (arith, long, parts, o.long)) whole
 
--- a front of a front
+-- The first part of a prefix is a prefix.
 front_less : {X : Type 0} (xs ys zs : List X) → IsFrontOf (xs ++ ys) zs → IsFrontOf xs zs
 front_less xs ys zs h = (ys ++ h.0, sym (append_assoc xs ys h.0) ∙ h.1)
 
 -- ONE LANE
 
--- what was offered to a worker begins its legs of the whole run
+-- The legs offered to a worker are the first of its legs of the whole run.
 offered_front : {P : Type 0} {tells : Passage → P} (rules : Rules) (start : State) (done all : List Arrival)
     (state : DispatcherModel P) → DispatcherInvariant tells rules start done all state → DispatcherReaches tells rules start done all state →
     (w : ℕ) → w < length rules.pool → IsFrontOf (state.lane w).offered
@@ -101,7 +101,7 @@ offered_front rules start done all state s r w lt =
       ) refl,
     )
 
--- a lane and the progress of the inputs change, so that what stands goes on standing
+-- A lane and the progress of the inputs change such that the invariant of the lane is kept.
 pub record LaneKeeps {P : Type 0} (tells : Passage → P) (rules : Rules) (start : State) (all : List Arrival) (w : ℕ)
     (one two : Lane P) (progress later : List (InputProgress P)) : Type 0 where
   pub stands : LaneStands one → LaneStands two
@@ -144,7 +144,7 @@ lane_keeps {tells = tells} w state later one two lt many was is others step = λ
           };
     }
 
--- the queues of one worker, and perhaps what it was offered and answered
+-- The queues of one worker change, and so may the legs offered to it and the answers taken from it.
 pub queues_keep : {P : Type 0} {tells : Passage → P} (w : ℕ) (d later : Dispatcher P)
     (change : WorkerQueueModel → WorkerQueueModel) (offered more : ℕ → List Leg)
     (taken answers : ℕ → List (TracedAnswer P)) → w < length d.queues → later.queues ≡ with_queue w change d.queues →
@@ -171,7 +171,7 @@ queues_keep w d later change offered more taken answers lt is others step =
     })
     step
 
--- only more is known, or as much, after some inputs
+-- The invariant is kept if at least as much is known after the same inputs.
 pub known_stands : {P : Type 0} {tells : Passage → P} (rules : Rules) (start : State) (done all : List Arrival)
     (many : ℕ) (lane : ℕ → Lane P) (progress later : List (InputProgress P)) →
     (AllKnown (whole_of tells rules start all) progress → AllKnown (whole_of tells rules start all) later) →
@@ -181,7 +181,7 @@ known_stands rules start done all many lane progress later known s = grind (arit
 
 -- AN OFFER
 
--- the first legs of the next message are counted as offered
+-- The first legs of the next message are counted as offered.
 pub offers_keep : {P : Type 0} {tells : Passage → P} (rules : Rules) (start : State) (all : List Arrival) (w : ℕ)
     (legs : List Leg) (offered : List Leg)
     (taken : List (TracedAnswer P)) (q : WorkerQueueModel) (progress : List (InputProgress P)) → q.ready ≡ legs ++ drop
@@ -213,7 +213,7 @@ offers_keep {tells = tells} rules start all w legs offered taken q progress read
       known = λ o right front known. known;
     }
 
--- WHAT IS HELD FIRST
+-- THE FIRST HELD ENTRY
 
 resolves_known : {P : Type 0} (whole : RunLegs P) (front : QueueHead) (window later : RunProgressModel P) (second : Option Leg) →
     queue_waits (progress_in window) front ≡ false → Resolves front window second later →
@@ -239,7 +239,7 @@ first_stands whole (Place number ∷ rest) window later (Some leg) goes is known
     ap (λ ls. ls ++ flat_map (resolved_legs whole.acts) rest)
     (second_known whole (progress_in window) number (Some leg) goes is.asks known)
 
--- it becomes a leg of the next message, or was a placeholder that stands for none
+-- It becomes a leg of the next message, or it was a placeholder without a leg.
 pub readied_keeps : {P : Type 0} {tells : Passage → P} (rules : Rules) (start : State) (all : List Arrival) (w : ℕ)
     (offered : List Leg) (taken : List (TracedAnswer P)) (q : WorkerQueueModel) (window later : RunProgressModel P) (second : Option Leg) →
     queue_waits (progress_in window) (front_of q.held) ≡ false → Resolves (front_of q.held) window second later →
@@ -262,7 +262,7 @@ each_at : (P : LegAct → Type 0) (address : ℕ) (acts : List LegAct) → Each 
 each_at P address [] h = tt
 each_at P address (a ∷ acts) h = grind (arith, common_steps, nat_tests, each_at P address acts h.1)
 
--- the act of a leg and what is told of it, which stand at one place
+-- The act of a leg and the traced answer to it, which have the same index.
 pub record ActOf {P : Type 0} (tells : Passage → P) (timers : Timers) (Q : LegAct → Type 0) (leg : Leg) (told : TracedAnswer P)
     : Type 0 where
   pub a : LegAct
@@ -309,7 +309,7 @@ get_map f [] n x h = cc
 get_map f (y ∷ xs) zero x h = let same : y ≡ x = cc (h) in ap (λ z. Some (f z)) same
 get_map f (y ∷ xs) (suc n) x h = get_map f xs n x h
 
--- what is told of an act, and what is known of its input then
+-- The record of an act, and what is then known of its input.
 module _ {P : Type 0} (tells : Passage → P) (rules : Rules) (start : State) (all : List Arrival) (a : LegAct)
     (said : Tells rules start all a)
   where
@@ -328,7 +328,7 @@ module _ {P : Type 0} (tells : Passage → P) (rules : Rules) (start : State) (a
     abbrev legs_here : List Leg
     legs_here = second_legs number (effect_from rules start all).acts
 
-    -- the input came to that, if the leg told its outcome
+    -- If the answer gave the input's outcome, it is the run's.
     abbrev Departs : P → P → Option Outcome → Type 0
     Departs first second outcome = IfSome (departed_with a.leg.now first second outcome)
         (λ d. slice_get whole_here.departed number ≡ Some d)
@@ -339,7 +339,7 @@ module _ {P : Type 0} (tells : Passage → P) (rules : Rules) (start : State) (a
         Departs first second outcome
     departs first second one two outcome h = grind (arith, common_steps, nat_tests, get_map, steps_get)
 
-    -- or its packet goes onward
+    -- If the packet goes onward, there is no outcome yet.
     onward : (first second : P) (place : ℕ) (packet : List ℕ) → a.end ≡ ends.Onward place packet →
         Departs first second (outcome_of_end a.end)
     onward first second place packet is = rw is tt
@@ -358,12 +358,12 @@ module _ {P : Type 0} (tells : Passage → P) (rules : Rules) (start : State) (a
         Departs first second (outcome_of_end a.end) → IsKnownNow (first, second)
     known_now first second is departs = grind (arith, common_steps, nat_tests, first_known, is_outgoing, second_asked)
 
-    -- a first leg
+    -- The answer is to a first leg.
     first_told : (way : Way) → a.leg.way ≡ way → NoneBehind way legs_here →
         IsPlaced rules.timers trace legs_here a → IsKnownNow (did, tells Nothing)
     first_told way goes none only = grind (arith, common_steps, nat_tests, known_now, first_there, departs, onward)
 
-    -- the second
+    -- The answer is to a second leg.
     second_told : (first : P) → slice_get whole_here.firsts number ≡ Some first →
         ((leg : Leg) × (legs_here ≡ leg ∷ [])) → IsPlaced rules.timers trace legs_here a → IsKnownNow (first, did)
     second_told first is some only =
@@ -451,7 +451,7 @@ module _ {P : Type 0} (tells : Passage → P) (rules : Rules) (start : State) (a
         (now_told owed) (answer_known was is o right front (known told.answer.number was there)) known;
   }
 
--- ONE INPUT MORE
+-- ONE MORE INPUT
 
 single_by : (rules : Rules) (at : ℕ) (leg : Leg) (first : LegEffect) (e : End) →
     ((place : ℕ) (packet : List ℕ) → e ≢ ends.Onward place packet) → (with_second_leg rules at leg first e).acts
@@ -461,11 +461,11 @@ single_by rules at leg first e n = grind (arith, common_steps, nat_tests)
 from_inside : (side : Side) → way_from side ≡ Outgoing → side ≡ Inside
 from_inside side h = grind (arith, common_steps, nat_tests)
 
--- no address occurs twice
+-- No address occurs twice.
 abbrev Distinct : List ℕ → Type 0
 Distinct pool = (i j : ℕ) → i < length pool → j < length pool → slice_index pool i ≡ slice_index pool j → i ≡ j
 
--- by the addresses of workers as by their places
+-- Comparing the addresses of workers is comparing their indices.
 same_test : (pool : List ℕ) → Distinct pool → (v w : ℕ) → v < length pool → w < length pool →
     (slice_index pool w == slice_index pool v) ≡ (v == w)
 same_test pool distinct v w lv lw = grind (arith, common_steps, nat_tests, cases_eq, eq-eqb, ne_eqb)
@@ -478,12 +478,12 @@ legs_behind : (acts : List LegAct) (legs : List Leg) (rest : List PendingLeg) �
 legs_behind acts [] rest = refl
 legs_behind acts (leg ∷ legs) rest = ap (λ (ls : List Leg). leg ∷ ls) (legs_behind acts legs rest)
 
--- all that is held, as legs
+-- All held entries, as legs.
 legs_held : (acts : List LegAct) (q : WorkerQueueModel) →
     flat_map (resolved_legs acts) (all_held q) ≡ q.ready ++ flat_map (resolved_legs acts) q.held
 legs_held acts q = legs_behind acts q.ready q.held
 
--- one worker holds more
+-- More is held for one worker.
 lane_more : {P : Type 0} (acts : List LegAct) (offered : List Leg) (taken : List (TracedAnswer P)) (q later : WorkerQueueModel)
     (more : List PendingLeg) →
     HoldPost more q later → lane_legs acts (record { offered = offered; taken = taken; queue = later })
@@ -510,7 +510,7 @@ module _ {P : Type 0} (tells : Passage → P) (rules : Rules) (start : State) (d
   abbrev at_place : ℕ → ℕ
   at_place v = slice_index rules.pool v
 
-  -- the same, but for more that is held and known, with the legs of one input more
+  -- The invariant is kept if what is newly held and known has the legs of one more input.
   grown_stands : (extra : ℕ → List PendingLeg) → length later.queues ≡ length d.queues →
       AllHold extra d.queues later.queues →
       ((v : ℕ) → v < length rules.pool → legs_at (at_place v) (effect_from rules start now_done).acts ≡ legs_at
@@ -572,7 +572,7 @@ module _ {P : Type 0} (tells : Passage → P) (rules : Rules) (start : State) (d
         (served_at rules (way_from input.side) packet == at_place v) ≡ (v == w)
     same_first v lt = rw (← served) (same_test rules.pool distinct v w lt within)
 
-    -- its first leg alone
+    -- The input has its first leg alone.
     pub alone_stands : (input.side ≡ Inside → pool_place rules (destination packet).address ≡ None) →
         length later.queues ≡ length d.queues →
         AllHold (λ v. only_at w (Ready leg_of ∷ []) v ++ []) d.queues later.queues →
@@ -603,7 +603,7 @@ module _ {P : Type 0} (tells : Passage → P) (rules : Rules) (start : State) (d
         ) refl)
         (λ known. rw same known) s
 
-    -- with a place for the second
+    -- The input also has a placeholder for its second leg.
     pub placed_stands : (to : ℕ) → to < length rules.pool → at_place to ≡ (destination packet).address →
         input.side ≡ Inside → length later.queues ≡ length d.queues →
         AllHold (λ v. only_at w (Ready leg_of ∷ []) v ++ only_at to (Place number ∷ []) v) d.queues later.queues →
@@ -623,7 +623,7 @@ module _ {P : Type 0} (tells : Passage → P) (rules : Rules) (start : State) (d
         ) refl)
         (λ known. rw same known) s
 
--- an input that is dropped before any leg
+-- An input that is dropped before any leg.
 pub refused_admits : {P : Type 0} {tells : Passage → P} (rules : Rules) (number now : ℕ) (input : Arrival)
     (d later : Dispatcher P) (cause : Cause) →
     Distinct rules.pool → admission rules input ≡ Err cause → later.queues ≡ d.queues →
@@ -632,7 +632,7 @@ pub refused_admits : {P : Type 0} {tells : Passage → P} (rules : Rules) (numbe
 refused_admits rules number now input d later cause distinct is queues written =
     grind (arith, common_steps, nat_tests, refused_stands)
 
--- an input with a first leg, and perhaps a place for its second
+-- An input with a first leg, and perhaps a placeholder for its second.
 pub admitted_admits : {P : Type 0} {tells : Passage → P} (rules : Rules) (number now : ℕ) (input : Arrival)
     (d later : Dispatcher P) (packet : List ℕ)
     (w : ℕ) → Distinct rules.pool → OnwardIsForeseen → IsPacket packet → admission rules input ≡ Ok packet →
@@ -680,7 +680,7 @@ begin_stands rules start inputs offered taken d is no_legs no_answers progress =
 
 -- THE END
 
--- all answers were taken
+-- All answers were taken.
 pub all_taken : {P : Type 0} (lane : Lane P) → LaneStands lane → lane.queue.owed ≡ [] → length lane.taken
     ≡ length lane.offered
 all_taken lane o none = grind (arith, common_steps, nat_tests, length-map, length-append)
@@ -693,11 +693,11 @@ module _ {P : Type 0} {tells : Passage → P} (rules : Rules) (start : State) (i
   abbrev whole : RunLegs P
   whole = whole_of tells rules start inputs
 
-  -- what left is the front of what the run gives
+  -- The results that were written are the first ones of the run.
   pub left_right : IsFrontOf d.progress.left (timed_results inputs (input_results tells rules start inputs))
   left_right = left_front whole d.progress inputs times (s.reaches right).known (departed_long tells rules start inputs)
 
-  -- all of it, where no input is open
+  -- They are all of the run's results if no input is open.
   pub dispatched : length offered ≡ length rules.pool → DispatcherIsDone d → d.progress.under_way ≡ [] →
       (d.progress.left ≡ timed_results inputs (input_results tells rules start inputs))
       × IsDispatchedFrom rules start inputs offered (map collected_outcome d.progress.left) (counts_in d.queues)

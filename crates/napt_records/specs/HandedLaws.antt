@@ -1,4 +1,4 @@
--- Handing out nothing changes nothing, and inputs handed out in two parts are handed out in one.
+-- Returning no input changes nothing, and inputs that are returned in two parts are returned in one.
 use Rattle.std.{specs.Prelude.{List, [], ◌++◌, Option, None, Some}, proofs.Common.{refl, sym, ap, ◌∙◌, append_assoc}}
 use Rattle.std.proofs.lemmas.List.Elements.{All-append, All-nil}
 use Rattle.napt_capture.specs.declared.device.Source.{Ghosts}

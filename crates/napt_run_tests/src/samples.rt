@@ -1,5 +1,4 @@
-//! Hosts, captures and the texts of configurations. All values are from outside: nothing here is computed by the libraries, which the
-//! tests compare with it.
+//! Values that tests share: hosts, captures and configurations. No library computes them: tests compare them with its results.
 
 pub mod captures;
 pub mod hosts;

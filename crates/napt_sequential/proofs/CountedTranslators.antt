@@ -1,4 +1,4 @@
--- The translators after a leg, at its address and at the others.
+-- The translators after a leg: the one at its address, and the others.
 use Rattle.std.proofs.lemmas.{Grind.common_steps, Bool.Decides.nat_tests, Option.{slice_get_within, slice_get-get_or, get_or_from_slice_get, same_Some}}
 use Rattle.std.proofs.Common.{◌≡◌, ◌≢◌, ℕ, ◌+◌, ◌≤◌, true, false, List, [], ◌∷◌, ◌++◌, map, length, cond, Some, refl, sym, ◌∙◌, ap, subst, arith, eqb, eq-eqb, append-nil, get_or, set}
 use Rattle.std.{specs.List.slice_get, proofs.lemmas.{Bool.{ne_eqb, eqb-true, eqb-false}, List.{length-set, Elements.filter-append}}}
@@ -9,7 +9,7 @@ use Rattle.napt_sequential.{specs.declared.counted_translator.CountedTranslator.
 use Rattle.napt_sequential.specs.CountedTranslators.{SequentialRunModel, IsCountedTranslator, AreCountedTranslators, act_of, act_there, traced_act, traced_answer, state_after, counted_after}
 use Rattle.napt_laws.proofs.RunsLocal.{leg_at_once, other_at_once}
 
--- one leg more, at its address and at another
+-- One more leg, at its own address and at another one.
 legs_more : (address : ℕ) (acts : List LegAct) (a : LegAct) → a.address ≡ address → length (legs_at address (acts ++ a ∷ []))
     ≡ length (legs_at address acts) + 1
 legs_more address [] a here = ap (λ v. length (map (λ (x : LegAct). x.leg) (cond v (a ∷ []) [])))
@@ -27,7 +27,7 @@ legs_other address acts a differ = grind (arith, common_steps, nat_tests, filter
 module _ (rules : Rules) (place address : ℕ) (at : get_or rules.pool place 0 ≡ address) (state : SequentialRunModel)
     (counted : CountedTranslator) (is : IsCountedTranslator rules place address state counted) (leg : Leg)
     (later : state.clock ≤ leg.now) where
-  -- the translator of the address
+  -- The translator of the leg's address.
   pub own_told : traced_answer (λ passage. passage) leg counted.translator
       ≡ traced_act (λ passage. passage) rules.timers (act_of address leg (act rules address leg state.list))
   own_told =
@@ -50,7 +50,7 @@ module _ (rules : Rules) (place address : ℕ) (at : get_or rules.pool place 0 �
         ap (λ n. n + 1) is.legs ∙ sym one;
   }
 
--- the translator of another address
+-- The translator of another address.
 pub other_counted : (rules : Rules) (place address : ℕ) (state : SequentialRunModel) (counted : CountedTranslator) →
     IsCountedTranslator rules place address state counted → (at : ℕ) → address ≢ at → (leg : Leg) →
     state.clock ≤ leg.now → IsCountedTranslator rules place address (state_after rules at leg state) counted
@@ -65,7 +65,7 @@ other_counted rules place address state counted is at differ leg later = record 
 
 -- ALL TRANSLATORS
 
--- an address has one place
+-- No two places of the pool have the same address.
 apart_places : (rules : Rules) → RulesInvariant rules → (i j a b : ℕ) → slice_get rules.pool i ≡ Some a →
     slice_get rules.pool j ≡ Some b → j ≢ i → b ≢ a
 apart_places rules keeps i j a b at_i at_j ne = λ e.
@@ -76,7 +76,7 @@ module _ (rules : Rules) (keeps : RulesInvariant rules) (state : SequentialRunMo
     (are : AreCountedTranslators rules state translators) (place address : ℕ)
     (at : slice_get rules.pool place ≡ Some address) (leg : Leg) (later : state.clock ≤ leg.now)
     (default : CountedTranslator) where
-  -- the translator of the place
+  -- The translator of the place.
   abbrev counted : CountedTranslator
   counted = get_or translators place default
 

@@ -1,4 +1,4 @@
--- What the translators are left with, one after another.
+-- The bindings of all translators after a run, one translator after another.
 use Rattle.std.proofs.lemmas.{Grind.{flat_map-append}, Bool.{cases_lt}, List.length_push, Option.{slice_get_within, slice_get_cases, same_Some}}
 use Rattle.std.{proofs.Common.{◌≡◌, ℕ, max, List, [], ◌∷◌, ◌++◌, length, refl, sym, ◌∙◌, ap, subst, arith, inl, inr, append-nil}, specs.{Prelude.flat_map}}
 use Rattle.napt_config.specs.Rules.{Rules}
@@ -41,7 +41,7 @@ one_left now translators counted made part left ordered = record {
   ];
 }
 
--- a counted translator is left with the bindings of the state at its address
+-- A counted translator has the bindings of the state at its address.
 left_there : (rules : Rules) (state : State) (inputs : List Arrival) (place address : ℕ) (counted : CountedTranslator) →
     IsCountedTranslator rules place address (state_from rules state inputs) counted → (part : List Binding) →
     (let now : ℕ = last_clock state.clock inputs in

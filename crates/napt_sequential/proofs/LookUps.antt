@@ -1,4 +1,4 @@
--- Look-ups after a leg find the binding that it went through.
+-- Look-ups after a leg find the binding that its packet used.
 use Rattle.std.{proofs.Common.{◌≡◌, ℕ, max, List, Option, Some, None, Result, Ok, Err, refl, sym, ◌∙◌, ap, arith}, specs.Option.option_map}
 use Rattle.napt_wire.specs.declared.{Protocol.Protocol, Way.{Way, TheVariants.{Outgoing, Incoming}}, Cause.Cause, Endpoint.Endpoint, Flags.Flags, Kind.Kind}
 use Rattle.napt_wire.specs.{declared.Kind.TheVariants.{Udp, Tcp, Echo, ErrorOf}, Fields.{source, destination, kind}}
@@ -81,7 +81,7 @@ module _ (rules : Rules) (t : AreTimers rules.timers) (address : ℕ) (leg : Leg
   found_act Incoming Echo = comes protocols.Icmp no_flags
   found_act Incoming (ErrorOf inner) = refl
 
--- AT A TRANSLATOR, whose time is that of the leg then, but for an error, which goes through none
+-- AT A TRANSLATOR, whose time is that of the leg then, except after an ICMP error, which uses no binding
 
 module _ (rules : Rules) (address : ℕ) (leg : Leg) (at : ℕ) (left : List Binding) (end : End) where
   abbrev found_at : Kind → ℕ → Passage

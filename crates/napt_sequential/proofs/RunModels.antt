@@ -1,4 +1,4 @@
--- The translators after all inputs have the bindings and counts of the run.
+-- The translators after all inputs have the bindings of the run and the numbers of its legs.
 use Rattle.std.{proofs.{lemmas.{Grind.common_steps, Bool.Decides.nat_tests}, Common.{◌≡◌, ℕ, List, length, map, refl, ◌∙◌, ap, arith}}, specs.Prelude.flat_map}
 use Rattle.napt_config.specs.Rules.{Rules}
 use Rattle.napt_rules.specs.{declared.{Row.Row, Outcome.Outcome}, Prelude.{bindings_at, Arrival, rows, last_clock, legs_at, RunResult, State, effect_from, run_result_from}}

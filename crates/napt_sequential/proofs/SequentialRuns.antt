@@ -1,4 +1,4 @@
--- A run whose inputs come one at a time: one more of them, and what is left after all.
+-- A run that gets one input at a time: one more input, and the state after all inputs.
 use Rattle.std.proofs.lemmas.{Grind.common_steps, Bool.Decides.nat_tests}
 use Rattle.std.{proofs.Common.{◌≡◌, ℕ, ◌+◌, ◌^◌, ◌<◌, ◌≤◌, max, List, [], ◌∷◌, ◌++◌, length, map, refl, ◌∙◌, ap, arith}, specs.Prelude.flat_map}
 use Rattle.napt_config.specs.Rules.{Rules}
@@ -32,7 +32,7 @@ module _ (rules : Rules) (state : State) (before : List Arrival) (input : Arriva
     pub tells_last : StepPost rules state before input told
     tells_last = grind (arith, common_steps, nat_tests, goes_on, traces_grow, at)
 
--- AFTER ALL
+-- AFTER ALL INPUTS
 
 module _ (rules : Rules) (state : State) (inputs : List Arrival) (it : SequentialRun)
     (stands : SequentialRunInvariant rules state inputs it) where

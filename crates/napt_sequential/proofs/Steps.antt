@@ -1,4 +1,4 @@
--- A step at the translators: the legs of one input.
+-- A step of all translators: the legs of one input.
 use native.Mathlib.Omega.{arith}
 use Rattle.std.proofs.lemmas.{Grind.common_steps, Bool.Decides.nat_tests}
 use Rattle.std.proofs.Common.{◌≡◌, ℕ, ◌≤◌, List, length, Result, refl, sym, ap, subst, append-nil, append_assoc}
@@ -11,7 +11,7 @@ use Rattle.napt_sequential.specs.CountedTranslators.{SequentialRunModel, IsCount
 use Rattle.napt_sequential.specs.declared.input.Input.TheInside as fields
 use Rattle.napt_laws.proofs.RunsLocal.{later_at_once}
 
--- A FIRST LEG ALONE, OR TWO
+-- ONE LEG, OR TWO
 
 pub follows_once : (rules : Rules) (address : ℕ) (leg : Leg) (state : SequentialRunModel) (translators : List CountedTranslator)
     (end : End) → (act rules address leg state.list).end ≡ end →
@@ -52,11 +52,11 @@ follows_none rules now state translators later are cause = (
   },
 )
 
--- what contracts see of an input, of its fields
+-- An input as contracts see it, from its fields.
 abbrev pub arrival_of : fields.Inside → Arrival
 arrival_of input = record { side = input.side; time = input.time; clock = input.clock; bytes = input.bytes.items }
 
--- a copy of the bytes reads as the input does
+-- A copy of the bytes reads as the input does.
 pub reads_as : (input copy : Arrival) (bytes : List ℕ) (read : Result (List ℕ) Cause) → copy ≡ input →
     bytes ≡ copy.bytes → reading copy.side bytes ≡ read → reading input.side input.bytes ≡ read
 reads_as input copy bytes read shown copied is = grind (arith, common_steps, nat_tests)

@@ -6,7 +6,7 @@ const ABOUT: &str = "Network address and port translation for IPv4 while the pac
 captures of the packets that inside hosts and the outside send, from files or pipes, and writes the \
 captures of what leaves for the other side at once, in bounded memory.";
 
-/// The help of the program under a name.
+/// The help of the program under this name.
 macro_rules! manual {
     ($name:literal) => {
         Manual {
@@ -53,8 +53,8 @@ with a log alone, at packet 4611686018427387904.
     };
 }
 
-/// The help of the program by its own name.
+/// The help of the program under its own name.
 pub const OWN: Manual = manual!("stream");
 
-/// The same by the name under which it is installed.
+/// The help of the program under the name with which it is installed.
 pub const INSTALLED: Manual = manual!("napt-stream");

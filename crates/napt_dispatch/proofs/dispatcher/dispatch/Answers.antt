@@ -1,3 +1,4 @@
+-- dispatch: the outcomes in the list are those of the inputs in the list.
 use Rattle.std.{proofs.Common.{◌≡◌, ◌∙◌, length, refl, subst}, specs.Prelude.⊤}
 use Rattle.napt_config.specs.Rules.{Rules}
 use Rattle.napt_rules.specs.Prelude.{State, initial_state}

@@ -1,3 +1,4 @@
+-- run_through: the ending of dispatching and the joined workers give the result of the run.
 use Rattle.std.proofs.{Common.{◌≡◌, ◌∙◌, [], inl, length, map, None, Some, refl, sym, ap, subst}, lemmas.Result.{IfOk-at_ok, err_from_is_err_and}}
 use Rattle.napt_config.specs.Rules.{Rules}
 use Rattle.napt_pool.specs.Pools.{initial_machines, accepted_items, taken_answers}

@@ -1,3 +1,4 @@
+-- step: an input is dropped without a leg, or goes to the address that serves it, as the definition says.
 use Rattle.std.{proofs.{Common.{◌≡◌, ℕ, List, Ok, Err, Some, None, sym, ◌∙◌, ap, subst}, lemmas.Option.slice_get_within}, specs.Prelude.IfOk}
 use Rattle.napt_wire.specs.{Reading.reading, declared.{Side.Side, Way.Way}}
 use Rattle.napt_rules.specs.Prelude.{side_refusal, way_from, served_at, route, Arrival, RunEffect, refused_effect, admitted_effect, step}

@@ -1,3 +1,4 @@
+-- refresh_flow: the flow of the remote is marked and refreshed, and the flows stay distinct.
 use Rattle.std.proofs.Common.{ap, sym}
 use Rattle.napt_rules.specs.{Prelude.{Tcp, Incoming}, declared.Flow.Flow}
 use Rattle.napt_rules.specs.FlowUpdates as traffic

@@ -1,3 +1,4 @@
+-- advance_until: the dispatcher continues, and the results that left were written.
 use Rattle.napt_dispatch.specs.RunsThrough.{OutcomesLeave}
 use Rattle.napt_dispatch.proofs.dispatcher.Dispatcher.advance_until.Given as goal
 

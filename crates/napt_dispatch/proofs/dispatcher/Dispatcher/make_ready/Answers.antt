@@ -1,3 +1,4 @@
+-- make_ready: the dispatcher continues, whether it settles, has room at once or makes room.
 use Rattle.std.proofs.Common.{[]}
 use Rattle.napt_dispatch.proofs.Passing.{goes_none}
 use Rattle.napt_dispatch.proofs.dispatcher.Dispatcher.make_ready.Goals as goal

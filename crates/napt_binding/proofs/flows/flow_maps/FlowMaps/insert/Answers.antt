@@ -1,3 +1,4 @@
+-- insert: the count of the address does not overflow, and the invariant holds with the new flow.
 use Rattle.std.{proofs.Common.{◌∙◌, ◌+◌, ℕ, Option, cond, ap, arith, is_some}, specs.HashMap.hash_map_len}
 use Rattle.napt_binding.proofs.FlowMapSteps.{put_many, few_counted}
 use Rattle.napt_binding.proofs.flows.flow_maps.FlowMaps.insert.Goals as goal

@@ -1,3 +1,4 @@
+-- fill: the invariant holds after the flow was linked at the end of its row.
 use Rattle.std.proofs.{Common.{◌≡◌, ◌<◌, length, Some, None, refl, sym, arith, subst, slice_get, get_or-set_other, get_or-set_same}, Math.ListN.length-set}
 use Rattle.std.proofs.lemmas.{Grind.common_steps, List.with_items_is, Option.{slice_get_within, get_or_from_slice_get}}
 use Rattle.napt_binding.{specs.{Slots.{standing_flows, NoneUsedAfter}, SlotsModels.FlowSlotsModel}, proofs.TimedRows.filled}

@@ -1,3 +1,4 @@
+-- last_moment: a flow is live until the later of the last moments of the two rows, and not after it.
 use Rattle.std.{proofs.{Common.{◌≡◌, ⊎_elim, sym, ◌∙◌, ap, true, arith}, lemmas.Bool.or_cases}, specs.List.list_any}
 use Rattle.napt_config.specs.declared.settings.Timers.{Timers}
 use Rattle.napt_rules.specs.Life as life

@@ -1,3 +1,4 @@
+-- note_answer: the count stays right, and worker `w` owes one answer fewer, if it owed any.
 use Rattle.std.proofs.Common.{◌<◌, length, ap}
 use Rattle.napt_dispatch.{specs.WorkerQueues.held_legs_count, proofs.QueueStates.{answers_here, counted_same}}
 use Rattle.napt_dispatch.proofs.dispatcher.worker_queues.WorkerQueues.note_answer.Goals as goal
