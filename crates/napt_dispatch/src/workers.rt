@@ -182,11 +182,7 @@ impl RunSummary {
 
     /// Returns the state after the run, if it is to be saved: the bindings that are live or held at the last clock, by
     /// external address in pool order, then by protocol (ICMP, TCP, UDP) and external number.
-    pub fn into_state_if(
-        self,
-        is_saved: bool,
-        alloc: Global,
-    ) -> Result<Option<State>, AllocError>
+    pub fn into_state_if(self, is_saved: bool, alloc: Global) -> Result<Option<State>, AllocError>
         ensures saved { IfOk result (λ state. is_some state ≡ is_saved) }
         ensures state { (rules : Rules) (state : State) → LeavesState rules state self →
             IfOk result (λ left. IfSome left (IsStateInOrder rules state)) }

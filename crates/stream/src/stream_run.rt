@@ -92,6 +92,8 @@ impl<'a> StreamRun<'a> {
         requires outputs { AreOutputsFresh outputs.old }
         requires log { IsFreshLog log }
         requires named { is_some log ≡ is_some self.options.now.log }
+        ensures saved { IfOk result (λ left.
+            is_some left.state ≡ is_some self.entry.options.now.files.save) }
         ensures kept { IfOk result (λ left. is_some left.log
             ≡ (is_some log.entry && is_some self.entry.options.now.files.save)) }
         ensures stop { (streams : StandardStreams) → IfErr result
