@@ -73,7 +73,8 @@ stands_before [] (suc i) k flow h = cc
 stands_before (o ∷ slots) (suc i) zero flow h = (omega arith, h)
 stands_before (o ∷ slots) (suc i) (suc k) flow h = let s = stands_before slots i k flow h in (omega (arith, s.0), s.1)
 
-pub not_in_slots_before : (many : FlowMaps) (i : ℕ) (flow : Flow) → FlowMapsInvariant many → IsInSlot many.slots.slots i flow →
+pub not_in_slots_before : (many : FlowMaps) (i : ℕ) (flow : Flow) → FlowMapsInvariant many →
+    IsInSlot many.slots.slots i flow →
     list_any (is_flow_of flow.remote) (standing_flows (take i many.slots.slots)) ≡ false
 not_in_slots_before many i flow is here = any_none (is_flow_of flow.remote) (take i many.slots.slots) (λ k f h.
     let s = stands_before many.slots.slots i k f h in
@@ -84,7 +85,8 @@ not_in_slots_before many i flow is here = any_none (is_flow_of flow.remote) (tak
     ] refl)
 
 -- One slot more adds its flow.
-pub somes_more : (slots : List (Option Flow)) (i : ℕ) (flow : Flow) → IsInSlot slots i flow → standing_flows (take (suc i) slots)
+pub somes_more : (slots : List (Option Flow)) (i : ℕ) (flow : Flow) → IsInSlot slots i flow →
+    standing_flows (take (suc i) slots)
     ≡ standing_flows (take i slots) ++ flow ∷ []
 somes_more [] i flow h = cc
 somes_more (o ∷ slots) zero flow h = grind (arith, common_steps, nat_tests)
@@ -111,7 +113,8 @@ pub put_next : (new middle old : List (Option Flow)) (done : List Flow) (flow : 
 put_next new middle old done flow put same is = ap standing_flows put
     ∙ (somes_pushed middle flow ∙ ap (λ (l : List Flow). l ++ flow ∷ []) (ap standing_flows same ∙ is))
 
-pub next_slot : (slots : List (Option Flow)) (i : ℕ) (flow : Flow) → IsInSlot slots i flow → standing_flows (take (i + 1) slots)
+pub next_slot : (slots : List (Option Flow)) (i : ℕ) (flow : Flow) → IsInSlot slots i flow →
+    standing_flows (take (i + 1) slots)
     ≡ standing_flows (take i slots) ++ flow ∷ []
 next_slot slots i flow h = let s : i + 1 ≡ suc i = omega arith in ap (λ (n : ℕ). standing_flows (take n slots)) s
     ∙ somes_more slots i flow h
@@ -121,7 +124,9 @@ pub empty_slot : (slots : List (Option Flow)) (i : ℕ) → ((flow : Flow) → I
 empty_slot slots i none = let s : i + 1 ≡ suc i = omega arith in ap (λ (n : ℕ). standing_flows (take n slots)) s
     ∙ somes_no_more slots i none
 
-pub absent_next : (many : FlowMaps) (old : List (Option Flow)) (done : List Flow) (remote : Endpoint) → FlowMapsInvariant many →
-    many.slots.slots ≡ old → standing_flows old ≡ done → list_any (is_flow_of remote) done ≡ false → place_of_remote many remote ≡ None
+pub absent_next : (many : FlowMaps) (old : List (Option Flow)) (done : List Flow) (remote : Endpoint) →
+    FlowMapsInvariant many →
+    many.slots.slots ≡ old → standing_flows old ≡ done → list_any (is_flow_of remote) done ≡ false →
+    place_of_remote many remote ≡ None
 absent_next many old done remote is same all none =
     no_place many remote is (ap (list_any (is_flow_of remote)) (ap standing_flows same ∙ all) ∙ none)

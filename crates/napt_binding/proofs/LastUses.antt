@@ -5,11 +5,13 @@ use Rattle.napt_rules.specs.{declared.Flow.Flow, Prelude.{is_live_flow, is_tcp, 
 use Rattle.napt_binding.specs.Slots.{standing_flows, NoneUsedAfter}
 
 -- A property of all flows still holds after a flow with it is put into a slot.
-pub used_set : (P : Flow → Type 0) (slots : List (Option Flow)) (i : ℕ) (f : Flow) → All P (standing_flows slots) → P f →
+pub used_set : (P : Flow → Type 0) (slots : List (Option Flow)) (i : ℕ) (f : Flow) → All P (standing_flows slots) →
+    P f →
     All P (standing_flows (set slots i (Some f)))
 used_set P [] i f all h = all
 used_set P (None ∷ slots) zero f all h = All-cons P f (standing_flows slots) h all
-used_set P (Some g ∷ slots) zero f all h = All-cons P f (standing_flows slots) h (All-tail P g (standing_flows slots) all)
+used_set P (Some g ∷ slots) zero f all h = All-cons P f (standing_flows slots) h
+    (All-tail P g (standing_flows slots) all)
 used_set P (None ∷ slots) (suc i) f all h = used_set P slots i f all h
 used_set P (Some g ∷ slots) (suc i) f all h =
     All-cons P g (standing_flows (set slots i (Some f))) (All-head P g (standing_flows slots) all)

@@ -39,7 +39,8 @@ pub record AreAlike (flows : List Flow) (slots : List (Option Flow)) : Type 0 wh
 pub record AreBack (flows : List Flow) (entries : List (ℕ × Flow)) (n : ℕ) (slots : List (Option Flow)) : Type 0 where
   pub alike : AreAlike flows slots
   pub back : (j : ℕ) → j < n → IsInSlot slots (get_or entries j no_entry).0 (get_or entries j no_entry).1
-  pub rising : (j : ℕ) → n ≤ j → j < length entries → NoneUsedAfter (standing_flows slots) (get_or entries j no_entry).1.last
+  pub rising : (j : ℕ) → n ≤ j → j < length entries →
+      NoneUsedAfter (standing_flows slots) (get_or entries j no_entry).1.last
 
 length_unused : (flows : List Flow) → length (map as_unused flows) ≡ length flows
 length_unused [] = refl

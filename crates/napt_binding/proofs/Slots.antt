@@ -20,7 +20,8 @@ module _ {X : Type 0} where
   stands_set (z ∷ slots) (suc i) o zero y h = inr ((λ e. absurd (omega (arith, e))), h)
   stands_set (z ∷ slots) (suc i) o (suc k) y h = grind (arith, common_steps, nat_tests, stands_set slots i o k y h)
 
-  pub stands_there : (slots : List (Option X)) (i : ℕ) (x y : X) → IsInSlot slots i x → IsInSlot (set slots i (Some y)) i y
+  pub stands_there : (slots : List (Option X)) (i : ℕ) (x y : X) → IsInSlot slots i x →
+      IsInSlot (set slots i (Some y)) i y
   stands_there [] i x y h = cc
   stands_there (o ∷ slots) zero x y h = refl
   stands_there (o ∷ slots) (suc i) x y h = stands_there slots i x y h
@@ -60,7 +61,8 @@ module _ {X : Type 0} where
 
   -- THE LIST
 
-  pub somes_pushed : (slots : List (Option X)) (y : X) → standing_flows (slots ++ Some y ∷ []) ≡ standing_flows slots ++ y ∷ []
+  pub somes_pushed : (slots : List (Option X)) (y : X) →
+      standing_flows (slots ++ Some y ∷ []) ≡ standing_flows slots ++ y ∷ []
   somes_pushed [] y = refl
   somes_pushed (None ∷ slots) y = somes_pushed slots y
   somes_pushed (Some x ∷ slots) y = ap (λ (l : List X). x ∷ l) (somes_pushed slots y)
@@ -97,7 +99,8 @@ module _ {X : Type 0} where
   kept_emptied p (Some y ∷ slots) (suc i) x h e = ap (λ (l : List X). cond (p y) (y ∷ l) l)
       (kept_emptied p slots i x h e)
 
-  pub one_more : (slots : List (Option X)) (y : X) → length (standing_flows (slots ++ Some y ∷ [])) ≡ length (standing_flows slots) + 1
+  pub one_more : (slots : List (Option X)) (y : X) →
+      length (standing_flows (slots ++ Some y ∷ [])) ≡ length (standing_flows slots) + 1
   one_more slots y = ap (λ (l : List X). length l) (somes_pushed slots y) ∙ length_push (standing_flows slots) y
 
   pub as_many_set : (slots : List (Option X)) (i : ℕ) (x y : X) → IsInSlot slots i x →
@@ -108,7 +111,8 @@ module _ {X : Type 0} where
   as_many_set (Some z ∷ slots) zero x y h = refl
   as_many_set (Some z ∷ slots) (suc i) x y h = omega (arith, as_many_set slots i x y h)
 
-  pub one_fewer : (slots : List (Option X)) (i : ℕ) (x : X) → IsInSlot slots i x → length (standing_flows (set slots i None)) + 1
+  pub one_fewer : (slots : List (Option X)) (i : ℕ) (x : X) → IsInSlot slots i x →
+      length (standing_flows (set slots i None)) + 1
       ≡ length (standing_flows slots)
   one_fewer [] i x h = cc
   one_fewer (None ∷ slots) zero x h = cc
@@ -132,10 +136,13 @@ module _ {X : Type 0} where
       let same : f x ≡ f y = ap f (sym s) in
       ap (λ v. cond v (f x ∷ filter p (standing_flows slots)) (filter p (standing_flows slots))) stays
       ∙ (ap (λ (z : X). z ∷ filter p (standing_flows slots)) same
-      ∙ sym (ap (λ v. change_first t f (cond v (y ∷ filter p (standing_flows slots)) (filter p (standing_flows slots)))) kept_y
-      ∙ ap (λ v. cond v (f y ∷ filter p (standing_flows slots)) (y ∷ change_first t f (filter p (standing_flows slots)))) here_y))
+      ∙ sym (ap (λ v. change_first t f (cond v (y ∷ filter p (standing_flows slots))
+      (filter p (standing_flows slots)))) kept_y
+      ∙ ap (λ v. cond v (f y ∷ filter p (standing_flows slots))
+      (y ∷ change_first t f (filter p (standing_flows slots)))) here_y))
   kept_set p t f (Some y ∷ slots) (suc i) x h kept stays here one =
-      let rest : filter p (standing_flows (set slots i (Some (f x)))) ≡ change_first t f (filter p (standing_flows slots)) =
+      let rest : filter p (standing_flows (set slots i (Some (f x))))
+      ≡ change_first t f (filter p (standing_flows slots)) =
       kept_set p t f slots i x h kept stays here (λ k y g e. let z : suc k ≡ suc i = one (suc k) y g e in
       omega arith) in
       let other : t y ≡ false = elim (t y) as (λ v. t y ≡ v → v ≡ false) [

@@ -95,7 +95,8 @@ module _ (timers : Timers) (good : AreTimers timers) (now : ℕ) (protocol : Pro
       ∙ any_stands (standing_flow_of timers now protocol remote) slots i flow here
       (and_from (is_standing timers now protocol flow) (is_flow_of remote flow) stands of) in
       standing timers now protocol (standing_flows (set slots i (Some (flow_after protocol Outgoing flags now flow))))
-      ∙ (kept_set (is_standing timers now protocol) (is_flow_of remote) (flow_after protocol Outgoing flags now) slots i flow
+      ∙ (kept_set (is_standing timers now protocol) (is_flow_of remote) (flow_after protocol Outgoing flags now) slots
+      i flow
       here stands (used_standing timers good now protocol flags flow) of one
       ∙ (ap (change_first (is_flow_of remote) (flow_after protocol Outgoing flags now))
       (sym (standing timers now protocol (standing_flows slots)))
@@ -103,7 +104,8 @@ module _ (timers : Timers) (good : AreTimers timers) (now : ℕ) (protocol : Pro
       (cond v live (live ++ record { remote = remote; marks = no_marks; last = now } ∷ []))) there)))
 
   pub live_stood : (slots : List (Option Flow)) (i : ℕ) (flow : Flow) → IsInSlot slots i flow →
-      list_any (is_live_flow timers now) (standing_flows (set slots i (Some (flow_after protocol Outgoing flags now flow)))) ≡ true
+      list_any (is_live_flow timers now) (standing_flows
+      (set slots i (Some (flow_after protocol Outgoing flags now flow)))) ≡ true
   live_stood slots i flow here = any_stands (is_live_flow timers now)
       (set slots i (Some (flow_after protocol Outgoing flags now flow))) i (flow_after protocol Outgoing flags now flow)
       (stands_there slots i flow (flow_after protocol Outgoing flags now flow) here)
@@ -137,12 +139,14 @@ module _ (timers : Timers) (good : AreTimers timers) (now : ℕ) (protocol : Pro
 
 -- An incoming segment uses the flow in its slot.
 pub flow_refreshed : (now : ℕ) (remote : Endpoint) (flags : Flags) (slots : List (Option Flow)) (i : ℕ) (flow : Flow) →
-    IsInSlot slots i flow → is_flow_of remote flow ≡ true → ((k : ℕ) (y : Flow) → IsInSlot slots k y → is_flow_of remote y
+    IsInSlot slots i flow → is_flow_of remote flow ≡ true →
+    ((k : ℕ) (y : Flow) → IsInSlot slots k y → is_flow_of remote y
     ≡ true → k ≡ i) →
     standing_flows (set slots i (Some (flow_after Tcp Incoming flags now flow))) ≡ change_first (is_flow_of remote)
     (flow_after Tcp Incoming flags now) (standing_flows slots)
 flow_refreshed now remote flags slots i flow here of one =
-    sym (filter_true (λ f. true) (λ f. refl) (standing_flows (set slots i (Some (flow_after Tcp Incoming flags now flow)))))
+    sym (filter_true (λ f. true) (λ f. refl) (standing_flows
+    (set slots i (Some (flow_after Tcp Incoming flags now flow)))))
     ∙ (kept_set (λ f. true) (is_flow_of remote) (flow_after Tcp Incoming flags now) slots i flow here refl refl of one
     ∙ ap (change_first (is_flow_of remote) (flow_after Tcp Incoming flags now)) (filter_true (λ f. true) (λ f. refl)
     (standing_flows slots)))

@@ -429,11 +429,13 @@ module _ (timers : Timers) (now : ℕ) (slots : List (Option Flow)) where
   -- A flow of the row is live if its latest one is.
 
   pub one_live : (row : ℕ) (latest : Option ℕ) → IsLatest row slots latest →
-      is_recent_time now (timer timers row) latest ≡ true → list_any (is_live_flow timers now) (standing_flows slots) ≡ true
+      is_recent_time now (timer timers row) latest ≡ true →
+      list_any (is_live_flow timers now) (standing_flows slots) ≡ true
   one_live row latest h k = grind (arith, common_steps, nat_tests, any_stands, live_in)
 
   none_live : (row : ℕ) (latest : Option ℕ) → IsLatest row slots latest →
-      is_recent_time now (timer timers row) latest ≡ false → EachOfRow row slots (λ f. is_live_flow timers now f ≡ false)
+      is_recent_time now (timer timers row) latest ≡ false →
+      EachOfRow row slots (λ f. is_live_flow timers now f ≡ false)
   none_live row latest h k g j p q = grind (arith, common_steps, nat_tests, live_in)
 
   pub live_is : (established others : Option ℕ) → IsLatest 0 slots established → IsLatest 1 slots others →
@@ -447,7 +449,8 @@ or_true true b h = refl
 or_true false b h = h
 
 pub lives_until : (timers : Timers) (now : ℕ) (slots : List (Option Flow)) (established others : Option ℕ) (e o : ℕ) →
-    IsLatest 0 slots established → IsLatest 1 slots others → list_any (is_live_flow timers now) (standing_flows slots) ≡ true →
+    IsLatest 0 slots established → IsLatest 1 slots others →
+    list_any (is_live_flow timers now) (standing_flows slots) ≡ true →
     ((t : ℕ) → now < t → t ≤ e → is_recent_time t timers.established established ≡ true) →
     ((t : ℕ) → now < t → t ≤ o → is_recent_time t timers.transitory others ≡ true) →
     (t : ℕ) → (e < t → t ≤ o) → list_any (is_live_flow timers t) (standing_flows slots) ≡ true

@@ -5,7 +5,8 @@ use Rattle.napt_rules.specs.{declared.{Flow.Flow, OutboundPacket.OutboundPacket}
 -- The flow that begins with the packet.
 abbrev pub new_flow : OutboundPacket → Flow
 new_flow sent =
-    flow_after sent.protocol Outgoing sent.flags sent.now (record { remote = sent.remote; marks = no_marks; last = sent.now })
+    flow_after sent.protocol Outgoing sent.flags sent.now
+    (record { remote = sent.remote; marks = no_marks; last = sent.now })
 
 -- The flows that stand when the packet goes out.
 abbrev pub standing_at : Timers → OutboundPacket → List Flow → List Flow

@@ -10,7 +10,8 @@ pub reads : {A B P : Type 0} (r : Result A ConfigFault) (f : A → Result B Conf
 reads (Ok x) f y e then = then x refl e
 reads (Err fault) f y e then = cc
 
-pub holds : {B P : Type 0} (rule : Bool) (fault : ConfigFault) (r : Result B ConfigFault) (y : B) → require_rule rule fault >> r
+pub holds : {B P : Type 0} (rule : Bool) (fault : ConfigFault) (r : Result B ConfigFault) (y : B) →
+    require_rule rule fault >> r
     ≡ Ok y → (rule ≡ true → r ≡ Ok y → P) → P
 holds true fault r y e then = then refl e
 holds false fault r y e then = cc

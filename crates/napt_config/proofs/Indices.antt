@@ -83,7 +83,8 @@ block_at-is size addresses None each = tt
 block_at-is size addresses (Some index) each = each index refl
 
 -- The block of a host satisfies `IsPortBlock`.
-pub block_in-is : (block : Option ℕ) (inside : List PrefixModel) (pool : List ℕ) (pairs : List (ℕ × ℕ)) → 1 ≤ length pool →
+pub block_in-is : (block : Option ℕ) (inside : List PrefixModel) (pool : List ℕ) (pairs : List (ℕ × ℕ)) →
+    1 ≤ length pool →
     IfSome block (AreBlocks inside pool pairs)
     → (host : ℕ) → IfSome (block_in block inside (length pool) host) IsPortBlock
 unfolding block_in

@@ -95,7 +95,8 @@ inside_keeps now next entry start is =
     let (network, is_network, made) = inside_step now next entry is in
     subst (All IsPrefix) (sym made) (All-push IsPrefix now network start is_network)
 
-inside_adds : (now next : List PrefixModel) (entry : Data) → with_prefix now entry ≡ Ok next → length next ≡ length now + 1
+inside_adds : (now next : List PrefixModel) (entry : Data) → with_prefix now entry ≡ Ok next →
+    length next ≡ length now + 1
 inside_adds now next entry is = grind (arith, common_steps, inside_step, length-append)
 
 prefixes_in-keeps : (table : Members) (inside : List PrefixModel) → prefixes_in each_in_order table ≡ Ok inside →
@@ -203,7 +204,8 @@ record PairStep (pool : List ℕ) (inside : List PrefixModel) (now next : Pairs)
   pub new : is_some (paired_with now host) ≡ false
   pub is : next ≡ insert_entry nat_cmp now host external
 
-pair_step : (pool : List ℕ) (inside : List PrefixModel) (now next : Pairs) (entry : Data) → with_pair pool inside now entry
+pair_step : (pool : List ℕ) (inside : List PrefixModel) (now next : Pairs) (entry : Data) →
+    with_pair pool inside now entry
     ≡ Ok next → PairStep pool inside now next
 unfolding with_pair
 pair_step pool inside now next entry is = grind (arith, common_steps, reads, holds, is_some, not-true)
@@ -213,7 +215,8 @@ pub record PairsSoFar (pool : List ℕ) (inside : List PrefixModel) (pairs : Pai
   pub hosts : All (λ host. prefixes_have inside host ≡ true) (keys_of pairs)
   pub externals : All (λ external. contains_address pool external ≡ true) (values_of pairs)
 
-pairs_keep : (pool : List ℕ) (inside : List PrefixModel) (now next : Pairs) (entry : Data) → PairsSoFar pool inside now →
+pairs_keep : (pool : List ℕ) (inside : List PrefixModel) (now next : Pairs) (entry : Data) →
+    PairsSoFar pool inside now →
     with_pair pool inside now entry ≡ Ok next → PairsSoFar pool inside next
 pairs_keep pool inside now next entry start is =
     let step = pair_step pool inside now next entry is in
@@ -225,7 +228,8 @@ pairs_keep pool inside now next entry start is =
           ≡ true) now start.externals step.external_in_pool;
     })
 
-pairs_add : (pool : List ℕ) (inside : List PrefixModel) (now next : Pairs) (entry : Data) → with_pair pool inside now entry
+pairs_add : (pool : List ℕ) (inside : List PrefixModel) (now next : Pairs) (entry : Data) →
+    with_pair pool inside now entry
     ≡ Ok next → length next ≡ length now + 1
 pairs_add pool inside now next entry is =
     let step = pair_step pool inside now next entry is in
@@ -318,7 +322,8 @@ configured-keeps table rules is =
     reads (block_size_in pool inside timers.hold table) _ rules rest₈ λ block block_is rest₉.
     reads (pairs_in each_in_order pool inside table) _ rules rest₉ λ pairs pairs_is rest₁₀.
     reads
-    (redirects_in each_in_order inside (paired_address block inside pool pairs) (block_in block inside (length pool)) table)
+    (redirects_in each_in_order inside (paired_address block inside pool pairs) (block_in block inside (length pool))
+    table)
     _ rules rest₁₀ λ redirects redirects_are last.
     let made : Rules = record {
       pool = pool;
@@ -339,7 +344,8 @@ configured-keeps table rules is =
     let of_ring = ring_in-keeps ring table ring_is in
     let of_blocks = are_blocks pool inside table block pairs
     (block_size_in-keeps pool inside timers.hold table block block_is) pairs_is in
-    let of_redirects = redirects_in-keeps inside (paired_address block inside pool pairs) (block_in block inside (length pool))
+    let of_redirects = redirects_in-keeps inside (paired_address block inside pool pairs)
+    (block_in block inside (length pool))
     table redirects redirects_are in
     subst RulesInvariant same (record {
       pool = record {

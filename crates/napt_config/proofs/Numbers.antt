@@ -46,6 +46,7 @@ between-range least most n (pos k) is =
     subst P same (leb-true _ _ low, leb-true _ _ high)
 between-range least most n (negsuc k) is = cc
 
-pub number_at-range : (least most n : ℕ) (value : Data) → number_at_key least most value ≡ Ok n → (least ≤ n) × (n ≤ most)
+pub number_at-range : (least most n : ℕ) (value : Data) → number_at_key least most value ≡ Ok n → (least ≤ n) ×
+    (n ≤ most)
 unfolding number_at_key
 number_at-range least most n value is = grind (arith, common_steps, between-range, ok_or_ok)

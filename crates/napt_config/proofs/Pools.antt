@@ -26,7 +26,8 @@ has-at pool i d lt = list_any_at (λ other. other == get_or pool i d) pool i d l
 abbrev pub AreDistinct : List ℕ → Type 0
 AreDistinct pool = (i j : ℕ) → i < length pool → j < length pool → get_or pool i 0 ≡ get_or pool j 0 → i ≡ j
 
-not_again : (pool : List ℕ) (address i : ℕ) → contains_address pool address ≡ false → i < length pool → get_or pool i 0 ≡ address → ⊥
+not_again : (pool : List ℕ) (address i : ℕ) → contains_address pool address ≡ false → i < length pool →
+    get_or pool i 0 ≡ address → ⊥
 not_again pool address i new lt same = false≢true (sym new ∙ rw (← same) (has-at pool i 0 lt))
 
 pub AreDistinct-push : (pool : List ℕ) (address : ℕ) → AreDistinct pool → contains_address pool address ≡ false →
@@ -34,7 +35,8 @@ pub AreDistinct-push : (pool : List ℕ) (address : ℕ) → AreDistinct pool �
 AreDistinct-push pool address distinct new i j i_in j_in same =
     grind (arith, common_steps, get_or, get_or-append_seam, cases_lt, not_again)
 
-has_either : (pool : List ℕ) (own : Option ℕ) (other : ℕ) → IfSome own (λ external. contains_address pool external ≡ true) →
+has_either : (pool : List ℕ) (own : Option ℕ) (other : ℕ) →
+    IfSome own (λ external. contains_address pool external ≡ true) →
     contains_address pool other ≡ true → contains_address pool (unwrap_or own other) ≡ true
 has_either pool None other of_own of_other = of_other
 has_either pool (Some external) other of_own of_other = of_own
@@ -45,7 +47,8 @@ pub paired_in_pool : (block : Option ℕ) (inside : List PrefixModel) (pool : Li
     → contains_address pool (paired_address block inside pool pairs host) ≡ true
 unfolding paired_address
 paired_in_pool None inside pool pairs host some externals =
-    has_either pool (paired_with pairs host) _ (IfSome-lookup_from_All (λ external. contains_address pool external ≡ true)
+    has_either pool (paired_with pairs host) _ (IfSome-lookup_from_All
+    (λ external. contains_address pool external ≡ true)
     (is_at (nat_cmp host)) pairs externals)
     (has-at pool (host % length pool) 0 (omega (arith, some)))
 paired_in_pool (Some size) inside pool pairs host some externals =

@@ -14,7 +14,8 @@ use Rattle.napt_config.proofs.Numbers.{number_of-range, number_at-range}
 abbrev pub IsInBlock : (ℕ → Option PortBlock) → Redirect → Type 0
 IsInBlock block redirect = may_redirect (block redirect.address) redirect.external ≡ true
 
-socket_of-port : (text : List ℕ) (socket : TransportAddressModel) → transport_address_of_text text ≡ Some socket → 0 < socket.port
+socket_of-port : (text : List ℕ) (socket : TransportAddressModel) → transport_address_of_text text ≡ Some socket →
+    0 < socket.port
 unfolding transport_address_of_text
 socket_of-port text socket is = grind (arith, common_steps, option_and_then_some, number_of-range)
 

@@ -172,7 +172,8 @@ module _ (at least most : ℕ) (bound : most < 2 ^ 64) (no_digit : (c : ℕ) →
         number_of-decimal,
       )
 
-network_text-of : (text : List ℕ) (network : PrefixModel) → prefix_of_text text ≡ Some network → text ≡ prefix_text network
+network_text-of : (text : List ℕ) (network : PrefixModel) → prefix_of_text text ≡ Some network →
+    text ≡ prefix_text network
 unfolding prefix_of_text prefix_text
 network_text-of text network is =
     option_and_then_some _ (address_of (before_first is_slash text)) network is λ address found more.
@@ -186,18 +187,22 @@ unfolding prefix_of_text prefix_text
 network_of-text network fine = marked_of-text 47 0 32 (omega arith) no_digit_is_slash refl prefix_at network.address
     network.bits (Some network) fine.address (omega arith) fine.bits (rw (eq-eqb _ _ fine.no_host_bits) refl)
 
-socket_text-of : (text : List ℕ) (socket : TransportAddressModel) → transport_address_of_text text ≡ Some socket → text ≡ transport_address_text socket
+socket_text-of : (text : List ℕ) (socket : TransportAddressModel) → transport_address_of_text text ≡ Some socket →
+    text ≡ transport_address_text socket
 unfolding transport_address_of_text transport_address_text
 socket_text-of text socket is =
     option_and_then_some _ (address_of (before_first is_colon text)) socket is λ address found more.
     option_and_then_some _ (number_of 1 65535 (after_first is_colon text)) socket more λ port counted made.
     let at : TransportAddressModel = record { address = address; port = port } in
     let same : at ≡ socket = cc in
-    marked_text-of 58 1 65535 (omega arith) no_digit_is_colon refl text address port found counted ∙ ap transport_address_text same
+    marked_text-of 58 1 65535 (omega arith) no_digit_is_colon refl text address port found counted
+    ∙ ap transport_address_text same
 
-socket_of-text : (socket : TransportAddressModel) → IsTransportAddress socket → transport_address_of_text (transport_address_text socket) ≡ Some socket
+socket_of-text : (socket : TransportAddressModel) → IsTransportAddress socket →
+    transport_address_of_text (transport_address_text socket) ≡ Some socket
 unfolding transport_address_of_text transport_address_text
-socket_of-text socket fine = marked_of-text 58 1 65535 (omega arith) no_digit_is_colon refl transport_address_at socket.address
+socket_of-text socket fine = marked_of-text 58 1 65535 (omega arith) no_digit_is_colon refl transport_address_at
+    socket.address
     socket.port (Some socket) fine.address fine.low (omega (arith, fine.high)) refl
 
 -- ---- whole results
@@ -223,7 +228,8 @@ pub networks_read_back : (fault : ConfigFault) (text : List ℕ) → IsReadBack 
     (ok_or (prefix_of_text text) fault)
 networks_read_back fault text = grind (arith, common_steps, read_back, network_text-of, network_of-text)
 
-pub sockets_read_back : (fault : ConfigFault) (text : List ℕ) → IsReadBack transport_address_text IsTransportAddress fault text
+pub sockets_read_back : (fault : ConfigFault) (text : List ℕ) →
+    IsReadBack transport_address_text IsTransportAddress fault text
     (ok_or (transport_address_of_text text) fault)
 sockets_read_back fault text = grind (arith, common_steps, read_back, socket_text-of, socket_of-text)
 

@@ -14,6 +14,7 @@ pub network_of-whole : (text : List ℕ) → position_or_len is_slash text ≡ l
 unfolding prefix_of_text
 network_of-whole text none = grind (arith, common_steps, nothing_after, never, number_of-nothing)
 
-pub socket_of-whole : (text : List ℕ) → position_or_len is_colon text ≡ length text → transport_address_of_text text ≡ None
+pub socket_of-whole : (text : List ℕ) → position_or_len is_colon text ≡ length text →
+    transport_address_of_text text ≡ None
 unfolding transport_address_of_text
 socket_of-whole text none = grind (arith, common_steps, nothing_after, never, number_of-nothing)

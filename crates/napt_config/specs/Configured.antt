@@ -297,12 +297,14 @@ with_pair pool inside pairs entry = do
   require_rule (not (is_some (paired_with pairs host))) DoublePair
   Ok (insert_entry nat_cmp pairs host external)
 
-unfoldable pub pairs_at : EntryReader (List (ℕ × ℕ)) → List ℕ → List PrefixModel → Data → Result (List (ℕ × ℕ)) ConfigFault
+unfoldable pub pairs_at : EntryReader (List (ℕ × ℕ)) → List ℕ → List PrefixModel → Data →
+    Result (List (ℕ × ℕ)) ConfigFault
 pairs_at walk pool inside value = do
   entries ← list_up_to 256 value
   walk (with_pair pool inside) [] entries
 
-unfoldable pub pairs_in : EntryReader (List (ℕ × ℕ)) → List ℕ → List PrefixModel → Members → Result (List (ℕ × ℕ)) ConfigFault
+unfoldable pub pairs_in : EntryReader (List (ℕ × ℕ)) → List ℕ → List PrefixModel → Members →
+    Result (List (ℕ × ℕ)) ConfigFault
 pairs_in walk pool inside table = optional (codes "pair") [] (pairs_at walk pool inside) table
 
 -- ---- redirect
@@ -354,7 +356,8 @@ redirects_at walk inside pair block value = do
   walk (with_redirect inside pair block) [] entries
 
 -- The redirects, where `pair` gives the external address of a host and `block` gives its block.
-unfoldable pub redirects_in : EntryReader (List Redirect) → List PrefixModel → (ℕ → ℕ) → (ℕ → Option PortBlock) → Members
+unfoldable pub redirects_in : EntryReader (List Redirect) → List PrefixModel → (ℕ → ℕ) → (ℕ → Option PortBlock) →
+    Members
     → Result (List Redirect) ConfigFault
 redirects_in walk inside pair block table = optional (codes "redirect") [] (redirects_at walk inside pair block) table
 
@@ -374,7 +377,8 @@ configured table = do
   quota ← quota_in table
   block ← block_size_in pool inside timers.hold table
   pairs ← pairs_in each_in_order pool inside table
-  redirects ← redirects_in each_in_order inside (paired_address block inside pool pairs) (block_in block inside (length pool))
+  redirects ← redirects_in each_in_order inside (paired_address block inside pool pairs)
+      (block_in block inside (length pool))
       table
   Ok (record {
     pool = pool;

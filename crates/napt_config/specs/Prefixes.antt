@@ -39,7 +39,8 @@ is_prefix_within network other = nat_le other.bits network.bits && prefix_has ot
 abbrev pub address_count : List PrefixModel → List PrefixModel → ℕ
 address_count all [] = 0
 address_count all (network ∷ networks) =
-    (if list_any (λ other. is_prefix_within network other && not (is_prefix_within other network)) all || list_any (is_prefix_within network) networks
+    (if list_any (λ other. is_prefix_within network other && not (is_prefix_within other network)) all
+    || list_any (is_prefix_within network) networks
     then 0 else prefix_size network) + address_count all networks
 
 -- Returns whether two networks have an address in common, in which case one contains the other.
@@ -49,7 +50,8 @@ do_prefixes_meet a b = prefix_has a b.address || prefix_has b a.address
 -- Returns whether no two networks have an address in common.
 abbrev pub are_prefixes_apart : List PrefixModel → Bool
 are_prefixes_apart [] = true
-are_prefixes_apart (network ∷ networks) = not (list_any (do_prefixes_meet network) networks) && are_prefixes_apart networks
+are_prefixes_apart (network ∷ networks) = not (list_any (do_prefixes_meet network) networks)
+    && are_prefixes_apart networks
 
 -- The index of the address among those of the networks, network after network, from 0.
 abbrev pub host_index : List PrefixModel → ℕ → Option ℕ

@@ -60,7 +60,8 @@ transport_address_at address port = Some (record { address = address; port = por
 -- The transport address for which a text stands: the one whose `transport_address_text` it is, or none.
 unfoldable pub transport_address_of_text : List ℕ → Option TransportAddressModel
 transport_address_of_text text =
-    option_and_then (λ address. option_and_then (transport_address_at address) (number_of 1 65535 (after_first is_colon text)))
+    option_and_then (λ address. option_and_then (transport_address_at address)
+    (number_of 1 65535 (after_first is_colon text)))
     (address_of (before_first is_colon text))
 
 -- What parsing a text returns: the one value whose spelling is the text, or the fault if there is no such value.

@@ -31,7 +31,8 @@ fn is_in_any(prefix: &Prefix, others: &[Prefix]) -> bool
 /// Returns whether all addresses of the prefix are in another that has more addresses.
 fn is_part_of_any(prefix: &Prefix, others: &[Prefix]) -> bool
     ensures { result
-        ≡ list_any (λ other. is_prefix_within prefix.now other && not (is_prefix_within other prefix.now)) others.now }
+        ≡ list_any (λ other. is_prefix_within prefix.now other
+        && not (is_prefix_within other prefix.now)) others.now }
 {
     others
         .iter()

@@ -28,7 +28,8 @@ fn pair_by_index(inside: &[Prefix], pool: &[u32], host: u32) -> u32
 /// Returns the external address of a host without a block: its entry's, or else the pool's.
 fn pair_by_entry(pool: &[u32], pairs: &BTreeMap<u32, u32>, host: u32) -> u32
     requires some { 1 ≤ length pool.now }
-    ensures { result ≡ unwrap_or (paired_with pairs.now.entries host) (pool_address_for pool.now host) }
+    ensures { result ≡ unwrap_or (paired_with pairs.now.entries host)
+        (pool_address_for pool.now host) }
 {
     match pairs.get(&host) {
         Some(external) => *external,

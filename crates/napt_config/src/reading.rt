@@ -353,7 +353,8 @@ fn add_pair(
 ) -> Result<(), ConfigFault>
     ensures exact { MakePost (λ _. pairs.new.entries) result
         (with_pair pool.now inside.now pairs.old.entries (view entry.now)) }
-    ensures first { FirstFaultComesFirst (with_pair pool.now inside.now pairs.old.entries (view entry.now))
+    ensures first { FirstFaultComesFirst (with_pair pool.now inside.now pairs.old.entries
+        (view entry.now))
         result }
 {
     let table = table_in(entry)?;
@@ -402,7 +403,8 @@ pub(crate) fn pairs(
 ) -> Result<BTreeMap<u32, u32>, ConfigFault>
     ensures exact { MakePost (λ pairs. pairs.entries) result
         (pairs_in each_in_order pool.now inside.now (table_view table.now)) }
-    ensures first { FirstFaultComesFirst (pairs_in first_in_order pool.now inside.now (table_view table.now))
+    ensures first { FirstFaultComesFirst (pairs_in first_in_order pool.now inside.now
+        (table_view table.now))
         result }
 {
     match value_at(table, "pair") {

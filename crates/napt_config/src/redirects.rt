@@ -29,7 +29,8 @@ fn is_tcp_in(keys: &Table) -> Result<bool, ConfigFault>
 /// Reads the transport address at a required key.
 #[tactic(auto, unfolding(crate::specs::Configured::transport_address_in))]
 fn transport_address_in(keys: &Table, key: &str) -> Result<TransportAddress, ConfigFault>
-    ensures { ReadPost (λ socket. socket) result (transport_address_in key.now (table_view keys.now)) }
+    ensures { ReadPost (λ socket. socket) result
+        (transport_address_in key.now (table_view keys.now)) }
 {
     let text = text_in(required(keys, key)?)?;
     TransportAddress::read(text).ok_or(ConfigFault::BadAddress)
@@ -110,7 +111,8 @@ fn share_external(
 ) -> bool
     requires some { 1 ≤ length pool.now }
     requires few { length inside.now ≤ 16 }
-    ensures { result ≡ share_external (paired_address block inside.now pool.now pairs.now.entries) a.now
+    ensures { result ≡ share_external (paired_address block inside.now pool.now pairs.now.entries)
+        a.now
         b.now }
 {
     let a_address = pairing::pair(block, inside, pool, pairs, a.address);
@@ -129,7 +131,8 @@ fn is_double(
 ) -> bool
     requires some { 1 ≤ length pool.now }
     requires few { length inside.now ≤ 16 }
-    ensures { result ≡ is_double (paired_address block inside.now pool.now pairs.now.entries) a.now b.now }
+    ensures { result ≡ is_double (paired_address block inside.now pool.now pairs.now.entries) a.now
+        b.now }
 {
     a.tcp == b.tcp && (share_inside(a, b) || share_external(a, b, block, inside, pool, pairs))
 }
@@ -146,7 +149,8 @@ fn have_double(
 ) -> bool
     requires some { 1 ≤ length pool.now }
     requires few { length inside.now ≤ 16 }
-    ensures { result ≡ have_double_redirect (paired_address block inside.now pool.now pairs.now.entries) earlier.now
+    ensures { result ≡ have_double_redirect
+        (paired_address block inside.now pool.now pairs.now.entries) earlier.now
         later.now }
 {
     for redirect in earlier {
@@ -201,10 +205,12 @@ fn redirects_at(
     requires blocks { (host : ℕ) → IfSome (block_in block inside.now (length pool.now) host)
         IsPortBlock }
     ensures exact { MakePost (λ redirects. redirects.items) result
-        (redirects_at each_in_order inside.now (paired_address block inside.now pool.now pairs.now.entries)
+        (redirects_at each_in_order inside.now
+        (paired_address block inside.now pool.now pairs.now.entries)
         (block_in block inside.now (length pool.now)) (view value.now)) }
     ensures first { FirstFaultComesFirst
-        (redirects_at first_in_order inside.now (paired_address block inside.now pool.now pairs.now.entries)
+        (redirects_at first_in_order inside.now
+        (paired_address block inside.now pool.now pairs.now.entries)
         (block_in block inside.now (length pool.now)) (view value.now)) result }
 {
     let entries = list_up_to(MOST_REDIRECTS, value)?;
@@ -231,10 +237,12 @@ pub(crate) fn redirects(
     requires blocks { (host : ℕ) → IfSome (block_in block inside.now (length pool.now) host)
         IsPortBlock }
     ensures exact { MakePost (λ redirects. redirects.items) result
-        (redirects_in each_in_order inside.now (paired_address block inside.now pool.now pairs.now.entries)
+        (redirects_in each_in_order inside.now
+        (paired_address block inside.now pool.now pairs.now.entries)
         (block_in block inside.now (length pool.now)) (table_view table.now)) }
     ensures first { FirstFaultComesFirst
-        (redirects_in first_in_order inside.now (paired_address block inside.now pool.now pairs.now.entries)
+        (redirects_in first_in_order inside.now
+        (paired_address block inside.now pool.now pairs.now.entries)
         (block_in block inside.now (length pool.now)) (table_view table.now)) result }
 {
     match value_at(table, "redirect") {

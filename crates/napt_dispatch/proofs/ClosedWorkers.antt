@@ -46,7 +46,8 @@ module _ (f : TranslatorModel → List Leg → TranslatorModel) where
       (began : starts ≡ started_from rules start (length rules.pool)) (left : machines ≡ zip_with f starts accepts)
       (done : IsDispatchedFrom rules start inputs accepts outcomes numbers) (last : ℕ)
       (clock : last ≡ last_clock start.clock inputs) (none : (s : TranslatorModel) → f s [] ≡ s)
-      (more : (s : TranslatorModel) (leg : Leg) (legs : List Leg) → f s (leg ∷ legs) ≡ f (translator_after leg s) legs) where
+      (more : (s : TranslatorModel) (leg : Leg) (legs : List Leg) →
+      f s (leg ∷ legs) ≡ f (translator_after leg s) legs) where
     abbrev course : RunEffect
     course = effect_from rules start inputs
 
@@ -71,17 +72,20 @@ module _ (f : TranslatorModel → List Leg → TranslatorModel) where
         let n : ℕ = length rules.pool in
         let long : length (started_from rules start n) ≡ n = length_started rules start n in
         let long_legs : length (map legs_of rules.pool) ≡ n = length-map rules.pool legs_of in
-        let begins : TranslatorModel = with_local_state (initial_translator w rules) (local_bindings start (slice_index rules.pool w)) in
+        let begins : TranslatorModel = with_local_state (initial_translator w rules)
+        (local_bindings start (slice_index rules.pool w)) in
         rw (
           states_are,
-          zip_index f (started_from rules start n) (map legs_of rules.pool) w (initial_translator 0 rules) (initial_translator 0 rules)
+          zip_index f (started_from rules start n) (map legs_of rules.pool) w (initial_translator 0 rules)
+              (initial_translator 0 rules)
               (omega arith) (omega arith),
           started_at rules start n w (initial_translator 0 rules) lt,
           map_index legs_of rules.pool w lt,
         )
         (after_kept none more begins (legs_of (slice_index rules.pool w)))
 
-    at_once : (address : ℕ) → IsTranslatorCurrent rules address (last_clock start.clock inputs) (kept_at address) course.list
+    at_once : (address : ℕ) → IsTranslatorCurrent rules address (last_clock start.clock inputs) (kept_at address)
+        course.list
     at_once address = (seen_from rules start inputs address).leaves
 
     latest_at : (address : ℕ) → max last (kept_at address).at ≡ last_clock start.clock inputs
@@ -123,7 +127,8 @@ module _ (f : TranslatorModel → List Leg → TranslatorModel) where
     }
 
 pub started_more : (rules : Rules) (start : State) (n : ℕ) → started_from rules start (n + 1)
-    ≡ started_from rules start n ++ with_local_state (initial_translator n rules) (local_bindings start (slice_index rules.pool n)) ∷ []
+    ≡ started_from rules start n ++ with_local_state (initial_translator n rules)
+    (local_bindings start (slice_index rules.pool n)) ∷ []
 started_more rules start n = let e : n + 1 ≡ suc n = omega arith in ap (started_from rules start) e
 
 -- A STATE WITHOUT BINDINGS: a run from it is the run from the redirects alone

@@ -62,7 +62,8 @@ pub started_at : (rules : Rules) (start : State) (n w : ℕ) (d : TranslatorMode
 started_at rules start zero w d lt = absurd (omega arith)
 started_at rules start (suc n) w d lt =
     let long : length (started_from rules start n) ≡ n = length_started rules start n in
-    let next : TranslatorModel = with_local_state (initial_translator n rules) (local_bindings start (slice_index rules.pool n)) in
+    let next : TranslatorModel = with_local_state (initial_translator n rules)
+    (local_bindings start (slice_index rules.pool n)) in
     elim (cases_eq w n) [
       | inl same ↦ rw same (rw long at (get_or-append_seam (started_from rules start n) next [] d))
       | inr other ↦ get_or-append (started_from rules start n) (next ∷ []) d w (omega arith)
@@ -95,7 +96,8 @@ module _ {P : Type 0} (tells : Passage → P) {g : Ghosts TranslatorModel Leg (T
             (omega arith) (omega arith),
         started_at rules start (length rules.pool) w (initial_translator w rules) lt,
       )
-      (replies_kept stepped_is reply_is (with_local_state (initial_translator w rules) (local_bindings start (slice_index rules.pool w)))
+      (replies_kept stepped_is reply_is (with_local_state (initial_translator w rules)
+      (local_bindings start (slice_index rules.pool w)))
       (of_worker offered w)) in
       ([], append-nil (of_worker taken w) ∙ is)
 

@@ -54,8 +54,10 @@ set_added lists w xs lt = everywhere (λ v. elim (cases_eq v w) [
 -- A POOL THAT GROWS
 
 module _ {P M G : Type 0} where
-  pub grows_not : {pool later_pool : Pool M G Leg (TracedAnswer P)} → initial_machines later_pool ≡ initial_machines pool →
-      accepted_items later_pool ≡ accepted_items pool → taken_answers later_pool ≡ taken_answers pool → PoolGrows pool later_pool
+  pub grows_not : {pool later_pool : Pool M G Leg (TracedAnswer P)} →
+      initial_machines later_pool ≡ initial_machines pool →
+      accepted_items later_pool ≡ accepted_items pool → taken_answers later_pool ≡ taken_answers pool →
+      PoolGrows pool later_pool
   grows_not began offered taken = grind (arith, common_steps, nat_tests, front_none)
 
   pub grows_none : (pool : Pool M G Leg (TracedAnswer P)) → PoolGrows pool pool
@@ -72,32 +74,37 @@ module _ {P M G : Type 0} where
   module _ (w : ℕ) (pool later_pool : Pool M G Leg (TracedAnswer P)) (within : w < length (initial_machines pool))
       (began : initial_machines later_pool ≡ initial_machines pool) where
     pub grows_offered : (legs : List Leg) → taken_answers later_pool ≡ taken_answers pool →
-        accepted_items later_pool ≡ slice_set (accepted_items pool) w (of_worker (accepted_items pool) w ++ legs) → PoolGrows pool later_pool
+        accepted_items later_pool ≡ slice_set (accepted_items pool) w (of_worker (accepted_items pool) w ++ legs) →
+        PoolGrows pool later_pool
     grows_offered legs same more =
         let now : of_worker (accepted_items later_pool) ≡ with_more_at w legs (of_worker (accepted_items pool)) =
         ap of_worker more ∙ set_added (accepted_items pool) w legs (rw length-map (rw length-map at within)) in
         record {
           starts_stay = began;
-          offered = λ v. subst (λ (lists : ℕ → List Leg). IsFrontOf (of_worker (accepted_items pool) v) (lists v)) (sym now)
+          offered = λ v. subst (λ (lists : ℕ → List Leg). IsFrontOf (of_worker (accepted_items pool) v) (lists v))
+              (sym now)
               (added_front w legs (of_worker (accepted_items pool)) v);
           taken = λ v. rw same (front_none (of_worker (taken_answers pool) v));
         }
 
     pub grows_taken : (answers : List (TracedAnswer P)) → accepted_items later_pool ≡ accepted_items pool →
-        taken_answers later_pool ≡ slice_set (taken_answers pool) w (of_worker (taken_answers pool) w ++ answers) → PoolGrows pool later_pool
+        taken_answers later_pool ≡ slice_set (taken_answers pool) w (of_worker (taken_answers pool) w ++ answers) →
+        PoolGrows pool later_pool
     grows_taken answers same more =
         let now : of_worker (taken_answers later_pool) ≡ with_more_at w answers (of_worker (taken_answers pool)) =
         ap of_worker more ∙ set_added (taken_answers pool) w answers (rw length-map (rw length-map at within)) in
         record {
           starts_stay = began;
           offered = λ v. rw same (front_none (of_worker (accepted_items pool) v));
-          taken = λ v. subst (λ (lists : ℕ → List (TracedAnswer P)). IsFrontOf (of_worker (taken_answers pool) v) (lists v)) (sym now)
+          taken = λ v. subst (λ (lists : ℕ → List (TracedAnswer P)). IsFrontOf (of_worker (taken_answers pool) v)
+              (lists v)) (sym now)
               (added_front w answers (of_worker (taken_answers pool)) v);
         }
 
   -- A pool that has grown and then ended with a fault ended with that fault.
   pub halts_after : {open_gate : Bool} {fault : RunFault} {pool mid_pool later_pool : Pool M G Leg (TracedAnswer P)} →
-      PoolGrows pool mid_pool → DispatcherHalts open_gate mid_pool later_pool fault → DispatcherHalts open_gate pool later_pool fault
+      PoolGrows pool mid_pool → DispatcherHalts open_gate mid_pool later_pool fault →
+      DispatcherHalts open_gate pool later_pool fault
   halts_after a b = record { grows = grows_both a b.grows; fault_is = b.fault_is }
 
 -- The place of an address in the pool is below the pool's length.

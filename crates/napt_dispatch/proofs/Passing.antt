@@ -36,7 +36,8 @@ none_behind rules start all number input there side is = grind (arith, common_st
 
 module _ {P M G : Type 0} {tells : Passage → P} where
   -- A dispatcher that did nothing continues.
-  pub goes_none : {pool : Pool M G Leg (TracedAnswer P)} {d : Dispatcher P} → IsSizedFor pool d → DispatcherGoesOn tells pool d [] pool d
+  pub goes_none : {pool : Pool M G Leg (TracedAnswer P)} {d : Dispatcher P} → IsSizedFor pool d →
+      DispatcherGoesOn tells pool d [] pool d
   goes_none sized = grind (arith, common_steps, nat_tests, grows_none, append-nil)
 
   -- A dispatcher continues if outcomes left and nothing else was done.
@@ -57,7 +58,8 @@ module _ {P M G : Type 0} {tells : Passage → P} where
   }
 
   module _ {pool mid_pool later_pool : Pool M G Leg (TracedAnswer P)} {d mid later : Dispatcher P} where
-    pub continues_both : DispatcherContinues tells pool d mid_pool mid → DispatcherContinues tells mid_pool mid later_pool later →
+    pub continues_both : DispatcherContinues tells pool d mid_pool mid →
+        DispatcherContinues tells mid_pool mid later_pool later →
         DispatcherContinues tells pool d later_pool later
     continues_both a b = record {
       grows = grows_both a.grows b.grows;
@@ -67,7 +69,8 @@ module _ {P M G : Type 0} {tells : Passage → P} where
     }
 
     pub goes_more : {xs ys : List (ℕ × InputResult P)} → DispatcherGoesOn tells pool d xs mid_pool mid →
-        DispatcherGoesOn tells mid_pool mid ys later_pool later → DispatcherGoesOn tells pool d (xs ++ ys) later_pool later
+        DispatcherGoesOn tells mid_pool mid ys later_pool later →
+        DispatcherGoesOn tells pool d (xs ++ ys) later_pool later
     goes_more {xs} {ys} a b = record {
       grows = grows_both a.grows b.grows;
       sized = b.sized;
@@ -99,8 +102,10 @@ module _ {P M G : Type 0} {tells : Passage → P} where
 
   -- An input was opened, its first leg was held, and then answers may have been taken and legs offered.
   pub serves_as : (rules : Rules) (now number : ℕ) (input : Arrival) (pool : Pool M G Leg (TracedAnswer P))
-      (d admitted : Dispatcher P) (window : RunProgressModel P) (later_pool : Pool M G Leg (TracedAnswer P)) (later : Dispatcher P) →
-      window ≡ progress_expecting input.time (way_from input.side) d.progress → number ≡ length (progress_in d.progress) →
+      (d admitted : Dispatcher P) (window : RunProgressModel P) (later_pool : Pool M G Leg (TracedAnswer P))
+      (later : Dispatcher P) →
+      window ≡ progress_expecting input.time (way_from input.side) d.progress →
+      number ≡ length (progress_in d.progress) →
       Admits tells rules number now input (record d { progress = window }) admitted →
       journal_of admitted.progress ≡ journal_of window → DispatcherContinues tells pool admitted later_pool later →
       ReadInputPost tells rules now input pool d later_pool later
@@ -116,7 +121,8 @@ module _ {P M G : Type 0} {tells : Passage → P} where
         let none : NoneBehind way (second_legs (length (progress_in d.progress)) (effect_from rules start all).acts) =
         none_behind rules start all (length (progress_in d.progress)) input
         (input_there done rest input (length (progress_in d.progress)) long) input.side refl in
-        let expected : DispatcherInvariant tells rules start done all (dispatcher_state pool (record d { progress = window })) =
+        let expected : DispatcherInvariant tells rules start done all
+        (dispatcher_state pool (record d { progress = window })) =
         rw (ap progress_in is ∙ expecting_progress input.time way d.progress)
         (known_stands rules start done all (length d.queues) (dispatcher_state pool d).lane (progress_in d.progress)
         (progress_in d.progress ++ Awaited way ∷ [])
@@ -136,7 +142,8 @@ module _ {P M G : Type 0} {tells : Passage → P} where
   module _ {rules : Rules} {pool mid_pool later_pool : Pool M G Leg (TracedAnswer P)} {d mid later : Dispatcher P}
       {inputs : List Arrival} where
     pub reads_on : {xs ys : List (ℕ × InputResult P)} → ReadInputsPost tells rules pool d inputs xs mid_pool mid →
-        DispatcherGoesOn tells mid_pool mid ys later_pool later → ReadInputsPost tells rules pool d inputs (xs ++ ys) later_pool later
+        DispatcherGoesOn tells mid_pool mid ys later_pool later →
+        ReadInputsPost tells rules pool d inputs (xs ++ ys) later_pool later
     reads_on {ys = ys} a b = record {
       grows = grows_both a.grows b.grows;
       sized = b.sized;
@@ -159,7 +166,8 @@ module _ {P M G : Type 0} {tells : Passage → P} where
       left_is = b.left_stays ∙ a.left_is;
       served = λ start at rest s.
           let whole : (inputs ++ input ∷ []) ++ rest ≡ inputs ++ input ∷ rest = append_assoc inputs (input ∷ []) rest in
-          let before : DispatcherInvariant tells rules start inputs ((inputs ++ input ∷ []) ++ rest) (dispatcher_state mid_pool mid) =
+          let before : DispatcherInvariant tells rules start inputs ((inputs ++ input ∷ []) ++ rest)
+          (dispatcher_state mid_pool mid) =
           rw whole (a.served start at (input ∷ rest) (rw whole at s)) in
           b.served start inputs rest (many_read mid inputs a.times_are)
           (ap (λ (t : ℕ). max (last_clock t inputs) input.clock) at
@@ -200,7 +208,8 @@ module _ {P S F : Type 0} {takes : S → List (ℕ × InputResult P) → S → T
 
   pub lets_halt : {tells : Passage → P} {M G : Type 0} {pool mid_pool : Pool M G Leg (TracedAnswer P)}
       (later_pool : Pool M G Leg (TracedAnswer P)) {d mid : Dispatcher P} (later : Dispatcher P) {before between : S}
-      (after : S) (open_gate : Bool) (e : DispatchFault F) → OutcomesLeave tells takes pool d before mid_pool mid between →
+      (after : S) (open_gate : Bool) (e : DispatchFault F) →
+      OutcomesLeave tells takes pool d before mid_pool mid between →
       HaltsAt tells open_gate takes fails mid_pool mid between later_pool later after e →
       HaltsAt tells open_gate takes fails pool d before later_pool later after e
   lets_halt later_pool later after open_gate (dispatch_faults.Departure fault) a b = record {
@@ -219,7 +228,8 @@ module _ {P S F : Type 0} {takes : S → List (ℕ × InputResult P) → S → T
   pub lets_stop : {tells : Passage → P} {M G : Type 0} {pool mid_pool later_pool : Pool M G Leg (TracedAnswer P)}
       {d mid handed : Dispatcher P} {before between after : S} {open_gate : Bool} {fault : RunFault} →
       OutcomesLeave tells takes pool d before mid_pool mid between →
-      OutcomesLeave tells takes mid_pool mid between mid_pool handed after → DispatcherHalts open_gate mid_pool later_pool fault →
+      OutcomesLeave tells takes mid_pool mid between mid_pool handed after →
+      DispatcherHalts open_gate mid_pool later_pool fault →
       RunThroughHalts tells open_gate takes pool d before later_pool after fault
   lets_stop {mid_pool = mid_pool} {handed = handed} {after = after} a b stop = record {
     last_pool = mid_pool;
@@ -232,14 +242,16 @@ module _ {P S F : Type 0} {takes : S → List (ℕ × InputResult P) → S → T
   pub lets_turn : {tells : Passage → P} {M G : Type 0} {pool mid_pool later_pool : Pool M G Leg (TracedAnswer P)}
       {d mid handed later : Dispatcher P}
       {before between after : S} → OutcomesLeave tells takes pool d before mid_pool mid between →
-      OutcomesLeave tells takes mid_pool mid between mid_pool handed after → DispatcherContinues tells mid_pool handed later_pool later →
+      OutcomesLeave tells takes mid_pool mid between mid_pool handed after →
+      DispatcherContinues tells mid_pool handed later_pool later →
       OutcomesLeave tells takes pool d before later_pool later after
   lets_turn a b c = let both = lets_more _ _ _ a b in
       record { went = both.went; goes = goes_then both.goes c; took = both.took }
 
   -- Outcomes left, and then the sink was flushed.
   pub lets_settle : {tells : Passage → P} {M G : Type 0} {pool later_pool : Pool M G Leg (TracedAnswer P)}
-      {d later : Dispatcher P} {before between after : S} → OutcomesLeave tells takes pool d before later_pool later between →
+      {d later : Dispatcher P} {before between after : S} →
+      OutcomesLeave tells takes pool d before later_pool later between →
       takes between [] after → OutcomesLeave tells takes pool d before later_pool later after
   lets_settle a b = lets_more _ _ _ a (record { went = []; goes = goes_none a.goes.sized; took = b })
 
@@ -250,7 +262,8 @@ module _ {P S F : Type 0} {takes : S → List (ℕ × InputResult P) → S → T
       (is_settled : S → Type 0) {M G : Type 0} {pool mid_pool : Pool M G Leg (TracedAnswer P)}
       (later_pool : Pool M G Leg (TracedAnswer P)) {d mid : Dispatcher P} (later : Dispatcher P) {from left : A}
       {before between : S} (after : S) {inputs : List Arrival} {went : List (ℕ × InputResult P)} where
-    pub reads_halt : (open_gate : Bool) (e : DispatchFault F) → ReadInputsPost tells rules pool d inputs went mid_pool mid →
+    pub reads_halt : (open_gate : Bool) (e : DispatchFault F) →
+        ReadInputsPost tells rules pool d inputs went mid_pool mid →
         takes before went between → HasCome hands ends from inputs left →
         HaltsAt tells open_gate takes fails mid_pool mid between later_pool later after e →
         ReadsHalted tells rules hands ends takes fails is_settled pool d from before later_pool later left after

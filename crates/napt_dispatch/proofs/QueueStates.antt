@@ -31,7 +31,8 @@ module _ (queues : List WorkerQueueModel) (w : ℕ) (queue later : WorkerQueueMo
       set queues w later ≡ with_queue w change queues
   changed change e = ap (set queues w) (e ∙ ap change (sym queue_is))
 
-  pub holds_here : (more : List PendingLeg) → HoldPost more queue later → AllHold (only_at w more) queues (set queues w later)
+  pub holds_here : (more : List PendingLeg) → HoldPost more queue later →
+      AllHold (only_at w more) queues (set queues w later)
   holds_here more h = λ v. elim (cases_eq v w) [
     | inl e ↦ rw (e, get_or-set_same queues w later unused_queue lt, queue_is, eq-eqb w w refl) h
     | inr n ↦ rw (get_or-set_other queues w v later unused_queue n, ne_eqb v w n) (record {
@@ -42,7 +43,8 @@ module _ (queues : List WorkerQueueModel) (w : ℕ) (queue later : WorkerQueueMo
   ]
 
   -- The oldest leg was answered, if there was one.
-  pub answers_here : (o : Option AwaitedLeg) → MatchOption o (queue.owed ≡ []) (λ owed. queue.owed ≡ owed ∷ later.owed) →
+  pub answers_here : (o : Option AwaitedLeg) → MatchOption o (queue.owed ≡ [])
+      (λ owed. queue.owed ≡ owed ∷ later.owed) →
       later ≡ record queue { owed = later.owed } →
       MatchOption o ((queue_of queues w).owed ≡ []) (λ owed. AnswersAt w owed queues (set queues w later))
   answers_here o first e = grind (arith, common_steps, nat_tests, queue_is, changed)
@@ -70,7 +72,8 @@ pub count_more : (held : PendingLeg) (q later : WorkerQueueModel) → HoldPost (
 count_more held q later h = grind (arith, common_steps, nat_tests, length_push, length_all)
 
 -- A leg that was held first becomes the last leg of the next message.
-pub turned_on : (acts : List LegAct) (ready : List Leg) (leg : Leg) (held rest : List PendingLeg) → held ≡ Ready leg ∷ rest →
+pub turned_on : (acts : List LegAct) (ready : List Leg) (leg : Leg) (held rest : List PendingLeg) →
+    held ≡ Ready leg ∷ rest →
     turned_legs acts (ready ++ leg ∷ []) rest ≡ turned_legs acts ready held
 turned_on acts ready leg held rest e = grind (arith, common_steps, nat_tests, append_assoc, flat_map)
 
@@ -84,12 +87,14 @@ of_replicate zero w x = refl
 of_replicate (suc n) zero x = refl
 of_replicate (suc n) (suc w) x = of_replicate n w x
 
-pub none_held : (queues : List WorkerQueueModel) → many_held queues ≡ 0 → (w : ℕ) → held_legs_count (queue_of queues w) ≡ 0
+pub none_held : (queues : List WorkerQueueModel) → many_held queues ≡ 0 → (w : ℕ) →
+    held_legs_count (queue_of queues w) ≡ 0
 none_held [] e w = refl
 none_held (q ∷ queues) e zero = omega (arith, sym (sum_by-cons held_legs_count q queues) ∙ e)
 none_held (q ∷ queues) e (suc w) = none_held queues (omega (arith, sym (sum_by-cons held_legs_count q queues) ∙ e)) w
 
-pub held_none : (queues : List WorkerQueueModel) → ((w : ℕ) → held_legs_count (queue_of queues w) ≡ 0) → many_held queues ≡ 0
+pub held_none : (queues : List WorkerQueueModel) → ((w : ℕ) → held_legs_count (queue_of queues w) ≡ 0) →
+    many_held queues ≡ 0
 held_none [] none = refl
 held_none (q ∷ queues) none =
     let here : held_legs_count q ≡ 0 = none zero in

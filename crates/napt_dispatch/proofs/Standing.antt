@@ -39,13 +39,15 @@ short_front (x ∷ xs) (y ∷ ys) zs le h =
     let more = short_front xs ys zs (omega arith) (h.0, rest) in
     (more.0, (cc))
 
-length_replies : {P : Type 0} (tells : Passage → P) (rules : Rules) (address : ℕ) (legs : List Leg) (kept : LocalState) →
+length_replies : {P : Type 0} (tells : Passage → P) (rules : Rules) (address : ℕ) (legs : List Leg)
+    (kept : LocalState) →
     length (traced_replies tells rules address legs kept) ≡ length legs
 length_replies tells rules address [] kept = refl
 length_replies tells rules address (l ∷ legs) kept =
     ap suc (length_replies tells rules address legs (local_after rules address l kept))
 
-replies_more : {P : Type 0} (tells : Passage → P) (rules : Rules) (address : ℕ) (legs more : List Leg) (kept : LocalState) →
+replies_more : {P : Type 0} (tells : Passage → P) (rules : Rules) (address : ℕ) (legs more : List Leg)
+    (kept : LocalState) →
     (others : List (TracedAnswer P))
     × (traced_replies tells rules address (legs ++ more) kept ≡ traced_replies tells rules address legs kept ++ others)
 replies_more tells rules address [] more kept = (traced_replies tells rules address more kept, refl)
@@ -56,19 +58,23 @@ replies_more {P} tells rules address (l ∷ legs) more kept =
 -- If the last answers are right, so were those taken before.
 pub right_before : {P : Type 0} {tells : Passage → P} {M G : Type 0} (rules : Rules) (start : State)
     (done all : List Arrival) (pool last_pool : Pool M G Leg (TracedAnswer P))
-    (d : Dispatcher P) → DispatcherInvariant tells rules start done all (dispatcher_state pool d) → PoolGrows pool last_pool →
-    AnswersAreRight tells rules start (accepted_items last_pool) (taken_answers last_pool) → AreRight tells rules start (dispatcher_state pool d)
+    (d : Dispatcher P) → DispatcherInvariant tells rules start done all (dispatcher_state pool d) →
+    PoolGrows pool last_pool →
+    AnswersAreRight tells rules start (accepted_items last_pool) (taken_answers last_pool) →
+    AreRight tells rules start (dispatcher_state pool d)
 right_before {P} {tells} rules start done all pool last_pool d s grows right = λ w lt.
     let address : ℕ = slice_index rules.pool w in
     let lane : Lane P = (dispatcher_state pool d).lane w in
     let o = s.lanes w lt in
     let more = grows.offered w in
     let others = replies_more tells rules address lane.offered more.0 (local_bindings start address) in
-    let whole : IsFrontOf lane.taken (traced_replies tells rules address lane.offered (local_bindings start address) ++ others.0) =
+    let whole : IsFrontOf lane.taken (traced_replies tells rules address lane.offered (local_bindings start address)
+    ++ others.0) =
     subst (λ l. IsFrontOf lane.taken l)
     (ap (λ legs. traced_replies tells rules address legs (local_bindings start address)) (sym more.1)
     ∙ others.1) (fronts_both _ _ _ (grows.taken w) (right w lt)) in
-    let long : length (traced_replies tells rules address lane.offered (local_bindings start address)) ≡ length lane.offered =
+    let long : length (traced_replies tells rules address lane.offered (local_bindings start address))
+    ≡ length lane.offered =
     length_replies tells rules address lane.offered (local_bindings start address) in
     let parts : length lane.offered ≡ length o.before + length o.rest =
     ap length o.parts ∙ length-append o.before o.rest in
@@ -83,7 +89,8 @@ front_less xs ys zs h = (ys ++ h.0, sym (append_assoc xs ys h.0) ∙ h.1)
 
 -- The legs offered to a worker are the first of its legs of the whole run.
 offered_front : {P : Type 0} {tells : Passage → P} (rules : Rules) (start : State) (done all : List Arrival)
-    (state : DispatcherModel P) → DispatcherInvariant tells rules start done all state → DispatcherReaches tells rules start done all state →
+    (state : DispatcherModel P) → DispatcherInvariant tells rules start done all state →
+    DispatcherReaches tells rules start done all state →
     (w : ℕ) → w < length rules.pool → IsFrontOf (state.lane w).offered
     (legs_at (slice_index rules.pool w) (effect_from rules start all).acts)
 offered_front rules start done all state s r w lt =
@@ -215,7 +222,8 @@ offers_keep {tells = tells} rules start all w legs offered taken q progress read
 
 -- THE FIRST HELD ENTRY
 
-resolves_known : {P : Type 0} (whole : RunLegs P) (front : QueueHead) (window later : RunProgressModel P) (second : Option Leg) →
+resolves_known : {P : Type 0} (whole : RunLegs P) (front : QueueHead) (window later : RunProgressModel P)
+    (second : Option Leg) →
     queue_waits (progress_in window) front ≡ false → Resolves front window second later →
     AllKnown whole (progress_in window) → AllKnown whole (progress_in later)
 resolves_known whole fronts.Nothing window later second goes is known = rw is known
@@ -226,10 +234,12 @@ resolves_known whole (fronts.FirstPlace number) window later (Some leg) goes is 
     rw is.written.progress_is (known_set whole (progress_in window) number (Returning is.first)
     (returning_known whole number is.asks.p leg is.first legs is.first_is (known number is.asks.p is.asks.there)) known)
 
-first_stands : {P : Type 0} (whole : RunLegs P) (held : List PendingLeg) (window later : RunProgressModel P) (second : Option Leg) →
+first_stands : {P : Type 0} (whole : RunLegs P) (held : List PendingLeg) (window later : RunProgressModel P)
+    (second : Option Leg) →
     queue_waits (progress_in window) (front_of held) ≡ false → Resolves (front_of held) window second later →
     AllKnown whole (progress_in window) →
-    flat_map (resolved_legs whole.acts) held ≡ first_held_leg second held ++ flat_map (resolved_legs whole.acts) (drop 1 held)
+    flat_map (resolved_legs whole.acts) held ≡ first_held_leg second held
+    ++ flat_map (resolved_legs whole.acts) (drop 1 held)
 first_stands whole [] window later second goes is known = absurd cc
 first_stands whole (Ready leg ∷ rest) window later second goes is known = refl
 first_stands whole (Place number ∷ rest) window later None goes is known =
@@ -241,10 +251,12 @@ first_stands whole (Place number ∷ rest) window later (Some leg) goes is known
 
 -- It becomes a leg of the next message, or it was a placeholder without a leg.
 pub readied_keeps : {P : Type 0} {tells : Passage → P} (rules : Rules) (start : State) (all : List Arrival) (w : ℕ)
-    (offered : List Leg) (taken : List (TracedAnswer P)) (q : WorkerQueueModel) (window later : RunProgressModel P) (second : Option Leg) →
+    (offered : List Leg) (taken : List (TracedAnswer P)) (q : WorkerQueueModel) (window later : RunProgressModel P)
+    (second : Option Leg) →
     queue_waits (progress_in window) (front_of q.held) ≡ false → Resolves (front_of q.held) window second later →
     LaneKeeps tells rules start all w (record { offered = offered; taken = taken; queue = q })
-    (record { offered = offered; taken = taken; queue = queue_readied second q }) (progress_in window) (progress_in later)
+    (record { offered = offered; taken = taken; queue = queue_readied second q }) (progress_in window)
+    (progress_in later)
 readied_keeps {tells = tells} rules start all w offered taken q window later second goes is =
     let whole : RunLegs _ = whole_of tells rules start all in
     record {
@@ -263,7 +275,8 @@ each_at P address [] h = tt
 each_at P address (a ∷ acts) h = grind (arith, common_steps, nat_tests, each_at P address acts h.1)
 
 -- The act of a leg and the traced answer to it, which have the same index.
-pub record ActOf {P : Type 0} (tells : Passage → P) (timers : Timers) (Q : LegAct → Type 0) (leg : Leg) (told : TracedAnswer P)
+pub record ActOf {P : Type 0} (tells : Passage → P) (timers : Timers) (Q : LegAct →
+    Type 0) (leg : Leg) (told : TracedAnswer P)
     : Type 0 where
   pub a : LegAct
   pub leg_is : a.leg ≡ leg
@@ -271,7 +284,8 @@ pub record ActOf {P : Type 0} (tells : Passage → P) (timers : Timers) (Q : Leg
   pub holds : Q a
 
 act_at : {P : Type 0} (tells : Passage → P) (timers : Timers) (Q : LegAct → Type 0) (acts : List LegAct)
-    (before more : List Leg) (leg : Leg) (taken rest : List (TracedAnswer P)) (told : TracedAnswer P) → length before ≡ length taken →
+    (before more : List Leg) (leg : Leg) (taken rest : List (TracedAnswer P)) (told : TracedAnswer P) →
+    length before ≡ length taken →
     Each Q acts → before ++ leg ∷ more ≡ map (λ (a : LegAct). a.leg) acts →
     (taken ++ told ∷ []) ++ rest ≡ map (traced_act tells timers) acts → ActOf tells timers Q leg told
 act_at tells timers Q [] [] more leg taken rest told long each legs answers = cc (legs)
@@ -375,7 +389,8 @@ module _ {P : Type 0} (tells : Passage → P) (rules : Rules) (start : State) (a
         grind (arith, common_steps, nat_tests, same_Some, first_told, second_told)
 
 act_tells : {P : Type 0} (tells : Passage → P) (rules : Rules) (start : State) (all : List Arrival) (leg : Leg)
-    (told : TracedAnswer P) (was : InputProgress P) (passages : P × P) → ActOf tells rules.timers (Tells rules start all) leg told →
+    (told : TracedAnswer P) (was : InputProgress P) (passages : P × P) →
+    ActOf tells rules.timers (Tells rules start all) leg told →
     passages_after (tells Nothing) was leg.way told.passage ≡ Some passages →
     ProgressIsKnown (whole_of tells rules start all) told.answer.number was →
     ProgressIsKnown (whole_of tells rules start all) told.answer.number
@@ -385,12 +400,14 @@ act_tells tells rules start all leg told was passages x is known =
     (told_known tells rules start all x.a x.holds was x.a.leg.way refl (rw (← x.told_is) at known)
     passages (rw (← x.leg_is, ← x.told_is) at is))
 
-first_owed : (legs : List Leg) (o : AwaitedLeg) (os : List AwaitedLeg) → o ∷ os ≡ map owed_of legs → (leg : Leg) × (rest : List Leg)
+first_owed : (legs : List Leg) (o : AwaitedLeg) (os : List AwaitedLeg) → o ∷ os ≡ map owed_of legs → (leg : Leg) ×
+    (rest : List Leg)
     × (legs ≡ leg ∷ rest) × (o ≡ owed_of leg) × (os ≡ map owed_of rest)
 first_owed [] o os h = cc
 first_owed (leg ∷ legs) o os h = (leg, legs, refl, cc, cc)
 
-module _ {P : Type 0} (tells : Passage → P) (rules : Rules) (start : State) (all : List Arrival) (w : ℕ) (told : TracedAnswer P)
+module _ {P : Type 0} (tells : Passage → P) (rules : Rules) (start : State) (all : List Arrival) (w : ℕ)
+    (told : TracedAnswer P)
     (owed : AwaitedLeg) (passages : P × P) (offered : List Leg) (taken : List (TracedAnswer P)) (q : WorkerQueueModel)
     (owes : q.owed ≡ owed ∷ drop 1 q.owed) where
   abbrev course : RunEffect
@@ -422,12 +439,15 @@ module _ {P : Type 0} (tells : Passage → P) (rules : Rules) (start : State) (a
       let each : Each (Tells rules start all) (acts_at address course.acts) =
       each_at (Tells rules start all) address course.acts (each_tells rules start all course.acts
       (answers_tell rules start all) (answers_fill rules start all) (legs_traced rules start all)) in
-      let legs : o.before ++ first.0 ∷ (first.1 ++ front.0) ≡ map (λ (a : LegAct). a.leg) (acts_at address course.acts) =
+      let legs : o.before ++ first.0 ∷ (first.1 ++ front.0)
+      ≡ map (λ (a : LegAct). a.leg) (acts_at address course.acts) =
       rw (o.parts, first.2, append_assoc) at front.1 in
-      subst (λ (o : AwaitedLeg). ProgressIsKnown (whole_of tells rules start all) told.answer.number (now_told o)) (sym first.3)
+      subst (λ (o : AwaitedLeg). ProgressIsKnown (whole_of tells rules start all) told.answer.number (now_told o))
+      (sym first.3)
       (act_tells tells rules start all first.0 told was passages (act_at tells rules.timers (Tells rules start all)
       (acts_at address course.acts) o.before (first.1 ++ front.0) first.0 taken told_front.0 told o.long each legs
-      told_front.1) (ap (λ (o : AwaitedLeg). passages_after (tells Nothing) was o.way told.passage) (sym first.3) ∙ is) known)
+      told_front.1) (ap (λ (o : AwaitedLeg). passages_after (tells Nothing) was o.way told.passage) (sym first.3)
+      ∙ is) known)
 
   pub answer_keeps : (progress : List (InputProgress P)) (was : InputProgress P) →
       slice_get progress told.answer.number ≡ Some was →
@@ -484,7 +504,8 @@ legs_held : (acts : List LegAct) (q : WorkerQueueModel) →
 legs_held acts q = legs_behind acts q.ready q.held
 
 -- More is held for one worker.
-lane_more : {P : Type 0} (acts : List LegAct) (offered : List Leg) (taken : List (TracedAnswer P)) (q later : WorkerQueueModel)
+lane_more : {P : Type 0} (acts : List LegAct) (offered : List Leg) (taken : List (TracedAnswer P))
+    (q later : WorkerQueueModel)
     (more : List PendingLeg) →
     HoldPost more q later → lane_legs acts (record { offered = offered; taken = taken; queue = later })
     ≡ lane_legs acts (record { offered = offered; taken = taken; queue = q }) ++ flat_map (resolved_legs acts) more
@@ -496,7 +517,8 @@ lane_more acts offered taken q later more h =
 
 module _ {P : Type 0} (tells : Passage → P) (rules : Rules) (start : State) (distinct : Distinct rules.pool)
     (done rest : List Arrival) (input : Arrival) (number now : ℕ) (long : length done ≡ number)
-    (clock : max (last_clock start.clock done) input.clock ≡ now) (offered : ℕ → List Leg) (taken : ℕ → List (TracedAnswer P))
+    (clock : max (last_clock start.clock done) input.clock ≡ now) (offered : ℕ → List Leg) (taken : ℕ →
+    List (TracedAnswer P))
     (d later : Dispatcher P) where
   abbrev all_of : List Arrival
   all_of = (done ++ input ∷ []) ++ rest
@@ -516,8 +538,10 @@ module _ {P : Type 0} (tells : Passage → P) (rules : Rules) (start : State) (d
       ((v : ℕ) → v < length rules.pool → legs_at (at_place v) (effect_from rules start now_done).acts ≡ legs_at
       (at_place v) (effect_from rules start done).acts ++ flat_map (resolved_legs acts_all) (extra v)) →
       (AllKnown (whole_of tells rules start all_of) (progress_in d.progress) → AllKnown
-      (whole_of tells rules start all_of) (progress_in later.progress)) → DispatcherInvariant tells rules start done all_of
-      (state_with offered taken d) → DispatcherInvariant tells rules start now_done all_of (state_with offered taken later)
+      (whole_of tells rules start all_of) (progress_in later.progress)) →
+      DispatcherInvariant tells rules start done all_of
+      (state_with offered taken d) → DispatcherInvariant tells rules start now_done all_of
+      (state_with offered taken later)
   grown_stands extra many holds legs known s = record {
     rest = rest;
     whole = refl;
@@ -534,7 +558,8 @@ module _ {P : Type 0} (tells : Passage → P) (rules : Rules) (start : State) (d
   }
 
   pub refused_stands : (cause : Cause) → admission rules input ≡ Err cause → later.queues ≡ d.queues →
-      progress_in later.progress ≡ slice_set (progress_in d.progress) number (progress_refused (tells Nothing) now cause) →
+      progress_in later.progress ≡ slice_set (progress_in d.progress) number
+      (progress_refused (tells Nothing) now cause) →
       DispatcherInvariant tells rules start done all_of (state_with offered taken d) →
       DispatcherInvariant tells rules start now_done all_of (state_with offered taken later)
   refused_stands cause is queues written =
@@ -591,7 +616,8 @@ module _ {P : Type 0} (tells : Passage → P) (rules : Rules) (start : State) (d
         cc in
         let acts : (effect_from rules start now_done).acts ≡ before.acts ++ first_act rules at_w leg_of before.list
         ∷ [] =
-        acts_grow rules start done rest input number now long clock packet admitted ∙ ap (λ (xs : List LegAct). before.acts
+        acts_grow rules start done rest input number now long clock packet admitted
+        ∙ ap (λ (xs : List LegAct). before.acts
         ++ xs) (single_by rules at_w leg_of first first.end never) in
         rw (
           acts,
@@ -627,7 +653,8 @@ module _ {P : Type 0} (tells : Passage → P) (rules : Rules) (start : State) (d
 pub refused_admits : {P : Type 0} {tells : Passage → P} (rules : Rules) (number now : ℕ) (input : Arrival)
     (d later : Dispatcher P) (cause : Cause) →
     Distinct rules.pool → admission rules input ≡ Err cause → later.queues ≡ d.queues →
-    progress_in later.progress ≡ slice_set (progress_in d.progress) number (progress_refused (tells Nothing) now cause) →
+    progress_in later.progress ≡ slice_set (progress_in d.progress) number
+    (progress_refused (tells Nothing) now cause) →
     Admits tells rules number now input d later
 refused_admits rules number now input d later cause distinct is queues written =
     grind (arith, common_steps, nat_tests, refused_stands)
@@ -714,7 +741,8 @@ module _ {P : Type 0} {tells : Passage → P} (rules : Rules) (start : State) (i
         left,
         record {
           legs = map_at (λ address. legs_at address whole.acts) offered [] rules.pool many reached;
-          outcomes_are = ap (map collected_outcome) left ∙ (timed_outcomes inputs (input_results tells rules start inputs) long
+          outcomes_are = ap (map collected_outcome) left
+              ∙ (timed_outcomes inputs (input_results tells rules start inputs) long
               ∙ departed_outcomes tells rules start inputs);
           numbers_are = map_at (λ address. length (legs_at address whole.acts)) (counts_in d.queues) 0 rules.pool
               (length-map d.queues (λ q. q.offered) ∙ s.many)

@@ -33,7 +33,8 @@ get_at (y ∷ xs) (suc i) x lt is = get_at xs i x (omega arith) is
 
 -- WHAT IS KNOWN
 
-get_set : {P : Type 0} (xs : List (InputProgress P)) (n i : ℕ) (v x : InputProgress P) → slice_get (set xs n v) i ≡ Some x →
+get_set : {P : Type 0} (xs : List (InputProgress P)) (n i : ℕ) (v x : InputProgress P) →
+    slice_get (set xs n v) i ≡ Some x →
     ((i ≡ n) × (v ≡ x)) ⊎ (slice_get xs i ≡ Some x)
 get_set [] n i v x h = inr h
 get_set (o ∷ os) zero zero v x h = inl (refl, (cc))
@@ -80,12 +81,14 @@ pub known_push : {P : Type 0} (whole : RunLegs P) (progress : List (InputProgres
     AllKnown whole (progress ++ Awaited way ∷ [])
 known_push whole progress way none known = grind (arith, common_steps, nat_tests, get_push)
 
-known_departed : {P : Type 0} (whole : RunLegs P) (i : ℕ) (p : InputProgress P) (d : InputResult P) → departed_in p ≡ Some d →
+known_departed : {P : Type 0} (whole : RunLegs P) (i : ℕ) (p : InputProgress P) (d : InputResult P) →
+    departed_in p ≡ Some d →
     ProgressIsKnown whole i p → slice_get whole.departed i ≡ Some d
 known_departed whole i p d is known = rw is at known.departed
 
 -- The results that were written agree with the run.
-left_known : {P : Type 0} (whole : RunLegs P) (i : ℕ) (pair : ℕ × InputResult P) → ProgressIsKnown whole i (ended_in pair) →
+left_known : {P : Type 0} (whole : RunLegs P) (i : ℕ) (pair : ℕ × InputResult P) →
+    ProgressIsKnown whole i (ended_in pair) →
     slice_get whole.departed i ≡ Some pair.1
 left_known whole i pair known = known_departed whole i (ended_in pair) pair.1 (departed_ended pair.1) known
 
@@ -94,7 +97,8 @@ second_by : {P : Type 0} (legs : List Leg) (number : ℕ) (p : InputProgress P) 
 second_by legs number p goes knows = grind (arith, common_steps, nat_tests)
 
 -- The second leg for which an answer asks is that of the run.
-pub second_known : {P : Type 0} (whole : RunLegs P) (progress : List (InputProgress P)) (number : ℕ) (second : Option Leg) →
+pub second_known : {P : Type 0} (whole : RunLegs P) (progress : List (InputProgress P)) (number : ℕ)
+    (second : Option Leg) →
     is_unknown (slice_get progress number) ≡ false → AsksForSecondLeg number progress second → AllKnown whole progress →
     second_legs number whole.acts ≡ option_to_list second
 second_known whole progress number second goes asks known =
@@ -209,7 +213,8 @@ unread_unknown left items number le = grind (arith, common_steps, nat_tests, pas
 
 -- STEPS
 
-pub expecting_times : {P : Type 0} (time : ℕ) (way : Way) (window : RunProgressModel P) → times_in (progress_expecting time way window)
+pub expecting_times : {P : Type 0} (time : ℕ) (way : Way) (window : RunProgressModel P) →
+    times_in (progress_expecting time way window)
     ≡ times_in window ++ time ∷ []
 expecting_times time way window = grind (arith, common_steps, nat_tests, map-append, append_assoc)
 
@@ -217,7 +222,8 @@ pub expecting_progress : {P : Type 0} (time : ℕ) (way : Way) (window : RunProg
     progress_in (progress_expecting time way window) ≡ progress_in window ++ Awaited way ∷ []
 expecting_progress time way window = grind (arith, common_steps, nat_tests, map-append, append_assoc)
 
-pub expecting_marks : {P : Type 0} (time : ℕ) (way : Way) (window : RunProgressModel P) → marks_in (progress_expecting time way window)
+pub expecting_marks : {P : Type 0} (time : ℕ) (way : Way) (window : RunProgressModel P) →
+    marks_in (progress_expecting time way window)
     ≡ marks_in window ++ false ∷ []
 expecting_marks time way window = grind (arith, common_steps, nat_tests, map-append, append_assoc)
 
@@ -234,14 +240,16 @@ expecting_unmarked {P} time way number window later n is =
     }
 
 -- The first open input may leave.
-pub first_leaves : {P : Type 0} (window : RunProgressModel P) (first : OpenInput P) (rest : List (OpenInput P)) (d : InputResult P)
+pub first_leaves : {P : Type 0} (window : RunProgressModel P) (first : OpenInput P) (rest : List (OpenInput P))
+    (d : InputResult P)
     (left : List (ℕ × InputResult P)) → window.under_way ≡ first ∷ rest → FirstMayLeave window.under_way →
     departed_in first.progress ≡ Some d → left ≡ window.left ++ (first.time, d) ∷ [] →
     FirstInputLeaves (first.time, d) window (window_of left rest)
 first_leaves window first rest d left is may ends more = grind (arith, common_steps, nat_tests)
 
 -- One outcome left.
-pub leaves_over : {P : Type 0} (pair : ℕ × InputResult P) (window later : RunProgressModel P) → FirstInputLeaves pair window later →
+pub leaves_over : {P : Type 0} (pair : ℕ × InputResult P) (window later : RunProgressModel P) →
+    FirstInputLeaves pair window later →
     OutcomesAreHandedOver (pair ∷ []) window later
 leaves_over {P} pair window later l =
     let lefts : List (InputProgress P) = map ended_in window.left in
@@ -278,12 +286,14 @@ pub over_none : {P : Type 0} (window : RunProgressModel P) → OutcomesAreHanded
 over_none window = grind (arith, common_steps, nat_tests, append-nil)
 
 pub over_more : {P : Type 0} (xs ys : List (ℕ × InputResult P)) (window middle later : RunProgressModel P) →
-    OutcomesAreHandedOver xs window middle → OutcomesAreHandedOver ys middle later → OutcomesAreHandedOver (xs ++ ys) window later
+    OutcomesAreHandedOver xs window middle → OutcomesAreHandedOver ys middle later →
+    OutcomesAreHandedOver (xs ++ ys) window later
 over_more xs ys window middle later a b = grind (arith, common_steps, nat_tests, append_assoc)
 
 -- THE END
 
-get_left : {P : Type 0} (left : List (ℕ × InputResult P)) (ps : List (InputProgress P)) (i : ℕ) (pair : ℕ × InputResult P) →
+get_left : {P : Type 0} (left : List (ℕ × InputResult P)) (ps : List (InputProgress P)) (i : ℕ) (pair : ℕ ×
+    InputResult P) →
     slice_get left i ≡ Some pair → slice_get (map ended_in left ++ ps) i ≡ Some (ended_in pair)
 get_left [] ps i pair h = cc
 get_left (x ∷ left) ps zero pair h = cc
@@ -301,8 +311,11 @@ front_by {P} (x ∷ left) more (i ∷ inputs) (o ∷ outs) long times h =
     let rest : IsFrontOf left (timed_results inputs outs) =
     front_by left more inputs outs (omega arith) (cc (times)) (λ k pair g. h (suc k) pair g) in
     let time : x.0 ≡ i.time = cc (times) in
-    let outcome : x.1 ≡ o = cc (here) in
-    (rest.0, ap (λ l. x ∷ l) rest.1 ∙ ap (λ (y : ℕ × InputResult P). y ∷ timed_results inputs outs) (rw (time, outcome) refl))
+    let outcome : x.1 ≡ o = cc (here) in (
+      rest.0,
+      ap (λ l. x ∷ l) rest.1 ∙ ap (λ (y : ℕ × InputResult P). y ∷ timed_results inputs outs)
+          (rw (time, outcome) refl),
+    )
 
 pub left_front : {P : Type 0} (whole : RunLegs P) (window : RunProgressModel P) (inputs : List Arrival) →
     times_in window ≡ map (λ i. i.time) inputs → AllKnown whole (progress_in window) →
@@ -315,7 +328,8 @@ left_front whole window inputs times known long =
 -- The same if more inputs came than were read.
 pub left_front_of : {P : Type 0} (whole : RunLegs P) (window : RunProgressModel P) (inputs unread : List Arrival) →
     times_in window ≡ map (λ i. i.time) inputs → AllKnown whole (progress_in window) →
-    length whole.departed ≡ length (inputs ++ unread) → IsFrontOf window.left (timed_results (inputs ++ unread) whole.departed)
+    length whole.departed ≡ length (inputs ++ unread) →
+    IsFrontOf window.left (timed_results (inputs ++ unread) whole.departed)
 left_front_of whole window inputs unread times known long =
     let more : List ℕ = map (λ (i : Arrival). i.time) unread in
     front_by window.left (map progress_arrived window.under_way ++ more) (inputs ++ unread) whole.departed long

@@ -14,7 +14,8 @@ use Rattle.napt_sequential.specs.declared.{leg_trace.TracedAnswer.TracedAnswer, 
 
 -- THE FIRST HELD ENTRY
 
-journal_as : {P : Type 0} {times times' : List ℕ} {left left' : List (ℕ × InputResult P)} → times ≡ times' → left ≡ left' →
+journal_as : {P : Type 0} {times times' : List ℕ} {left left' : List (ℕ × InputResult P)} → times ≡ times' →
+    left ≡ left' →
     (let j : List ℕ × List (ℕ × InputResult P) = (times, left) in j) ≡ (times', left')
 journal_as a b = λ i. (a i, b i)
 
@@ -77,7 +78,8 @@ readies_moved w d later within same m = record {
   forgets = λ number h. rw same h;
 }
 
-pub readies_both : {P : Type 0} {tells : Passage → P} {w : ℕ} {d mid later : Dispatcher P} → ReadyLegsPost tells w d mid →
+pub readies_both : {P : Type 0} {tells : Passage → P} {w : ℕ} {d mid later : Dispatcher P} →
+    ReadyLegsPost tells w d mid →
     ReadyLegsPost tells w mid later → ReadyLegsPost tells w d later
 readies_both a b = grind (arith, common_steps, nat_tests)
 
@@ -89,12 +91,14 @@ offers_all progress q most count is full = grind (arith, common_steps, nat_tests
 
 module _ {P M G : Type 0} where
   pub over_pool : {tells : Passage → P} {pool later_pool : Pool M G Leg (TracedAnswer P)} {d later : Dispatcher P} →
-      DispatcherKeeps tells (dispatcher_state pool d) (dispatcher_state later_pool later) → KeepsAt tells pool d later_pool later
+      DispatcherKeeps tells (dispatcher_state pool d) (dispatcher_state later_pool later) →
+      KeepsAt tells pool d later_pool later
   over_pool keeps = λ rules start done all s. record { stands = keeps rules start done all s.stands }
 
   module _ {tells : Passage → P} (w most : ℕ) (pool : Pool M G Leg (TracedAnswer P)) (d mid : Dispatcher P)
       (r : ReadyLegsPost tells w d mid)
-      (room : length (of_worker (accepted_items pool) w) + most ≡ length (of_worker (taken_answers pool) w) + capacity_of pool)
+      (room : length (of_worker (accepted_items pool) w) + most ≡ length (of_worker (taken_answers pool) w)
+      + capacity_of pool)
       (all : (waits_behind mid w ≡ true) ⊎ (most ≤ length (queue_of mid.queues w).ready)) where
     -- No leg could be sent.
     pub none_sent : 0 ≡ min (length (queue_of mid.queues w).ready) most → HasOffered pool mid w
@@ -115,10 +119,12 @@ module _ {P M G : Type 0} where
     module _ (legs : List Leg) (later_pool : Pool M G Leg (TracedAnswer P)) (later : Dispatcher P)
         (within : w < length (initial_machines pool)) (inside : w < length mid.queues)
         (queues : later.queues ≡ with_queue w (with_offers legs) mid.queues) (same : later.progress ≡ mid.progress)
-        (accepted : accepted_items later_pool ≡ slice_set (accepted_items pool) w (of_worker (accepted_items pool) w ++ legs))
+        (accepted : accepted_items later_pool ≡ slice_set (accepted_items pool) w
+        (of_worker (accepted_items pool) w ++ legs))
         (took : taken_answers later_pool ≡ taken_answers pool) where
       offered_now : of_worker (accepted_items later_pool) ≡ with_more_at w legs (of_worker (accepted_items pool))
-      offered_now = ap of_worker accepted ∙ set_added (accepted_items pool) w legs (rw length-map (rw length-map at within))
+      offered_now = ap of_worker accepted ∙ set_added (accepted_items pool) w legs
+          (rw length-map (rw length-map at within))
 
       offered_own : of_worker (accepted_items later_pool) w ≡ of_worker (accepted_items pool) w ++ legs
       offered_own = ap (λ f. f w) offered_now ∙ added_own w legs (of_worker (accepted_items pool))
@@ -135,7 +141,8 @@ module _ {P M G : Type 0} where
           let ready = (queue_of mid.queues w).ready in
           let parts : ready ≡ legs ++ drop (length legs) ready =
           rw (long, first) (sym (take-append-drop count ready)) in
-          queues_keep w mid later (with_offers legs) (of_worker (accepted_items pool)) (of_worker (accepted_items later_pool))
+          queues_keep w mid later (with_offers legs) (of_worker (accepted_items pool))
+          (of_worker (accepted_items later_pool))
           (of_worker (taken_answers pool)) (of_worker (taken_answers later_pool)) inside queues
           (λ v n. (offered_other v n, ap (λ lists. of_worker lists v) took))
           (λ rules start all. rw (offered_own, took, same) (offers_keep rules start all w legs
@@ -149,7 +156,8 @@ module _ {P M G : Type 0} where
           grind (arith, common_steps, nat_tests, offers_all, queue_own, offered_own, length-append)
 
   -- A worker that was offered all that it can be still is, after offers to another worker.
-  pub offered_still : (w : ℕ) (pool : Pool M G Leg (TracedAnswer P)) (d : Dispatcher P) (later_pool : Pool M G Leg (TracedAnswer P))
+  pub offered_still : (w : ℕ) (pool : Pool M G Leg (TracedAnswer P)) (d : Dispatcher P)
+      (later_pool : Pool M G Leg (TracedAnswer P))
       (later : Dispatcher P) → OffersOnlyTo w pool d later_pool later → (v : ℕ) → v ≢ w → HasOffered pool d v →
       HasOffered later_pool later v
   offered_still w pool d later_pool later o v n full = grind (arith, common_steps, nat_tests, waits_on)
@@ -167,7 +175,8 @@ module _ {P : Type 0} {tells : Passage → P} (w : ℕ) (told : TracedAnswer P) 
   notes_more answers d a = record {
     journal_stays = written_same told.answer.number (Answered n.owed told.answer.end n.passages.0 n.passages.1)
         mid.progress later.progress n.written ∙ a.journal_stays;
-    keeps = λ offered taken. subst (λ (f : ℕ → List (TracedAnswer P)). DispatcherKeeps tells (state_with offered taken d)
+    keeps = λ offered taken. subst (λ (f : ℕ → List (TracedAnswer P)). DispatcherKeeps tells
+        (state_with offered taken d)
         (state_with offered f later)) (sym (added_more w answers taken (told ∷ []))) (λ rules start done all s.
         queues_keep w mid later queue_answered offered offered (with_more_at w answers taken)
         (with_more_at w (told ∷ []) (with_more_at w answers taken)) within n.answers.later_is
@@ -185,14 +194,17 @@ module _ {P : Type 0} {tells : Passage → P} (w : ℕ) (told : TracedAnswer P) 
 
 -- Answers were taken from the pool and recorded.
 pub answered_keeps : {P : Type 0} {tells : Passage → P} {M G : Type 0} (w : ℕ) (answers : List (TracedAnswer P))
-    (pool : Pool M G Leg (TracedAnswer P)) (d : Dispatcher P) (later_pool : Pool M G Leg (TracedAnswer P)) (later : Dispatcher P) →
+    (pool : Pool M G Leg (TracedAnswer P)) (d : Dispatcher P) (later_pool : Pool M G Leg (TracedAnswer P))
+    (later : Dispatcher P) →
     w < length (initial_machines pool) → accepted_items later_pool ≡ accepted_items pool →
     taken_answers later_pool ≡ slice_set (taken_answers pool) w (of_worker (taken_answers pool) w ++ answers) →
-    NoteAnswersPost tells w answers d later → DispatcherKeeps tells (dispatcher_state pool d) (dispatcher_state later_pool later)
+    NoteAnswersPost tells w answers d later → DispatcherKeeps tells (dispatcher_state pool d)
+    (dispatcher_state later_pool later)
 answered_keeps {P} {tells} w answers pool d later_pool later within same took n =
     let taken_now : of_worker (taken_answers later_pool) ≡ with_more_at w answers (of_worker (taken_answers pool)) =
     ap of_worker took ∙ set_added (taken_answers pool) w answers (rw length-map (rw length-map at within)) in
-    subst (λ (f : ℕ → List (TracedAnswer P)). DispatcherKeeps tells (dispatcher_state pool d) (state_with (of_worker (accepted_items later_pool)) f
+    subst (λ (f : ℕ → List (TracedAnswer P)). DispatcherKeeps tells (dispatcher_state pool d)
+    (state_with (of_worker (accepted_items later_pool)) f
     later)) (sym taken_now)
     (subst (λ (lists : List (List Leg)). DispatcherKeeps tells (dispatcher_state pool d) (state_with (of_worker lists)
     (with_more_at w answers (of_worker (taken_answers pool))) later)) (sym same)

@@ -23,7 +23,8 @@ local_bindings start address = record { list = bindings_at address start.list; a
 abbrev pub started_from : Rules → State → ℕ → List TranslatorModel
 started_from rules start zero = []
 started_from rules start (suc n) =
-    started_from rules start n ++ with_local_state (initial_translator n rules) (local_bindings start (slice_index rules.pool n)) ∷ []
+    started_from rules start n ++ with_local_state (initial_translator n rules)
+    (local_bindings start (slice_index rules.pool n)) ∷ []
 
 -- The translators of the first n addresses of the pool before any leg.
 abbrev pub started_translators : Rules → ℕ → List TranslatorModel
@@ -58,11 +59,13 @@ pub record IsLeftWith (rules : Rules) (state : State) (address : ℕ) (translato
 -- WHAT IS OFFERED AND ANSWERED
 
 -- The answers taken from each worker, with their records, are its translator's first answers to the legs offered to it.
-abbrev pub AnswersAreRight : {P : Type 0} → (Passage → P) → Rules → State → List (List Leg) → List (List (TracedAnswer P)) → Type 0
+abbrev pub AnswersAreRight : {P : Type 0} → (Passage → P) → Rules → State → List (List Leg) →
+    List (List (TracedAnswer P)) → Type 0
 AnswersAreRight tells rules start offered taken =
     (w : ℕ) → w < length rules.pool →
     let address : ℕ = slice_index rules.pool w in
-    IsFrontOf (of_worker taken w) (traced_replies tells rules address (of_worker offered w) (local_bindings start address))
+    IsFrontOf (of_worker taken w) (traced_replies tells rules address (of_worker offered w)
+    (local_bindings start address))
 
 -- THE RESULTS OF INPUTS
 

@@ -85,14 +85,16 @@ abbrev pub AreRight : {P : Type 0} → (Passage → P) → Rules → State → D
 AreRight tells rules start state = (w : ℕ) → w < length rules.pool → IsRight tells rules start w (state.lane w)
 
 -- What holds if the answers are right: each lane has the run's legs for `done`, and the progress agrees with the run.
-pub record DispatcherReaches {P : Type 0} (tells : Passage → P) (rules : Rules) (start : State) (done all : List Arrival)
+pub record DispatcherReaches {P : Type 0} (tells : Passage →
+    P) (rules : Rules) (start : State) (done all : List Arrival)
     (state : DispatcherModel P) : Type 0 where
   pub reached : (w : ℕ) → w < length rules.pool → lane_legs (effect_from rules start all).acts (state.lane w)
       ≡ legs_at (slice_index rules.pool w) (effect_from rules start done).acts
   pub known : AllKnown (whole_of tells rules start all) state.progress
 
 -- The invariant once the inputs `done`, which are the first of `all`, have been read.
-pub record DispatcherInvariant {P : Type 0} (tells : Passage → P) (rules : Rules) (start : State) (done all : List Arrival)
+pub record DispatcherInvariant {P : Type 0} (tells : Passage →
+    P) (rules : Rules) (start : State) (done all : List Arrival)
     (state : DispatcherModel P) : Type 0 where
   pub rest : List Arrival
   pub whole : done ++ rest ≡ all
@@ -132,13 +134,15 @@ pub record PoolGrows {P M G : Type 0} (pool later_pool : Pool M G Leg (TracedAns
   pub taken : (w : ℕ) → IsFrontOf (of_worker (taken_answers pool) w) (of_worker (taken_answers later_pool) w)
 
 -- Dispatching ended with a fault that a dispatcher may report.
-pub record DispatcherHalts {P M G : Type 0} (open_gate : Bool) (pool later_pool : Pool M G Leg (TracedAnswer P)) (fault : RunFault)
+pub record DispatcherHalts {P M G : Type 0} (open_gate : Bool) (pool later_pool : Pool M G Leg (TracedAnswer P))
+    (fault : RunFault)
     : Type 0 where
   pub grows : PoolGrows pool later_pool
   pub fault_is : IsDispatchFault open_gate fault
 
 -- The pool has the same workers, no input was read and no outcome written, and the dispatcher's invariant still holds.
-pub record DispatcherContinues {P M G : Type 0} (tells : Passage → P) (pool : Pool M G Leg (TracedAnswer P)) (d : Dispatcher P)
+pub record DispatcherContinues {P M G : Type 0} (tells : Passage →
+    P) (pool : Pool M G Leg (TracedAnswer P)) (d : Dispatcher P)
     (later_pool : Pool M G Leg (TracedAnswer P)) (later : Dispatcher P) : Type 0 where
   pub grows : PoolGrows pool later_pool
   pub sized : IsSizedFor later_pool later
@@ -149,7 +153,8 @@ pub record DispatcherContinues {P M G : Type 0} (tells : Passage → P) (pool : 
 abbrev pub ContinuesOr : {P M G X : Type 0} → (Passage → P) → Bool → Pool M G Leg (TracedAnswer P) → Dispatcher P →
     Pool M G Leg (TracedAnswer P) → Dispatcher P → Result X RunFault → Type 0
 ContinuesOr tells open_gate pool d later_pool later result =
-    MatchResult result (λ done. DispatcherContinues tells pool d later_pool later) (DispatcherHalts open_gate pool later_pool)
+    MatchResult result (λ done. DispatcherContinues tells pool d later_pool later)
+    (DispatcherHalts open_gate pool later_pool)
 
 -- STEPS
 
@@ -161,7 +166,8 @@ pub record AnswersTo {P : Type 0} (none : P) (window : RunProgressModel P) (numb
   pub told : passages_after none was way passage ≡ Some passages
 
 -- An answer of worker w was recorded as the progress of its input, with the record of its leg.
-pub record NoteAnswerPost {P : Type 0} (tells : Passage → P) (w : ℕ) (told : TracedAnswer P) (d later : Dispatcher P) : Type 0 where
+pub record NoteAnswerPost {P : Type 0} (tells : Passage →
+    P) (w : ℕ) (told : TracedAnswer P) (d later : Dispatcher P) : Type 0 where
   pub owed : AwaitedLeg
   pub answers : AnswersAt w owed d.queues later.queues
   pub passages : P × P
@@ -171,7 +177,8 @@ pub record NoteAnswerPost {P : Type 0} (tells : Passage → P) (w : ℕ) (told :
 
 -- The second leg of an open input was removed, or the input has none. In both cases its placeholder's mark is cleared.
 abbrev pub IsSecondOf : {P : Type 0} → ℕ → OpenInput P → OpenInput P → Option Leg → Type 0
-IsSecondOf number input later None = (later ≡ record input { has_place = false }) × (second_leg_asked number input.progress ≡ None)
+IsSecondOf number input later None = (later ≡ record input { has_place = false }) ×
+    (second_leg_asked number input.progress ≡ None)
 IsSecondOf {P} number input later (Some leg) = (first : P)
     × (later ≡ record input { progress = Returning first; has_place = false })
     × (second_leg_asked number input.progress ≡ Some leg) × (first_in input.progress ≡ Some first)
@@ -186,7 +193,8 @@ pub record Returns {P : Type 0} (number : ℕ) (window later : RunProgressModel 
 
 -- The input with this number has this second leg, which was removed, or it has none. The mark is cleared.
 abbrev pub IsSecond : {P : Type 0} → ℕ → RunProgressModel P → RunProgressModel P → Option Leg → Type 0
-IsSecond number window later None = InputIsMarked number false window later × AsksForSecondLeg number (progress_in window) None
+IsSecond number window later None = InputIsMarked number false window later ×
+    AsksForSecondLeg number (progress_in window) None
 IsSecond number window later (Some leg) = Returns number window later leg
 
 -- If it was undecided whether an input has a second leg, it still is.
@@ -220,7 +228,8 @@ Admits {P} tells rules number now input d later =
     (start : State) (offered : ℕ → List Leg) (taken : ℕ → List (TracedAnswer P)) (done rest : List Arrival) →
     length done ≡ number → max (last_clock start.clock done) input.clock ≡ now →
     DispatcherInvariant tells rules start done ((done ++ input ∷ []) ++ rest) (state_with offered taken d) →
-    DispatcherInvariant tells rules start (done ++ input ∷ []) ((done ++ input ∷ []) ++ rest) (state_with offered taken later)
+    DispatcherInvariant tells rules start (done ++ input ∷ []) ((done ++ input ∷ []) ++ rest)
+    (state_with offered taken later)
 
 -- For `true`, answers were taken, so fewer are owed. For `false`, nothing changed.
 abbrev pub HasTaken : {P : Type 0} → Dispatcher P → Dispatcher P → Bool → Type 0
@@ -228,10 +237,12 @@ HasTaken d later true = many_owed later.queues < many_owed d.queues
 HasTaken d later false = NothingMoved d later
 
 -- These answers of worker w were recorded. The invariant is kept, whatever was offered and answered before.
-pub record NoteAnswersPost {P : Type 0} (tells : Passage → P) (w : ℕ) (answers : List (TracedAnswer P)) (d later : Dispatcher P)
+pub record NoteAnswersPost {P : Type 0} (tells : Passage →
+    P) (w : ℕ) (answers : List (TracedAnswer P)) (d later : Dispatcher P)
     : Type 0 where
   pub journal_stays : journal_of later.progress ≡ journal_of d.progress
-  pub keeps : (offered : ℕ → List Leg) (taken : ℕ → List (TracedAnswer P)) → DispatcherKeeps tells (state_with offered taken d)
+  pub keeps : (offered : ℕ → List Leg) (taken : ℕ → List (TracedAnswer P)) →
+      DispatcherKeeps tells (state_with offered taken d)
       (state_with offered (with_more_at w answers taken) later)
 
 -- OFFERS

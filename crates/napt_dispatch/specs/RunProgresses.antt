@@ -26,7 +26,8 @@ end_of_answer (outcomes.Dropped cause) = ends.Dropped cause
 -- The progress of an input that ended with this result and awaits no second leg.
 abbrev pub progress_ended : {P : Type 0} → InputResult P → InputProgress P
 progress_ended departed =
-    Answered (record { way = Incoming; now = departed.now }) (end_of_answer departed.outcome) departed.first departed.second
+    Answered (record { way = Incoming; now = departed.now }) (end_of_answer departed.outcome) departed.first
+    departed.second
 
 -- The result of an input that has no leg and is dropped. `none` is the record of a leg that does not exist.
 abbrev pub refused_at : {P : Type 0} → P → ℕ → Cause → InputResult P
@@ -112,7 +113,8 @@ passages_after none (Returning first) Incoming passage = Some (first, passage)
 passages_after none _ _ passage = None
 
 -- The progress of the input with this number was set. What was written and the arrival times stay.
-pub record ProgressIsWritten {P : Type 0} (number : ℕ) (progress : InputProgress P) (window later : RunProgressModel P) : Type 0 where
+pub record ProgressIsWritten {P : Type 0} (number : ℕ) (progress : InputProgress P)
+    (window later : RunProgressModel P) : Type 0 where
   pub left_stays : later.left ≡ window.left
   pub times_stay : times_in later ≡ times_in window
   pub progress_is : progress_in later ≡ slice_set (progress_in window) number progress
@@ -160,7 +162,8 @@ abbrev pub second_leg_asked : {P : Type 0} → ℕ → InputProgress P → Optio
 second_leg_asked number (Answered owed end first second) = second_leg_asked_by number owed.now end
 second_leg_asked number _ = None
 
-pub record AsksForSecondLeg {P : Type 0} (number : ℕ) (progress : List (InputProgress P)) (second : Option Leg) : Type 0 where
+pub record AsksForSecondLeg {P : Type 0} (number : ℕ) (progress : List (InputProgress P)) (second : Option Leg) : Type
+    0 where
   pub p : InputProgress P
   pub there : slice_get progress number ≡ Some p
   pub asked_is : second_leg_asked number p ≡ second
@@ -197,7 +200,8 @@ abbrev pub AllKnown : {P : Type 0} → RunLegs P → List (InputProgress P) → 
 AllKnown {P} whole progress = (i : ℕ) (p : InputProgress P) → slice_get progress i ≡ Some p → ProgressIsKnown whole i p
 
 -- These results were written, and the arrival times and marks are unchanged. The progress still agrees with any run.
-pub record OutcomesAreHandedOver {P : Type 0} (went : List (ℕ × InputResult P)) (window later : RunProgressModel P) : Type 0 where
+pub record OutcomesAreHandedOver {P : Type 0} (went : List (ℕ × InputResult P)) (window later : RunProgressModel P) :
+    Type 0 where
   pub left_is : later.left ≡ window.left ++ went
   pub times_stay : times_in later ≡ times_in window
   pub marks_stay : marks_in later ≡ marks_in window

@@ -45,7 +45,8 @@ pub record HandOverOk {P S : Type 0} (takes : OutcomeTaking P S) (before : S) (w
   pub took : takes before went after
 
 -- Writing the results that left the window failed.
-pub record HandOverErr {P S F : Type 0} (takes : OutcomeTaking P S) (fails : Failing P S F) (before : S) (window : RunProgressModel P)
+pub record HandOverErr {P S F : Type 0} (takes : OutcomeTaking P S) (fails : Failing P S F) (before : S)
+    (window : RunProgressModel P)
     (after : S) (later : RunProgressModel P) (fault : F) : Type 0 where
   pub went : List (ℕ × InputResult P)
   pub handed : OutcomesAreHandedOver went window later
@@ -54,7 +55,8 @@ pub record HandOverErr {P S F : Type 0} (takes : OutcomeTaking P S) (fails : Fai
 -- WITH A POOL
 
 -- The pool has the same workers, the dispatcher's invariant still holds, and these results left the window.
-pub record DispatcherGoesOn {P M G : Type 0} (tells : Passage → P) (pool : Pool M G Leg (TracedAnswer P)) (d : Dispatcher P)
+pub record DispatcherGoesOn {P M G : Type 0} (tells : Passage →
+    P) (pool : Pool M G Leg (TracedAnswer P)) (d : Dispatcher P)
     (went : List (ℕ × InputResult P)) (later_pool : Pool M G Leg (TracedAnswer P)) (later : Dispatcher P) : Type 0 where
   pub grows : PoolGrows pool later_pool
   pub sized : IsSizedFor later_pool later
@@ -63,8 +65,10 @@ pub record DispatcherGoesOn {P M G : Type 0} (tells : Passage → P) (pool : Poo
   pub keeps : KeepsAt tells pool d later_pool later
 
 -- The dispatcher continues, and the results that left its window were written.
-pub record OutcomesLeave {P M G S : Type 0} (tells : Passage → P) (takes : OutcomeTaking P S) (pool : Pool M G Leg (TracedAnswer P))
-    (d : Dispatcher P) (before : S) (later_pool : Pool M G Leg (TracedAnswer P)) (later : Dispatcher P) (after : S) : Type 0
+pub record OutcomesLeave {P M G S : Type 0} (tells : Passage →
+    P) (takes : OutcomeTaking P S) (pool : Pool M G Leg (TracedAnswer P))
+    (d : Dispatcher P) (before : S) (later_pool : Pool M G Leg (TracedAnswer P)) (later : Dispatcher P) (after : S) :
+    Type 0
   where
     pub went : List (ℕ × InputResult P)
     pub goes : DispatcherGoesOn tells pool d went later_pool later
@@ -72,14 +76,16 @@ pub record OutcomesLeave {P M G S : Type 0} (tells : Passage → P) (takes : Out
 
 -- Dispatching ended with a fault, after the results that left the window were written.
 pub record RunThroughHalts {P M G S : Type 0} (tells : Passage → P) (open_gate : Bool) (takes : OutcomeTaking P S)
-    (pool : Pool M G Leg (TracedAnswer P)) (d : Dispatcher P) (before : S) (later_pool : Pool M G Leg (TracedAnswer P)) (after : S)
+    (pool : Pool M G Leg (TracedAnswer P)) (d : Dispatcher P) (before : S)
+    (later_pool : Pool M G Leg (TracedAnswer P)) (after : S)
     (fault : RunFault) : Type 0 where
   pub last_pool : Pool M G Leg (TracedAnswer P)
   pub last : Dispatcher P
   pub lets : OutcomesLeave tells takes pool d before last_pool last after
   pub halted : DispatcherHalts open_gate last_pool later_pool fault
 
-module _ {P M G S F : Type 0} (tells : Passage → P) (open_gate : Bool) (takes : OutcomeTaking P S) (fails : Failing P S F)
+module _ {P M G S F : Type 0} (tells : Passage → P) (open_gate : Bool) (takes : OutcomeTaking P S)
+    (fails : Failing P S F)
     (pool : Pool M G Leg (TracedAnswer P)) (d : Dispatcher P) (before : S) (later_pool : Pool M G Leg (TracedAnswer P))
     (later : Dispatcher P) (after : S) where
   -- Writing the results that left the window failed with this fault.
@@ -99,7 +105,8 @@ module _ {P M G S F : Type 0} (tells : Passage → P) (open_gate : Bool) (takes 
 -- READING
 
 -- Before the first input, the pool has a worker for each external address, and the dispatcher has queues for each.
-pub record RunThroughStart {P M G : Type 0} (rules : Rules) (pool : Pool M G Leg (TracedAnswer P)) (d : Dispatcher P) : Type 0 where
+pub record RunThroughStart {P M G : Type 0} (rules : Rules) (pool : Pool M G Leg (TracedAnswer P)) (d : Dispatcher P)
+    : Type 0 where
   pub keeps : RulesInvariant rules
   pub count : length (initial_machines pool) ≡ length rules.pool
   pub sized : IsSizedFor pool d
@@ -108,7 +115,8 @@ pub record RunThroughStart {P M G : Type 0} (rules : Rules) (pool : Pool M G Leg
 
 -- One more input was read at time `now`, in ns.
 pub record ReadInputPost {P M G : Type 0} (tells : Passage → P) (rules : Rules) (now : ℕ) (input : Arrival)
-    (pool : Pool M G Leg (TracedAnswer P)) (d : Dispatcher P) (later_pool : Pool M G Leg (TracedAnswer P)) (later : Dispatcher P)
+    (pool : Pool M G Leg (TracedAnswer P)) (d : Dispatcher P) (later_pool : Pool M G Leg (TracedAnswer P))
+    (later : Dispatcher P)
     : Type 0 where
   pub grows : PoolGrows pool later_pool
   pub sized : IsSizedFor later_pool later
@@ -117,11 +125,13 @@ pub record ReadInputPost {P M G : Type 0} (tells : Passage → P) (rules : Rules
   pub served : (start : State) (done rest : List Arrival) → length done ≡ length (progress_in d.progress) →
       max (last_clock start.clock done) input.clock ≡ now →
       DispatcherInvariant tells rules start done ((done ++ input ∷ []) ++ rest) (dispatcher_state pool d) →
-      DispatcherInvariant tells rules start (done ++ input ∷ []) ((done ++ input ∷ []) ++ rest) (dispatcher_state later_pool later)
+      DispatcherInvariant tells rules start (done ++ input ∷ []) ((done ++ input ∷ []) ++ rest)
+      (dispatcher_state later_pool later)
 
 -- These are all inputs that were read so far, and all results that were written.
 pub record ReadInputsPost {P M G : Type 0} (tells : Passage → P) (rules : Rules) (pool : Pool M G Leg (TracedAnswer P))
-    (d : Dispatcher P) (inputs : List Arrival) (went : List (ℕ × InputResult P)) (later_pool : Pool M G Leg (TracedAnswer P))
+    (d : Dispatcher P) (inputs : List Arrival) (went : List (ℕ × InputResult P))
+    (later_pool : Pool M G Leg (TracedAnswer P))
     (later : Dispatcher P) : Type 0 where
   pub grows : PoolGrows pool later_pool
   pub sized : IsSizedFor later_pool later
@@ -145,49 +155,50 @@ pub record LeavesState (rules : Rules) (state : State) (passed : RunSummary) : T
       slice_get passed.translators.items place ≡ Some translator → IsLeftWith rules state address translator
 
 module _ {P A F S B : Type 0} (tells : Passage → P) (rules : Rules) (hands : A → List Arrival → A → Type 0)
-    (ends : A → Option F → A → Type 0) (takes : OutcomeTaking P S) (fails : Failing P S B) (is_settled : S → Type 0) where
-  module _ {M G : Type 0} (pool : Pool M G Leg (TracedAnswer P)) (d : Dispatcher P) (from : A) (before : S)
-      (later_pool : Pool M G Leg (TracedAnswer P)) (later : Dispatcher P) (left : A) (after : S) where
-    -- The inputs ended or the input source failed, and every input before that was read.
-    pub record ReadsToEnd (end : EndOfInputs F) : Type 0 where
-      pub inputs : List Arrival
-      pub went : List (ℕ × InputResult P)
-      pub came : InputsCame hands ends from inputs end.fault left
-      pub clock : end.clock ≡ last_clock d.clock inputs
-      pub reads : ReadInputsPost tells rules pool d inputs went later_pool later
-      pub took : takes before went after
+    (ends : A → Option F → A → Type 0) (takes : OutcomeTaking P S) (fails : Failing P S B) (is_settled : S → Type 0)
+  where
+    module _ {M G : Type 0} (pool : Pool M G Leg (TracedAnswer P)) (d : Dispatcher P) (from : A) (before : S)
+        (later_pool : Pool M G Leg (TracedAnswer P)) (later : Dispatcher P) (left : A) (after : S) where
+      -- The inputs ended or the input source failed, and every input before that was read.
+      pub record ReadsToEnd (end : EndOfInputs F) : Type 0 where
+        pub inputs : List Arrival
+        pub went : List (ℕ × InputResult P)
+        pub came : InputsCame hands ends from inputs end.fault left
+        pub clock : end.clock ≡ last_clock d.clock inputs
+        pub reads : ReadInputsPost tells rules pool d inputs went later_pool later
+        pub took : takes before went after
 
-    -- Every input was read, and every outcome was written and flushed.
-    pub record ReadsAll (end : EndOfInputs F) : Type 0 where
-      pub to_end : ReadsToEnd end
-      pub done : DispatcherIsDone later
-      pub none_under_way : later.progress.under_way ≡ []
-      pub few : length later.progress.left < 2 ^ 64
-      pub settled : is_settled after
+      -- Every input was read, and every outcome was written and flushed.
+      pub record ReadsAll (end : EndOfInputs F) : Type 0 where
+        pub to_end : ReadsToEnd end
+        pub done : DispatcherIsDone later
+        pub none_under_way : later.progress.under_way ≡ []
+        pub few : length later.progress.left < 2 ^ 64
+        pub settled : is_settled after
 
-    -- The outcome sink failed after some inputs were read.
-    pub record ReadsSome (fault : B) : Type 0 where
-      pub inputs : List Arrival
-      pub went : List (ℕ × InputResult P)
-      pub come : HasCome hands ends from inputs left
-      pub reads : ReadInputsPost tells rules pool d inputs went later_pool later
-      pub failed : DeparturesFail takes fails before went fault after
+      -- The outcome sink failed after some inputs were read.
+      pub record ReadsSome (fault : B) : Type 0 where
+        pub inputs : List Arrival
+        pub went : List (ℕ × InputResult P)
+        pub come : HasCome hands ends from inputs left
+        pub reads : ReadInputsPost tells rules pool d inputs went later_pool later
+        pub failed : DeparturesFail takes fails before went fault after
 
-    -- Dispatching ended with a fault after some inputs. The last of them may not have been read.
-    pub record ReadsToHalt (open_gate : Bool) (fault : RunFault) : Type 0 where
-      pub inputs : List Arrival
-      pub unread : List Arrival
-      pub went : List (ℕ × InputResult P)
-      pub come : HasCome hands ends from (inputs ++ unread) left
-      pub last_pool : Pool M G Leg (TracedAnswer P)
-      pub last : Dispatcher P
-      pub reads : ReadInputsPost tells rules pool d inputs went last_pool last
-      pub took : takes before went after
-      pub halted : DispatcherHalts open_gate last_pool later_pool fault
+      -- Dispatching ended with a fault after some inputs. The last of them may not have been read.
+      pub record ReadsToHalt (open_gate : Bool) (fault : RunFault) : Type 0 where
+        pub inputs : List Arrival
+        pub unread : List Arrival
+        pub went : List (ℕ × InputResult P)
+        pub come : HasCome hands ends from (inputs ++ unread) left
+        pub last_pool : Pool M G Leg (TracedAnswer P)
+        pub last : Dispatcher P
+        pub reads : ReadInputsPost tells rules pool d inputs went last_pool last
+        pub took : takes before went after
+        pub halted : DispatcherHalts open_gate last_pool later_pool fault
 
-    abbrev pub ReadsHalted : Bool → DispatchFault B → Type 0
-    ReadsHalted open_gate (dispatch_faults.Departure fault) = ReadsSome fault
-    ReadsHalted open_gate (dispatch_faults.Run fault) = ReadsToHalt open_gate fault
+      abbrev pub ReadsHalted : Bool → DispatchFault B → Type 0
+      ReadsHalted open_gate (dispatch_faults.Departure fault) = ReadsSome fault
+      ReadsHalted open_gate (dispatch_faults.Run fault) = ReadsToHalt open_gate fault
 
 module _ {P A F S B : Type 0} (tells : Passage → P) (rules : Rules) (start : State)
     (hands : A → List Arrival → A → Type 0) (ends : A → Option F → A → Type 0) (takes : OutcomeTaking P S)

@@ -90,14 +90,18 @@ pub fn dispatch<R: Wait, G: Gate>(
     inputs: &[Input],
 ) -> Result<(Vec<Outcome>, Vec<u64>), RunFault>
     requires few { length inputs.now < 2 ^ 32 }
-    requires started { initial_machines pool.old ≡ started_translators config.now (length config.now.pool) }
+    requires started { initial_machines pool.old
+        ≡ started_translators config.now (length config.now.pool) }
     requires unoffered { accepted_items pool.old ≡ replicate (length config.now.pool) [] }
     requires untaken { taken_answers pool.old ≡ replicate (length config.now.pool) [] }
     ensures starts { initial_machines pool.new ≡ initial_machines pool.old }
-    ensures settled { OnOk result (map length (taken_answers pool.new) ≡ map length (accepted_items pool.new)) }
+    ensures settled { OnOk result (map length (taken_answers pool.new)
+        ≡ map length (accepted_items pool.new)) }
     ensures run { IfOk result (λ done. taken_answers pool.new
-        ≡ zip_with (replies ⟦<Worker<NoTrace> as Machine>⟧) (initial_machines pool.new) (accepted_items pool.new) →
-        IsDispatchedFrom config.now (initial_state config.now) inputs.now (accepted_items pool.new) done.0.items
+        ≡ zip_with (replies ⟦<Worker<NoTrace> as Machine>⟧) (initial_machines pool.new)
+        (accepted_items pool.new) →
+        IsDispatchedFrom config.now (initial_state config.now) inputs.now (accepted_items pool.new)
+        done.0.items
         done.1.items) }
     ensures fault { IfErr result (IsDispatchFault G.is_open) }
 {

@@ -82,8 +82,10 @@ fn start<
     requires { TakesState config.now state.now }
     ensures started { IfOk result (λ pool. initial_machines pool ≡ started_from config.now
         (with_redirects config.now state.now) (length config.now.pool)) }
-    ensures unoffered { IfOk result (λ pool. accepted_items pool ≡ replicate (length config.now.pool) []) }
-    ensures untaken { IfOk result (λ pool. taken_answers pool ≡ replicate (length config.now.pool) []) }
+    ensures unoffered { IfOk result (λ pool. accepted_items pool
+        ≡ replicate (length config.now.pool) []) }
+    ensures untaken { IfOk result (λ pool. taken_answers pool
+        ≡ replicate (length config.now.pool) []) }
     ensures fault { IfErr result (IsFaultUnder G.is_open) }
 {
     let machines = workers::<P>(alloc, config, state)?;
@@ -261,7 +263,8 @@ pub fn run_through<
     gate: Arc<G>,
 ) -> Result<RunSummary, PassFault<A::Fault, D::Fault>>
     requires { TakesState config.now state.now }
-    ensures passes { RunThroughPost D.Told.tells config.now (with_redirects config.now state.now) A.hands A.ends
+    ensures passes { RunThroughPost D.Told.tells config.now (with_redirects config.now state.now)
+        A.hands A.ends
         D.takes D.fails D.is_settled arrivals.old departures.old arrivals.new departures.new result }
     ensures fault { IfErr result (IsStoppedUnder G.is_open) }
 {

@@ -58,7 +58,8 @@ pub again_behind : (o : OptionsWithLog) → standard_again (files_of o.files) �
 again_behind o none wants = grind (arith, common_steps, nat_tests, first_behind)
 
 -- A closed stream that an option before the log needs is the first.
-pub closed_kept : (s : StandardStreams) (o : OptionsWithLog) (found : FileRole) → closed_stream s (files_of o.files) ≡ Some found
+pub closed_kept : (s : StandardStreams) (o : OptionsWithLog) (found : FileRole) →
+    closed_stream s (files_of o.files) ≡ Some found
     → closed_stream s (files_with_log o) ≡ Some found
 closed_kept s o found is = grind (arith, common_steps, nat_tests, first_kept)
 

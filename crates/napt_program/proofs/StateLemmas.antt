@@ -16,12 +16,14 @@ unread Memory fact told not is told_so = told_so is
 unread other fact told not is told_so = told_so (not is)
 
 -- A stop by creating the new file is a stop of the run.
-pub new_stop : (s : StandardStreams) (o : RunOptions) (log : Option Text) (stop : Stop) → IsNewStop (is_some o.save) stop
+pub new_stop : (s : StandardStreams) (o : RunOptions) (log : Option Text) (stop : Stop) →
+    IsNewStop (is_some o.save) stop
     → IsRunStop s (record (files_of o) { log = log }) stop
 new_stop s o log stop is = grind (arith, common_steps, nat_tests)
 
 -- A stop by saving a state is a stop of a run that saves one.
-pub save_stop : (s : StandardStreams) (o : OptionsWithLog) (stop : Stop) → is_some o.files.save ≡ true → IsSaveStop stop →
+pub save_stop : (s : StandardStreams) (o : OptionsWithLog) (stop : Stop) → is_some o.files.save ≡ true →
+    IsSaveStop stop →
     IsRunStop s (files_with_log o) stop
 save_stop s o stop named is = grind (arith, common_steps, nat_tests)
 

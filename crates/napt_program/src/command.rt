@@ -136,7 +136,8 @@ fn entries_of(alloc: Global, log: Option<LogPosition>) -> SavedLogState
 /// capture has no fault of its own: if it could not be read, the run was refused memory.
 pub fn stop_of_run(options: &OptionsWithLog, fault: Fault) -> Stop
     requires { is_shut_gate_fault fault ≡ false }
-    ensures stop { (streams : StandardStreams) → IsRunStop streams (files_with_log options.now) result }
+    ensures stop { (streams : StandardStreams) →
+        IsRunStop streams (files_with_log options.now) result }
     ensures exact { result ≡ stop_after (files_with_log options.now) fault }
 {
     match fault {

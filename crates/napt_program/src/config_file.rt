@@ -80,7 +80,8 @@ pub fn config_text<D: Read + Drop>(alloc: Global, device: D) -> Result<Vec<u8>, 
 pub fn unread_config(error: &io::Error) -> Stop
     ensures memory { error_kind error.now ≡ ErrorKind.OutOfMemory
         → result ≡ Stop.Config ConfigFault.Memory }
-    ensures file { error_kind error.now ≢ ErrorKind.OutOfMemory → result ≡ Stop.File FileRole.Config }
+    ensures file { error_kind error.now ≢ ErrorKind.OutOfMemory →
+        result ≡ Stop.File FileRole.Config }
     ensures unread { ConfigIsUnread result }
 {
     match error.kind() {

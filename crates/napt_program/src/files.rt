@@ -95,7 +95,8 @@ fn kept_of_log<R: Files + AllocGlobal>(
     options: &OptionsWithLog,
     told: Option<u64>,
 ) -> Result<u64, Stop>
-    ensures kept { has_pieces (files_with_log options.now) ≡ false → IfOk result (LogTextIsKept told) }
+    ensures kept { has_pieces (files_with_log options.now) ≡ false →
+        IfOk result (LogTextIsKept told) }
     ensures anew { told ≡ None → IfOk result (λ kept. kept ≡ 0) }
     ensures refused { IfErr result (IsOpenStop (files_with_log options.now)) }
 {

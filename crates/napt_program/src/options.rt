@@ -510,7 +510,8 @@ fn fault_of(alloc: Global, error: &Error) -> Result<LineFault, AllocError>
     ensures version { IfOk result (λ fault. IsVersion fault
         → kind_of error.now ≡ ErrorKind.DisplayVersion) }
     ensures usage { result ≡ Ok LineFault.Usage → (kind_of error.now ≢ ErrorKind.DisplayHelp)
-        × (kind_of error.now ≢ ErrorKind.DisplayVersion) × (kind_of error.now ≢ ErrorKind.OutOfMemory) }
+        × (kind_of error.now ≢ ErrorKind.DisplayVersion) ×
+        (kind_of error.now ≢ ErrorKind.OutOfMemory) }
     ensures memory { result ≡ Ok LineFault.Memory → kind_of error.now ≡ ErrorKind.OutOfMemory }
 {
     match error.kind() {

@@ -51,7 +51,8 @@ more_by : (cut : Option Bool) (records : RecordReader) (text : Option (List ℕ)
     (held : CaptureReading) →
     (first ≡ None → IsSome cut)
     → holds_by cut (option_to_list first) (option_map (reader_rest records (option_to_list first)) text) ≡ Some held
-    → More first (λ left. holds_by cut (option_to_list left) (option_map (reader_rest records (option_to_list left)) text))
+    → More first (λ left. holds_by cut (option_to_list left)
+    (option_map (reader_rest records (option_to_list left)) text))
     held
 more_by cut records text first held told is = grind (arith, common_steps, nat_tests, option_to_list, more_ended)
 
@@ -76,7 +77,8 @@ stays_both : (c : ℕ) (a b : Option CaptureReading) (d : ℕ) (x y : Option Cap
     KnownStays (merger_rest c a b) (merger_rest d x y)
 stays_both c a b d x y clock p q = grind (arith, common_steps, nat_tests)
 
-follows_after : (x y z : Option MergedInputs) (xs : List Arrival) → KnownStays x y → InputsCameFirst y xs z → InputsCameFirst x xs z
+follows_after : (x y z : Option MergedInputs) (xs : List Arrival) → KnownStays x y → InputsCameFirst y xs z →
+    InputsCameFirst x xs z
 follows_after x y z xs stays follows = grind (arith, common_steps, nat_tests)
 
 stays_is : {X : Type 0} (x y : Option X) (a : X) → KnownStays x y → y ≡ Some a → IfSome x (λ b. b ≡ a)
@@ -176,6 +178,7 @@ module _ {R Q : Type 0} {G : Ghosts R} {H : Ghosts Q} where
   pub Hands-any : (old mid new : StreamMerger R Q G H) (taken : Option Arrival) → AreSame old mid →
       (IsMergerLive old → LookPost old mid)
       → TakesAny mid.inside_first mid.outside_first mid.clock taken new.inside_first new.outside_first new.clock
-      → new.inside ≡ mid.inside → new.outside ≡ mid.outside → NextInputPost HandsOutInputs MergeEndsWith old (Ok taken) new
+      → new.inside ≡ mid.inside → new.outside ≡ mid.outside →
+      NextInputPost HandsOutInputs MergeEndsWith old (Ok taken) new
   Hands-any old mid new taken same looks h6 ins outs =
       grind (arith, common_steps, nat_tests, EndsWith-none, HandsOut-one)

@@ -32,7 +32,8 @@ outside_first a b entry ins outs clock known next = grind (arith, common_steps, 
 
 pub hands_until : (a b : Result Bool CaptureFault) (ins outs ins_left outs_left : List RecordModel) (clock : ℕ)
     (side : Side)
-    (entry : RecordModel) → IsKnown ins a → IsKnown outs b → TakesRecord ins outs (Some (side, entry)) ins_left outs_left
+    (entry : RecordModel) → IsKnown ins a → IsKnown outs b →
+    TakesRecord ins outs (Some (side, entry)) ins_left outs_left
     → inputs_from a b ins clock outs ≡ outside_before (input_of side (max clock entry.time) entry)
     (inputs_from a b ins_left (max clock entry.time) outs_left)
 hands_until a b ins outs ins_left outs_left clock side entry in_known out_known taken =

@@ -12,7 +12,8 @@ MergeIsInOrder = (insides outsides : List RecordModel) → IsMerged insides outs
 -- The inputs that merging returns are a prefix of the merged list.
 abbrev pub MergesFront : Type 0
 MergesFront = (inside outside : CaptureReading) →
-    (left : List Arrival) × (merged_inputs inside.records outside.records ≡ (inputs_until inside outside).arrivals ++ left)
+    (left : List Arrival) × (merged_inputs inside.records outside.records ≡ (inputs_until inside outside).arrivals
+    ++ left)
 
 -- If merging meets no fault, they are all of the merged list.
 abbrev pub MergesWhole : Type 0
@@ -64,7 +65,8 @@ pub record AreCapturesCut (insides outsides : List RecordModel) (count : ℕ) : 
   pub outside : outsides ≡ outside_first ++ outside_rest
   pub many : length (merged_inputs inside_first outside_first) ≡ count
   pub whole : merged_inputs insides outsides ≡ merged_inputs inside_first outside_first
-      ++ inputs_from_clock (last_clock 0 (merged_inputs inside_first outside_first)) (merged_inputs inside_rest outside_rest)
+      ++ inputs_from_clock (last_clock 0 (merged_inputs inside_first outside_first))
+      (merged_inputs inside_rest outside_rest)
 
 -- The captures can be cut after each prefix of the merged list.
 abbrev pub CapturesCanBeCut : Type 0

@@ -60,7 +60,8 @@ outside_until other first others clock [] =
     unless_fault other (outside_before (input_of Inside now first) (others now []))
 outside_until other first others clock (entry ∷ outs) =
     cond (nat_lt entry.time first.time)
-    (let now : ℕ = max clock entry.time in outside_before (input_of Outside now entry) (outside_until other first others now outs))
+    (let now : ℕ = max clock entry.time in outside_before (input_of Outside now entry)
+    (outside_until other first others now outs))
     (let now : ℕ = max clock first.time in outside_before (input_of Inside now first) (others now (entry ∷ outs)))
 
 abbrev pub alone_by : Result Bool CaptureFault → Result Bool CaptureFault → ℕ → List RecordModel → MergedInputs

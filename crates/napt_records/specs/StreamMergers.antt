@@ -57,7 +57,8 @@ pub record LookPost {R Q : Type 0} {G : Ghosts R} {H : Ghosts Q} (old new : Stre
   pub inside_told : new.inside_first ≡ None → IsSome new.inside.cut
   pub outside_told : new.outside_first ≡ None → IsSome new.outside.cut
   pub inside_stays : KnownStays (stream_holds old.inside old.inside_first) (stream_holds new.inside new.inside_first)
-  pub outside_stays : KnownStays (stream_holds old.outside old.outside_first) (stream_holds new.outside new.outside_first)
+  pub outside_stays : KnownStays (stream_holds old.outside old.outside_first)
+      (stream_holds new.outside new.outside_first)
 
 -- The number of reads of a side that failed, from a fault and the side of the fault.
 abbrev pub failed_by : Side → Side → CaptureFault → ℕ

@@ -41,4 +41,5 @@ KnownStays (Some x) (Some y) = y ≡ x
 abbrev pub InputsCameFirst : Option MergedInputs → List Arrival → Option MergedInputs → Type 0
 InputsCameFirst None arrivals later = ⊤
 InputsCameFirst (Some inputs) arrivals None = ⊥
-InputsCameFirst (Some inputs) arrivals (Some later) = inputs ≡ record { arrivals = arrivals ++ later.arrivals; end = later.end }
+InputsCameFirst (Some inputs) arrivals (Some later) = inputs
+    ≡ record { arrivals = arrivals ++ later.arrivals; end = later.end }

@@ -29,7 +29,8 @@ fn take_next(
     inside: &mut VecDeque<Record>,
     outside: &mut VecDeque<Record>,
 ) -> Option<(Side, Record)>
-    ensures { TakesRecord inside.old.items outside.old.items result inside.new.items outside.new.items }
+    ensures { TakesRecord inside.old.items outside.old.items result inside.new.items
+        outside.new.items }
 {
     if is_outside_next(inside, outside) {
         let record = outside.pop_front()?;

@@ -39,7 +39,8 @@ impl<'a, R: Source> OpenCapture<'a, R> {
         ensures name { self.new.source.ghost_name ≡ self.old.source.ghost_name }
         ensures next { self.old.fault ≡ None → IsReadResult result (LeavesBytes
             (remaining_text records.old (R.remaining self.old.source.now))
-            (remaining_text records.new (R.remaining self.new.source.now)) (HandsOutNext records.old result)) }
+            (remaining_text records.new (R.remaining self.new.source.now))
+            (HandsOutNext records.old result)) }
         ensures good { OnOk result (self.old.fault ≡ None) }
         ensures number { self.old.fault ≡ None →
             IfOk result (λ next. records.new.number ≡ next_number next records.old.number) }
@@ -51,7 +52,8 @@ impl<'a, R: Source> OpenCapture<'a, R> {
         ensures writable { IfOk result IsWritableNext }
         ensures count { self.old.fault ≡ None →
             R.failed self.new.source.now ≡ R.failed self.old.source.now + failed_reads result }
-        ensures asks { (¬ RecordsAskSource records.old) → self.new.source.now ≡ self.old.source.now }
+        ensures asks { (¬ RecordsAskSource records.old) →
+            self.new.source.now ≡ self.old.source.now }
     {
         if let Some(fault) = self.fault {
             return Err(fault);
@@ -118,7 +120,8 @@ impl<'a, R: Source> RecordStream<'a, R> {
             × (first.new ≡ first.old)) }
         ensures writable { OnOk result (All IsWritable (option_to_list first.old) →
             All IsWritable (option_to_list first.new)) }
-        ensures count { IsStreamLive self.old → CountsFailures self.old (failed_reads result) self.new }
+        ensures count { IsStreamLive self.old →
+            CountsFailures self.old (failed_reads result) self.new }
         // The source is read only if the next record is not known without it.
         ensures asks { (¬ AsksSource self.old first.old) →
             self.new.live.source.now ≡ self.old.live.source.now }

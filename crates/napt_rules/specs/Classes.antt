@@ -53,22 +53,26 @@ pub record IsBlockNumber (block : PortBlock) (number : ℕ) : Type 0 where
 -- Law: the candidates begin with the number at the index `place_in` of the block. Where numbers are preserved, that
 -- index is the inside number modulo the size of the block.
 abbrev pub BlockCandidatesBegin : Type 0
-BlockCandidatesBegin = (choosing : NumberAssignment) (block : PortBlock) → IsPortBlock block → (protocol : Protocol) (inside : Endpoint) →
+BlockCandidatesBegin = (choosing : NumberAssignment) (block : PortBlock) → IsPortBlock block →
+    (protocol : Protocol) (inside : Endpoint) →
     let place : ℕ = place_in choosing.seed choosing.keeps_parity block.size protocol inside in
     (place < block.size)
     × ((others : List ℕ) × (candidates choosing (Some block) protocol inside ≡ (block.first + place) ∷ others))
 
 -- Law: the candidates in a block are exactly the numbers of the block.
 abbrev pub BlockCandidatesAreTheBlock : Type 0
-BlockCandidatesAreTheBlock = (choosing : NumberAssignment) (block : PortBlock) → IsPortBlock block → (protocol : Protocol) (inside : Endpoint)
+BlockCandidatesAreTheBlock = (choosing : NumberAssignment) (block : PortBlock) → IsPortBlock block →
+    (protocol : Protocol) (inside : Endpoint)
     (n : ℕ) → Contains (candidates choosing (Some block) protocol inside) n ↔ IsBlockNumber block n
 
 -- Law: no candidate in a block comes twice.
 abbrev pub BlockCandidatesDiffer : Type 0
-BlockCandidatesDiffer = (choosing : NumberAssignment) (block : PortBlock) → IsPortBlock block → (protocol : Protocol) (inside : Endpoint) →
+BlockCandidatesDiffer = (choosing : NumberAssignment) (block : PortBlock) → IsPortBlock block →
+    (protocol : Protocol) (inside : Endpoint) →
     AllPairs (λ m n. m ≢ n) (candidates choosing (Some block) protocol inside)
 
 -- Law: where parity is kept, the index in the block of the first candidate has the parity of the inside number.
 abbrev pub BlockCandidatesKeepParity : Type 0
-BlockCandidatesKeepParity = (seed : Option Seed) (block : PortBlock) → IsPortBlock block → (protocol : Protocol) (inside : Endpoint) →
+BlockCandidatesKeepParity = (seed : Option Seed) (block : PortBlock) → IsPortBlock block →
+    (protocol : Protocol) (inside : Endpoint) →
     place_in seed true block.size protocol inside % 2 ≡ inside.number % 2

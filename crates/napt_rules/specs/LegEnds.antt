@@ -6,7 +6,8 @@ use Rattle.napt_rules.specs.{LocalTime.{LocalState, local_answer, local_after}, 
 
 -- Law: an ICMP error changes neither the bindings nor the time (RFC 4787, REQ-12; RFC 5508, REQ-6).
 abbrev pub ErrorsChangeNothing : Type 0
-ErrorsChangeNothing = (rules : Rules) (address : ℕ) (leg : Leg) (kept : LocalState) → is_error (kind leg.packet) ≡ true →
+ErrorsChangeNothing = (rules : Rules) (address : ℕ) (leg : Leg) (kept : LocalState) →
+    is_error (kind leg.packet) ≡ true →
     local_after rules address leg kept ≡ kept
 
 -- A packet to the outside is not for the pool; one that goes onward is for its address at `place` (RFC 4787, REQ-9).

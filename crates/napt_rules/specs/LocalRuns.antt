@@ -40,7 +40,8 @@ LegsLeaveTheirOwn = (rules : Rules) (inputs : List Arrival) (list : List Binding
 abbrev pub TranslatorsAnswerFrom : Type 0
 TranslatorsAnswerFrom = (rules : Rules) (state : State) (inputs : List Arrival) (address : ℕ) →
     let course : RunEffect = effect_from rules state inputs in
-    local_replies rules address (legs_at address course.acts) (record { list = bindings_at address state.list; at = state.clock })
+    local_replies rules address (legs_at address course.acts)
+    (record { list = bindings_at address state.list; at = state.clock })
     ≡ answers_at address course.acts
 
 -- Law: at any time from the last clock on, it has the same live bindings as the run has at that address.
@@ -49,7 +50,8 @@ TranslatorsKeepFrom = (rules : Rules) (state : State) (inputs : List Arrival) (a
     last_clock state.clock inputs ≤ now →
     let course : RunEffect = effect_from rules state inputs in
     purge rules.timers now (local_after_all rules address (legs_at address course.acts)
-    (record { list = bindings_at address state.list; at = state.clock })).list ≡ purge rules.timers now (bindings_at address course.list)
+    (record { list = bindings_at address state.list; at = state.clock })).list
+    ≡ purge rules.timers now (bindings_at address course.list)
 
 -- Law: the same of the bindings that are live or held.
 abbrev pub TranslatorsHoldFrom : Type 0
@@ -57,4 +59,5 @@ TranslatorsHoldFrom = (rules : Rules) (state : State) (inputs : List Arrival) (a
     last_clock state.clock inputs ≤ now →
     let course : RunEffect = effect_from rules state inputs in
     live_and_held rules.timers now (local_after_all rules address (legs_at address course.acts)
-    (record { list = bindings_at address state.list; at = state.clock })).list ≡ live_and_held rules.timers now (bindings_at address course.list)
+    (record { list = bindings_at address state.list; at = state.clock })).list
+    ≡ live_and_held rules.timers now (bindings_at address course.list)

@@ -38,7 +38,8 @@ pub record GoneBindingsDoNotCount (rules : Rules) (state : State) (inputs : List
   pub left : next_state rules (taken_at_clock rules state) inputs ≡ next_state rules state inputs
 
 abbrev pub GoneBindingsChangeNothing : Type 0
-GoneBindingsChangeNothing = (rules : Rules) (state : State) (inputs : List Arrival) → GoneBindingsDoNotCount rules state inputs
+GoneBindingsChangeNothing = (rules : Rules) (state : State) (inputs : List Arrival) →
+    GoneBindingsDoNotCount rules state inputs
 
 -- THE CLOCKS OF THE INPUTS, which start again in a resumed run
 
@@ -55,7 +56,8 @@ pub record EarlierInputsCountAtClock (rules : Rules) (state : State) (inputs : L
   pub last : last_clock state.clock (inputs_from_clock state.clock inputs) ≡ last_clock state.clock inputs
 
 abbrev pub EarlierClocksAreTheStates : Type 0
-EarlierClocksAreTheStates = (rules : Rules) (state : State) (inputs : List Arrival) → EarlierInputsCountAtClock rules state inputs
+EarlierClocksAreTheStates = (rules : Rules) (state : State) (inputs : List Arrival) →
+    EarlierInputsCountAtClock rules state inputs
 
 -- ALIKE: two states that are the same as packets see them
 
@@ -101,7 +103,8 @@ AlikeStatesGoOn = (rules : Rules) → RulesInvariant rules → (state other : St
 
 -- Law: a sound state and the state as it is saved are alike.
 abbrev pub OrderedStatesAreAlike : Type 0
-OrderedStatesAreAlike = (rules : Rules) → RulesInvariant rules → (state ordered : State) → IsSound (pair_of rules) state.list →
+OrderedStatesAreAlike = (rules : Rules) → RulesInvariant rules → (state ordered : State) →
+    IsSound (pair_of rules) state.list →
     IsStateInOrder rules state ordered → AreAlike rules.timers state.clock state.list ordered.list
 
 -- Law: a configuration that takes a state takes it as it is saved.
@@ -119,7 +122,8 @@ pub record SavedRunGoesOn (rules : Rules) (state saved : State) (first rest : Li
   pub ran : Each (λ r. r.external.number < 2 ^ 16) (run_result_from rules state (first ++ rest)).bindings →
       run_result_from rules state (first ++ rest)
       ≡ run_then (run_result_from rules state first) (run_result_from rules (with_redirects rules saved) rest)
-  pub left : AreAlike rules.timers (last_clock state.clock (first ++ rest)) (next_state rules state (first ++ rest)).list
+  pub left : AreAlike rules.timers (last_clock state.clock (first ++ rest))
+      (next_state rules state (first ++ rest)).list
       (next_state rules (with_redirects rules saved) rest).list
 
 abbrev pub SavedRunsGoOn : Type 0

@@ -41,11 +41,13 @@ abbrev pub TakesState : Rules → State → Type 0
 TakesState rules state = misfit rules state ≡ None
 
 abbrev pub TakenStatesAreSound : Type 0
-TakenStatesAreSound = (rules : Rules) → RulesInvariant rules → (state : State) → TakesState rules state → (inputs : List Arrival) →
+TakenStatesAreSound = (rules : Rules) → RulesInvariant rules → (state : State) → TakesState rules state →
+    (inputs : List Arrival) →
     IsSound (pair_of rules) (effect_from rules (with_redirects rules state) inputs).list
 
 abbrev pub TakenStatesKeepToBlocks : Type 0
-TakenStatesKeepToBlocks = (rules : Rules) → RulesInvariant rules → (state : State) → TakesState rules state → (inputs : List Arrival) →
+TakenStatesKeepToBlocks = (rules : Rules) → RulesInvariant rules → (state : State) → TakesState rules state →
+    (inputs : List Arrival) →
     Each (IsInItsBlock rules) (map row (effect_from rules (with_redirects rules state) inputs).list)
 
 -- Law: no host gets more bindings than the quota allows or, if that is more, than it had in the state.
@@ -70,17 +72,21 @@ abbrev pub AreAllOwn : Rules → ℕ → List Binding → Type 0
 AreAllOwn rules clock list = Each (λ b. b.row.fixed ≡ false → IsBindingOwn rules clock b) list
 
 abbrev pub TakenStatesAreOwn : Type 0
-TakenStatesAreOwn = (rules : Rules) → RulesInvariant rules → (state : State) → TakesState rules state → (inputs : List Arrival) →
+TakenStatesAreOwn = (rules : Rules) → RulesInvariant rules → (state : State) → TakesState rules state →
+    (inputs : List Arrival) →
     AreAllOwn rules (last_clock state.clock inputs) (effect_from rules (with_redirects rules state) inputs).list
 
 -- RESUMED UNDER THE SAME CONFIGURATION
 
 -- Law: taking up the initial state, or the state after a run under the same configuration, does not change it.
 abbrev pub OwnStatesStay : Type 0
-OwnStatesStay = (rules : Rules) → (with_redirects rules (initial_state rules) ≡ initial_state rules) × ((state : State) (inputs : List Arrival) →
-    with_redirects rules (next_state rules (with_redirects rules state) inputs) ≡ next_state rules (with_redirects rules state) inputs)
+OwnStatesStay = (rules : Rules) → (with_redirects rules (initial_state rules) ≡ initial_state rules) ×
+    ((state : State) (inputs : List Arrival) →
+    with_redirects rules (next_state rules (with_redirects rules state) inputs)
+    ≡ next_state rules (with_redirects rules state) inputs)
 
 -- Law: a configuration takes its initial state, and the state after a run from any state that it takes.
 abbrev pub OwnStatesAreTaken : Type 0
 OwnStatesAreTaken = (rules : Rules) → TakesState rules (initial_state rules) × (RulesInvariant rules → (state : State) →
-    TakesState rules state → (inputs : List Arrival) → TakesState rules (next_state rules (with_redirects rules state) inputs))
+    TakesState rules state → (inputs : List Arrival) →
+    TakesState rules (next_state rules (with_redirects rules state) inputs))

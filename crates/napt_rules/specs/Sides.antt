@@ -55,4 +55,5 @@ routed_by_refusal rules address (Some cause) = Err cause
 routed_by_refusal rules address None = ok_or (pool_place rules address) NotOurs
 
 unfoldable pub route : Rules → Side → List ℕ → Result ℕ Cause
-route rules side packet = routed_by_refusal rules (served_at rules (way_from side) packet) (side_refusal rules side packet)
+route rules side packet = routed_by_refusal rules (served_at rules (way_from side) packet)
+    (side_refusal rules side packet)

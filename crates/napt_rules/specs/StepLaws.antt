@@ -16,7 +16,8 @@ PurgeStaysSound = (pair : ℕ → ℕ) (timers : Timers) (now : ℕ) (list : Lis
 
 -- Law: at its host's paired address, an outgoing packet with a valid number and block keeps the list sound.
 abbrev pub OutboundStaysSound : Type 0
-OutboundStaysSound = (pair : ℕ → ℕ) (timers : Timers) (granting : AssignmentRules) (address : ℕ) (packet : OutboundPacket)
+OutboundStaysSound = (pair : ℕ → ℕ) (timers : Timers) (granting : AssignmentRules) (address : ℕ)
+    (packet : OutboundPacket)
     (list : List Binding) → IsSound pair list → address ≡ pair packet.inside.address →
     IsNumber packet.protocol packet.inside.number → IfSome packet.block IsPortBlock →
     IsSound pair (step_out timers granting address packet list).list
@@ -31,12 +32,14 @@ SoundListsAreApart = (pair : ℕ → ℕ) (list : List Binding) → IsSound pair
 -- TAKEN: after a step, every binding of the list is live or held
 
 abbrev pub OutboundLeavesTaken : Type 0
-OutboundLeavesTaken = (timers : Timers) → AreTimers timers → (granting : AssignmentRules) (address : ℕ) (packet : OutboundPacket)
+OutboundLeavesTaken = (timers : Timers) → AreTimers timers →
+    (granting : AssignmentRules) (address : ℕ) (packet : OutboundPacket)
     (list : List Binding) → live_and_held timers packet.now (step_out timers granting address packet list).list
     ≡ (step_out timers granting address packet list).list
 
 abbrev pub InboundLeavesTaken : Type 0
-InboundLeavesTaken = (timers : Timers) → AreTimers timers → (inbound : InboundRules) (address : ℕ) (packet : InboundPacket)
+InboundLeavesTaken = (timers : Timers) → AreTimers timers →
+    (inbound : InboundRules) (address : ℕ) (packet : InboundPacket)
     (list : List Binding) → live_and_held timers packet.now (step_in timers inbound address packet list).list
     ≡ (step_in timers inbound address packet list).list
 
@@ -53,7 +56,8 @@ LaterPurgeCounts = (timers : Timers) (earlier later : ℕ) → earlier ≤ later
     purge timers later (purge timers earlier list) ≡ purge timers later list
 
 abbrev pub OutboundIsLocal : Type 0
-OutboundIsLocal = (timers : Timers) (granting : AssignmentRules) (address : ℕ) (packet : OutboundPacket) (list : List Binding) →
+OutboundIsLocal = (timers : Timers) (granting : AssignmentRules) (address : ℕ) (packet : OutboundPacket)
+    (list : List Binding) →
     out_taken timers granting address packet (bindings_at address list) ≡ record {
       number = (out_taken timers granting address packet list).number;
       through = (out_taken timers granting address packet list).through;
@@ -61,11 +65,14 @@ OutboundIsLocal = (timers : Timers) (granting : AssignmentRules) (address : ℕ)
     }
 
 abbrev pub OutboundLeavesOthers : Type 0
-OutboundLeavesOthers = (timers : Timers) (granting : AssignmentRules) (address : ℕ) (packet : OutboundPacket) (other : ℕ) → other ≢ address →
-    (list : List Binding) → bindings_at other (out_taken timers granting address packet list).list ≡ bindings_at other list
+OutboundLeavesOthers = (timers : Timers) (granting : AssignmentRules) (address : ℕ) (packet : OutboundPacket)
+    (other : ℕ) → other ≢ address →
+    (list : List Binding) → bindings_at other (out_taken timers granting address packet list).list
+    ≡ bindings_at other list
 
 abbrev pub InboundIsLocal : Type 0
-InboundIsLocal = (timers : Timers) (inbound : InboundRules) (address : ℕ) (packet : InboundPacket) (list : List Binding) →
+InboundIsLocal = (timers : Timers) (inbound : InboundRules) (address : ℕ) (packet : InboundPacket)
+    (list : List Binding) →
     in_taken timers inbound address packet (bindings_at address list) ≡ record {
       inside = (in_taken timers inbound address packet list).inside;
       through = (in_taken timers inbound address packet list).through;
@@ -85,11 +92,13 @@ PurgeKeepsQuota = (timers : Timers) (now at host quota : ℕ) (list : List Bindi
     count_for at host list ≤ quota → count_for at host (purge timers now list) ≤ quota
 
 abbrev pub OutboundKeepsQuota : Type 0
-OutboundKeepsQuota = (timers : Timers) (granting : AssignmentRules) (quota : ℕ) → granting.quota ≡ Some quota → (address : ℕ)
+OutboundKeepsQuota = (timers : Timers) (granting : AssignmentRules) (quota : ℕ) → granting.quota ≡ Some quota →
+    (address : ℕ)
     (packet : OutboundPacket) (list : List Binding) (at host : ℕ) → count_for at host list ≤ quota →
     count_for at host (step_out timers granting address packet list).list ≤ quota
 
 abbrev pub InboundKeepsQuota : Type 0
-InboundKeepsQuota = (timers : Timers) (inbound : InboundRules) (address : ℕ) (packet : InboundPacket) (list : List Binding)
+InboundKeepsQuota = (timers : Timers) (inbound : InboundRules) (address : ℕ) (packet : InboundPacket)
+    (list : List Binding)
     (at host quota : ℕ) → count_for at host list ≤ quota →
     count_for at host (step_in timers inbound address packet list).list ≤ quota

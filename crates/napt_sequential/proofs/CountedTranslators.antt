@@ -10,7 +10,8 @@ use Rattle.napt_sequential.specs.CountedTranslators.{SequentialRunModel, IsCount
 use Rattle.napt_laws.proofs.RunsLocal.{leg_at_once, other_at_once}
 
 -- One more leg, at its own address and at another one.
-legs_more : (address : ℕ) (acts : List LegAct) (a : LegAct) → a.address ≡ address → length (legs_at address (acts ++ a ∷ []))
+legs_more : (address : ℕ) (acts : List LegAct) (a : LegAct) → a.address ≡ address →
+    length (legs_at address (acts ++ a ∷ []))
     ≡ length (legs_at address acts) + 1
 legs_more address [] a here = ap (λ v. length (map (λ (x : LegAct). x.leg) (cond v (a ∷ []) [])))
     (eq-eqb a.address address here)
@@ -33,7 +34,8 @@ module _ (rules : Rules) (place address : ℕ) (at : get_or rules.pool place 0 �
   own_told =
       ap (traced_answer (λ passage. passage) leg) is.translator
       ∙ (ap (λ (a : ℕ). traced_act (λ passage. passage) rules.timers (act_there rules a leg is.own)) at
-      ∙ acts_same (traced_act (λ passage. passage) rules.timers) rules address state.clock is.own state.list is.at_once leg
+      ∙ acts_same (traced_act (λ passage. passage) rules.timers) rules address state.clock is.own state.list
+      is.at_once leg
       later)
 
   pub own_counted : IsCountedTranslator rules place address (state_after rules address leg state)
@@ -72,7 +74,8 @@ apart_places rules keeps i j a b at_i at_j ne = λ e.
     ne (keeps.pool.distinct j i (slice_get_within rules.pool j b at_j) (slice_get_within rules.pool i a at_i)
     (get_or_from_slice_get rules.pool j b 0 at_j ∙ (e ∙ sym (get_or_from_slice_get rules.pool i a 0 at_i))))
 
-module _ (rules : Rules) (keeps : RulesInvariant rules) (state : SequentialRunModel) (translators : List CountedTranslator)
+module _ (rules : Rules) (keeps : RulesInvariant rules) (state : SequentialRunModel)
+    (translators : List CountedTranslator)
     (are : AreCountedTranslators rules state translators) (place address : ℕ)
     (at : slice_get rules.pool place ≡ Some address) (leg : Leg) (later : state.clock ≤ leg.now)
     (default : CountedTranslator) where

@@ -50,7 +50,8 @@ begin_translators rules state translators many are = record {
         translator =
             let is : counted ≡ fresh rules state place = are place counted is_there in
             ap (λ (s : CountedTranslator). s.translator) is
-            ∙ ap (λ (a : ℕ). with_local_state (initial_translator place rules) (record { list = bindings_at a state.list; at = state.clock })) here;
+            ∙ ap (λ (a : ℕ). with_local_state (initial_translator place rules)
+            (record { list = bindings_at a state.list; at = state.clock })) here;
         at_once = record { agrees = record { same = refl; taken = refl }; past = omega arith };
         legs = ap (λ (s : CountedTranslator). s.legs) (are place counted is_there);
       };

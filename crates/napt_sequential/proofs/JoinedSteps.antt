@@ -17,7 +17,8 @@ joined_get (x ∷ os) [] n o t h g = cc
 joined_get (x ∷ os) (y ∷ ts) zero o t h g = grind (arith, common_steps, nat_tests)
 joined_get (x ∷ os) (y ∷ ts) (suc n) o t h g = joined_get os ts n o t h g
 
-joined_long : (os : List Outcome) (ts : List Trace) (n : ℕ) → length os ≡ n → length ts ≡ n → length (steps_joined os ts) ≡ n
+joined_long : (os : List Outcome) (ts : List Trace) (n : ℕ) → length os ≡ n → length ts ≡ n →
+    length (steps_joined os ts) ≡ n
 joined_long [] ts n h g = h
 joined_long (o ∷ os) [] n h g = absurd (omega arith)
 joined_long (o ∷ os) (t ∷ ts) zero h g = absurd (omega arith)
@@ -90,7 +91,8 @@ pub input_there : (done rest : List Arrival) (input : Arrival) (number : ℕ) �
     slice_get ((done ++ input ∷ []) ++ rest) number ≡ Some input
 input_there done rest input number long = get_at done input rest number long
 
-joined_traces : (os : List Outcome) (ts : List Trace) → length os ≡ length ts → map (λ s. s.trace) (steps_joined os ts) ≡ ts
+joined_traces : (os : List Outcome) (ts : List Trace) → length os ≡ length ts →
+    map (λ s. s.trace) (steps_joined os ts) ≡ ts
 joined_traces [] [] e = refl
 joined_traces [] (t ∷ ts) e = absurd (omega arith)
 joined_traces (o ∷ os) [] e = absurd (omega arith)

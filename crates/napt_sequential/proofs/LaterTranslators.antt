@@ -40,7 +40,8 @@ without_ended now counted after after_is rules place address state later is =
     record {
       own = next;
       translator = after_is ∙ ap (purged now) is.translator
-          ∙ ap (λ (t : ℕ). with_local_state (initial_translator place rules) (record { list = live_and_held rules.timers t own.list; at = t }))
+          ∙ ap (λ (t : ℕ). with_local_state (initial_translator place rules)
+          (record { list = live_and_held rules.timers t own.list; at = t }))
           (latest now own.at (omega arith));
       at_once = record {
         agrees = agree rules address now next.list state.list
@@ -75,7 +76,8 @@ module _ (rules : Rules) (now : ℕ) (translators : List CountedTranslator) wher
               (sym (ap (slice_get (set translators place after)) (sym here) ∙ other_is_there)
               ∙ get_set translators place after (slice_get_within translators place counted is_there)) in
               let there : slice_get translators other ≡ Some counted = ap (slice_get translators) here ∙ is_there in
-              subst (λ (x : CountedTranslator). IsCountedTranslator rules other address (state_at_time now state) x) (sym new)
+              subst (λ (x : CountedTranslator). IsCountedTranslator rules other address (state_at_time now state) x)
+              (sym new)
               (stays rules other address state later (are.each other address counted at there))
           | false ↦ λ e.
               let before : slice_get translators other ≡ Some s =

@@ -16,7 +16,8 @@ pub run_shown : (rules : Rules) (state : State) (inputs : List Arrival) (outcome
     outcomes ≡ (effect_from rules state inputs).outcomes → last ≡ last_clock state.clock inputs →
     AreCountedTranslators rules (state_from rules state inputs) translators →
     bindings ≡ flat_map (rows_at last) translators → legs ≡ map (λ (s : CountedTranslator). s.legs) translators →
-    (let r : RunResult = record { outcomes = outcomes; bindings = bindings; legs = legs } in r ≡ run_result_from rules state inputs)
+    (let r : RunResult = record { outcomes = outcomes; bindings = bindings; legs = legs } in r
+    ≡ run_result_from rules state inputs)
 run_shown rules state inputs outcomes last translators bindings legs told clock are shown legs_are =
     let after : SequentialRunModel = state_from rules state inputs in
     let all : flat_map (rows_at last) translators ≡ flat_map (λ (address : ℕ). rows rules.timers

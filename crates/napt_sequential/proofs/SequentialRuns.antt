@@ -48,5 +48,6 @@ pub is_ran : (rules : Rules) (state : State) (inputs : List Arrival) (outcomes :
     (legs : List ℕ) →
     outcomes ≡ (effect_from rules state inputs).outcomes → bindings ≡ (run_result_from rules state inputs).bindings →
     legs ≡ (run_result_from rules state inputs).legs →
-    (let r : RunResult = record { outcomes = outcomes; bindings = bindings; legs = legs } in r ≡ run_result_from rules state inputs)
+    (let r : RunResult = record { outcomes = outcomes; bindings = bindings; legs = legs } in r
+    ≡ run_result_from rules state inputs)
 is_ran rules state inputs outcomes bindings legs told shown counts = rw (told, shown, counts) refl

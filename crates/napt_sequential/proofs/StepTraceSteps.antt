@@ -52,7 +52,8 @@ goes_onward rules place leg before after passed within can_take takes to packet 
     )
 
 -- A first leg with this end, which is the only leg of its input.
-pub steps_once : (rules : Rules) (address : ℕ) (leg : Leg) (state : SequentialRunModel) (translators : List CountedTranslator)
+pub steps_once : (rules : Rules) (address : ℕ) (leg : Leg) (state : SequentialRunModel)
+    (translators : List CountedTranslator)
     (passed : TracedAnswer Passage) (last : End) →
     passed ≡ traced_act (λ passage. passage) rules.timers (act_of address leg (act rules address leg state.list)) →
     passed.answer.end ≡ last → with_second_leg rules address leg (act rules address leg state.list) last
@@ -64,7 +65,8 @@ pub steps_once : (rules : Rules) (address : ℕ) (leg : Leg) (state : Sequential
 steps_once rules address leg state translators passed last passes is alone are stepped told trace =
     grind (arith, common_steps, nat_tests, follows_once)
 
-pub steps_twice : (rules : Rules) (address : ℕ) (leg : Leg) (state : SequentialRunModel) (translators : List CountedTranslator)
+pub steps_twice : (rules : Rules) (address : ℕ) (leg : Leg) (state : SequentialRunModel)
+    (translators : List CountedTranslator)
     (place : ℕ) (packet : List ℕ) (passed : TracedAnswer Passage) →
     passed ≡ traced_act (λ passage. passage) rules.timers (act_of address leg (act rules address leg state.list)) →
     passed.answer.end ≡ Onward place packet →

@@ -13,15 +13,18 @@ use Rattle.napt_laws.proofs.RunsLocal.{later_at_once}
 
 -- ONE LEG, OR TWO
 
-pub follows_once : (rules : Rules) (address : ℕ) (leg : Leg) (state : SequentialRunModel) (translators : List CountedTranslator)
+pub follows_once : (rules : Rules) (address : ℕ) (leg : Leg) (state : SequentialRunModel)
+    (translators : List CountedTranslator)
     (end : End) → (act rules address leg state.list).end ≡ end →
     with_second_leg rules address leg (act rules address leg state.list) end
     ≡ leg_effect address leg (act rules address leg state.list) →
     AreCountedTranslators rules (state_after rules address leg state) translators → (outcome : Outcome) →
-    outcome ≡ outcome_of end → StepFollows rules leg.now (admitted_effect rules address leg state.list) state translators outcome
+    outcome ≡ outcome_of end → StepFollows rules leg.now (admitted_effect rules address leg state.list) state
+    translators outcome
 follows_once rules address leg state translators end is alone are outcome told = grind (arith, common_steps, nat_tests)
 
-pub follows_twice : (rules : Rules) (address : ℕ) (leg : Leg) (state : SequentialRunModel) (translators : List CountedTranslator)
+pub follows_twice : (rules : Rules) (address : ℕ) (leg : Leg) (state : SequentialRunModel)
+    (translators : List CountedTranslator)
     (place : ℕ) (packet : List ℕ) → (act rules address leg state.list).end ≡ Onward place packet →
     (let next : Leg = record leg { way = Incoming; packet = packet } in
     let to : ℕ = (destination packet).address in

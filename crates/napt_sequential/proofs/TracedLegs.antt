@@ -42,7 +42,8 @@ record IsHere (timers : Timers) (number now : ℕ) (course : RunEffect) (a : Leg
   pub now_is : a.leg.now ≡ now
   pub placed : IsPlaced timers (trace_of timers now course) (legs_behind course.acts) a
 
-follow_here : (rules : Rules) (address : ℕ) (leg : Leg) (through : Option BindingUse) (list : List Binding) (end : End) →
+follow_here : (rules : Rules) (address : ℕ) (leg : Leg) (through : Option BindingUse) (list : List Binding)
+    (end : End) →
     (let first : LegEffect = record { end = end; through = through; list = list } in
     let course : RunEffect = with_second_leg rules address leg first end in
     Each (IsHere rules.timers leg.number leg.now course) course.acts)
@@ -103,7 +104,8 @@ module _ (timers : Timers) (number now : ℕ) (first : RunEffect) (rests : List 
   first_from : (a : LegAct) → IsHere timers number now first a → IsFrom timers number (trace_here ∷ later) whole a
   first_from a h = grind (arith, common_steps, nat_tests, firsts_are)
 
-  rest_from : (a : LegAct) → IsFrom timers (number + 1) later rests a → IsFrom timers number (trace_here ∷ later) whole a
+  rest_from : (a : LegAct) → IsFrom timers (number + 1) later rests a →
+      IsFrom timers number (trace_here ∷ later) whole a
   rest_from a h = grind (arith, common_steps, nat_tests, rests_are)
 
   all_from : Each (IsFrom timers number (trace_here ∷ later) whole) whole

@@ -8,7 +8,8 @@ use Rattle.napt_laws.proofs.{RunsLocal.{on_time, leg_at_once, other_at_once}, Tu
 use Rattle.napt_sequential.specs.{declared.{passage.Passage.Passage, leg_trace.TracedAnswer.TracedAnswer}, CountedTranslators.{act_of, act_there, traced_act}, Steps.traced_replies}
 
 -- A leg acts at the translator as in the run.
-pub acts_same : {X : Type 0} (f : LegAct → X) (rules : Rules) (address clock : ℕ) (own : LocalState) (list : List Binding) →
+pub acts_same : {X : Type 0} (f : LegAct → X) (rules : Rules) (address clock : ℕ) (own : LocalState)
+    (list : List Binding) →
     IsTranslatorCurrent rules address clock own list → (leg : Leg) → clock ≤ leg.now →
     f (act_there rules address leg own) ≡ f (act_of address leg (act rules address leg list))
 acts_same f rules address clock own list once leg later = grind (arith, common_steps, nat_tests, on_time, alike)
@@ -37,10 +38,12 @@ module _ {P : Type 0} (tells : Passage → P) (rules : Rules) (address : ℕ) wh
             let stays = leg_at_once rules address clock own list once a.leg p.0.later in
             let rest = alone a.leg.now (local_after rules address a.leg own) acted.list acts last new stays.left
             (subst (λ (r : LegEffect). InTurn rules a.leg.now r.list acts last new) e p.1) in
-            ap (λ (t : TracedAnswer P). t ∷ traced_replies tells rules address (map (λ (b : LegAct). b.leg) (acts_at address acts))
+            ap (λ (t : TracedAnswer P). t ∷ traced_replies tells rules address
+            (map (λ (b : LegAct). b.leg) (acts_at address acts))
             (local_after rules address a.leg own))
             (acts_same (traced_act tells rules.timers) rules address clock own list once a.leg p.0.later
-            ∙ ap (traced_act tells rules.timers) is) ∙ ap (λ (ts : List (TracedAnswer P)). traced_act tells rules.timers a ∷ ts) rest
+            ∙ ap (traced_act tells rules.timers) is)
+            ∙ ap (λ (ts : List (TracedAnswer P)). traced_act tells rules.timers a ∷ ts) rest
         | false ↦ λ h.
             alone a.leg.now own (act rules a.address a.leg list).list acts last new
             (other_at_once rules address clock own list once a.address

@@ -89,7 +89,8 @@ pub record AreBindingsOfAll (now : ℕ) (translators : List CountedTranslator) (
   pub many : length parts ≡ length translators
   pub each : (place : ℕ) (counted : CountedTranslator) (part : List Binding) →
       slice_get translators place ≡ Some counted → slice_get parts place ≡ Some part →
-      AreBindingsLeft counted.translator.rules.timers (max now counted.translator.table.at) (bindings_left_at now counted) part
+      AreBindingsLeft counted.translator.rules.timers (max now counted.translator.table.at)
+      (bindings_left_at now counted) part
 
 -- LOOK-UPS after a leg, from its packet before the leg and from its end
 
@@ -104,7 +105,8 @@ gone_by way (Some row) = gone_through way row
 abbrev pub found_by : Timers → ℕ → List Binding → ℕ → PacketTuple → Option Protocol → End → Passage
 found_by timers now list address seen None end = Nothing
 found_by timers now list address seen (Some protocol) (ends.ToInside packet) =
-    gone_by Incoming (option_map (timed_row timers) (by_number timers address now protocol seen.destination.number list))
+    gone_by Incoming (option_map (timed_row timers)
+    (by_number timers address now protocol seen.destination.number list))
 found_by timers now list address seen (Some protocol) (ends.Dropped cause) =
     Dropped (record { protocol = protocol; host = seen.source.address; cause = cause })
 found_by timers now list address seen (Some protocol) _ =

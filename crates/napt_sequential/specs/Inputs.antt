@@ -15,7 +15,8 @@ NextInputPost hands ends before (Ok None) after = ends before None after
 NextInputPost hands ends before (Err fault) after = ends before (Some fault) after
 
 -- The source returned these inputs, and then reported the end or a fault.
-pub record InputsCame {S F : Type 0} (hands : S → List Arrival → S → Type 0) (ends : S → Option F → S → Type 0) (before : S)
+pub record InputsCame {S F : Type 0} (hands : S → List Arrival → S → Type 0) (ends : S → Option F → S →
+    Type 0) (before : S)
     (inputs : List Arrival) (fault : Option F) (after : S) : Type 0 where
   pub last : S
   pub handed : hands before inputs last

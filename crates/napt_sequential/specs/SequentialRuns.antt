@@ -6,7 +6,8 @@ use Rattle.napt_sequential.specs.declared.{outcome.StepResult.StepResult, sequen
 use Rattle.napt_sequential.specs.{CountedTranslators.{AreCountedTranslators, state_from}, Traces.traces_of}
 
 -- The run had these inputs from a state, and its translators are those after them.
-pub record SequentialRunInvariant (rules : Rules) (state : State) (inputs : List Arrival) (it : SequentialRun) : Type 0 where
+pub record SequentialRunInvariant (rules : Rules) (state : State) (inputs : List Arrival) (it : SequentialRun) : Type
+    0 where
   pub many : it.many ≡ length inputs
   pub clock : it.clock ≡ last_clock state.clock inputs
   pub translators : AreCountedTranslators rules (state_from rules state inputs) it.translators.items

@@ -7,7 +7,8 @@ use Rattle.napt_sequential.specs.Traces.{traces_of}
 
 -- Each outcome with its trace, in the same order.
 abbrev pub steps_joined : List Outcome → List Trace → List StepResult
-steps_joined (outcome ∷ outcomes) (trace ∷ traces) = record { outcome = outcome; trace = trace } ∷ steps_joined outcomes traces
+steps_joined (outcome ∷ outcomes) (trace ∷ traces) = record { outcome = outcome; trace = trace }
+    ∷ steps_joined outcomes traces
 steps_joined _ _ = []
 
 -- The results of the inputs of a run from a state, in the order of the inputs.

@@ -29,7 +29,8 @@ passage_by timers way protocol host end (Some went) = gone_through way (timed_ro
 passage_by timers way protocol host end None = loss_of protocol host end
 
 abbrev pub passage_of : Timers → LegAct → Passage
-passage_of timers a = passage_by timers a.leg.way (packet_carried (kind a.leg.packet)) (source a.leg.packet).address a.end
+passage_of timers a = passage_by timers a.leg.way (packet_carried (kind a.leg.packet)) (source a.leg.packet).address
+    a.end
     a.through
 
 -- ALL INPUTS, each of which has at most two legs

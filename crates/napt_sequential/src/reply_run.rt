@@ -104,7 +104,8 @@ fn send(config: &Config, translators: &mut [CountedTranslator], now: u64, packet
     requires keeps { RulesInvariant config.now }
     requires many { length translators.old ≡ length config.now.pool }
     requires reads { reading sides.Outside packet.old ≡ Ok packet.old }
-    ensures value { (state : SequentialRunModel) → AreCountedTranslators config.now state translators.old →
+    ensures value { (state : SequentialRunModel) →
+        AreCountedTranslators config.now state translators.old →
         state.clock ≤ now →
         packet.new ≡ following.packet_followed config.now now state.list packet.old }
     ensures left { StayCounted config.now now translators.old translators.new }
@@ -125,7 +126,8 @@ fn send(config: &Config, translators: &mut [CountedTranslator], now: u64, packet
 fn sent(config: &Config, translators: &mut [CountedTranslator], now: u64, bytes: Vec<u8>) -> Vec<u8>
     requires keeps { RulesInvariant config.now }
     requires many { length translators.old ≡ length config.now.pool }
-    ensures value { (state : SequentialRunModel) → AreCountedTranslators config.now state translators.old →
+    ensures value { (state : SequentialRunModel) →
+        AreCountedTranslators config.now state translators.old →
         state.clock ≤ now →
         result.items ≡ following.following_as config.now now state.list bytes.items
         (reading sides.Outside bytes.items) }
@@ -144,7 +146,8 @@ fn sent(config: &Config, translators: &mut [CountedTranslator], now: u64, bytes:
 fn follow(config: &Config, translators: &mut [CountedTranslator], now: u64, input: Input) -> Input
     requires keeps { RulesInvariant config.now }
     requires many { length translators.old ≡ length config.now.pool }
-    ensures value { (state : SequentialRunModel) → AreCountedTranslators config.now state translators.old →
+    ensures value { (state : SequentialRunModel) →
+        AreCountedTranslators config.now state translators.old →
         state.clock ≤ now →
         result ≡ following.follow config.now now state.list input }
     ensures left { StayCounted config.now now translators.old translators.new }

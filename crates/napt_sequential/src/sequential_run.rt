@@ -52,7 +52,8 @@ impl SequentialRun {
     ) -> Result<SequentialRun, AllocError>
         requires { TakesState config.now state.now }
         ensures kept { RulesInvariant config.now }
-        ensures begun { IfOk result (SequentialRunInvariant config.now (with_redirects config.now state.now) []) }
+        ensures begun { IfOk result (SequentialRunInvariant config.now
+            (with_redirects config.now state.now) []) }
     {
         let translators = resume(alloc, config, state)?;
         Ok(SequentialRun {
@@ -81,7 +82,8 @@ impl SequentialRun {
             IfOk result (StepPost config.now state before input.now) }
         ensures stands { (state : State) (before : List Arrival) →
             SequentialRunInvariant config.now state before self.old →
-            OnOk result (SequentialRunInvariant config.now state (before ++ input.now ∷ []) self.new) }
+            OnOk result (SequentialRunInvariant config.now state (before ++ input.now ∷ [])
+            self.new) }
         ensures too_many { (state : State) (before : List Arrival) →
             SequentialRunInvariant config.now state before self.old →
             (result ≡ Err RunFault.TooMany) ↔ (2 ^ 32 ≤ length before + 1) }
@@ -104,13 +106,15 @@ impl SequentialRun {
     ) -> Result<StepResult, AllocError>
         requires keeps { RulesInvariant config.now }
         requires few { (state : State) × ((before : List Arrival)
-            × SequentialRunInvariant config.now state before self.old × (length before + 1 < 2 ^ 32)) }
+            × SequentialRunInvariant config.now state before self.old ×
+            (length before + 1 < 2 ^ 32)) }
         ensures tells { (state : State) (before : List Arrival) →
             SequentialRunInvariant config.now state before self.old →
             IfOk result (StepPost config.now state before input.now) }
         ensures stands { (state : State) (before : List Arrival) →
             SequentialRunInvariant config.now state before self.old →
-            OnOk result (SequentialRunInvariant config.now state (before ++ input.now ∷ []) self.new) }
+            OnOk result (SequentialRunInvariant config.now state (before ++ input.now ∷ [])
+            self.new) }
     {
         let now = self.clock.max(input.clock);
         let stepped = step(alloc, config, &mut self.translators, self.many, now, input)?;

@@ -179,14 +179,16 @@ impl FlowMaps {
 
     /// Returns whether one of the TCP flows is live at `now` (ns).
     pub(super) fn has_live(&self, timers: IdleTimers, now: u64) -> bool
-        ensures { result ≡ list_any (life.is_live_flow timers now) (standing_flows self.now.slots.slots) }
+        ensures { result ≡ list_any (life.is_live_flow timers now)
+            (standing_flows self.now.slots.slots) }
     {
         self.slots.has_live(timers, now)
     }
 
     /// Returns until when (ns) one of these TCP flows is live, at most `u64::MAX`; one is at `now`.
     pub(super) fn last_moment(&self, timers: IdleTimers, now: u64) -> u64
-        requires live { list_any (life.is_live_flow timers now) (standing_flows self.now.slots.slots)
+        requires live { list_any (life.is_live_flow timers now)
+            (standing_flows self.now.slots.slots)
             ≡ true }
         ensures later { now ≤ result }
         ensures lives { (t : ℕ) → t ≤ result → list_any (life.is_live_flow timers t)
@@ -216,7 +218,8 @@ impl FlowMaps {
     /// Returns whether a flow is of the remote.
     pub(super) fn has_remote(&self, remote: Endpoint) -> bool
         requires { FlowMapsInvariant self.now }
-        ensures { result ≡ list_any (traffic.is_flow_of remote) (standing_flows self.now.slots.slots) }
+        ensures { result ≡ list_any (traffic.is_flow_of remote)
+            (standing_flows self.now.slots.slots) }
     {
         self.place_of(remote).is_some()
     }
@@ -267,7 +270,8 @@ impl FlowMaps {
     fn compacted(&self, alloc: Global) -> Result<FlowMaps, AllocError>
         requires { FlowMapsInvariant self.now }
         ensures many { IfOk result FlowMapsInvariant }
-        ensures flows { IfOk result (λ many. standing_flows many.slots.slots ≡ standing_flows self.now.slots.slots) }
+        ensures flows { IfOk result (λ many. standing_flows many.slots.slots
+            ≡ standing_flows self.now.slots.slots) }
         ensures none_empty { IfOk result (λ many. length many.slots.slots
             ≡ length (standing_flows self.now.slots.slots)) }
     {
@@ -310,9 +314,11 @@ impl FlowMaps {
         ensures many { FlowMapsInvariant self.new }
         ensures used { result ≡ true →
             packets.standing_at timers sent (standing_flows self.new.slots.slots)
-            ≡ packets.flows_after_outbound sent (packets.standing_at timers sent (standing_flows self.old.slots.slots)) }
+            ≡ packets.flows_after_outbound sent
+            (packets.standing_at timers sent (standing_flows self.old.slots.slots)) }
         ensures live { result ≡ true →
-            list_any (life.is_live_flow timers sent.now) (standing_flows self.new.slots.slots) ≡ true }
+            list_any (life.is_live_flow timers sent.now) (standing_flows self.new.slots.slots)
+            ≡ true }
         ensures same { result ≡ false → self.new.slots.slots ≡ self.old.slots.slots }
         ensures as_long { length self.new.slots.slots ≡ length self.old.slots.slots }
         ensures none { result ≡ false →
@@ -343,11 +349,15 @@ impl FlowMaps {
         requires many { FlowMapsInvariant self.old }
         requires rising { NoneUsedAfter (standing_flows self.old.slots.slots) sent.now }
         ensures many { FlowMapsInvariant self.new }
-        ensures ok { OnOk result (packets.standing_at timers sent (standing_flows self.new.slots.slots)
-            ≡ packets.flows_after_outbound sent (packets.standing_at timers sent (standing_flows self.old.slots.slots))) }
+        ensures ok { OnOk result (packets.standing_at timers sent
+            (standing_flows self.new.slots.slots)
+            ≡ packets.flows_after_outbound sent
+            (packets.standing_at timers sent (standing_flows self.old.slots.slots))) }
         ensures live { OnOk result
-            (list_any (life.is_live_flow timers sent.now) (standing_flows self.new.slots.slots) ≡ true) }
-        ensures err { OnErr result (standing_flows self.new.slots.slots ≡ standing_flows self.old.slots.slots) }
+            (list_any (life.is_live_flow timers sent.now) (standing_flows self.new.slots.slots)
+            ≡ true) }
+        ensures err { OnErr result (standing_flows self.new.slots.slots
+            ≡ standing_flows self.old.slots.slots) }
         ensures grown { length self.old.slots.slots < length self.new.slots.slots →
             length self.new.slots.slots ≤ most_slots (length (standing_flows self.old.slots.slots)) }
     {
@@ -366,8 +376,10 @@ impl FlowMaps {
         requires many { FlowMapsInvariant self.old }
         requires rising { NoneUsedAfter (standing_flows self.old.slots.slots) now }
         ensures many { FlowMapsInvariant self.new }
-        ensures flows { standing_flows self.new.slots.slots ≡ change_first (traffic.is_flow_of remote)
-            (traffic.flow_after Protocol.Tcp Way.Incoming flags now) (standing_flows self.old.slots.slots) }
+        ensures flows { standing_flows self.new.slots.slots
+            ≡ change_first (traffic.is_flow_of remote)
+            (traffic.flow_after Protocol.Tcp Way.Incoming flags now)
+            (standing_flows self.old.slots.slots) }
     {
         let Some(place) = self.place_of(remote) else {
             return;

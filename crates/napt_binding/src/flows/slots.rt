@@ -249,7 +249,8 @@ impl FlowSlots {
     pub(crate) fn dead_place(&self, timers: IdleTimers, now: u64) -> Option<usize>
         ensures some { IfSome result (λ place. (flow : Flow) × IsInSlot self.now.slots place flow
             × (life.is_live_flow timers now flow ≡ false)) }
-        ensures none { IfNone result ((place : ℕ) (flow : Flow) → IsInSlot self.now.slots place flow →
+        ensures none { IfNone result ((place : ℕ) (flow : Flow) →
+            IsInSlot self.now.slots place flow →
             life.is_live_flow timers now flow ≡ true) }
     {
         match self.outlived_place(ESTABLISHED, now, timers.seconds.established) {
@@ -269,7 +270,8 @@ impl FlowSlots {
     /// Returns until when (ns) one of these TCP flows is live, at most `u64::MAX`; one is at `now`.
     /// Looks at two flows at most.
     pub(crate) fn last_moment(&self, timers: IdleTimers, now: u64) -> u64
-        requires live { list_any (life.is_live_flow timers now) (standing_flows self.now.slots) ≡ true }
+        requires live { list_any (life.is_live_flow timers now) (standing_flows self.now.slots)
+            ≡ true }
         ensures later { now ≤ result }
         ensures lives { (t : ℕ) → t ≤ result → list_any (life.is_live_flow timers t)
             (standing_flows self.now.slots) ≡ true }

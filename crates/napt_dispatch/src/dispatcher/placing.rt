@@ -63,7 +63,8 @@ impl<P: LegTrace> Dispatcher<P> {
     /// Records that input `number` has no leg and is dropped at time `now`, in ns, for `cause`.
     fn note_dropped(&mut self, number: u64, now: u64, cause: Cause) -> Result<(), ImpossibleAnswer>
         ensures same { self.new.queues ≡ self.old.queues }
-        ensures noted { OnOk result (ProgressIsWritten number (progress_refused (P.tells NoPassage) now cause)
+        ensures noted { OnOk result (ProgressIsWritten number
+            (progress_refused (P.tells NoPassage) now cause)
             self.old.progress self.new.progress) }
     {
         self.progress

@@ -50,7 +50,8 @@ impl<P: LegTrace> Dispatcher<P> {
     ) -> Result<bool, ImpossibleAnswer>
         requires { w < length self.old.queues }
         ensures many { OnOk result (length self.new.queues ≡ length self.old.queues) }
-        ensures noted { OnOk result (NoteAnswersPost P.tells w answered.answers.items self.old self.new) }
+        ensures noted { OnOk result (NoteAnswersPost P.tells w answered.answers.items self.old
+            self.new) }
         ensures told { IfOk result (HasTaken self.old self.new) }
     {
         let mut answered = answered;

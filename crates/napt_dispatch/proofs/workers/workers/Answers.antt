@@ -20,7 +20,8 @@ pub returns-clause-made : goal.returns-clause-made
 returns-clause-made g c =
     let whole : c.loop-index.index ≡ length c.args.config.now.pool =
     omega (arith, ap length c.pool.ensures.addresses) in
-    c.loop-index.invariant.made ∙ ap (started_from c.args.config.now (with_redirects c.args.config.now c.args.state.now)) whole
+    c.loop-index.invariant.made ∙ ap (started_from c.args.config.now
+    (with_redirects c.args.config.now c.args.state.now)) whole
 
 pub returns-clause-many : goal.returns-clause-many
 returns-clause-many g c =

@@ -13,4 +13,4 @@ returns-then-has_room-clause-state g c =
     })
 
 pub returns-clause-state : goal.returns-clause-state
-returns-clause-state g c = rw c.take_told.ensures at c.go_on_until.ensures.state
+returns-clause-state g c = rw c.take_told.ensures at c.advance_until.ensures.state

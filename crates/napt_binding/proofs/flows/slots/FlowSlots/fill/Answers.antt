@@ -27,6 +27,7 @@ invariant_of-self c =
     ))
     (grind (arith, common_steps, kept, c.self.inside.links.ok.0, c.self.invariant.fits)) c.args.flow
     (get_or_from_slice_get flows c.args.place None None at) refl
-    (subst (λ (s : FlowSlotsModel). NoneUsedAfter (standing_flows s.slots) c.args.flow.last) (sym c.self.view_is) c.requires.rising)
+    (subst (λ (s : FlowSlotsModel). NoneUsedAfter (standing_flows s.slots) c.args.flow.last) (sym c.self.view_is)
+    c.requires.rising)
     (rw (c.deref_mut.ensures.value, c.row_of.ensures) at c.link_before.ensures.nexts)
     (rw (c.deref_mut.ensures.value, c.row_of.ensures) at c.link_before.ensures.prevs))

@@ -20,7 +20,8 @@ invariant_of-self c =
     let room = subst (λ (s : FlowSlotsModel). 0 < s.room) (sym c.self.view_is) c.requires.room in
     rw (with_items_is c.push_reserved-2.new.self c.link_before.new.links kept, c.push_reserved.ensures.items)
     (pushed flows links c.self.invariant c.link_before.new.links c.args.flow
-    (subst (λ (s : FlowSlotsModel). NoneUsedAfter (standing_flows s.slots) c.args.flow.last) (sym c.self.view_is) c.requires.rising)
+    (subst (λ (s : FlowSlotsModel). NoneUsedAfter (standing_flows s.slots) c.args.flow.last) (sym c.self.view_is)
+    c.requires.rising)
     (omega (arith, kept, c.push_reserved-2.new.self.ok.0, more, c.self.invariant.lengths))
     (omega (arith, kept, c.push_reserved-2.new.self.ok.0, more, c.self.inside.links.ok.0, room))
     (rw (c.deref_mut.ensures.value, c.push_reserved-2.ensures.items, c.row_of.ensures, place) at
