@@ -17,8 +17,8 @@ loop-translator-preserved c =
     (one_left c.args.self.clock (map uncounted before) (uncounted translator) c.loop-translator.list.items
     c.in_ok-final_bindings.field-0.items c.loop-translator.invariant c.in_ok-final_bindings.ensures)
 
-pub returns : goal.returns
-returns c = λ rules state leaves.
+pub returns-clause-state : goal.returns-clause-state
+returns-clause-state c = λ rules state leaves.
     let all : List TranslatorModel = c.deref-translator-items.result.now in
     let whole : take c.loop-translator.translator-index all ≡ c.args.self.translators.items =
     take_all c.loop-translator.translator-index all

@@ -6,4 +6,4 @@ use Rattle.napt_dispatch.proofs.workers.RunSummary.into_state_if.Given as goal
 
 abbrev pub invariant-loop-translator : goal.invariant-loop-translator
 invariant-loop-translator l =
-    AreBindingsOfAll l.self.clock (map uncounted (take l.translator-index l.translator-items)) l.list.items
+    AreBindingsOfAll l.fn.self.clock (map uncounted (take l.translator-index l.translator-items)) l.list.items
