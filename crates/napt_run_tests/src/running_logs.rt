@@ -10,11 +10,11 @@ use crate::gates::{GateMode, Hold};
 use crate::kept_logs::{SETTINGS, kept, no_log};
 use crate::packets::udp;
 use crate::resumed_runs::nothing;
+use crate::samples::hosts::{CLIENT, RESOLVER};
 use napt_account::SavedLogState;
 use napt_capture::{Watched, WriteFault};
 use napt_config::Config;
 use napt_run::{Devices, Fault, LogStart, LogWriter, Start, State, Which, run_streams_with_log};
-use napt_samples::hosts::{CLIENT, RESOLVER};
 use napt_state::take_up;
 use std::alloc::{AllocError, Global};
 use std::num::NonZeroU32;
@@ -123,7 +123,7 @@ fn run_on(
     let LogWriter { device, .. } = devices.log;
     Ok(Part {
         text: device.into_inner(),
-        state: end.passed.final_bindings(alloc)?,
+        state: end.passed.into_state_if(true, alloc)?.ok_or("a state")?,
         kept: end.log,
     })
 }

@@ -2,7 +2,7 @@
 
 ghost use Rattle.std.specs.Prelude.{◌≡◌, ◌&&◌, IfErr, IfOk, None, Some, false, if◌then◌else◌, is_some, option_map, true};
 ghost use Rattle.napt_account.specs.ResumedLogRuns.{IsFew};
-ghost use Rattle.napt_program.specs.{CommandLine.files_with_log, Command.IsRunStop, declared.streams.StandardStreams.StandardStreams};
+ghost use Rattle.napt_program.specs.{CommandLine.files_with_log, Command.{IsOfLog, IsRunStop}, declared.streams.StandardStreams.StandardStreams};
 ghost use Rattle.napt_account.specs.Prelude.{TakesState};
 ghost use Rattle.napt_records.specs.Faults.{is_shut_gate_fault};
 
@@ -16,7 +16,7 @@ use napt_program::{
     ProgramHost, Stop, stop_of_run,
 };
 use napt_run::{
-    Devices, Fault, LogStart, LogWriter, NoLog, RunEnd, RunSummary, Start, State, run_streams,
+    Devices, Fault, LogStart, LogWriter, NoLog, RunEnd, Start, State, run_streams,
     run_streams_with_log,
 };
 use napt_state::LogPosition;
@@ -46,7 +46,7 @@ pub struct CaptureDevices<A, B> {
 
 /// The captures after a run, and the result of the run.
 #[derive(Drop)]
-pub struct Ran<A, B> {
+pub struct StreamResult<A, B> {
     pub captures: CaptureDevices<A, B>,
     pub answer: Result<StreamRemainder, Stop>,
 }
@@ -54,7 +54,8 @@ pub struct Ran<A, B> {
 /// The result of a run that succeeded.
 #[derive(Drop)]
 pub struct StreamRemainder {
-    pub passed: RunSummary,
+    /// The state after the run, if it is to be saved.
+    pub state: Option<State>,
     /// The position of its log, if it has one and the state is to be saved.
     pub log: Option<LogPosition>,
 }
@@ -89,10 +90,12 @@ impl<'a> StreamRun<'a> {
         captures: CaptureDevices<A, B>,
         outputs: OutputDevices<T, F>,
         log: Option<LogOutput<LogDevice<Either<T, F>, LogPieces<'_, R>>>>,
-    ) -> Ran<A, B>
+    ) -> StreamResult<A, B>
         requires taken { TakesState self.config.now self.state.now }
         requires few { IsFew self.kept.now }
         requires named { is_some log ≡ is_some self.options.now.log }
+        ensures saved { IfOk result.answer (λ left.
+            is_some left.state ≡ is_some self.entry.options.now.files.save) }
         ensures kept { IfOk result.answer (λ left. is_some left.log
             ≡ (is_some log.entry && is_some self.entry.options.now.files.save)) }
         ensures stop { (streams : StandardStreams) → IfErr result.answer
@@ -110,8 +113,15 @@ impl<'a> StreamRun<'a> {
         B: Source,
         T: Write + Drop,
         F: Write + OpenFile + Drop,
-    >(self, rt: &R, captures: CaptureDevices<A, B>, outputs: OutputDevices<T, F>) -> Ran<A, B>
+    >(
+        self,
+        rt: &R,
+        captures: CaptureDevices<A, B>,
+        outputs: OutputDevices<T, F>,
+    ) -> StreamResult<A, B>
         requires { TakesState self.config.now self.state.now }
+        ensures saved { IfOk result.answer (λ left.
+            is_some left.state ≡ is_some self.entry.options.now.files.save) }
         ensures kept { IfOk result.answer (λ left. is_some left.log ≡ false) }
         ensures stop { (streams : StandardStreams) → IfErr result.answer
             (IsRunStop streams (files_with_log self.entry.options.now)) }
@@ -120,21 +130,14 @@ impl<'a> StreamRun<'a> {
         let start = self.start();
         let mut devices = run_devices(captures, outputs, NoLog);
         let answer = run_streams(rt, rt.alloc(), start, &mut devices, self.gate);
-        let answer = match answer {
-            Ok(end) => Ok(StreamRemainder {
-                passed: end.passed,
-                log: None,
-            }),
-            Err(fault) => Err(stop_of_run(options, fault)),
-        };
         let Devices {
             inside,
             outside,
             ..
         } = devices;
-        Ran {
+        StreamResult {
             captures: CaptureDevices { inside, outside },
-            answer,
+            answer: ended(rt.alloc(), options, answer),
         }
     }
 
@@ -144,10 +147,12 @@ impl<'a> StreamRun<'a> {
         captures: CaptureDevices<A, B>,
         outputs: OutputDevices<T, F>,
         log: LogOutput<LogDevice<Either<T, F>, LogPieces<'_, R>>>,
-    ) -> Ran<A, B>
+    ) -> StreamResult<A, B>
         requires taken { TakesState self.config.now self.state.now }
         requires few { IsFew self.kept.now }
         requires named { is_some self.options.now.log ≡ true }
+        ensures saved { IfOk result.answer (λ left.
+            is_some left.state ≡ is_some self.entry.options.now.files.save) }
         ensures kept { IfOk result.answer (λ left. is_some left.log
             ≡ is_some self.entry.options.now.files.save) }
         ensures stop { (streams : StandardStreams) → IfErr result.answer
@@ -168,9 +173,9 @@ impl<'a> StreamRun<'a> {
             log: LogWriter { device, .. },
             ..
         } = devices;
-        Ran {
+        StreamResult {
             captures: CaptureDevices { inside, outside },
-            answer: left_if_saved(options, answer, LogOutput { device, is_new }),
+            answer: ended_with_log(rt.alloc(), options, answer, LogOutput { device, is_new }),
         }
     }
 
@@ -232,17 +237,16 @@ fn run_devices<A: Source, B: Source, T: Write + Drop, F: Write + Drop, L: Drop>(
     }
 }
 
-/// Returns the result of the program for that of a run with a log, whose position it keeps if the
-/// state is to be saved. Fails as the run does, and with `Stop::Log` on a failed sync.
-fn left_if_saved<T: Write + Drop, F: Write + OpenFile + Drop, R: Files + AllocGlobal>(
+/// Returns the result of the program for that of a run without a log.
+fn ended(
+    alloc: Global,
     options: &OptionsWithLog,
     answer: Result<RunEnd, Fault>,
-    log: LogOutput<LogDevice<Either<T, F>, LogPieces<'_, R>>>,
 ) -> Result<StreamRemainder, Stop>
     requires gate { IfErr answer (λ fault. is_shut_gate_fault fault ≡ false) }
-    requires log { is_some options.now.log ≡ true }
-    ensures kept { IfOk result (λ left. is_some left.log
-        ≡ is_some options.now.files.save) }
+    requires log { IfErr answer (IsOfLog (files_with_log options.now)) }
+    ensures saved { IfOk result (λ left. is_some left.state ≡ is_some options.now.files.save) }
+    ensures kept { IfOk result (λ left. is_some left.log ≡ false) }
     ensures stop { (streams : StandardStreams) → IfErr result
         (IsRunStop streams (files_with_log options.now)) }
 {
@@ -250,11 +254,36 @@ fn left_if_saved<T: Write + Drop, F: Write + OpenFile + Drop, R: Files + AllocGl
         Ok(end) => end,
         Err(fault) => return Err(stop_of_run(options, fault)),
     };
-    let log = kept_if_saved(options.files.save.is_some(), end.log, log)?;
-    Ok(StreamRemainder {
-        passed: end.passed,
-        log,
-    })
+    let state = end
+        .passed
+        .into_state_if(options.files.save.is_some(), alloc)?;
+    Ok(StreamRemainder { state, log: None })
+}
+
+/// Returns the result of the program for that of a run with a log, whose position it keeps if the
+/// state is to be saved. Fails as the run does, and with `Stop::Log` on a failed sync.
+fn ended_with_log<T: Write + Drop, F: Write + OpenFile + Drop, R: Files + AllocGlobal>(
+    alloc: Global,
+    options: &OptionsWithLog,
+    answer: Result<RunEnd, Fault>,
+    log: LogOutput<LogDevice<Either<T, F>, LogPieces<'_, R>>>,
+) -> Result<StreamRemainder, Stop>
+    requires gate { IfErr answer (λ fault. is_shut_gate_fault fault ≡ false) }
+    requires log { is_some options.now.log ≡ true }
+    ensures saved { IfOk result (λ left. is_some left.state ≡ is_some options.now.files.save) }
+    ensures kept { IfOk result (λ left. is_some left.log ≡ is_some options.now.files.save) }
+    ensures stop { (streams : StandardStreams) → IfErr result
+        (IsRunStop streams (files_with_log options.now)) }
+{
+    let end = match answer {
+        Ok(end) => end,
+        Err(fault) => return Err(stop_of_run(options, fault)),
+    };
+    let is_saved = options.files.save.is_some();
+    // A fault of the log is reported before that of the state.
+    let state = end.passed.into_state_if(is_saved, alloc);
+    let log = kept_if_saved(is_saved, end.log, log)?;
+    Ok(StreamRemainder { state: state?, log })
 }
 
 /// Returns a log's position if the state is to be saved. Fails with `Stop::Log` on a failed sync.
