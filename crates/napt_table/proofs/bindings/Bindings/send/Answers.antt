@@ -1,7 +1,8 @@
+-- `send`: the answer and the stored bindings are those of the definition, in each case of a packet's source.
 use Rattle.std.{proofs.Common.{◌≡◌, ℕ, true, false, cond, Option, sym, subst, ◌∙◌}, specs.Option.is_some}
 use Rattle.napt_config.specs.Rules.{AreTimers}
 use Rattle.napt_rules.specs.Prelude.{reaches_quota}
-use Rattle.napt_table.specs.{BindingIndexes.{count_all, HasNoInside, IsNumberOf, HasInside, WentThrough, HasNone, SendKnownPost}, Bindings.{BindingsModel, BindingsInvariant}}
+use Rattle.napt_table.specs.{BindingIndexes.{count_all, HasNoInside, IsNumberOf, HasInside, WentThrough, HasNone, SendKnownPost}, Bindings.{BindingsModel, BindingsUnchanged}}
 use Rattle.napt_table.proofs.AssignedNumbers.{stands_then, went_answer, went_keeps, absent_from, gone_unseen, over_sends, begun_sends, renewed_sends}
 use Rattle.napt_table.proofs.bindings.Bindings.send.Goals as goal
 
@@ -11,7 +12,7 @@ returns-in-Some-clause-sends c list apart is_taken keeps left =
     let old = c.args.self.now in
     let new = c.send_held.new.self in
     let t : AreTimers old.timers = subst (λ (x : BindingsModel). AreTimers x.timers) c.self.view_is
-    c.keep_limits.ensures in
+    c.are_within_limits.ensures in
     let went : WentThrough old.timers p old.held new.held c.in-Some.number =
     subst (SendKnownPost old.timers p old.held new.held) c.in-Some.is c.in_ok-number.ensures.went in (
       went_answer old.timers t old.held.granting p old.held new.held c.keep_names.ensures c.in-Some.number went list
@@ -40,7 +41,7 @@ renew-requires-clause-unseen c =
     subst (SendKnownPost old.timers p old.held c.send_held.new.self.held) c.in_default.is c.in_ok-number.ensures.went in
     let at : c.send_held.new.self.at ≡ old.at = subst (λ (o : Option ℕ). c.send_held.new.self.at
     ≡ cond (is_some o) p.now old.at) c.in_default.is c.in_ok-number.ensures.at in
-    let first : BindingsInvariant old c.send_held.new.self =
+    let first : BindingsUnchanged old c.send_held.new.self =
     record { timers_is = c.send_held.ensures.timers; at_is = at; same = none.same } in
     let same = stands_then old c.send_held.new.self mid first c.prepare.ensures.same in
     let n = c.in-Some-number_of.number in
@@ -59,11 +60,11 @@ returns-in-Some-number_of-clause-sends c list apart is_taken keeps left =
     subst (SendKnownPost old.timers p old.held c.send_held.new.self.held) c.in_default.is c.in_ok-number.ensures.went in
     let at : c.send_held.new.self.at ≡ old.at = subst (λ (o : Option ℕ). c.send_held.new.self.at
     ≡ cond (is_some o) p.now old.at) c.in_default.is c.in_ok-number.ensures.at in
-    let first : BindingsInvariant old c.send_held.new.self =
+    let first : BindingsUnchanged old c.send_held.new.self =
     record { timers_is = c.send_held.ensures.timers; at_is = at; same = none.same } in
     let same = stands_then old c.send_held.new.self mid first c.prepare.ensures.same in
     let t : AreTimers old.timers = subst (λ (x : BindingsModel). AreTimers x.timers) c.self.view_is
-    c.keep_limits.ensures in
+    c.are_within_limits.ensures in
     let n = c.in-Some-number_of.number in
     let has : HasInside gone.held p.protocol p.inside n =
     subst (λ (x : BindingsModel). HasInside x.held p.protocol p.inside n) c.self-2.view_is
@@ -71,8 +72,8 @@ returns-in-Some-number_of-clause-sends c list apart is_taken keeps left =
     renewed_sends old mid gone p same c.purge_at.ensures none.none c.keep_names.ensures c.keep_names-2.ensures t list
     apart is_taken keeps n has c.renew.new.self c.renew.ensures.renews left
 
-pub begin-requires-clause-absent : goal.begin-requires-clause-absent
-begin-requires-clause-absent c =
+pub insert_new-requires-clause-absent : goal.insert_new-requires-clause-absent
+insert_new-requires-clause-absent c =
     let p = c.args.packet in
     let gone = c.purge_at.new.self in
     let absent : HasNoInside gone.held p.protocol p.inside = absent_from gone.held p.protocol p.inside
@@ -90,11 +91,11 @@ returns-then-reaches-clause-sends c list apart is_taken keeps left =
     subst (SendKnownPost old.timers p old.held c.send_held.new.self.held) c.in_default.is c.in_ok-number.ensures.went in
     let at : c.send_held.new.self.at ≡ old.at = subst (λ (o : Option ℕ). c.send_held.new.self.at
     ≡ cond (is_some o) p.now old.at) c.in_default.is c.in_ok-number.ensures.at in
-    let first : BindingsInvariant old c.send_held.new.self =
+    let first : BindingsUnchanged old c.send_held.new.self =
     record { timers_is = c.send_held.ensures.timers; at_is = at; same = none.same } in
     let same = stands_then old c.send_held.new.self mid first c.prepare.ensures.same in
     let t : AreTimers old.timers = subst (λ (x : BindingsModel). AreTimers x.timers) c.self.view_is
-    c.keep_limits.ensures in
+    c.are_within_limits.ensures in
     let absent : HasNoInside gone.held p.protocol p.inside = absent_from gone.held p.protocol p.inside
     c.number_of.result (subst (λ (x : BindingsModel). IsNumberOf x.held p.protocol p.inside c.number_of.result)
     c.self-2.view_is c.number_of.ensures) c.in_default-number_of.is in
@@ -115,11 +116,11 @@ returns-clause-sends c list apart is_taken keeps left =
     subst (SendKnownPost old.timers p old.held c.send_held.new.self.held) c.in_default.is c.in_ok-number.ensures.went in
     let at : c.send_held.new.self.at ≡ old.at = subst (λ (o : Option ℕ). c.send_held.new.self.at
     ≡ cond (is_some o) p.now old.at) c.in_default.is c.in_ok-number.ensures.at in
-    let first : BindingsInvariant old c.send_held.new.self =
+    let first : BindingsUnchanged old c.send_held.new.self =
     record { timers_is = c.send_held.ensures.timers; at_is = at; same = none.same } in
     let same = stands_then old c.send_held.new.self mid first c.prepare.ensures.same in
     let t : AreTimers old.timers = subst (λ (x : BindingsModel). AreTimers x.timers) c.self.view_is
-    c.keep_limits.ensures in
+    c.are_within_limits.ensures in
     let absent : HasNoInside gone.held p.protocol p.inside = absent_from gone.held p.protocol p.inside
     c.number_of.result (subst (λ (x : BindingsModel). IsNumberOf x.held p.protocol p.inside c.number_of.result)
     c.self-2.view_is c.number_of.ensures) c.in_default-number_of.is in
@@ -129,4 +130,4 @@ returns-clause-sends c list apart is_taken keeps left =
     (sym c.reaches.ensures ∙ c.if-reaches.false) in
     begun_sends old mid gone p same c.purge_at.ensures none.none c.keep_names.ensures c.keep_names-2.ensures t list
     apart
-    is_taken keeps absent under c.begin.new.self c.begin.result c.begin.ensures.begins left
+    is_taken keeps absent under c.insert_new.new.self c.insert_new.result c.insert_new.ensures.begins left

@@ -1,3 +1,4 @@
+-- `send_known`: a known binding's packet is sent as in the definition; else no binding changes.
 use Rattle.std.{proofs.Common.{◌≡◌, ℕ, Option, Some, None, Result, Ok, Err, cond, subst}, specs.{Prelude.{IfOk, IfSome}, Option.is_some}}
 use Rattle.std.specs.declared.alloc.AllocError.{AllocError}
 use Rattle.napt_config.specs.Rules.{AreTimers}
@@ -25,7 +26,7 @@ known p old new t named (Ok (Some number)) went at = record {
 
 pub returns-clause-known : goal.returns-clause-known
 returns-clause-known c = known c.args.packet c.args.self.now c.send_held.new.self
-    (subst (λ (x : BindingsModel). AreTimers x.timers) c.self.view_is c.keep_limits.ensures) c.keep_names.ensures
+    (subst (λ (x : BindingsModel). AreTimers x.timers) c.self.view_is c.are_within_limits.ensures) c.keep_names.ensures
     c.send_held.result c.send_held.ensures.went c.send_held.ensures.at
 
 pub returns-clause-unknown : goal.returns-clause-unknown

@@ -1,3 +1,4 @@
+-- `insert`: the index then has the binding too, and its invariant is kept.
 use Rattle.std.proofs.{Common.{ℕ, ◌≡◌, ◌∙◌, ◌+◌, ◌||◌, ap, refl, sym, subst, cond, Some, None, arith}, lemmas.Option.same_Some}
 use Rattle.napt_wire.specs.declared.Protocol.{Protocol}
 use Rattle.napt_table.specs.{declared.bindings.keys.ExternalNumberKey.ExternalNumberKey, NumbersInUse.is_in_use, HeldModels.{holdings_of, number_of_inside}}
@@ -5,8 +6,8 @@ use Rattle.napt_table.specs.{BindingIndexes.{BindingIndexModel, held_binding, Ha
 use Rattle.napt_table.proofs.{Ends.{held_in, hosts_few, step_held, IsAt}, Keys.{key_itself, other_key}}
 use Rattle.napt_table.proofs.bindings.binding_index.BindingIndex.insert.Goals as goal
 
-pub put-requires-clause-fits : goal.put-requires-clause-fits
-put-requires-clause-fits c =
+pub increment-requires-clause-fits : goal.increment-requires-clause-fits
+increment-requires-clause-fits c =
     let few = hosts_few c.self.inside c.self.invariant c.args.binding.row.inside.address in
     omega (arith, few)
 
@@ -23,7 +24,8 @@ invariant_of-self c =
     subst (λ (x : ExternalNumberKey). held_in c.self.inside x ≡ None) (sym key_is)
     (subst (λ (h : BindingIndexModel). held_binding h (key_of fresh) ≡ None) (sym c.self.view_is) c.requires.free) in
     let absent : HasNoInside (holdings_of c.self.inside) fresh.row.protocol fresh.row.inside =
-    subst (λ (h : BindingIndexModel). HasNoInside h fresh.row.protocol fresh.row.inside) (sym c.self.view_is) c.requires.absent in
+    subst (λ (h : BindingIndexModel). HasNoInside h fresh.row.protocol fresh.row.inside) (sym c.self.view_is)
+    c.requires.absent in
     let protocol : fresh.row.protocol ≡ key.protocol = sym (ap (λ (x : ExternalNumberKey). x.protocol) key_is) in
     let ends = c.inside_key-inside.ensures ∙ λ i. inside_key ((c.protocol.ensures ∙ protocol) i) (c.inside.ensures i) in
     step_held c.self.inside _ is key c.key_of-key.ensures.small fresh.row.inside None (Some fresh) free
@@ -42,11 +44,11 @@ invariant_of-self c =
         number = (sym (ap (λ (x : ExternalNumberKey). x.number) key_is)) i;
       },
       refl,
-    )) refl refl c.put-2.ensures.by_protocol
-    (c.put-2.ensures.used key c.key_of-key.ensures.small
+    )) refl refl c.insert-3.ensures.by_protocol
+    (c.insert-3.ensures.used key c.key_of-key.ensures.small
     ∙ ap (λ v. v || is_in_use c.self.inside.numbers key) (key_itself key))
-    (λ k lt d. c.put-2.ensures.used k lt ∙ ap (λ v. v || is_in_use c.self.inside.numbers k) (other_key k key d))
-    c.put.ensures.counted (λ on host n moved. count_more _ _ n _ (c.put.ensures.counts on host) moved)
+    (λ k lt d. c.insert-3.ensures.used k lt ∙ ap (λ v. v || is_in_use c.self.inside.numbers k) (other_key k key d))
+    c.increment.ensures.counted (λ on host n moved. count_more _ _ n _ (c.increment.ensures.counts on host) moved)
 
 pub returns-clause-held : goal.returns-clause-held
 returns-clause-held c = λ k. c.in-Ok-insert.ensures.updates.0 k
