@@ -2,7 +2,7 @@
 from shared import TOP
 
 # crates of tests, whose functions nothing is proved for
-OF_TESTS = ("napt_calls", "napt_samples", "napt_library_tests", "napt_run_tests")
+OF_TESTS = ("napt_calls", "napt_run_tests")
 
 
 def libraries(top=TOP):
