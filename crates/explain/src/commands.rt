@@ -79,6 +79,13 @@ const HOST: &str =
 
 const WRITTEN: &str = "File to write, which nothing else may name";
 
+const REPORT: &str =
+    "File for the report of the same run, as napt writes it; standard error then tells what the captures cannot show";
+
+const PACKETS: &str =
+    "File for a row for each packet in CSV (docs/FORMATS.md): its number, time, side, outcome and cause, and the numbers of \
+the bindings through which it went out and came in";
+
 const NOT_WRITTEN: &str =
     "Never written: accepted as an option of napt or stream, and refused if that would refuse it";
 
@@ -220,6 +227,8 @@ fn who<'a>(alloc: Global) -> Result<Command<'a>, AllocError> {
 fn log<'a>(alloc: Global) -> Result<Command<'a>, AllocError> {
     configured(alloc, "log", LOG)?
         .arg(value(alloc, "to", "FILE", WRITTEN))?
+        .arg(value(alloc, "report", "FILE", REPORT))?
+        .arg(value(alloc, "packets", "FILE", PACKETS))?
         .arg(flag(alloc, "as-napt", AS_NAPT))
 }
 

@@ -4,7 +4,7 @@ use crate::flaws::ConfigAdvice;
 use crate::options::{ExplainOptions, OutputForm};
 use crate::progress::ExplainProgress;
 use napt_account::{LogEntry, RunFromState, TrackedRun};
-use napt_attribution::{HolderRequest, Holders, LogFile, begin_log};
+use napt_attribution::{HolderRequest, Holders, RunLog, begin_run_log};
 use napt_commands::{Consumer, Exit, Page, RunEnd, RunPacket, RunStart, print_warning};
 use napt_config::Config;
 use napt_lines::{
@@ -12,10 +12,9 @@ use napt_lines::{
     UnmatchedSelection,
 };
 use napt_log_text::TimeStamp;
-use napt_rules::Row;
 use napt_sequential::Input;
 use napt_sizing::{Sizes, tell_sizes};
-use std::alloc::{AllocError, Global};
+use std::alloc::AllocError;
 use std::io::Write;
 use std::rt::Files;
 
@@ -31,7 +30,7 @@ enum View<'a, W> {
     /// The answers to requests.
     Holders(Holders<'a>),
     Sizes(Sizes),
-    Log(LogFile<'a, W>),
+    Log(RunLog<'a, W>),
 }
 
 /// What is asked for of a run, as it goes on. `W` is a file.
@@ -70,9 +69,9 @@ fn begin_told<'a, R: Files + Print + Eprint + AllocGlobal>(
     let alloc = rt.alloc();
     Ok(match (options.form, options.choice.only) {
         (OutputForm::Objects, _) => View::Objects,
-        (OutputForm::Log(path), _) => {
+        (OutputForm::Log(paths), _) => {
             let is_held = options.is_of_gateway();
-            View::Log(begin_log(rt, path, is_held, config, before.living)?)
+            View::Log(begin_run_log(rt, paths, is_held, config, before.living)?)
         }
         (OutputForm::Holders(_) | OutputForm::Requests(_), _) => {
             let mut holders = Holders::of(alloc, asked)?;
@@ -111,14 +110,6 @@ impl<'a, W: Write + Drop> View<'a, W> {
         Ok(())
     }
 
-    /// The live bindings, if they are to be printed in the order of the report.
-    fn rows(&self, alloc: Global, running: &TrackedRun<'_>) -> Result<Vec<Row>, AllocError> {
-        match self {
-            View::Lines(_) => running.bindings(alloc),
-            _ => Ok(Vec::new(alloc)),
-        }
-    }
-
     /// Prints what there is to print at the end.
     fn tell<R: Files + Print + Eprint + AllocGlobal>(
         self,
@@ -133,7 +124,7 @@ impl<'a, W: Write + Drop> View<'a, W> {
             View::Objects => Ok(()),
             View::Holders(holders) => holders.tell(rt, ending),
             View::Sizes(sizes) => tell_sizes(rt, &sizes, ending),
-            View::Log(log) => log.finish(rt, ending.config, &ending.living),
+            View::Log(log) => log.finish(rt, ending),
         }
     }
 }
@@ -218,7 +209,8 @@ impl<'a, 'b, W: Write + Drop> Explanation<'a, 'b, W> {
             first,
             last,
             later: flaws.back.far(),
-            rows: told.rows(rt.alloc(), &running)?,
+            cuts: flaws.cuts,
+            rows: running.bindings(rt.alloc())?,
             living: running.living(rt.alloc())?,
         };
         unmatched.tell(rt);

@@ -4,7 +4,7 @@ use crate::manual::INSTALLED;
 use crate::scene::SceneSpan;
 use clap::ArgMatches;
 use napt_account::Party;
-use napt_attribution::{nanoseconds_of, party_of, span_of};
+use napt_attribution::{LogPaths, nanoseconds_of, party_of, span_of};
 use napt_commands::{Exit, OutsideCapture};
 use napt_lines::PacketSelection;
 use napt_log_text::{Request, TimeSpan};
@@ -137,8 +137,8 @@ pub enum OutputForm<'m> {
     Holders(Request),
     /// Who had those that the file at this path asks for.
     Requests(&'m str),
-    /// The log, into the file at this path or to standard output.
-    Log(Option<&'m str>),
+    /// The log, and what stands beside it.
+    Log(LogPaths<'m>),
     /// A table with a line for each of several configurations, for people or in CSV.
     Plans { is_csv: bool },
     /// How many bindings, ports and hosts there were at once.
@@ -163,12 +163,14 @@ impl<'m> OutputForm<'m> {
         }
     }
 
-    /// What names the file that is written, and its path, if there is one.
-    pub fn written(self) -> Option<(&'static str, &'m str)> {
+    /// What names each file that is written beside the outputs of `napt`, and its path, if there is one.
+    pub fn written(self) -> [(&'static str, Option<&'m str>); 2] {
         match self {
-            OutputForm::Log(Some(path)) => Some(("--to", path)),
-            OutputForm::Picture(path) | OutputForm::Followed(path) => Some(("FILE", path)),
-            _ => None,
+            OutputForm::Log(paths) => [("--to", paths.log), ("--packets", paths.packets)],
+            OutputForm::Picture(path) | OutputForm::Followed(path) => {
+                [("FILE", Some(path)), ("", None)]
+            }
+            _ => [("", None), ("", None)],
         }
     }
 
@@ -295,7 +297,11 @@ fn form_of<'m, R: Eprint>(
     let flag = matches.get_flag(if command == "plan" { "csv" } else { "json" });
     Ok(match (command, flag) {
         ("who", _) => return asked_of(rt, matches),
-        ("log", _) => OutputForm::Log(matches.get_str("to")),
+        ("log", _) => OutputForm::Log(LogPaths {
+            log: matches.get_str("to"),
+            packets: matches.get_str("packets"),
+            report: matches.get_str("report"),
+        }),
         ("plan", is_csv) => OutputForm::Plans { is_csv },
         ("sizes", _) => OutputForm::Sizes,
         ("blocks", _) => OutputForm::Blocks,

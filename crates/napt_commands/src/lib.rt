@@ -3,6 +3,7 @@
 #![tactic(auto)]
 
 mod counted_run;
+mod coverage;
 mod exit;
 mod files;
 mod loss_counts;
@@ -16,6 +17,7 @@ mod start;
 mod warning;
 
 pub use crate::counted_run::CountedRun;
+pub use crate::coverage::Coverage;
 pub use crate::exit::Exit;
 pub use crate::files::{opened, print_failed, print_unwritten, text_at, unexplained, unwritten};
 pub use crate::loss_counts::{LossCounts, SourceKind, destination_of, source_of};

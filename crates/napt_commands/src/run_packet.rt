@@ -3,6 +3,7 @@
 use crate::exit::Exit;
 use napt_account::{LogEntry, LogStep};
 use napt_config::Config;
+use napt_records::CutFlags;
 use napt_rules::Row;
 use napt_sequential::Input;
 
@@ -27,7 +28,8 @@ pub struct RunEnd<'a> {
     pub last: u64,
     /// How far packets step back in time, in ns.
     pub later: u64,
-    /// The live bindings, in the order of the report, if they are to be printed so.
+    pub cuts: CutFlags,
+    /// The live bindings, in the order of the report.
     pub rows: Vec<Row>,
     /// The entries of the live bindings.
     pub living: Vec<LogEntry>,

@@ -2,7 +2,6 @@
 //! quotas and blocks would have refused, and a line for each of several configurations.
 #![tactic(auto)]
 
-mod coverage;
 mod measures;
 mod moment;
 mod plan;

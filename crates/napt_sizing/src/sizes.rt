@@ -12,13 +12,12 @@ pub mod spaces;
 pub mod trials;
 pub mod usage;
 
-use crate::coverage::Coverage;
 use crate::sizes::held_bindings::HeldBindings;
 use crate::sizes::lifetimes::Lifetimes;
 use crate::sizes::trials::Trials;
 use crate::sizes::usage::NumberUsage;
 use napt_account::LogEntry;
-use napt_commands::RunPacket;
+use napt_commands::{Coverage, RunPacket};
 use napt_config::Config;
 use std::alloc::{AllocError, Global};
 

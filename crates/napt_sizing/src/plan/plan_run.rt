@@ -1,11 +1,10 @@
 //! A run of a plan.
 
-use crate::coverage::Coverage;
 use crate::plan::figures::Figures;
 use crate::sizes::held_bindings::HeldBindings;
 use crate::sizes::usage::NumberUsage;
 use napt_account::TrackedRun;
-use napt_commands::{Exit, LossCounts, OutsideCapture, copied};
+use napt_commands::{Coverage, Exit, LossCounts, OutsideCapture, copied};
 use napt_config::Config;
 use napt_records::OutcomeCounts;
 use napt_sequential::Input;

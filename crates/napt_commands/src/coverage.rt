@@ -1,7 +1,7 @@
-//! How much captures show: what figures for a plan need and captures may lack.
+//! How much captures show: what figures of a run need and captures may lack.
 
+use crate::warning::start_warning;
 use napt_account::{LogEntry, LogStep};
-use napt_commands::start_warning;
 use napt_sequential::{Input, Outcome};
 use napt_wire::{Cause, Side};
 
