@@ -9,7 +9,7 @@ use napt_program::{
     CountedSource, MEMORY, OptionsWithLog, ProgramCall, ProgramHost, RunDevices, RunResources,
     StandardStreams, Stop, answer_line, open, parse_words, stop_of_run, words,
 };
-use napt_run::{RunOrigin, RunSummary, State, resume_captures};
+use napt_run::{RunSummary, Start, State, resume_captures};
 use std::alloc::Global;
 use std::io::{Read, Write};
 use std::sync::Arc;
@@ -71,7 +71,7 @@ fn run<R: ProgramHost>(
         save,
         ..
     } = open(rt, streams, options)?;
-    let start = RunOrigin {
+    let start = Start {
         config: &config,
         state: &state,
     };
@@ -88,7 +88,7 @@ fn run_over<R: ProgramHost, S: Read + Drop, T: Write + Drop, F: Read + Write + D
     rt: &R,
     call: ProgramCall,
     options: &OptionsWithLog,
-    start: RunOrigin<'_>,
+    start: Start<'_>,
     devices: RunDevices<S, T, F>,
 ) -> Result<RunSummary, Stop>
     requires taken { TakesState start.config.now start.state.now }

@@ -176,7 +176,8 @@ module _ (rules : Rules) (before : List Arrival) (input : Arrival) where
       (grows rules 0 0 before input (opening rules) (length before) (omega arith))
       ∙ flat_joined (λ (a : LegAct). shortage_at a.leg a.end) (run rules before (opening rules)).acts next.acts
 
-  origins_more : map origin (numbered_entries (log_of rules before).entries) ++ map origin (part_told rules before input).made
+  origins_more : map origin (numbered_entries (log_of rules before).entries)
+      ++ map origin (part_told rules before input).made
       ≡ map origin (numbered_entries (log_of rules (before ++ input ∷ [])).entries)
   unfolding part_told
   origins_more =
@@ -267,7 +268,8 @@ module _ (rules : Rules) (keeps : RulesInvariant rules) where
       (tells_all (before ++ input ∷ []) inputs (told ++ ended) (tells_next before input told tells)))
 
   refuses_all : (before inputs : List Arrival) →
-      (log_of rules before).shortages ++ parts_joined refused_by before inputs ≡ (log_of rules (before ++ inputs)).shortages
+      (log_of rules before).shortages ++ parts_joined refused_by before inputs
+      ≡ (log_of rules (before ++ inputs)).shortages
   unfolding part_told
   refuses_all before [] = append-nil (log_of rules before).shortages
       ∙ ap (λ (all : List Arrival). (log_of rules all).shortages) (sym (append-nil before))
@@ -293,7 +295,8 @@ made_all rules before [] =
 made_all rules before (input ∷ inputs) =
     let was : List LogEntry = numbered_entries (log_of rules before).entries in
     let made : List LogEntry = (part_told rules before input).made in
-    let rest : List LogEntry = parts_joined (λ all next. (part_told rules all next).made) (before ++ input ∷ []) inputs in
+    let rest : List LogEntry = parts_joined (λ all next. (part_told rules all next).made) (before ++ input ∷ [])
+    inputs in
     let now : List LogEntry = numbered_entries (log_of rules (before ++ input ∷ [])).entries in
     map_joined origin was (made ++ rest)
     ∙ (ap (λ (xs : List (ℕ × (Row × ℕ))). map origin was ++ xs) (map_joined origin made rest)

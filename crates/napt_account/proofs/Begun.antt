@@ -92,13 +92,15 @@ module _ (ls : List LogEntry) (keyed : AreKeyed (map (λ l. l.entry.binding) ls)
     }
 
 -- all of them
-pub has_all : (log : LogStateModel) (keyed : AreKeyed (map (λ l. l.entry.binding) log.living)) (k : ℕ) (all : OpenEntries) →
+pub has_all : (log : LogStateModel) (keyed : AreKeyed (map (λ l. l.entry.binding) log.living)) (k : ℕ)
+    (all : OpenEntries) →
     length log.living ≤ k → HasFirst log.living keyed log.made k all → (now most : ℕ) →
     kept_at now (filled log) ≡ log → Each (λ l. (l.entry.sent ≤ most) × (l.entry.received ≤ most)) log.living →
     OpenEntriesShow now most (filled log) all
 has_all log keyed k all past has now most kept few =
     let whole : take k log.living ≡ log.living = take_all k log.living past in
-    let same : filter (is_open now) (numbered_entries (filled log)) ≡ log.living = ap (λ (l : LogStateModel). l.living) kept in
+    let same : filter (is_open now) (numbered_entries (filled log))
+    ≡ log.living = ap (λ (l : LogStateModel). l.living) kept in
     let there : (x : EntryKey) (l : LogEntry) → listed_at all x ≡ Some l → Has log.living l =
     λ x l at. subst (λ (ls : List LogEntry). Has ls l) whole (has.there x l at) in
     let among : (x : EntryKey) (l : LogEntry) → listed_at all x ≡ Some l →

@@ -77,7 +77,8 @@ any_at p (y ∷ xs) (suc i) x at is = let rest : list_any p xs ≡ true = any_at
 
 -- THE PLACE OF AN OPEN ENTRY
 
-pub no_place : (now : ℕ) (w : Row) (es : List Entry) → list_any (entry_is_of now w) es ≡ false → entry_place now w es ≡ None
+pub no_place : (now : ℕ) (w : Row) (es : List Entry) → list_any (entry_is_of now w) es ≡ false →
+    entry_place now w es ≡ None
 no_place now w [] none = refl
 no_place now w (e ∷ es) none = elim (entry_is_of now w e) as (λ v. (v || list_any (entry_is_of now w) es) ≡ false →
     cond v (Some 0) (option_map suc (entry_place now w es)) ≡ None) [
@@ -90,7 +91,8 @@ pub first_place : (now : ℕ) (w : Row) (es : List Entry) (i : ℕ) (e : Entry) 
     entry_place now w es ≡ Some i
 first_place now w [] i e at passed only = cc
 first_place now w (x ∷ es) zero e at passed only =
-    ap (λ v. cond v (Some 0) (option_map suc (entry_place now w es))) (ap (entry_is_of now w) (same_Some x e at) ∙ passed)
+    ap (λ v. cond v (Some 0) (option_map suc (entry_place now w es)))
+    (ap (entry_is_of now w) (same_Some x e at) ∙ passed)
 first_place now w (x ∷ es) (suc i) e at passed only = elim (entry_is_of now w x) as (λ v. entry_is_of now w x ≡ v →
     cond v (Some 0) (option_map suc (entry_place now w es)) ≡ Some (suc i)) [
       | true ↦ λ h. let never : zero ≡ suc i = only zero x refl h in absurd (omega (arith, never))
@@ -98,7 +100,8 @@ first_place now w (x ∷ es) (suc i) e at passed only = elim (entry_is_of now w 
           let next : suc j ≡ suc i = only (suc j) f there also in omega (arith, next)))
     ] refl
 
-pub map_unmoved : (now : ℕ) (w : Row) (change : Entry → Entry) (es : List Entry) → list_any (entry_is_of now w) es ≡ false →
+pub map_unmoved : (now : ℕ) (w : Row) (change : Entry → Entry) (es : List Entry) →
+    list_any (entry_is_of now w) es ≡ false →
     map (entry_through now w change) es ≡ es
 map_unmoved now w change es none = change_none (entry_is_of now w) change es (λ j e at passed.
     let never : true ≡ false = sym passed ∙ not_at (entry_is_of now w) es none j e at in cc)

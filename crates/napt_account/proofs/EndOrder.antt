@@ -55,7 +55,8 @@ AreThere all xs = (l : LogEntry) → Has xs l → listed_at all (entry_key l.ent
 abbrev pub Apart : List LogEntry → Type 0
 Apart = IsDistinct share
 
-apart_differ : (now most : ℕ) (es : List Entry) (all : OpenEntries) → OpenEntriesShow now most es all → (xs : List LogEntry) →
+apart_differ : (now most : ℕ) (es : List Entry) (all : OpenEntries) → OpenEntriesShow now most es all →
+    (xs : List LogEntry) →
     AreThere all xs → Apart xs → Differ xs
 unfolding IsDistinct
 apart_differ now most es all shows [] there apart = tt
@@ -69,7 +70,8 @@ apart_differ now most es all shows (x ∷ xs) there apart = (
   apart_differ now most es all shows xs (λ l h. there l (inr h)) apart.1,
 )
 
-module _ (now most : ℕ) (es : List Entry) (all : OpenEntries) (shows : OpenEntriesShow now most es all) (xs ys : List LogEntry)
+module _ (now most : ℕ) (es : List Entry) (all : OpenEntries) (shows : OpenEntriesShow now most es all)
+    (xs ys : List LogEntry)
     (moves : IsPermutation xs ys) (there : AreThere all xs) (apart : Apart xs) where
   pub moved_differ : Differ ys
   moved_differ = apart_differ now most es all shows ys (λ l h. there l (has_back xs ys moves l h))
@@ -162,7 +164,8 @@ module _ (now most : ℕ) (es : List Entry) (all : OpenEntries) (shows : OpenEnt
 
   kept_open : (l : LogEntry) → Has (kept all) l → Has opens l
   kept_open l h = let at = kept_at l h in
-      has_filter (is_open now) (numbered_entries es) l (listed_has es l (shows.there at.0 l at.1)) (shows.unended at.0 l at.1)
+      has_filter (is_open now) (numbered_entries es) l (listed_has es l (shows.there at.0 l at.1))
+      (shows.unended at.0 l at.1)
 
   open_kept : (l : LogEntry) → Has opens l → Has (kept all) l
   open_kept l h = let p = filter_has (is_open now) (numbered_entries es) l h in

@@ -53,31 +53,33 @@ same_later now later le (x ∷ xs) [] h = absurd h
 same_later now later le (x ∷ xs) (y ∷ ys) h = (one_later now later le x y h.0, same_later now later le xs ys h.1)
 
 -- what has not ended, or ends within some time, is the same of both
-module _ (now : ℕ) (p : LogEntry → Bool) (opens : (l : LogEntry) → is_before now l.entry.end ≡ false → p l ≡ false) where
-  filter_same : (n : ℕ) (xs ys : List Entry) → AreSame now xs ys →
-      filter p (numbered_from n xs) ≡ filter p (numbered_from n ys)
-  filter_same n [] [] h = refl
-  filter_same n [] (y ∷ ys) h = absurd h
-  filter_same n (x ∷ xs) [] h = absurd h
-  filter_same n (x ∷ xs) (y ∷ ys) h =
-      let rest = filter_same (n + 1) xs ys h.1 in
-      let of : Entry → LogEntry = λ e. record { number = n; entry = e } in
-      elim h.0 [
-        | inl is ↦
-            ap (λ (e : Entry). cond (p (of e)) (of e ∷ filter p (numbered_from (n + 1) xs))
-            (filter p (numbered_from (n + 1) xs))) is
-            ∙ ap (λ (l : List LogEntry). cond (p (of y)) (of y ∷ l) l) rest
-        | inr ended ↦
-            ap (λ v. cond v (of x ∷ filter p (numbered_from (n + 1) xs)) (filter p (numbered_from (n + 1) xs)))
-            (opens (of x) ended.0)
-            ∙ (rest ∙ sym (ap (λ v. cond v (of y ∷ filter p (numbered_from (n + 1) ys))
-            (filter p (numbered_from (n + 1) ys))) (opens (of y) ended.1)))
-      ]
+module _ (now : ℕ) (p : LogEntry → Bool) (opens : (l : LogEntry) → is_before now l.entry.end ≡ false → p l ≡ false)
+  where
+    filter_same : (n : ℕ) (xs ys : List Entry) → AreSame now xs ys →
+        filter p (numbered_from n xs) ≡ filter p (numbered_from n ys)
+    filter_same n [] [] h = refl
+    filter_same n [] (y ∷ ys) h = absurd h
+    filter_same n (x ∷ xs) [] h = absurd h
+    filter_same n (x ∷ xs) (y ∷ ys) h =
+        let rest = filter_same (n + 1) xs ys h.1 in
+        let of : Entry → LogEntry = λ e. record { number = n; entry = e } in
+        elim h.0 [
+          | inl is ↦
+              ap (λ (e : Entry). cond (p (of e)) (of e ∷ filter p (numbered_from (n + 1) xs))
+              (filter p (numbered_from (n + 1) xs))) is
+              ∙ ap (λ (l : List LogEntry). cond (p (of y)) (of y ∷ l) l) rest
+          | inr ended ↦
+              ap (λ v. cond v (of x ∷ filter p (numbered_from (n + 1) xs)) (filter p (numbered_from (n + 1) xs)))
+              (opens (of x) ended.0)
+              ∙ (rest ∙ sym (ap (λ v. cond v (of y ∷ filter p (numbered_from (n + 1) ys))
+              (filter p (numbered_from (n + 1) ys))) (opens (of y) ended.1)))
+        ]
 
 -- A LEG
 
 module _ (now : ℕ) (wanted : _) (change : Entry → Entry) where
-  one_through : (x y : Entry) → IsSame now x y → IsSame now (entry_through now wanted change x) (entry_through now wanted change y)
+  one_through : (x y : Entry) → IsSame now x y → IsSame now (entry_through now wanted change x)
+      (entry_through now wanted change y)
   one_through x y (inl is) = inl (ap (entry_through now wanted change) is)
   one_through x y (inr ended) =
       let stays : (e : Entry) → is_before now e.end ≡ false → entry_through now wanted change e ≡ e = λ e h.
@@ -337,7 +339,8 @@ module _ (rules : Rules) (state : State) (xs ys : List Entry) (same : AreSame st
         (split_at_end was (entries xs) (entries ys) e) in
         let lost : List Shortage = (told_on rules state xs before input).refused in
         let whole : List Entry → List Entry = λ list. (log_on rules state list (before ++ input ∷ [])).entries in
-        let made : drop (length (entries xs)) (numbered_entries (whole xs)) ≡ drop (length (entries ys)) (numbered_entries (whole ys)) =
+        let made : drop (length (entries xs)) (numbered_entries (whole xs))
+        ≡ drop (length (entries ys)) (numbered_entries (whole ys)) =
         ap (λ (l : List Entry). drop (length (entries xs)) (numbered_entries l)) (more xs)
         ∙ (made_same (last_clock was (input ∷ [])) (length (entries xs)) (later xs) (later ys) split
         ∙ (ap (λ (n : ℕ). drop n (numbered_entries (later ys))) (same_long was (entries xs) (entries ys) e)
@@ -419,13 +422,15 @@ all_by n (e ∷ es) =
     ∙ ap (λ (l : List Entry). e ∷ l) (skipped x all (n + 1) (length es) (omega arith) ∙ all_by (n + 1) es)
 
 module _ (timers : Timers) (pair : ℕ → ℕ) where
-  redirects_stay : (rs : List Redirect) → purge timers 0 (map (redirect_binding pair) rs) ≡ map (redirect_binding pair) rs
+  redirects_stay : (rs : List Redirect) → purge timers 0 (map (redirect_binding pair) rs)
+      ≡ map (redirect_binding pair) rs
   redirects_stay [] = refl
   redirects_stay (r ∷ rs) =
       ap (λ (b : Binding). b ∷ purge timers 0 (map (redirect_binding pair) rs)) (redirect_stays timers 0 pair r)
       ∙ ap (λ (bs : List Binding). redirect_binding pair r ∷ bs) (redirects_stay rs)
 
-filled_begun : (rules : Rules) → filled (log_begun rules (initial_state rules)) ≡ map (first_entry rules.timers 0) (opening rules)
+filled_begun : (rules : Rules) → filled (log_begun rules (initial_state rules))
+    ≡ map (first_entry rules.timers 0) (opening rules)
 filled_begun rules =
     let entries : List Binding → List Entry = map (first_entry rules.timers 0) in
     let none : 0 + length (entries (opening rules)) ≡ length (entries (opening rules)) = omega arith in
@@ -533,11 +538,15 @@ abbrev nothing : LogStateModel
 nothing = record { made = 0; living = [] }
 
 none_begun : (timers : Timers) (bs : List Binding) → length (map (timed_row timers) bs) ≡ 0 →
-    record { made = 0 + length (map (first_entry timers 0) bs); living = numbered_entries (map (first_entry timers 0) bs) } ≡ nothing
+    record {
+      made = 0 + length (map (first_entry timers 0) bs);
+      living = numbered_entries (map (first_entry timers 0) bs);
+    } ≡ nothing
 none_begun timers [] none = refl
 none_begun timers (b ∷ bs) none = absurd (omega (arith, none))
 
-anew_taken : (rules : Rules) (log : LogStateModel) (say : LogDelta) → IsTakenUp rules (initial_state rules) nothing log say →
+anew_taken : (rules : Rules) (log : LogStateModel) (say : LogDelta) →
+    IsTakenUp rules (initial_state rules) nothing log say →
     log ≡ log_begun rules (initial_state rules)
 anew_taken rules log say up = elim up.decided [
   | inl is ↦ (up.same is).0 ∙ sym (none_begun rules.timers (purge rules.timers 0 (opening rules))
@@ -546,7 +555,8 @@ anew_taken rules log say up = elim up.decided [
 ]
 
 pub taken_anew : (rules : Rules) (state : State) (kept : LogStateModel) → state ≡ record { clock = 0; list = [] } →
-    kept ≡ nothing → (log : LogStateModel) (say : LogDelta) → IsTakenUp rules (with_redirects rules state) kept log say →
+    kept ≡ nothing → (log : LogStateModel) (say : LogDelta) →
+    IsTakenUp rules (with_redirects rules state) kept log say →
     (log ≡ log_begun rules (initial_state rules)) × (with_redirects rules state ≡ initial_state rules)
 taken_anew rules state kept at none log say up =
     let same : with_redirects rules state ≡ initial_state rules = ap (with_redirects rules) at

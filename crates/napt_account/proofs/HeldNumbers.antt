@@ -119,7 +119,8 @@ module _ (timers : Timers) (h : Holder) (r : Row) where
   IsRow x = row x ≡ r
 
   -- what covers the holder, and what has the row, are one if they have one external endpoint
-  one_inside : (xs : List Binding) → AreBindingsApart (map row xs) → HasOne (HolderCoversBinding timers h) xs → HasOne IsRow xs →
+  one_inside : (xs : List Binding) → AreBindingsApart (map row xs) → HasOne (HolderCoversBinding timers h) xs →
+      HasOne IsRow xs →
       r.protocol ≡ (row h.binding).protocol → r.external ≡ (row h.binding).external →
       r.inside ≡ (row h.binding).inside
   one_inside [] apart c o p x = absurd c
@@ -154,7 +155,8 @@ one_found p q f rows (x ∷ xs) b e =
 
 -- A LEG
 
-module _ (ends : EndsAreFirst) (carry : PacketsCarryNumbers) (rules : Rules) (keeps : RulesInvariant rules) (address : ℕ)
+module _ (ends : EndsAreFirst) (carry : PacketsCarryNumbers) (rules : Rules) (keeps : RulesInvariant rules)
+    (address : ℕ)
     (leg : Leg) (list : List Binding) (clock : ℕ) (later : clock ≤ leg.now) (holders : List Holder)
     (s : IsSound (pair_of rules) list) (a : AreBindingsAccounted rules.timers clock list holders) where
   abbrev timers : Timers
@@ -187,7 +189,8 @@ module _ (ends : EndsAreFirst) (carry : PacketsCarryNumbers) (rules : Rules) (ke
       let packet : OutboundPacket = outbound_packet rules protocol flags leg.now leg.packet in
       let block = keeps.blocks (source leg.packet).address in (
         out_stays_sound (pair_of rules) timers (assignment_rules rules) address packet list s paired numbered block,
-        out_keeps_accounts (pair_of rules) timers keeps.timers (assignment_rules rules) address packet list s paired numbered
+        out_keeps_accounts (pair_of rules) timers keeps.timers (assignment_rules rules) address packet list s paired
+            numbered
             block clock later holders a,
       )
 
@@ -287,7 +290,8 @@ module _ (ends : EndsAreFirst) (timers : Timers) (t : AreTimers timers) where
     alike_begun bs,
   )
 
-held_turn : EndsAreFirst → PacketsCarryNumbers → (rules : Rules) → RulesInvariant rules → (clock : ℕ) (list : List Binding)
+held_turn : EndsAreFirst → PacketsCarryNumbers → (rules : Rules) → RulesInvariant rules →
+    (clock : ℕ) (list : List Binding)
     (acts : List LegAct) (last : ℕ) (new : List Binding) (entries : List Entry) (holders : List Holder) →
     InTurn rules clock list acts last new → IsSound (pair_of rules) list →
     AreBindingsAccounted rules.timers clock list holders → Alike rules.timers entries holders →
@@ -299,7 +303,8 @@ held_turn ends carry rules keeps clock list (x ∷ acts) last new entries holder
     let kept = kept_act ends carry rules keeps x.address x.leg list clock p.0.later holders s a p.0.served in
     let after : List Holder = holders_after rules.timers x.leg.now acted.through holders in
     held_turn ends carry rules keeps x.leg.now acted.list acts last new (logged rules.timers entries x) after p.1 kept.0
-    kept.1 (subst (λ (went : Option BindingUse). Alike rules.timers (entries_after_leg rules.timers x.leg went entries) after)
+    kept.1 (subst (λ (went : Option BindingUse). Alike rules.timers
+    (entries_after_leg rules.timers x.leg went entries) after)
     (sym p.0.through)
     (alike_act ends carry rules keeps x.address x.leg list clock p.0.later holders s a entries alike))
 

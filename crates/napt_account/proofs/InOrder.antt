@@ -135,7 +135,8 @@ has_placed l (y ∷ ys) x h = elim (ends_first l y) as (λ v. Has (cond v (l ∷
   ]
 ]
 
-placed_order : (l : LogEntry) (xs : List LogEntry) → InOrder xs → Each (λ y. l.number ≢ y.number) xs → InOrder (placed l xs)
+placed_order : (l : LogEntry) (xs : List LogEntry) → InOrder xs → Each (λ y. l.number ≢ y.number) xs →
+    InOrder (placed l xs)
 placed_order l [] s differ = (tt, tt)
 placed_order l (y ∷ ys) s differ = elim (ends_first l y) as (λ v. ends_first l y ≡ v →
     InOrder (cond v (l ∷ y ∷ ys) (y ∷ placed l ys))) [

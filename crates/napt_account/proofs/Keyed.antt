@@ -129,7 +129,8 @@ differ_keyed [] h = tt
 differ_keyed (r ∷ rs) h = (keyed_each r rs h.0, differ_keyed rs h.1)
 
 pub live_keyed : (rules : Rules) → RulesInvariant rules → (state : State) → TakesState rules state →
-    AreKeyed (map (λ t. t.row) (map (timed_row rules.timers) (purge rules.timers state.clock (with_redirects rules state).list)))
+    AreKeyed (map (λ t. t.row) (map (timed_row rules.timers)
+    (purge rules.timers state.clock (with_redirects rules state).list)))
 live_keyed rules keeps state takes =
     let list : List Binding = (with_redirects rules state).list in
     let live : List Binding = purge rules.timers state.clock list in
@@ -140,7 +141,8 @@ live_keyed rules keeps state takes =
     (differ_keyed (map row live) differ)
 
 -- and so the entries of a log of it
-pub log_keyed : (rules : Rules) → RulesInvariant rules → (state : State) → TakesState rules state → (log : LogStateModel) →
+pub log_keyed : (rules : Rules) → RulesInvariant rules → (state : State) → TakesState rules state →
+    (log : LogStateModel) →
     IsLogOf rules (with_redirects rules state) log → AreKeyed (map (λ l. l.entry.binding) log.living)
 log_keyed rules keeps state takes log is =
     subst AreKeyed (map_twice (λ (t : TimedRow). t.row) timed_by log.living)

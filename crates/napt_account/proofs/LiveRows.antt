@@ -25,7 +25,8 @@ live_joined timers now xs ys = ap (purge timers now) (filter_joined is_loose xs 
     ∙ purge_joined timers now (filter is_loose xs) (filter is_loose ys)
 
 timed_opening : (timers : Timers) (now : ℕ) (pair : ℕ → ℕ) (rs : List Redirect) →
-    map (timed_row timers) (purge timers now (map (redirect_binding pair) rs)) ≡ map (timed_row timers) (map (redirect_binding pair) rs)
+    map (timed_row timers) (purge timers now (map (redirect_binding pair) rs))
+    ≡ map (timed_row timers) (map (redirect_binding pair) rs)
 timed_opening timers now pair [] = refl
 timed_opening timers now pair (r ∷ rs) =
     ap (λ (ts : List TimedRow). timed_row timers (redirect_binding pair r) ∷ ts) (timed_opening timers now pair rs)
@@ -51,7 +52,8 @@ module _ (rules : Rules) (state : State) where
   pub live_all : map (timed_row timers) (purge timers now (with_redirects rules state).list)
       ≡ map (timed_row timers) (opening rules) ++ map (timed_row timers) (live_of timers now state.list)
   live_all = ap (map (timed_row timers)) (purge_joined timers now (opening rules) (dynamic_bindings rules state))
-      ∙ (map_joined (timed_row timers) (purge timers now (opening rules)) (purge timers now (dynamic_bindings rules state))
+      ∙ (map_joined (timed_row timers) (purge timers now (opening rules))
+      (purge timers now (dynamic_bindings rules state))
       ∙ (ap (λ (ts : List TimedRow). ts ++ map (timed_row timers) (purge timers now (dynamic_bindings rules state)))
       (timed_opening timers now (pair_of rules) rules.redirects)
       ∙ ap (λ (bs : List Binding). map (timed_row timers) (opening rules) ++ map (timed_row timers) bs) loose_live))
@@ -85,12 +87,14 @@ module _ (rules : Rules) (state : State) where
         ap (λ (bs : List Binding). first ++ map (timed_row timers) (live_of timers now bs)) list_next
         ∙ (ap (λ (bs : List Binding). first ++ map (timed_row timers) bs)
         (live_joined timers now (take k state.list) (b ∷ []))
-        ∙ (ap (λ (ts : List TimedRow). first ++ ts) (map_joined (timed_row timers) (live_of timers now (take k state.list))
+        ∙ (ap (λ (ts : List TimedRow). first ++ ts)
+        (map_joined (timed_row timers) (live_of timers now (take k state.list))
         (live_of timers now (b ∷ [])))
         ∙ sym (append_assoc first (map (timed_row timers) (live_of timers now (take k state.list)))
         (map (timed_row timers) (live_of timers now (b ∷ []))))))
 
-    pub next_single : RulesInvariant rules → TakesState rules state → b.row.fixed ≡ false → is_live timers now b ≡ true →
+    pub next_single : RulesInvariant rules → TakesState rules state → b.row.fixed ≡ false →
+        is_live timers now b ≡ true →
         flows_share (with_live_flows timers now b).flows ≡ false
     next_single keeps takes unfixed live =
         let Own : Binding → Type 0 = λ b. b.row.fixed ≡ false → IsBindingOwn rules now b in

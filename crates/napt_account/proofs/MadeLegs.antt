@@ -19,7 +19,8 @@ timed_of other (In timed) = other
 timed_of other (Dropped loss) = other
 
 -- the entry that is found for a row
-pub found_is : (now most : ℕ) (all : OpenEntries) (es : List Entry) → OpenEntriesShow now most es all → (r : Row) (l : LogEntry) →
+pub found_is : (now most : ℕ) (all : OpenEntries) (es : List Entry) → OpenEntriesShow now most es all →
+    (r : Row) (l : LogEntry) →
     listed_at all (entry_key r) ≡ Some l → (place : ℕ) (e : Entry) →
     slice_get es place ≡ Some e → entry_is_of now r e ≡ true → l ≡ listed_as place e
 found_is now most all es shows r l at place e there passed =

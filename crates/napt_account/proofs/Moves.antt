@@ -183,7 +183,8 @@ module _ (rules : Rules) (t : AreTimers rules.timers) (address : ℕ) (leg : Leg
           (sym (sent_seen rules.timers t address packet all ∙ ap (change_first source (binding_after_out packet)) same))
           (found source (binding_after_out packet) b (ap (find source) (sym same) ∙ e) (λ x. refl)
           (λ x f. sent_fresh rules.timers t packet.remote flags leg.now x f.flows))
-      moves_found None e = moves_made e (granted_again (assignment_rules rules) all address packet (find source all)) refl
+      moves_found None e = moves_made e (granted_again (assignment_rules rules) all address packet (find source all))
+          refl
 
       goes : Moves (act_out rules address leg list protocol flags).through
           (act_out rules address leg list protocol flags).list

@@ -27,7 +27,8 @@ external_flip a b = grind (arith, common_steps, nat_tests, external_is, external
 
 -- ENTRIES
 
-pub same_place : (es : List Entry) (l m : LogEntry) → EntryIsListed es l → EntryIsListed es m → l.number ≡ m.number → l ≡ m
+pub same_place : (es : List Entry) (l m : LogEntry) → EntryIsListed es l → EntryIsListed es m → l.number ≡ m.number →
+    l ≡ m
 same_place es l m a b same = grind (arith, common_steps, nat_tests, same_Some)
 
 -- WHAT IS AT AN ENDPOINT
@@ -58,14 +59,16 @@ queued_at all x was indexed d e = indexed.queued d ∙ ap (λ v. entry_is_at (co
 module _ (old new : OpenEntries) (x : EntryKey) (was : Option ℕ) (indexed : IsIndexedBut x was old)
     (next : Option Open)
     (opens : (y : EntryKey) → open_at new y ≡ cond (external_eq x y) next (open_at old y))
-    (queue : (d : DueEntry) → is_queued new d ≡ cond (external_eq x d.key) (entry_is_at (due_of next) d.at) (is_queued old d))
+    (queue : (d : DueEntry) → is_queued new d ≡ cond (external_eq x d.key) (entry_is_at (due_of next) d.at)
+    (is_queued old d))
     (its : (o : Open) → next ≡ Some o → IsPlaced x o) where
   pub moved : IsIndexed new
   moved = grind (arith, common_steps, nat_tests, external_is)
 
 -- ONE IS WRITTEN: at its endpoint, where no other was
 
-module _ (now most : ℕ) (old new : OpenEntries) (es fs : List Entry) (shows : OpenEntriesShow now most es old) (l : LogEntry)
+module _ (now most : ℕ) (old new : OpenEntries) (es fs : List Entry) (shows : OpenEntriesShow now most es old)
+    (l : LogEntry)
     (made : new.made ≡ length fs)
     (is : EntryIsListed fs l)
     (opened : is_open now l ≡ true)
@@ -89,7 +92,8 @@ module _ (now most : ℕ) (old new : OpenEntries) (es fs : List Entry) (shows : 
       (x : EntryKey) (m : LogEntry) → listed_at new x ≡ Some m → P x m
   at_key P one rest x m at = grind (arith, common_steps, nat_tests, external_is, same_Some)
 
-  pub written : (more : ℕ) → most ≤ more → l.entry.sent ≤ more → l.entry.received ≤ more → OpenEntriesShow now more fs new
+  pub written : (more : ℕ) → most ≤ more → l.entry.sent ≤ more → l.entry.received ≤ more →
+      OpenEntriesShow now more fs new
   written more le sent received = record {
     indexed = indexed;
     made = made;
@@ -152,7 +156,8 @@ module _ (now most : ℕ) (old new : OpenEntries) (es : List Entry) (shows : Ope
 
 -- A CHANGE
 
-module _ (now most : ℕ) (old new : OpenEntries) (es : List Entry) (shows : OpenEntriesShow now most es old) (x : EntryKey)
+module _ (now most : ℕ) (old new : OpenEntries) (es : List Entry) (shows : OpenEntriesShow now most es old)
+    (x : EntryKey)
     (o : Open) (at : open_at old x ≡ Some o) (e : Entry) (same : e.binding ≡ o.listed.entry.binding)
     (place : ℕ) (number : place + 1 ≡ o.listed.number) where
   abbrev next : LogEntry
@@ -315,7 +320,8 @@ module _ (way : Way) (now most : ℕ) (old : OpenEntries) (es : List Entry) (sho
         [ true ↦ refl | false ↦ refl ]
         ∙ ap (λ (k : EntryKey). cond (external_eq k y) (Some changed.listed) (listed_at old y)) its)))
 
-pub shows_more : (now most more : ℕ) → most ≤ more → (es : List Entry) (all : OpenEntries) → OpenEntriesShow now most es all →
+pub shows_more : (now most more : ℕ) → most ≤ more → (es : List Entry) (all : OpenEntries) →
+    OpenEntriesShow now most es all →
     OpenEntriesShow now more es all
 shows_more now most more le es all shows = grind (arith, common_steps, nat_tests, there)
 

@@ -100,7 +100,8 @@ none_open now r [] h = refl
 none_open now r (e ∷ es) h = elim (is_open now e) as (λ v.
     Each (λ x. Differ x r) (map binding_of (cond v (e ∷ filter (is_open now) es) (filter (is_open now) es))) →
     ((v && shares r e.binding) || list_any (entry_is_of now r) es) ≡ false) [
-      | true ↦ λ g. ap (λ v. v || list_any (entry_is_of now r) es) (differ_back e.binding r g.0) ∙ none_open now r es g.1
+      | true ↦ λ g. ap (λ v. v || list_any (entry_is_of now r) es) (differ_back e.binding r g.0)
+          ∙ none_open now r es g.1
       | false ↦ λ g. none_open now r es g
     ] h
 
@@ -189,7 +190,8 @@ lost_as leg (Some p) cause = refl
 
 lost_act : (timers : Timers) (leg : Leg) (went : Option BindingUse) (end : End) →
     ((cause : Cause) → end ≡ Dropped cause → went ≡ None) →
-    books.lost leg.now (passage_by timers leg.way (packet_carried (kind leg.packet)) (source leg.packet).address end went)
+    books.lost leg.now (passage_by timers leg.way (packet_carried (kind leg.packet)) (source leg.packet).address end
+    went)
     ≡ shortage_at leg end
 lost_act timers leg went end h = grind (arith, common_steps, nat_tests, lost_as, not_lost, sent_out, sent_in, sent_on)
 
@@ -242,7 +244,11 @@ module _ (ends : EndsAreFirst) (rules : Rules) (t : AreTimers rules.timers) wher
       )
 
   abbrev trace_by : ℕ → List LegAct → Trace
-  trace_by now acts = record { now = now; first = first_passage rules.timers acts; second = second_passage rules.timers acts }
+  trace_by now acts = record {
+    now = now;
+    first = first_passage rules.timers acts;
+    second = second_passage rules.timers acts;
+  }
 
   one_retold : (now : ℕ) (entries : List Entry) (a : LegAct) → ToldAt now entries a →
       IsRetold rules entries (a ∷ []) (trace_by now (a ∷ []))

@@ -105,7 +105,8 @@ long_by n (suc many) ls = ap suc (long_by (n + 1) many ls)
 
 pub kept_are_in : (now : ℕ) (log : LogStateModel) → SavedLogInvariant now log → AreIn now log.made 1 log.living
 kept_are_in now log kept =
-    let same : filter (is_open now) (numbered_entries (filled log)) ≡ log.living = ap (λ (l : LogStateModel). l.living) kept.0 in
+    let same : filter (is_open now) (numbered_entries (filled log))
+    ≡ log.living = ap (λ (l : LogStateModel). l.living) kept.0 in
     all_in now log.made 1 log.living (subst (Rises 1) same (rises_numbered now 1 (filled log))) (λ l has.
     let parts = filter_has (is_open now) (numbered_entries (filled log)) l
     (subst (λ (ls : List LogEntry). Has ls l) (sym same) has) in

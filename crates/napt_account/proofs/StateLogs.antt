@@ -201,7 +201,8 @@ module _ (alike_go_on : AlikeStatesGoOn) (rules : Rules) (keeps : RulesInvariant
   same_more : (front : List Arrival) (input : Arrival) → IsSame front → IsSame (front ++ input ∷ [])
   same_more front input same =
       let now : ℕ = max (last_clock state.clock front) input.clock in
-      let did : List LegAct → List LegAct → BindingTally = λ before acts. use_of rules (fold (logged timers) entries before) acts in
+      let did : List LegAct → List LegAct → BindingTally =
+      λ before acts. use_of rules (fold (logged timers) entries before) acts in
       record {
         traces_are =
             traces_grow rules 0 state.clock front input list (length front) (omega arith)
@@ -214,7 +215,8 @@ module _ (alike_go_on : AlikeStatesGoOn) (rules : Rules) (keeps : RulesInvariant
             ∙ (ap (λ (us : List BindingTally).
             us ++ did (effect_from rules other front).acts (next_of other front input).acts ∷ [])
             same.uses_are
-            ∙ (ap (λ (acts : List LegAct). uses_on rules state log front ++ did acts (next_of other front input).acts ∷ [])
+            ∙ (ap (λ (acts : List LegAct). uses_on rules state log front ++ did acts (next_of other front input).acts
+            ∷ [])
             (goes front).acts
             ∙ (ap (λ (acts : List LegAct). uses_on rules state log front
             ++ did (effect_from rules state front).acts acts ∷ []) (same_next front input)
@@ -276,7 +278,8 @@ module _ (alike_go_on : AlikeStatesGoOn) (rules : Rules) (keeps : RulesInvariant
     rows_left : IsPermutation (map timed_by (log_left rules state log inputs).living)
         (map (timed_row timers) (purge timers last (next_state rules state inputs).list))
     rows_left =
-        let rows : map timed_by (log_left rules state log inputs).living ≡ map (timed_row timers) (purge timers last new) =
+        let rows : map timed_by (log_left rules state log inputs).living
+        ≡ map (timed_row timers) (purge timers last new) =
         timed_open last 1 grown
         ∙ (ap (map timed_as) (tells_left.holds ∙ sym (purge_holds timers keeps.timers last new))
         ∙ map_twice timed_as (hold_of timers) (purge timers last new)) in
@@ -329,9 +332,11 @@ logs_are_of_their_states taken_sound alike_go_on saved_go_on rules keeps state t
   ];
   left = λ log is inputs saved order.
       let went = saved_go_on rules keeps state saved takes inputs [] order in
-      left_is_of alike_go_on rules keeps (with_redirects rules state) (taken_sound rules keeps state takes []) log is inputs
+      left_is_of alike_go_on rules keeps (with_redirects rules state) (taken_sound rules keeps state takes []) log is
+      inputs
       (with_redirects rules saved) order.clock
       (subst (λ (xs : List Arrival). AreAlike rules.timers (last_clock state.clock xs)
-      (next_state rules (with_redirects rules state) xs).list (next_state rules (with_redirects rules saved) []).list) (append-nil inputs)
+      (next_state rules (with_redirects rules state) xs).list (next_state rules (with_redirects rules saved) []).list)
+      (append-nil inputs)
       went.left);
 }

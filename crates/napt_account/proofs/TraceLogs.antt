@@ -12,7 +12,8 @@ use Rattle.napt_account.proofs.{Retold.flat_joined, StateLogs.{behind_is_of, ent
 
 -- ONE TRACE MORE
 
-pub time_more : (now : ℕ) (before : List Trace) (trace : Trace) → trace_time_after now (before ++ trace ∷ []) ≡ trace.now
+pub time_more : (now : ℕ) (before : List Trace) (trace : Trace) →
+    trace_time_after now (before ++ trace ∷ []) ≡ trace.now
 time_more now [] trace = refl
 time_more now (t ∷ before) trace = time_more t.now before trace
 
@@ -75,18 +76,23 @@ module _ (alike_go_on : AlikeStatesGoOn) (rules : Rules) (keeps : RulesInvariant
     abbrev lost : List Shortage
     lost = (log_on rules state (filled log) before).shortages
 
-    refused : book_shortage_by trace ≡ drop (length lost) (log_on rules state (filled log) (before ++ input ∷ [])).shortages
+    refused : book_shortage_by trace ≡ drop (length lost)
+        (log_on rules state (filled log) (before ++ input ∷ [])).shortages
     refused = sym (append-nil (book_shortage_by trace)) ∙ (sym (drop_joined lost (book_shortage_by trace ++ []))
-        ∙ ap (drop (length lost)) (ap (λ (s : List Shortage). s ++ (book_shortage_by trace ++ [])) (sym (lost_are before))
+        ∙ ap (drop (length lost)) (ap (λ (s : List Shortage). s ++ (book_shortage_by trace ++ []))
+        (sym (lost_are before))
         ∙ (sym (flat_joined book_shortage_by (seen before) (trace ∷ []))
         ∙ (ap (flat_map book_shortage_by) (sym more) ∙ lost_are (before ++ input ∷ [])))))
 
     tells : told_with start (seen before) trace ≡ told_from rules state log before input
     tells = λ i. record {
-      ended = (ap (λ (es : List Entry). in_order_of_end (filter (ends_within (trace_time_after state.clock (seen before))
+      ended = (ap (λ (es : List Entry). in_order_of_end
+          (filter (ends_within (trace_time_after state.clock (seen before))
           trace.now) (numbered_entries es))) (entries_are before)
-          ∙ (ap (λ (from : ℕ). in_order_of_end (filter (ends_within from trace.now) (numbered_entries was))) (times before)
-          ∙ ap (λ (now : ℕ). in_order_of_end (filter (ends_within (last_clock state.clock before) now) (numbered_entries was)))
+          ∙ (ap (λ (from : ℕ). in_order_of_end (filter (ends_within from trace.now) (numbered_entries was)))
+          (times before)
+          ∙ ap (λ (now : ℕ). in_order_of_end (filter (ends_within (last_clock state.clock before) now)
+          (numbered_entries was)))
           time_is)) i;
       made = (ap (λ (es : List Entry).
           drop (length es) (numbered_entries (after_trace (entries_after start (seen before)) trace)))
@@ -122,7 +128,8 @@ pub living_told : (rules : Rules) (state : State) (start : LogBeginning) → sta
 living_told rules state start clock tell inputs seen same =
     let run : List Trace = traces_of rules state inputs in
     ap (living_with start) same
-    ∙ (ap (λ (from : ℕ). in_order_of_end (filter (is_open (trace_time_after from run)) (numbered_entries (entries_after start run))))
+    ∙ (ap (λ (from : ℕ). in_order_of_end (filter (is_open (trace_time_after from run))
+    (numbered_entries (entries_after start run))))
     clock ∙ ap (λ (kept : LogStateModel). in_order_of_end kept.living) (tell.left inputs))
 
 -- THE LAWS

@@ -47,7 +47,8 @@ abbrev pub use_at : Way → List Entry → Option ℕ → Option BindingTally
 use_at way entries place = option_map (λ i. tally_used way (book_noted (slice_get entries i)) (Some i)) place
 
 abbrev pub book_out_at : List Entry → Option ℕ → BindingTally
-book_out_at entries place = unwrap_or (use_at Outgoing entries place) (tally_used Outgoing notes.Made (Some (length entries)))
+book_out_at entries place = unwrap_or (use_at Outgoing entries place)
+    (tally_used Outgoing notes.Made (Some (length entries)))
 
 abbrev pub use_told : ℕ → Passage → List Entry → BindingTally
 use_told now (Out timed) entries = book_out_at entries (entry_place now timed.row entries)

@@ -80,7 +80,8 @@ pub record IsIndexed (all : OpenEntries) : Type 0 where
 -- the same but for one endpoint, which the queue has at another time
 pub record IsIndexedBut (key : EntryKey) (at : Option ℕ) (all : OpenEntries) : Type 0 where
   pub placed : (x : EntryKey) (o : Open) → open_at all x ≡ Some o → IsPlaced x o
-  pub queued : (due : DueEntry) → is_queued all due ≡ entry_is_at (cond (external_eq key due.key) at (due_at all due.key)) due.at
+  pub queued : (due : DueEntry) → is_queued all due
+      ≡ entry_is_at (cond (external_eq key due.key) at (due_at all due.key)) due.at
 
 -- it is one of these entries, with its number
 pub record EntryIsListed (entries : List Entry) (l : LogEntry) : Type 0 where

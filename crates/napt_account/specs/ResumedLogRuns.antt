@@ -123,17 +123,19 @@ living_from rules state log inputs = in_order_of_end (log_left rules state log i
 -- where a run begins anew it tells what its log tells
 abbrev pub LogsBegin : Type 0
 LogsBegin = (rules : Rules) (before : List Arrival) (input : Arrival) →
-    told_from rules (initial_state rules) (log_begun rules (initial_state rules)) before input ≡ part_told rules before input
+    told_from rules (initial_state rules) (log_begun rules (initial_state rules)) before input
+    ≡ part_told rules before input
 
 abbrev pub UsesBegin : Type 0
 UsesBegin = (rules : Rules) (inputs : List Arrival) →
     uses_on rules (initial_state rules) (log_begun rules (initial_state rules)) inputs ≡ uses_of rules inputs
 
 -- a run that goes on, with what is left of the log, tells what the run over all inputs does
-pub record LogGoesOn (rules : Rules) (state later : State) (log : LogStateModel) (first rest : List Arrival) : Type 0 where
-  pub told : (input : Arrival) → told_from rules state log (first ++ rest) input
-      ≡ told_from rules later (log_left rules state log first) rest input
-  pub left : log_left rules state log (first ++ rest) ≡ log_left rules later (log_left rules state log first) rest
+pub record LogGoesOn (rules : Rules) (state later : State) (log : LogStateModel) (first rest : List Arrival) : Type 0
+  where
+    pub told : (input : Arrival) → told_from rules state log (first ++ rest) input
+        ≡ told_from rules later (log_left rules state log first) rest input
+    pub left : log_left rules state log (first ++ rest) ≡ log_left rules later (log_left rules state log first) rest
 
 abbrev pub LogsGoOn : Type 0
 LogsGoOn = (rules : Rules) (state : State) (log : LogStateModel) (first rest : List Arrival) →
@@ -141,18 +143,22 @@ LogsGoOn = (rules : Rules) (state : State) (log : LogStateModel) (first rest : L
 
 -- also from the state as it was saved and taken up
 abbrev pub SavedLogsGoOn : Type 0
-SavedLogsGoOn = (rules : Rules) → RulesInvariant rules → (state saved : State) → TakesState rules state → (log : LogStateModel)
+SavedLogsGoOn = (rules : Rules) → RulesInvariant rules → (state saved : State) → TakesState rules state →
+    (log : LogStateModel)
     (first rest : List Arrival) → IsStateInOrder rules (next_state rules (with_redirects rules state) first) saved →
     LogGoesOn rules (with_redirects rules state) (with_redirects rules saved) log first rest
 
 -- each log that is taken up is of the state, with numbers that no entry had before; and what a run leaves of its log is
 -- that of the state that it leaves, as saved and taken up
 pub record KeepsLogs (rules : Rules) (state : State) : Type 0 where
-  pub taken : (kept log : LogStateModel) (told : LogDelta) → IsTakenUp rules (with_redirects rules state) kept log told →
+  pub taken : (kept log : LogStateModel) (told : LogDelta) →
+      IsTakenUp rules (with_redirects rules state) kept log told →
       IsLogOf rules (with_redirects rules state) log × Each (λ l. kept.made < l.number) told.made
-  pub left : (log : LogStateModel) → IsLogOf rules (with_redirects rules state) log → (inputs : List Arrival) (saved : State) →
+  pub left : (log : LogStateModel) → IsLogOf rules (with_redirects rules state) log →
+      (inputs : List Arrival) (saved : State) →
       IsStateInOrder rules (next_state rules (with_redirects rules state) inputs) saved →
       IsLogOf rules (with_redirects rules saved) (log_left rules (with_redirects rules state) log inputs)
 
 abbrev pub LogsAreOfTheirStates : Type 0
-LogsAreOfTheirStates = (rules : Rules) → RulesInvariant rules → (state : State) → TakesState rules state → KeepsLogs rules state
+LogsAreOfTheirStates = (rules : Rules) → RulesInvariant rules → (state : State) → TakesState rules state →
+    KeepsLogs rules state

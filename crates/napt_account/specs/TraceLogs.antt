@@ -33,7 +33,8 @@ abbrev pub told_with : LogBeginning → List Trace → Trace → LogDelta
 told_with start before trace =
     let entries : List Entry = entries_after start before in
     record {
-      ended = in_order_of_end (filter (ends_within (trace_time_after start.clock before) trace.now) (numbered_entries entries));
+      ended = in_order_of_end (filter (ends_within (trace_time_after start.clock before) trace.now)
+          (numbered_entries entries));
       made = drop (length entries) (numbered_entries (after_trace entries trace));
       refused = book_shortage_by trace;
     }
@@ -41,7 +42,8 @@ told_with start before trace =
 -- what has not ended after these
 abbrev pub living_with : LogBeginning → List Trace → List LogEntry
 living_with start traces =
-    in_order_of_end (filter (is_open (trace_time_after start.clock traces)) (numbered_entries (entries_after start traces)))
+    in_order_of_end (filter (is_open (trace_time_after start.clock traces))
+    (numbered_entries (entries_after start traces)))
 
 -- a trace that can come after these: it is no earlier, and leaves its bindings ends that are to come
 pub record IsNext (start : LogBeginning) (before : List Trace) (trace : Trace) : Type 0 where
@@ -90,6 +92,7 @@ pub record TracesTellFrom (rules : Rules) (state : State) (start : LogBeginning)
       (entries_after start (traces_of rules state inputs)) ≡ log_left rules state start.log inputs
 
 abbrev pub TracesTellTheRest : Type 0
-TracesTellTheRest = (rules : Rules) → RulesInvariant rules → (state : State) → TakesState rules state → (log : LogStateModel) →
+TracesTellTheRest = (rules : Rules) → RulesInvariant rules → (state : State) → TakesState rules state →
+    (log : LogStateModel) →
     IsLogOf rules (with_redirects rules state) log →
     TracesTellFrom rules (with_redirects rules state) (record { clock = state.clock; log = log })

@@ -26,16 +26,21 @@ impl OpenEntries {
     /// Enters the legs of an input.
     #[inline(always)]
     pub(crate) fn enter_legs(&mut self, alloc: Global, trace: Trace) -> Result<Legs, AllocError>
-        requires { (most : ℕ) × (entries : List Logged) × OpenEntriesShow trace.now most entries self.old
+        requires { (most : ℕ) × (entries : List Logged) ×
+            OpenEntriesShow trace.now most entries self.old
             × LeavesOpen trace.now trace.first × (most + 2 < 2 ^ 64)
             × (length entries + 2 < 2 ^ 64) }
-        ensures shows { (most : ℕ) (entries : List Logged) → OpenEntriesShow trace.now most entries self.old →
+        ensures shows { (most : ℕ) (entries : List Logged) →
+            OpenEntriesShow trace.now most entries self.old →
             LeavesOpen trace.now trace.first → LeavesOpen trace.now trace.second →
-            OnOk result (OpenEntriesShow trace.now (most + 2) (books.after_trace entries trace) self.new) }
-        ensures uses { (most : ℕ) (entries : List Logged) → OpenEntriesShow trace.now most entries self.old →
+            OnOk result (OpenEntriesShow trace.now (most + 2) (books.after_trace entries trace)
+            self.new) }
+        ensures uses { (most : ℕ) (entries : List Logged) →
+            OpenEntriesShow trace.now most entries self.old →
             LeavesOpen trace.now trace.first →
             IfOk result (λ legs. legs.used ≡ books.use_by_trace entries trace) }
-        ensures made { (most : ℕ) (entries : List Logged) → OpenEntriesShow trace.now most entries self.old →
+        ensures made { (most : ℕ) (entries : List Logged) →
+            OpenEntriesShow trace.now most entries self.old →
             LeavesOpen trace.now trace.first → LeavesOpen trace.now trace.second →
             IfOk result (λ legs. legs.made.items
             ≡ drop (length entries) (numbered_entries (books.after_trace entries trace))) }
@@ -65,8 +70,10 @@ impl OpenEntries {
         is_made: bool,
     ) -> Result<(), AllocError>
         ensures none { is_made ≡ false → OnOk result (made.new.items ≡ made.old.items) }
-        ensures one { (now most : ℕ) (entries : List Logged) → OpenEntriesShow now most entries self.now →
-            is_made ≡ true → (timed : TimedRow) → passage ≡ Passage.Out timed → (place : ℕ) (entry : Logged) →
+        ensures one { (now most : ℕ) (entries : List Logged) →
+            OpenEntriesShow now most entries self.now →
+            is_made ≡ true → (timed : TimedRow) → passage ≡ Passage.Out timed →
+            (place : ℕ) (entry : Logged) →
             slice_get entries place ≡ Some entry → entry_is_of now timed.row entry ≡ true →
             OnOk result (made.new.items ≡ made.old.items
             ++ listed_as place entry ∷ []) }
@@ -83,7 +90,8 @@ impl OpenEntries {
     /// Appends the entry of a row.
     #[inline(never)]
     fn list_row(&self, made: &mut Vec<LogEntry>, row: Row) -> Result<(), AllocError>
-        ensures { (now most : ℕ) (entries : List Logged) → OpenEntriesShow now most entries self.now →
+        ensures { (now most : ℕ) (entries : List Logged) →
+            OpenEntriesShow now most entries self.now →
             (place : ℕ) (entry : Logged) →
             slice_get entries place ≡ Some entry → entry_is_of now row entry ≡ true →
             OnOk result (made.new.items ≡ made.old.items

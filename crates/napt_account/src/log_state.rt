@@ -143,7 +143,8 @@ impl SavedLogState {
     ) -> Result<TakenUp, AllocError>
         requires few { IsFew self.now }
         requires taken { TakesState config.now state.now }
-        ensures up { IfOk result (λ taken. IsTakenUp config.now (with_redirects config.now state.now)
+        ensures up { IfOk result (λ taken. IsTakenUp config.now
+            (with_redirects config.now state.now)
             self.now taken.log (told_first taken.ended.items taken.made.items)) }
         ensures few { IfOk result (λ taken. taken.log.made ≤ 2 ^ 62) }
     {
@@ -173,7 +174,8 @@ impl SavedLogState {
         requires { self.now.made ≤ 2 ^ 61 }
         ensures log { IfOk result (λ taken. taken.log ≡ record {
           made = self.now.made + length rows.now;
-          living = numbered_from (self.now.made + 1) (map (λ t. unused_entry t.row now t.end) rows.now);
+          living = numbered_from (self.now.made + 1)
+              (map (λ t. unused_entry t.row now t.end) rows.now);
         }) }
         ensures ended { IfOk result (λ taken.
             taken.ended.items ≡ map (ended_at now) self.now.living) }

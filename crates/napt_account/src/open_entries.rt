@@ -165,7 +165,8 @@ impl OpenEntries {
 
     /// What is kept of the log.
     pub(crate) fn left(&self, alloc: Global) -> Result<SavedLogState, AllocError>
-        ensures { (now most : ℕ) (entries : List Logged) → OpenEntriesShow now most entries self.now →
+        ensures { (now most : ℕ) (entries : List Logged) →
+            OpenEntriesShow now most entries self.now →
             IfOk result (λ left. left ≡ kept_at now entries) }
     {
         let mut living = self.copied(alloc)?;
@@ -188,7 +189,8 @@ impl OpenEntries {
     fn insert(&mut self, entry: Entry) -> Result<usize, AllocError>
         requires { self.old.made + 1 < 2 ^ 64 }
         ensures place { IfOk result (λ place. place ≡ self.old.made) }
-        ensures shows { (now most : ℕ) (entries : List Logged) → OpenEntriesShow now most entries self.old →
+        ensures shows { (now most : ℕ) (entries : List Logged) →
+            OpenEntriesShow now most entries self.old →
             open_at self.old (keys.entry_key entry.binding) ≡ None →
             is_before now entry.end ≡ true → entry.sent ≤ most → entry.received ≤ most →
             OnOk result (OpenEntriesShow now most (entries ++ entry ∷ []) self.new) }
@@ -294,10 +296,12 @@ impl OpenEntries {
     ) -> Result<Option<BindingTally>, AllocError>
         requires { (most : ℕ) × (entries : List Logged) × OpenEntriesShow now most entries self.old
             × (most + 1 < 2 ^ 64) }
-        ensures shows { (most : ℕ) (entries : List Logged) → OpenEntriesShow now most entries self.old →
+        ensures shows { (most : ℕ) (entries : List Logged) →
+            OpenEntriesShow now most entries self.old →
             is_before now timed.end ≡ true → OnOk result (OpenEntriesShow now (most + 1)
             (map (entry_through now timed.row (counted way now timed.end)) entries) self.new) }
-        ensures uses { (most : ℕ) (entries : List Logged) → OpenEntriesShow now most entries self.old →
+        ensures uses { (most : ℕ) (entries : List Logged) →
+            OpenEntriesShow now most entries self.old →
             IfOk result (λ used. used
             ≡ books.use_at way entries (entry_place now timed.row entries)) }
         ensures none { result ≡ Ok None → (self.new ≡ self.old)
@@ -373,10 +377,12 @@ impl OpenEntries {
         alloc: Global,
         now: u64,
     ) -> Result<Vec<LogEntry>, AllocError>
-        ensures ended { (was most : ℕ) (entries : List Logged) → OpenEntriesShow was most entries self.old →
+        ensures ended { (was most : ℕ) (entries : List Logged) →
+            OpenEntriesShow was most entries self.old →
             IfOk result (λ ended. ended.items
             ≡ in_order_of_end (filter (ends_within was now) (numbered_entries entries))) }
-        ensures shows { (was most : ℕ) (entries : List Logged) → OpenEntriesShow was most entries self.old →
+        ensures shows { (was most : ℕ) (entries : List Logged) →
+            OpenEntriesShow was most entries self.old →
             was ≤ now → OnOk result (OpenEntriesShow now most entries self.new) }
     {
         let mut ended = Vec::new(alloc);
@@ -391,7 +397,8 @@ impl OpenEntries {
 
     /// The entries, with their numbers, by their ends.
     pub(crate) fn list(&self, alloc: Global) -> Result<Vec<LogEntry>, AllocError>
-        ensures { (now most : ℕ) (entries : List Logged) → OpenEntriesShow now most entries self.now →
+        ensures { (now most : ℕ) (entries : List Logged) →
+            OpenEntriesShow now most entries self.now →
             IfOk result (λ all. all.items
             ≡ in_order_of_end (filter (is_open now) (numbered_entries entries))) }
     {
@@ -416,10 +423,13 @@ impl OpenEntries {
     fn go_out(&mut self, now: u64, timed: TimedRow) -> Result<BindingTally, AllocError>
         requires { (most : ℕ) × (entries : List Logged) × OpenEntriesShow now most entries self.old
             × (most + 1 < 2 ^ 64) × (length entries + 1 < 2 ^ 64) }
-        ensures shows { (most : ℕ) (entries : List Logged) → OpenEntriesShow now most entries self.old →
+        ensures shows { (most : ℕ) (entries : List Logged) →
+            OpenEntriesShow now most entries self.old →
             is_before now timed.end ≡ true →
-            OnOk result (OpenEntriesShow now (most + 1) (books.after_out now timed entries) self.new) }
-        ensures uses { (most : ℕ) (entries : List Logged) → OpenEntriesShow now most entries self.old →
+            OnOk result (OpenEntriesShow now (most + 1) (books.after_out now timed entries)
+            self.new) }
+        ensures uses { (most : ℕ) (entries : List Logged) →
+            OpenEntriesShow now most entries self.old →
             IfOk result (λ used. used ≡ books.use_told now (Passage.Out timed) entries) }
     {
         if let Some(used) = self.count(Way::Outgoing, now, timed)? {
@@ -434,10 +444,13 @@ impl OpenEntries {
     pub(crate) fn pass(&mut self, now: u64, passage: Passage) -> Result<BindingTally, AllocError>
         requires { (most : ℕ) × (entries : List Logged) × OpenEntriesShow now most entries self.old
             × (most + 1 < 2 ^ 64) × (length entries + 1 < 2 ^ 64) }
-        ensures shows { (most : ℕ) (entries : List Logged) → OpenEntriesShow now most entries self.old →
+        ensures shows { (most : ℕ) (entries : List Logged) →
+            OpenEntriesShow now most entries self.old →
             LeavesOpen now passage →
-            OnOk result (OpenEntriesShow now (most + 1) (books.book_after now passage entries) self.new) }
-        ensures uses { (most : ℕ) (entries : List Logged) → OpenEntriesShow now most entries self.old →
+            OnOk result (OpenEntriesShow now (most + 1) (books.book_after now passage entries)
+            self.new) }
+        ensures uses { (most : ℕ) (entries : List Logged) →
+            OpenEntriesShow now most entries self.old →
             IfOk result (λ used. used ≡ books.use_told now passage entries) }
     {
         match passage {

@@ -98,7 +98,8 @@ impl<'a> TrackedRun<'a> {
     ) -> Result<RunFromState<'a>, AllocError>
         requires few { IsFew kept.now }
         requires taken { TakesState config.now state.now }
-        ensures { IfOk result (IsResumedRun config.now (with_redirects config.now state.now) kept.now) }
+        ensures { IfOk result (IsResumedRun config.now (with_redirects config.now state.now)
+            kept.now) }
     {
         traces_tell_the_log();
         logs_go_on();
@@ -137,7 +138,8 @@ impl<'a> TrackedRun<'a> {
     /// (ICMP, TCP, UDP) and external number. Fails only if memory is refused.
     pub fn bindings(&self, alloc: Global) -> Result<Vec<Row>, AllocError>
         ensures { self.now.is_stopped ≡ false → IfOk result (λ made.
-            made.items ≡ (model.run_result_from self.now.rules self.now.state self.now.inputs).bindings) }
+            made.items ≡ (model.run_result_from self.now.rules self.now.state
+            self.now.inputs).bindings) }
     {
         self.run.bindings(alloc)
     }
@@ -149,7 +151,8 @@ impl<'a> TrackedRun<'a> {
     /// Fails with `RunFault::TooMany` exactly if it took 4,294,967,295 inputs before and no step failed, with
     /// `RunFault::Memory` only if memory is refused or a step failed before, and never with `RunFault::Pool`.
     pub fn step(&mut self, alloc: Global, input: &Input) -> Result<LogStep, RunFault>
-        ensures tells { self.old.is_stopped ≡ false → IfOk result (RunTellsLast self.old input.now) }
+        ensures tells { self.old.is_stopped ≡ false →
+            IfOk result (RunTellsLast self.old input.now) }
         ensures goes { self.old.is_stopped ≡ false → OnOk result (self.new
             ≡ record self.old { inputs = self.old.inputs ++ input.now ∷ [] }) }
         ensures err { self.old.is_stopped ≡ false →

@@ -1,4 +1,4 @@
--- What a text begins with, and what it holds.
+-- What comes first in a text, and the records in it.
 use Rattle.std.proofs.lemmas.{Grind.common_steps, Bool.{Decides.nat_tests, cases_Bool, cases_lt, lt-ltb, le-ltb}}
 use Rattle.std.proofs.Common.{◌≡◌, ℕ, zero, suc, ◌+◌, ◌-◌, ◌<◌, ◌≤◌, inl, inr, Bool, true, false, List, [], ◌∷◌, length, take, drop, Option, Result, Ok, Err, refl, sym, ◌∙◌, ap, arith, length-drop, length-take-le, nat_lt}
 use Rattle.napt_capture.specs.Prelude.{LARGEST_RECORD, CaptureFault, TooLarge, NextRead, Whole, End, CaptureFormat, units_per_second, RecordModel, CaptureReading, announced_length, bytes_asked_first, bytes_asked_for_records, capture_of_bytes, capture_by_format, captured_length, entry_in, fraction_field, records_from, records_after_skip, next_by, next_in, number_behind, size_in, format_by, format_in}
@@ -13,11 +13,11 @@ announced_any : (s : CaptureFormat) (n m : ℕ) (header : List ℕ) → announce
     ≡ announced_length (size_in s m header)
 announced_any s n m header = grind (arith, common_steps, nat_tests, cases_Bool)
 
--- the largest record is announced at most
+-- A header announces at most as many bytes as the largest record has.
 size_few : (s : CaptureFormat) (n : ℕ) (header : List ℕ) → announced_length (size_in s n header) ≤ LARGEST_RECORD
 size_few s n header = grind (arith, common_steps, nat_tests, cases_Bool, le-ltb)
 
--- WHAT A TEXT BEGINS WITH
+-- WHAT COMES FIRST IN A TEXT
 
 pub next_short : (s : CaptureFormat) (n : ℕ) (text : List ℕ) → length text < 16 → next_in s n text
     ≡ Ok (End (nat_lt 0 (length text)))
@@ -52,7 +52,7 @@ asked_least s text = grind (arith, common_steps, cases_lt, asked_short, asked_lo
 pub asked_most : (s : CaptureFormat) (text : List ℕ) → bytes_asked_first s text ≤ 262160
 asked_most s text = grind (arith, common_steps, nat_tests, asked_short, asked_long, size_few)
 
--- the cases
+-- The four cases of what comes first in a text.
 pub data FirstOf (s : CaptureFormat) (n : ℕ) (text : List ℕ) : Type 0 where
   is_short : length text < 16 → FirstOf s n text
   is_bad : (fault : CaptureFault) → 16 ≤ length text → size_in s n (take 16 text) ≡ Err fault → FirstOf s n text
@@ -74,14 +74,14 @@ first_of s n text = elim (cases_lt (length text) 16) [
   | inr long ↦ first_by s n text (size_in s n (take 16 text)) long refl
 ]
 
--- what is first, and so what is next
+-- The case of a text determines what comes next in it.
 pub ruleset firsts = (is_short, next_short, is_bad, next_fault, is_cut, next_cut, is_whole, next_whole)
 
 pub entry_size : (s : CaptureFormat) (text : List ℕ) (size : ℕ) → 16 + size ≤ length text →
     length (entry_in s size text).bytes ≡ size
 entry_size s text size whole = length-take-le size (drop 16 text) (omega (arith, length-drop 16 text, whole))
 
--- a whole record is in the text, and is what is asked for
+-- A whole record lies within the text, and its bytes are those that the reader asks for.
 record IsWhole (s : CaptureFormat) (n : ℕ) (text : List ℕ) (entry : RecordModel) : Type 0 where
   pub within : 16 + length entry.bytes ≤ length text
   pub asked : bytes_asked_first s text ≡ 16 + length entry.bytes
@@ -96,13 +96,15 @@ pub next_within_text : (s : CaptureFormat) (n : ℕ) (text : List ℕ) (entry : 
     16 + length entry.bytes ≤ length text
 next_within_text s n text entry is = (whole_of s n text entry (first_of s n text) is).within
 
-pub next_asked : (s : CaptureFormat) (n : ℕ) (text : List ℕ) (entry : RecordModel) → next_in s n text ≡ Ok (Whole entry) →
+pub next_asked : (s : CaptureFormat) (n : ℕ) (text : List ℕ) (entry : RecordModel) →
+    next_in s n text ≡ Ok (Whole entry) →
     bytes_asked_first s text ≡ 16 + length entry.bytes
 next_asked s n text entry is = (whole_of s n text entry (first_of s n text) is).asked
 
 -- ALL RECORDS
 
-skips : (s : CaptureFormat) (n skipped : ℕ) (text : List ℕ) → records_from s n skipped text ≡ records_from s n 0 (drop skipped text)
+skips : (s : CaptureFormat) (n skipped : ℕ) (text : List ℕ) →
+    records_from s n skipped text ≡ records_from s n 0 (drop skipped text)
 unfolding records_from
 skips s n zero [] = refl
 skips s n (suc skipped) [] = refl
@@ -114,7 +116,8 @@ with_first entry more = record { records = entry ∷ more.records; end = more.en
 
 pub held_record : (s : CaptureFormat) (n : ℕ) (text : List ℕ) (entry : RecordModel) →
     next_in s n text ≡ Ok (Whole entry) →
-    records_from s n 0 text ≡ with_first entry (records_from s (number_behind n) 0 (drop (16 + length entry.bytes) text))
+    records_from s n 0 text ≡ with_first entry (records_from s (number_behind n) 0
+    (drop (16 + length entry.bytes) text))
 unfolding records_from
 held_record s n [] entry is = absurd cc
 held_record s n (byte ∷ text) entry is =
@@ -128,16 +131,19 @@ pub held_end : (s : CaptureFormat) (n : ℕ) (text : List ℕ) (cut : Bool) → 
     records_from s n 0 text ≡ record { records = []; end = Ok cut }
 unfolding records_from
 held_end s n [] cut is = let same : Ok (End false) ≡ Ok (End cut) = is in cc
-held_end s n (byte ∷ text) cut is = ap (λ r. records_after_skip r (λ skipped. records_from s (number_behind n) skipped text)) is
+held_end s n (byte ∷ text) cut is = ap (λ r. records_after_skip r
+    (λ skipped. records_from s (number_behind n) skipped text)) is
 
 pub held_fault : (s : CaptureFormat) (n : ℕ) (text : List ℕ) (fault : CaptureFault) → next_in s n text ≡ Err fault →
     records_from s n 0 text ≡ record { records = []; end = Err fault }
 unfolding records_from
 held_fault s n [] fault is = absurd cc
-held_fault s n (byte ∷ text) fault is = ap (λ r. records_after_skip r (λ skipped. records_from s (number_behind n) skipped text)) is
+held_fault s n (byte ∷ text) fault is = ap (λ r. records_after_skip r
+    (λ skipped. records_from s (number_behind n) skipped text)) is
 
--- the records are no longer than the text
-records_by : (s : CaptureFormat) (n : ℕ) (text : List ℕ) (others : ℕ → CaptureReading) (next : Result NextRead CaptureFault) →
+-- The bytes of the records are no more than those of the text.
+records_by : (s : CaptureFormat) (n : ℕ) (text : List ℕ) (others : ℕ →
+    CaptureReading) (next : Result NextRead CaptureFault) →
     next_in s n text ≡ next
     → ((skipped : ℕ) → bytes_asked_for_records (others skipped).records ≤ (length text - 1) - skipped)
     → bytes_asked_for_records (records_after_skip next others).records ≤ length text
@@ -146,7 +152,8 @@ records_by s n text others (Err fault) is few = omega arith
 records_by s n text others (Ok (Whole entry)) is few =
     omega (arith, few (15 + length entry.bytes), next_within_text s n text entry is)
 
-pub records_within : (s : CaptureFormat) (n skipped : ℕ) (text : List ℕ) → bytes_asked_for_records (records_from s n skipped text).records
+pub records_within : (s : CaptureFormat) (n skipped : ℕ) (text : List ℕ) →
+    bytes_asked_for_records (records_from s n skipped text).records
     ≤ length text - skipped
 unfolding records_from
 records_within s n skipped [] = omega arith
@@ -158,7 +165,7 @@ records_within s n zero (byte ∷ text) =
     refl (λ skipped. omega (arith, few skipped)) in
     omega (arith, all)
 
--- NONE IS TOO LARGE
+-- NO FAULT IS `TooLarge`
 
 size_never : (s : CaptureFormat) (n : ℕ) (header : List ℕ) → size_in s n header ≡ Err TooLarge → ⊥
 size_never s n header is = grind (arith, common_steps, nat_tests, cases_Bool)
@@ -167,18 +174,21 @@ next_never : (s : CaptureFormat) (n : ℕ) (text : List ℕ) → FirstOf s n tex
 next_never s n text h k =
     grind (arith, common_steps, nat_tests, next_short, next_fault, size_never, next_cut, next_whole)
 
-held_by_never : (s : CaptureFormat) (n : ℕ) (text : List ℕ) (others : ℕ → CaptureReading) (next : Result NextRead CaptureFault)
+held_by_never : (s : CaptureFormat) (n : ℕ) (text : List ℕ) (others : ℕ →
+    CaptureReading) (next : Result NextRead CaptureFault)
     →
     next_in s n text ≡ next → ((skipped : ℕ) → (others skipped).end ≡ Err TooLarge → ⊥)
     → (records_after_skip next others).end ≡ Err TooLarge → ⊥
 held_by_never s n text others next h k g = grind (arith, common_steps, nat_tests, next_never)
 
-held_never : (s : CaptureFormat) (n skipped : ℕ) (text : List ℕ) → (records_from s n skipped text).end ≡ Err TooLarge → ⊥
+held_never : (s : CaptureFormat) (n skipped : ℕ) (text : List ℕ) →
+    (records_from s n skipped text).end ≡ Err TooLarge → ⊥
 unfolding records_from
 held_never s n skipped [] is = cc
 held_never s n (suc skipped) (byte ∷ text) is = held_never s n skipped text is
 held_never s n zero (byte ∷ text) is =
-    held_by_never s n (byte ∷ text) (λ skipped. records_from s (number_behind n) skipped text) (next_in s n (byte ∷ text)) refl
+    held_by_never s n (byte ∷ text) (λ skipped. records_from s (number_behind n) skipped text)
+    (next_in s n (byte ∷ text)) refl
     (λ skipped. held_never s (number_behind n) skipped text) is
 
 spelling_by_never : (header : List ℕ) (o : Option CaptureFormat) → format_by header o ≡ Err TooLarge → ⊥

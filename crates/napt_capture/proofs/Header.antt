@@ -1,4 +1,4 @@
--- The record that is next, from what two reads filled.
+-- The next record, by the bytes that two reads returned.
 use Rattle.std.proofs.lemmas.{Grind.common_steps, Bool.Decides.nat_tests}
 use Rattle.std.proofs.Common.{◌≡◌, ℕ, ◌+◌, ◌-◌, ◌<◌, ◌≤◌, List, length, take, drop, Result, Ok, Err, true, refl, sym, ◌∙◌, ap, arith, length-drop, length-take, drop-drop, drop_of_length-le, nat_lt, lt-ltb, le-ltb}
 use Rattle.napt_capture.specs.Prelude.{MOST_ASKED, CaptureFault, NoHeader, TooLarge, Whole, End, RecordHeader, CaptureFormat, bytes_asked_first, entry_in, next_in, size_in, format_in, HeaderShows, NextPost, next_within}
@@ -12,18 +12,19 @@ few_is : (s : CaptureFormat) (asked n : ℕ) (text : List ℕ) → asked + bytes
     next_within s asked n text ≡ next_in s n text
 few_is s asked n text few = rw (le-ltb MOST_ASKED (asked + bytes_asked_first s text) few) refl
 
--- nothing may be asked for
+-- No header may be asked for.
 pub next_none : (s : CaptureFormat) (asked n : ℕ) (text : List ℕ) → asked ≤ MOST_ASKED → MOST_ASKED < asked + 16 →
     NextPost s asked n (Err TooLarge) text text
 next_none s asked n text room large = grind (arith, common_steps, nat_tests, large_is, asked_least)
 
--- the header ends early
-pub next_early : (s : CaptureFormat) (asked n filled : ℕ) (buffer text left : List ℕ) → length buffer ≡ 16 → filled < 16 →
+-- The bytes end inside the header.
+pub next_early : (s : CaptureFormat) (asked n filled : ℕ) (buffer text left : List ℕ) → length buffer ≡ 16 →
+    filled < 16 →
     asked + 16 ≤ MOST_ASKED → Fills filled buffer text left → NextPost s asked n (Ok (End (nat_lt 0 filled))) text left
 next_early s asked n filled buffer text left size early room p =
     grind (arith, common_steps, nat_tests, asked_short, few_is, next_short, drop_of_length-le)
 
--- the header was read
+-- The header was read.
 pub record HeaderRead (header text left : List ℕ) : Type 0 where
   pub header_is : take 16 text ≡ header
   pub left_is : left ≡ drop 16 text
@@ -33,21 +34,21 @@ pub header_read : (filled : ℕ) (header text left : List ℕ) → length header
     Fills filled header text left → HeaderRead header text left
 header_read filled header text left size full p = grind (arith, common_steps, nat_tests, fills_all)
 
--- and has a fault
+-- The header has a fault.
 pub next_bad : (s : CaptureFormat) (asked n : ℕ) (header text left : List ℕ) (fault : CaptureFault) →
     asked + 16 ≤ MOST_ASKED → HeaderRead header text left → size_in s n header ≡ Err fault
     → NextPost s asked n (Err fault) text left
 next_bad s asked n header text left fault room p bad =
     grind (arith, common_steps, nat_tests, asked_long, few_is, next_fault, le-ltb)
 
--- and announces too much
+-- The header announces more bytes than may be asked for.
 pub next_large : (s : CaptureFormat) (asked n : ℕ) (header text left : List ℕ) (f : RecordHeader) →
     asked + 16 ≤ MOST_ASKED → MOST_ASKED < asked + (16 + f.captured) → HeaderRead header text left
     → HeaderShows s n header f → NextPost s asked n (Err TooLarge) text left
 next_large s asked n header text left f room large p fields =
     grind (arith, common_steps, nat_tests, asked_long, large_is, le-ltb)
 
--- the bytes end early
+-- The bytes end inside the record.
 pub next_part : (s : CaptureFormat) (asked n filled : ℕ) (header buffer text mid left : List ℕ) (f : RecordHeader) →
     asked + (16 + f.captured) ≤ MOST_ASKED → HeaderRead header text mid → HeaderShows s n header f
     → length buffer ≡ f.captured → filled < f.captured → Fills filled buffer mid left
@@ -74,8 +75,9 @@ next_part s asked n filled header buffer text mid left f room p fields size earl
           ) in few);
     }
 
--- the record is whole
-pub next_all : (s : CaptureFormat) (asked n filled : ℕ) (header buffer text mid left items : List ℕ) (f : RecordHeader) →
+-- The record is whole.
+pub next_all : (s : CaptureFormat) (asked n filled : ℕ) (header buffer text mid left items : List ℕ)
+    (f : RecordHeader) →
     asked + (16 + f.captured) ≤ MOST_ASKED → HeaderRead header text mid → HeaderShows s n header f
     → length buffer ≡ f.captured → f.captured ≤ filled → Fills filled buffer mid left → items ≡ buffer
     → NextPost s asked n (Ok (Whole (record { time = f.time; bytes = items; original = f.original }))) text left
@@ -100,7 +102,7 @@ next_all s asked n filled header buffer text mid left items f room p fields size
       takes = omega (arith, count);
     }
 
--- ---- the header of the file
+-- The header of the file.
 
 pub file_short : (filled : ℕ) (buffer bytes left : List ℕ) → length buffer ≡ 24 → filled < 24 →
     Fills filled buffer bytes left → (format_in (take 24 bytes) ≡ Err NoHeader) × (left ≡ drop 24 bytes)

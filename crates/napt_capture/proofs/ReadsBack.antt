@@ -1,11 +1,11 @@
--- What is written holds the records that were written.
+-- The text of some records has these records.
 use Rattle.std.{proofs.lemmas.{Grind.common_steps, Bool.Decides.nat_tests, List.Elements.{All-head, All-tail}}, specs.List.flat_map}
 use Rattle.std.proofs.Common.{◌≡◌, ℕ, ◌+◌, ◌/◌, ◌%◌, List, [], ◌∷◌, ◌++◌, length, take, drop, map, All, Ok, false, ap, ◌∙◌, arith, refl, append_assoc, length-append, take_at, drop_at, drop_of_length-le, sym, ◌≤◌, le-ltb}
 use Rattle.byteorder.specs.Numbers.{little_number-reads_back}
 use Rattle.napt_capture.specs.Prelude.{Little, Nanosecond, CaptureFormat, Whole, RecordModel, CaptureReading, bytes_asked_first, bytes_asked, bytes_asked_for_records, capture_of_bytes, capture_by_format, captured_length, contents_by, entry_in, fraction_field, records_from, next_in, number_behind, original_length, read_whole, size_in, format_in, time_of, long_number, IsWritable, as_written, file_header, record_header, record_text, text, MOST_ASKED}
 use Rattle.napt_capture.proofs.{WholeReading.{asked_all, asked_is}, FileContents.{held_record, next_whole, size_good, with_first}}
 
--- nanoseconds in little-endian order
+-- The format of what is written: little-endian order, nanoseconds.
 abbrev pub written_spelling : CaptureFormat
 written_spelling = record { order = Little; unit = Nanosecond }
 
@@ -47,7 +47,7 @@ size_in-written : (n : ℕ) (r : RecordModel) → IsWritable r → size_in writt
     ≡ Ok (length r.bytes)
 size_in-written n r h = grind (arith, common_steps, size_good, fraction_of-written, captured_of-written)
 
--- the text of a record begins with it
+-- The record comes first in its own text.
 next_in-written : (n : ℕ) (r : RecordModel) (more : List ℕ) → IsWritable r →
     next_in written_spelling n (record_header r ++ (r.bytes ++ more)) ≡ Ok (Whole (as_written r))
 next_in-written n r more h =
@@ -95,10 +95,11 @@ captured_text rs h =
     let header : take 24 (text rs) ≡ file_header = take_at file_header more 24 length-file_header in
     let behind : drop 24 (text rs) ≡ more = drop_at file_header more 24 length-file_header in
     ap (λ l. capture_by_format (format_in l) (drop 24 (text rs))) header
-    ∙ ap (λ s. capture_by_format s (drop 24 (text rs))) spelling_in-written ∙ ap (records_from written_spelling 1 0) behind
+    ∙ ap (λ s. capture_by_format s (drop 24 (text rs))) spelling_in-written
+    ∙ ap (records_from written_spelling 1 0) behind
     ∙ held-written 1 rs h
 
--- READ WHOLE
+-- READING THE WHOLE TEXT
 
 asked-written : (rs : List RecordModel) → bytes_asked_for_records (map as_written rs) ≡ length (flat_map record_text rs)
 unfolding record_text

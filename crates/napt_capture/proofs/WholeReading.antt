@@ -1,11 +1,11 @@
--- A capture that is read whole: how far reading has come, and what it comes to.
+-- Reading a whole capture: the records and the count of bytes after each step, and the result.
 use Rattle.std.proofs.lemmas.{Grind.common_steps, Bool.{Decides.nat_tests, cases_lt, lt-ltb, le-ltb}}
 use Rattle.std.proofs.Common.{◌≡◌, ℕ, ◌+◌, ◌^◌, ◌<◌, ◌≤◌, min, inl, inr, Bool, true, List, [], ◌∷◌, ◌++◌, length, take, drop, Option, Result, Ok, Err, refl, sym, ◌∙◌, ap, subst, arith, append-nil, append_assoc, length-append, length-drop, drop-drop, IfSome, nat_lt}
 use Rattle.napt_capture.specs.Prelude.{MOST_ASKED, CaptureFault, TooLarge, Memory, NextRead, Whole, End, CaptureFormat, RecordModel, CaptureModel, CaptureReading, bytes_asked_by, bytes_asked_first, bytes_asked, bytes_asked_for_records, capture_of_bytes, capture_by_format, contents_by, entry_in, records_from, next_in, number_behind, read_whole, format_in, LeavesBytes, IsForRecords, LeavesRest, NextPost, ReadCapturePost, IsReadResult, NextErr, TakesAtMost, TakesMemory, next_within}
 use Rattle.napt_capture.proofs.FillSteps.{Gives-both, Gives-map, Says-err}
 use Rattle.napt_capture.proofs.FileContents.{FirstOf, asked_least, asked_most, first_of, held_end, held_fault, held_record, is_bad, is_cut, is_short, is_whole, next_asked, next_cut, next_fault, next_short, next_whole, records_within}
 
--- ---- how much is asked for
+-- THE BYTES ASKED FOR
 
 abbrev pub asked_all : CaptureFormat → List ℕ → List RecordModel → ℕ
 asked_all s bytes records =
@@ -20,14 +20,15 @@ captured_is : (s : CaptureFormat) (bytes : List ℕ) → format_in (take 24 byte
     ≡ records_from s 1 0 (drop 24 bytes)
 captured_is s bytes is = ap (λ r. capture_by_format r (drop 24 bytes)) is
 
-pub asked_joined : (xs ys : List RecordModel) → bytes_asked_for_records (xs ++ ys) ≡ bytes_asked_for_records xs + bytes_asked_for_records ys
+pub asked_joined : (xs ys : List RecordModel) → bytes_asked_for_records (xs ++ ys) ≡ bytes_asked_for_records xs
+    + bytes_asked_for_records ys
 asked_joined [] ys = omega arith
 asked_joined (x ∷ xs) ys = omega (arith, asked_joined xs ys)
 
 refused_asks : (bytes : List ℕ) (fault : CaptureFault) → format_in (take 24 bytes) ≡ Err fault → bytes_asked bytes ≡ 24
 refused_asks bytes fault is = ap (λ r. bytes_asked_by r bytes) is
 
--- no short file is too large
+-- A short file is not too large.
 short_asks : (bytes : List ℕ) (r : Result CaptureFormat CaptureFault) → format_in (take 24 bytes) ≡ r →
     length bytes ≤ 68719214576 → bytes_asked bytes ≤ MOST_ASKED
 short_asks bytes (Err fault) is short = omega (arith, refused_asks bytes fault is)
@@ -48,22 +49,23 @@ pub read_short : (bytes : List ℕ) → length bytes ≤ 68719214576 → read_wh
 read_short bytes short =
     rw (le-ltb MOST_ASKED (bytes_asked bytes) (short_asks bytes (format_in (take 24 bytes)) refl short)) refl
 
--- ---- how far it has come
+-- AFTER SOME RECORDS
 
 abbrev joined : List RecordModel → CaptureReading → CaptureReading
 joined records more = record { records = records ++ more.records; end = more.end }
 
--- these records were read, and so much was asked for
+-- The bytes left after these records were read and `asked` bytes were asked for.
 pub record Progress (s : CaptureFormat) (records : List RecordModel) (asked : ℕ) (bytes left : List ℕ) : Type 0 where
   pub spelled : format_in (take 24 bytes) ≡ Ok s
   pub left_is : left ≡ drop asked bytes
   pub held_is : records_from s 1 0 (drop 24 bytes) ≡ joined records (records_from s (length records + 1) 0 left)
 
-pub Progress-start : (s : CaptureFormat) (bytes left : List ℕ) → format_in (take 24 bytes) ≡ Ok s → left ≡ drop 24 bytes →
+pub Progress-start : (s : CaptureFormat) (bytes left : List ℕ) → format_in (take 24 bytes) ≡ Ok s →
+    left ≡ drop 24 bytes →
     Progress s [] 24 bytes left
 Progress-start s bytes left is left_is = grind (arith, common_steps, nat_tests)
 
--- where it is not too large
+-- Within the limit the result is what comes next.
 within_is : (s : CaptureFormat) (asked n : ℕ) (text : List ℕ) (result : Result NextRead CaptureFault) →
     asked + bytes_asked_first s text ≤ MOST_ASKED → next_within s asked n text ≡ result → next_in s n text ≡ result
 within_is s asked n text result few is = sym (rw (le-ltb MOST_ASKED (asked + bytes_asked_first s text) few) refl) ∙ is
@@ -95,19 +97,20 @@ Progress-more s records asked bytes text left entry few p q =
       held_is = p.held_is ∙ ap (joined records) (held_record s (length records + 1) text entry next)
           ∙ ap (λ l. record { records = l; end = more.end }) (sym (append_assoc records (entry ∷ []) more.records))
           ∙ ap (λ n. joined (records ++ entry ∷ []) (records_from s n 0 (drop (16 + length entry.bytes) text))) number
-          ∙ ap (λ l. joined (records ++ entry ∷ []) (records_from s (length (records ++ entry ∷ []) + 1) 0 l)) (sym left_is);
+          ∙ ap (λ l. joined (records ++ entry ∷ []) (records_from s (length (records ++ entry ∷ []) + 1) 0 l))
+          (sym left_is);
     }
 
--- ---- at its end
+-- AT THE END
 
--- where no record is left, what is next is the last that is asked for
+-- If no record is left, what comes next is the last thing asked for.
 asked_last : (s : CaptureFormat) (text : List ℕ) (records more : List RecordModel) (asked : ℕ) (bytes : List ℕ) →
     more ≡ [] →
     asked ≡ 24 + bytes_asked_for_records records → text ≡ drop asked bytes
     → asked_all s bytes (records ++ more) ≡ asked + bytes_asked_first s text
 asked_last s text records more asked bytes none counted left_is = grind (arith, common_steps, append-nil)
 
--- else more is
+-- Otherwise the reader asks for at least as much.
 least_by : (s : CaptureFormat) (n : ℕ) (text : List ℕ) (records : List RecordModel) (asked : ℕ) (bytes : List ℕ) →
     FirstOf s n text → asked ≡ 24 + bytes_asked_for_records records → text ≡ drop asked bytes
     → asked + bytes_asked_first s text ≤ asked_all s bytes (records ++ (records_from s n 0 text).records)
@@ -163,10 +166,11 @@ asked_more s records asked bytes text counted p =
       least_by s n text records asked bytes (first_of s n text) counted p.left_is,
     )
 
--- where no record is left, and it is not too large
+-- The result, if no record is left and the limit is not exceeded.
 read_last : (s : CaptureFormat) (records : List RecordModel) (asked : ℕ) (bytes text : List ℕ)
     (end : Result Bool CaptureFault) →
-    asked ≡ 24 + bytes_asked_for_records records → Progress s records asked bytes text → asked + bytes_asked_first s text ≤ MOST_ASKED
+    asked ≡ 24 + bytes_asked_for_records records → Progress s records asked bytes text →
+    asked + bytes_asked_first s text ≤ MOST_ASKED
     → records_from s (length records + 1) 0 text ≡ record { records = []; end = end }
     → read_whole bytes ≡ contents_by records end
 read_last s records asked bytes text end counted p few none =
@@ -207,14 +211,15 @@ read_fault s records asked bytes text left fault counted p q =
 takes : (s : CaptureFormat) (records : List RecordModel) (asked : ℕ) (bytes text left : List ℕ)
     (result : Result NextRead CaptureFault)
     → asked ≡ 24 + bytes_asked_for_records records → Progress s records asked bytes text
-    → NextPost s asked (length records + 1) result text left → TakesAtMost (min MOST_ASKED (bytes_asked bytes)) bytes left
+    → NextPost s asked (length records + 1) result text left →
+    TakesAtMost (min MOST_ASKED (bytes_asked bytes)) bytes left
 takes s records asked bytes text left result counted p q = (
   asked + q.taken,
   omega (arith, q.room, q.within, asked_more s records asked bytes text counted p),
   q.left_is ∙ ap (drop q.taken) p.left_is ∙ drop-drop q.taken asked bytes,
 )
 
--- where it stopped
+-- What is left after a fault.
 stops_behind : (s : CaptureFormat) (records : List RecordModel) (asked : ℕ) (bytes text left : List ℕ)
     (fault : CaptureFault) →
     asked ≡ 24 + bytes_asked_for_records records → Progress s records asked bytes text
@@ -234,7 +239,7 @@ stops_behind s records asked bytes text left fault counted p q =
           ∙ ap (λ k. drop (asked + k) bytes) q.takes;
     }
 
--- ---- of a reader
+-- THE STEPS OF A READER
 
 module _ (s : CaptureFormat) (records : List RecordModel) (asked number : ℕ)
     (counted : asked ≡ 24 + bytes_asked_for_records records)
@@ -291,12 +296,13 @@ refuses old new fault says =
     let asks = refused_asks bytes fault p.0 in
     record {
       is = rw (le-ltb MOST_ASKED (bytes_asked bytes) (omega (arith, asks)))
-          (ap (λ r. contents_by (capture_by_format r (drop 24 bytes)).records (capture_by_format r (drop 24 bytes)).end) p.0);
+          (ap (λ r. contents_by (capture_by_format r (drop 24 bytes)).records
+          (capture_by_format r (drop 24 bytes)).end) p.0);
       takes = (24, omega (arith, asks), p.1);
       leaves = subst (λ r. LeavesRest (Err fault) r bytes left) (sym p.0) p.1;
     })) says
 
--- MEMORY, where behind so many bytes that were asked for there is the header of a record
+-- A refusal of memory is for a record, whose header follows at least 24 bytes of the file.
 
 pub for_records : (s : CaptureFormat) (records : List RecordModel) (asked : ℕ) (first now : Option (List ℕ)) →
     24 ≤ asked →
@@ -305,7 +311,7 @@ pub for_records : (s : CaptureFormat) (records : List RecordModel) (asked : ℕ)
     IfSome now (λ bytes. 16 ≤ length bytes)) → IsForRecords first fault
 for_records s records asked first now h k fault g = grind (arith, common_steps, nat_tests, length-drop)
 
--- and none is taken for the header of the file
+-- A fault of the file header is never a refusal of memory.
 pub header_refused : (known : Option (List ℕ)) (fault : CaptureFault) →
     ((let r : Result CaptureFormat CaptureFault = Err fault in r ≡ Err Memory) → ⊥) → IsForRecords known fault
 header_refused known fault h = grind (arith, common_steps, nat_tests)

@@ -1,10 +1,10 @@
--- The four spellings of a capture file (pcap-savefile(5), "magic number").
+-- The four formats of a capture file: two byte orders and two time units (pcap-savefile(5), "magic number").
 use Rattle.std.specs.Prelude.{ℕ, List, Option, Some, None, ◌==◌, if◌then◌else◌}
 use Rattle.byteorder.specs.Endian.{big_number, little_number}
 use Rattle.napt_capture.specs.declared.capture_format.{NumberOrder.{NumberOrder, TheVariants.{Little, Big}}, FractionUnit.{FractionUnit as TimeUnit, TheVariants.{Microsecond, Nanosecond}}}
 use Rattle.napt_capture.specs.declared.capture_format.CaptureFormat.{CaptureFormat}
 
--- what the first four bytes show, read as a number with its highest byte first
+-- The format that the magic shows, which is the first four bytes as a big-endian number, if it is a known one.
 abbrev pub format_of_magic : ℕ → Option CaptureFormat
 format_of_magic magic =
     if magic == 0xd4c3b2a1 then Some (record { order = Little; unit = Microsecond })
@@ -17,11 +17,11 @@ abbrev pub number_by : NumberOrder → ℕ → List ℕ → ℕ
 number_by Little n bytes = little_number n bytes
 number_by Big n bytes = big_number n bytes
 
--- the number of the four bytes at the front
+-- The 32-bit number in the first four bytes, in the byte order of the format.
 abbrev pub long_number : CaptureFormat → List ℕ → ℕ
 long_number s bytes = number_by s.order 4 bytes
 
--- the number of the two bytes at the front
+-- The 16-bit number in the first two bytes, in the byte order of the format.
 abbrev pub short_number : CaptureFormat → List ℕ → ℕ
 short_number s bytes = number_by s.order 2 bytes
 
@@ -29,11 +29,11 @@ abbrev pub units_in_second : TimeUnit → ℕ
 units_in_second Microsecond = 1000000
 units_in_second Nanosecond = 1000000000
 
--- how many units of a fraction make a second
+-- The number of units of the fraction field in a second.
 abbrev pub units_per_second : CaptureFormat → ℕ
 units_per_second s = units_in_second s.unit
 
--- how many nanoseconds a unit is
+-- The number of nanoseconds in a unit.
 abbrev pub nanoseconds_per_unit : TimeUnit → ℕ
 nanoseconds_per_unit Microsecond = 1000
 nanoseconds_per_unit Nanosecond = 1

@@ -1,11 +1,11 @@
--- What contracts see of devices in place of those that nobody gave.
+-- What contracts see of the devices that replace missing inputs and outputs.
 use Rattle.std.specs.Prelude.{ℕ, Bool, List, drop}
 use Rattle.napt_capture.specs.{Text.file_header, declared.empty_devices.{EmptySource.EmptySource, NullSink.NullSink}}
 
--- the bytes that reads of the capture will give
+-- The bytes that reads of the empty capture will return.
 abbrev pub bytes_left : EmptySource → List ℕ
 bytes_left capture = drop capture.taken file_header
 
--- nothing was written since the last flush
+-- Whether nothing was written since the last flush, or at all.
 abbrev pub flushed_of : NullSink → Bool
 flushed_of nowhere = nowhere.is_flushed

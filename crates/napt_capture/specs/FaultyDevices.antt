@@ -1,33 +1,33 @@
--- What contracts see of a device one of whose calls goes wrong.
+-- What contracts see of a device with an injected fault.
 use Rattle.std.specs.Prelude.{◌≡◌, ℕ, ◌-◌, ◌==◌, List, Option, Some, None, Result, Ok, OnOk, if◌then◌else◌}
 use Rattle.napt_capture.specs.declared.faulty_device.{Faulty.Faulty, FaultPlan.FaultPlan, InjectedFault.{InjectedFault, TheVariants.{Fails, TakesNone}}}
 
--- the device itself
+-- The underlying device.
 abbrev pub device_of : {D : Type 0} → Faulty D → D
 device_of f = f.device
 
--- what is ahead
+-- The plan for the calls to come.
 abbrev pub plan_of : {D : Type 0} → Faulty D → FaultPlan
 plan_of f = f.plan
 
--- how many of its own calls failed, beside those that failed in the device
+-- The number of failed calls that the plan caused, without those that failed in the underlying device.
 abbrev pub own_failed : {D : Type 0} → Faulty D → ℕ
 own_failed f = f.failed
 
--- what goes wrong at the next call
+-- The fault that the next call meets, if it meets one.
 abbrev pub trouble_of : FaultPlan → Option InjectedFault
 trouble_of plan = if plan.call == 1 then Some plan.trouble else None
 
--- a read or a write fails, or moves none
+-- A read or a write fails, or returns 0, as the injected fault says.
 abbrev pub GoesWrong : {E : Type 0} → InjectedFault → Result ℕ E → Type 0
 GoesWrong Fails result = OnOk result ⊥
 GoesWrong TakesNone result = result ≡ Ok 0
 
--- the plan behind it
+-- The plan after one more call.
 abbrev pub after_a_call : FaultPlan → FaultPlan
 after_a_call plan = record plan { call = plan.call - 1 }
 
--- Where a read is to answer 0 before the end, it is not known what reads give.
+-- The bytes that reads will return, if known. They are not known if a read may return 0 before the end.
 abbrev pub faulty_known_bytes : InjectedFault → Option (List ℕ) → Option (List ℕ)
 faulty_known_bytes Fails known = known
 faulty_known_bytes TakesNone known = None

@@ -1,14 +1,14 @@
--- What a writer does that puts a text behind what it wrote before.
+-- What a writer does that appends a text to what it wrote before.
 use Rattle.std.specs.{Prelude.{ℕ, ◌+◌, ◌≤◌, ◌≡◌, List, length, take, Option, Result, Ok, Err}, Io.KnownBytes.Appends}
 use Rattle.napt_capture.specs.declared.fault.WriteFault.{WriteFault}
 
--- A writer whose bytes were old, and are new, took all of this text when so many bytes were written, and so
--- many are written now.
+-- All of the text was appended, where `old` and `new` are the bytes of the writer, if known. `before` bytes were
+-- written earlier, and `written` are written now.
 pub record PutOk (before : ℕ) (old new : Option (List ℕ)) (text : List ℕ) (written : ℕ) : Type 0 where
   pub counted : written ≡ before + length text
   pub appended : Appends old new text
 
--- It took only a front, and the fault says how much is written.
+-- Only the first bytes of the text were appended, and the fault has the number of bytes written in all.
 pub record PutErr (before : ℕ) (old new : Option (List ℕ)) (text : List ℕ) (fault : WriteFault) : Type 0 where
   pub taken : ℕ
   pub within : taken ≤ length text

@@ -1,24 +1,24 @@
-//! How a capture file spells its numbers and times.
+//! The byte order and the time unit of a capture file.
 ghost use Rattle.std.specs.Prelude.{◌≡◌, ◌≤◌, ◌<◌, ◌*◌, length};
 ghost use Rattle.napt_capture.specs.CaptureFormats.{format_of_magic, long_number, short_number, units_per_second, nanoseconds_per_unit};
 
 use byteorder::{BigEndian, ByteOrder, LittleEndian};
 
-/// The byte order of each number.
+/// The byte order of the numbers.
 #[derive(Clone, Copy)]
 pub(crate) enum NumberOrder {
     Little,
     Big,
 }
 
-/// The unit of a fraction of a second.
+/// The unit of the fraction of a second.
 #[derive(Clone, Copy)]
 pub(crate) enum FractionUnit {
     Microsecond,
     Nanosecond,
 }
 
-/// One of the four spellings of a capture file.
+/// One of the four formats of a capture file (pcap-savefile(5)).
 #[derive(Clone, Copy)]
 pub(crate) struct CaptureFormat {
     pub(crate) order: NumberOrder,
@@ -26,7 +26,7 @@ pub(crate) struct CaptureFormat {
 }
 
 impl CaptureFormat {
-    /// The spelling that a file's first four bytes show, read as a big-endian number.
+    /// Returns the format for a magic, read as a big-endian number, if it is a known one.
     pub(crate) fn from_magic(magic: u32) -> Option<CaptureFormat>
         ensures { result ≡ format_of_magic magic }
     {
@@ -40,7 +40,7 @@ impl CaptureFormat {
         Some(CaptureFormat { order, unit })
     }
 
-    /// The number in the first four bytes.
+    /// Returns the 32-bit number in the first four bytes.
     pub(crate) fn long(self, bytes: &[u8]) -> u32
         requires { 4 ≤ length bytes.now }
         ensures { result ≡ long_number self bytes.now }
@@ -51,7 +51,7 @@ impl CaptureFormat {
         }
     }
 
-    /// The number in the first two bytes.
+    /// Returns the 16-bit number in the first two bytes.
     pub(crate) fn short(self, bytes: &[u8]) -> u16
         requires { 2 ≤ length bytes.now }
         ensures { result ≡ short_number self bytes.now }
@@ -62,7 +62,7 @@ impl CaptureFormat {
         }
     }
 
-    /// How many units of a fraction make a second.
+    /// Returns the number of units of the fraction field in a second.
     pub(crate) fn units_per_second(self) -> u32
         ensures { result ≡ units_per_second self }
     {
@@ -72,7 +72,7 @@ impl CaptureFormat {
         }
     }
 
-    /// A fraction in nanoseconds.
+    /// Converts a fraction to nanoseconds.
     pub(crate) fn nanoseconds(self, fraction: u32) -> u64
         ensures value { result ≡ fraction * nanoseconds_per_unit self.unit }
         ensures within { fraction < units_per_second self → result < 1000000000 }

@@ -1,4 +1,4 @@
-//! How far a text is written.
+//! Writing a text and counting its bytes.
 ghost use Rattle.std.specs.{Prelude.{◌≡◌, ◌+◌, ◌-◌, ◌^◌, ◌<◌, length, OnOk, IfErr}, Io.KnownBytes.Keeps};
 ghost use Rattle.napt_capture.specs.{Device.failed_calls, Text.{IsWritable, entry_of_packet, file_header, record_header as header_of, record_text}};
 ghost use Rattle.napt_capture.specs.Writing.{PutPost};
@@ -8,15 +8,15 @@ use crate::fault::WriteFault;
 use byteorder::{ByteOrder, LittleEndian};
 use std::marker::Model;
 
-/// The header of every file written: nanoseconds, version 2.4, zone 0, significant figures 0, snapshot length 262,144,
-/// link type 101 (raw IP), in little-endian order.
+/// The header of every file written, in little-endian order: nanoseconds, version 2.4, zone 0,
+/// significant figures 0, snapshot length 262,144, link type 101 (raw IP).
 pub(crate) const FILE_HEADER: [u8; 24] = [
     0x4d, 0x3c, 0xb2, 0xa1, 2, 0, 4, 0, 0, 0, 0, 0, 0, 0, 0, 0, 0, 0, 4, 0, 101, 0, 0, 0,
 ];
 
-/// How many bytes of a text are written to a [`Sink`]. A capture is written by [`CaptureWriter::create`], [`CaptureWriter::record`]
-/// for each packet and [`CaptureWriter::finish`], which take no memory. If one of them fails, what it wrote of its part and
-/// all before it is written, and the fault counts those bytes.
+/// The number of bytes written to a [`Sink`]. To write a capture, call [`CaptureWriter::create`],
+/// [`CaptureWriter::record`] for each packet and [`CaptureWriter::finish`]; none allocates. If one
+/// fails, its part may be written up to some byte, and the fault counts all bytes written.
 #[derive(Debug, Drop)]
 pub struct CaptureWriter {
     bytes: u64,
@@ -31,14 +31,14 @@ impl Model for CaptureWriter {
 }
 
 impl CaptureWriter {
-    /// Nothing is written.
+    /// Returns a writer that has written nothing.
     pub fn nothing() -> CaptureWriter
         ensures { result ≡ 0 }
     {
         CaptureWriter { bytes: 0 }
     }
 
-    /// How many bytes are written.
+    /// Returns the number of bytes written.
     pub fn bytes(&self) -> u64
         ensures { result ≡ self.now }
     {
@@ -55,7 +55,7 @@ impl CaptureWriter {
         CaptureWriter::nothing().write_record(writer, &FILE_HEADER)
     }
 
-    /// Writes the record of a whole packet that arrived at `time`, in ns since 1970-01-01 00:00:00 UTC.
+    /// Writes the record of a whole packet; `time` is in ns since 1970-01-01 00:00:00 UTC.
     #[tactic(auto, unfolding(crate::specs::Text::record_text))]
     #[inline(always)]
     pub fn record<W: Sink>(
@@ -75,7 +75,7 @@ impl CaptureWriter {
         written.write_record(writer, bytes)
     }
 
-    /// Flushes what is written.
+    /// Flushes the writer. A fault counts the bytes written before.
     pub fn finish<W: Sink>(self, writer: &mut W) -> Result<(), WriteFault>
         requires { W.failed writer.old < 2 ^ 64 - 1 }
         ensures bytes { Keeps (W.contents writer.old) (W.contents writer.new) }
@@ -91,7 +91,7 @@ impl CaptureWriter {
         }
     }
 
-    /// Appends these bytes to what is written. Most devices take all at once.
+    /// Writes these bytes after those written before. Most devices accept all of them in one call.
     #[inline(always)]
     pub(crate) fn write_record<W: Sink>(
         self,
@@ -121,7 +121,7 @@ impl CaptureWriter {
         written.write_rest(writer, &bytes[count..])
     }
 
-    /// The same, in as many writes as it takes.
+    /// Writes these bytes in as many calls as it takes.
     #[inline(never)]
     fn write_rest<W: Sink>(self, writer: &mut W, bytes: &[u8]) -> Result<CaptureWriter, WriteFault>
         requires can_fail { W.failed writer.old < 2 ^ 64 - 1 }
@@ -146,7 +146,7 @@ impl CaptureWriter {
     }
 }
 
-/// Seconds, nanoseconds, and the number of bytes, twice.
+/// Returns the header of a record: seconds, nanoseconds, and the number of bytes twice.
 #[tactic(auto, unfolding(crate::specs::Text::record_header))]
 #[inline(always)]
 fn record_header(time: u64, bytes: &[u8]) -> [u8; 16]

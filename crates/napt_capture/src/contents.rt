@@ -1,15 +1,15 @@
-//! What a capture holds.
+//! The contents of a capture file.
 
 use std::marker::Model;
 
-/// One captured packet.
+/// A captured packet.
 #[derive(Debug, Drop)]
 pub struct Record {
-    /// When the packet arrived, in nanoseconds since 1970-01-01 00:00:00 UTC.
+    /// The arrival time of the packet, in nanoseconds since 1970-01-01 00:00:00 UTC.
     pub time: u64,
     /// The bytes that were captured.
     pub bytes: Vec<u8>,
-    /// How many bytes the packet had on its link, as the file says. It isn't compared with `bytes`.
+    /// The length of the packet in bytes as the file gives it. It is not compared with `bytes`.
     pub original: u32,
 }
 
@@ -21,11 +21,11 @@ impl Model for Record {
     ghost view = { λ r. record { time = r.time; bytes = r.bytes.items; original = r.original } };
 }
 
-/// The records of a capture file, in the order of the file.
+/// The records of a capture file, in file order.
 #[derive(Debug, Drop)]
 pub struct Capture {
     pub records: Vec<Record>,
-    /// Whether the file ends inside a record. That record is not among the records.
+    /// Whether the file ends inside a record. That record is not in `records`.
     pub cut: bool,
 }
 

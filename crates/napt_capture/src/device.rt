@@ -1,5 +1,5 @@
-//! The devices that captures are read from and written to. They behave like std's readers and writers, and
-//! count their failed calls in a number that contracts see.
+//! The devices that captures are read from and written to. They behave like std's readers and
+//! writers, and have a ghost count of their failed calls.
 ghost use Rattle.std.specs.{Prelude.{◌≡◌, ℕ, ◌+◌, ◌-◌, ◌^◌, ◌<◌, List, Option, IfOk, OnOk, OnErr}, Io.{ReadsAtMost, WritesAtMost}};
 ghost use Rattle.std.specs.Io.KnownBytes.{Keeps, ReadConsumes, WriteAppends};
 ghost use Rattle.napt_capture.specs.Device.{failed_calls, failed_writes};
@@ -7,7 +7,7 @@ ghost use Rattle.napt_capture.specs.Device.{failed_calls, failed_writes};
 use std::error::Error;
 use std::fmt;
 
-/// A device refused a call. Its error is not kept.
+/// The error of a device call that failed. The cause is not stored.
 #[derive(Clone, Copy, Debug, PartialEq, Eq)]
 pub struct DeviceFault;
 
@@ -23,16 +23,16 @@ impl fmt::Display for DeviceFault {
 
 impl Error for DeviceFault {}
 
-/// What captures are read from.
+/// A device that captures are read from.
 pub trait Source {
     // The bytes that reads will return from here on, if known.
     ghost remaining: { Self → Option (List ℕ) };
 
-    // How many reads failed.
+    // The number of reads that failed.
     ghost failed: { Self → ℕ };
 
-    /// Reads the next bytes into the front of the buffer, and returns how many: 0 only at the end, or if
-    /// the buffer has no room. A failed read takes none, and is counted; an interrupted read fails too.
+    /// Reads the next bytes into the front of the buffer and returns their number: 0 only at the
+    /// end or for an empty buffer. A failed or interrupted read consumes nothing and is counted.
     fn read(&mut self, buffer: &mut [u8]) -> Result<usize, DeviceFault>
         requires { failed self.old < 2 ^ 64 - 1 }
         ensures bound { ReadsAtMost result buffer.new }
@@ -40,19 +40,19 @@ pub trait Source {
         ensures count { failed self.new ≡ failed self.old + failed_calls result };
 }
 
-/// What captures are written to.
+/// A device that captures are written to.
 pub trait Sink {
     // The bytes written so far, if known.
     ghost contents: { Self → Option (List ℕ) };
 
-    // How many writes and flushes failed.
+    // The number of writes and flushes that failed.
     ghost failed: { Self → ℕ };
 
     // A flush succeeded, and nothing was written since.
     ghost is_flushed: { Self → Type 0 };
 
-    /// Writes some bytes from the front, and returns how many; if any, they are not flushed yet. A failed
-    /// write writes none. It is counted, and so is a write of some bytes that returns 0.
+    /// Writes some bytes from the front and returns their number; they are not flushed yet. A
+    /// failed write writes nothing. It is counted, and so is a return of 0 for a non-empty slice.
     fn write(&mut self, bytes: &[u8]) -> Result<usize, DeviceFault>
         requires { failed self.old < 2 ^ 64 - 1 }
         ensures bound { WritesAtMost result bytes.now }
@@ -61,7 +61,7 @@ pub trait Sink {
         ensures held { is_flushed self.new → is_flushed self.old }
         ensures count { failed self.new ≡ failed self.old + failed_writes result bytes.now };
 
-    /// Passes on what was written and is still buffered. A failed flush makes nothing flushed.
+    /// Flushes buffered bytes. If this fails, the sink is flushed only if it was before.
     fn flush(&mut self) -> Result<(), DeviceFault>
         requires { failed self.old < 2 ^ 64 - 1 }
         ensures bytes { Keeps (contents self.old) (contents self.new) }

@@ -1,4 +1,4 @@
-//! One of two devices.
+//! An `Either` of two devices as a device. Each call goes to the one that it has.
 ghost use Rattle.either.specs.Either.{MatchEither, either};
 
 use crate::device::{DeviceFault, Sink, Source};

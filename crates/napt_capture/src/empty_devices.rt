@@ -1,14 +1,14 @@
-//! Devices in place of those that nobody gave.
+//! Devices that replace missing inputs and outputs.
 ghost use Rattle.std.specs.Prelude.{◌≤◌};
 
 use crate::capture_writer::FILE_HEADER;
 use crate::device::{DeviceFault, Sink, Source};
 use std::io::Read;
 
-/// A capture without packets, in place of one that was not given: the 24 bytes of a header. Reading it never fails.
+/// A capture without packets, for a missing input: the 24 bytes of a header. Reads never fail.
 #[derive(Drop)]
 pub struct EmptySource {
-    /// How many bytes of the header were read.
+    /// The number of header bytes that were read.
     taken: usize,
     ghost within: { taken ≤ 24 },
 }
@@ -19,7 +19,7 @@ impl EmptySource {
     ghost use Rattle.napt_capture.specs.Capture.{capture_of_bytes, read_whole};
     ghost use Rattle.napt_capture.specs.Text.{file_header};
 
-    /// Before anything is read.
+    /// Returns an empty capture of which nothing was read.
     #[tactic(auto, unfolding(crate::specs::Text::file_header))]
     pub fn new() -> EmptySource
         ensures header { bytes_left result ≡ file_header }
@@ -51,14 +51,14 @@ impl Source for EmptySource {
     }
 }
 
-/// In place of an output that nobody asked for: discards everything, and never fails.
+/// A sink for an output that is not wanted: it discards all bytes and never fails.
 #[derive(Drop)]
 pub struct NullSink {
     is_flushed: bool,
 }
 
 impl NullSink {
-    /// Before anything is written.
+    /// Returns a sink to which nothing was written. It counts as flushed.
     pub fn new() -> NullSink {
         NullSink { is_flushed: true }
     }

@@ -1,4 +1,4 @@
-//! Why a capture could not be read or written.
+//! The reasons for which a capture cannot be read or written.
 
 ghost use Rattle.std.specs.Prelude.{◌≡◌};
 ghost use Rattle.napt_capture.specs.declared.fault.CaptureFault.TheVariants.{Read, Memory};
@@ -9,14 +9,14 @@ use std::alloc::{AllocError, AllocFailed};
 use std::{error, fmt};
 use thiserror::Error;
 
-/// Why a capture could not be read: the first fault in the file. Records are numbered from 1. A
-/// record's fraction is checked before its length, and both before its bytes, which may be cut off.
+/// Why a capture cannot be read: its first fault. Records are numbered from 1. The fraction of a
+/// record is checked before its length, and both before its bytes, which may be cut off.
 #[derive(Clone, Copy, Debug, PartialEq, Eq, Error)]
 pub enum CaptureFault {
     /// The file has fewer than 24 bytes.
     #[error("the file is shorter than the 24 bytes of a capture's header")]
     NoHeader,
-    /// The first four bytes are none of the four magics.
+    /// The first four bytes are none of the four known magics.
     #[error("the file does not begin as a capture of microseconds or nanoseconds does")]
     BadMagic,
     /// The version is not 2.4.
@@ -25,19 +25,19 @@ pub enum CaptureFault {
     /// The link type is neither 101 (raw IP) nor 228 (raw IPv4).
     #[error("the capture's link type is neither 101 (raw IP) nor 228 (raw IPv4)")]
     BadLink,
-    /// The fraction of this record's time is a second or more.
+    /// The fraction in the time of this record is a second or more.
     #[error("the time of record {0} has a fraction of a second or more")]
     BadFraction(u64),
-    /// The captured length of this record is above the limit.
+    /// The captured length of this record exceeds [`LARGEST_RECORD`].
     #[error("record {0} has more than {limit} bytes", limit = LARGEST_RECORD)]
     TooLong(u64),
-    /// Reading on would ask for more bytes than the limit.
+    /// Reading on would ask for more than [`MOST_ASKED`] bytes.
     #[error("the capture is longer than {limit} bytes", limit = MOST_ASKED)]
     TooLarge,
     /// A read failed.
     #[error("the capture could not be read")]
     Read,
-    /// Memory ran out.
+    /// An allocation failed.
     #[error("there is not enough memory for the capture")]
     Memory,
 }
@@ -66,10 +66,10 @@ impl<T: Drop> From<AllocFailed<T>> for CaptureFault {
     }
 }
 
-/// A write failed or returned 0, or the flush failed.
+/// A write failed or returned 0, or a flush failed.
 #[derive(Clone, Copy, Debug, PartialEq, Eq)]
 pub struct WriteFault {
-    /// How many bytes of the text were written, from its front.
+    /// The number of bytes of the text that were written, from its beginning.
     pub written: u64,
 }
 

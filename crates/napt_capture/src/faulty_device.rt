@@ -1,31 +1,31 @@
-//! A device for tests.
+//! A device that injects a fault, for tests.
 ghost use Rattle.std.specs.Prelude.{◌≡◌, ◌<◌};
 
 use crate::device::{DeviceFault, Sink, Source};
 
-/// What goes wrong at a call.
+/// What goes wrong in the call of the plan.
 #[derive(Clone, Copy, Debug, PartialEq, Eq)]
 pub enum InjectedFault {
     /// The call fails.
     Fails,
-    /// The call returns 0: a read as at the end, a write as if there were no room. A flush, which returns
-    /// no number, succeeds.
+    /// The call returns 0: a read as at the end, a write as without room. A flush returns no
+    /// number, and succeeds.
     TakesNone,
 }
 
-/// What a faulty device does from here on.
+/// The limits and the fault of a [`Faulty`] device from here on.
 #[derive(Clone, Copy, Debug, PartialEq, Eq)]
 pub struct FaultPlan {
-    /// The most bytes that a read or a write moves, not 0.
+    /// The largest number of bytes that a read or a write moves. It is not 0.
     pub most: usize,
-    /// Which call goes wrong, counted from 1 over reads, writes and flushes; none if it is 0.
+    /// The call that goes wrong, counted from 1 over reads, writes and flushes; 0 for none.
     pub call: u64,
-    /// What goes wrong at that call.
+    /// What goes wrong in that call.
     pub trouble: InjectedFault,
 }
 
-/// A source or a sink for tests: it passes calls to its device, except the one call of its plan, which
-/// goes wrong.
+/// A source or sink for tests. It passes each call to the underlying device, except the one call of
+/// its plan, which goes wrong.
 #[derive(Drop)]
 pub struct Faulty<D> {
     device: D,
@@ -37,7 +37,7 @@ pub struct Faulty<D> {
 impl<D> Faulty<D> {
     ghost use Rattle.napt_capture.specs.FaultyDevices.{device_of, plan_of, own_failed, trouble_of, after_a_call};
 
-    /// Follows the plan from here on.
+    /// Wraps a device that follows the plan from here on.
     pub fn new(device: D, plan: FaultPlan) -> Self
         requires { 0 < plan.most }
         ensures device { device_of result ≡ device }
@@ -51,7 +51,7 @@ impl<D> Faulty<D> {
         }
     }
 
-    /// Gives the device back.
+    /// Returns the underlying device.
     pub fn into_inner(self) -> D
         ensures { result ≡ device_of self }
     {
@@ -63,7 +63,7 @@ impl<D> Faulty<D> {
         device
     }
 
-    /// Counts a call, and returns what goes wrong at it.
+    /// Counts a call, and returns what goes wrong in it, if anything.
     fn next_trouble(&mut self) -> Option<InjectedFault>
         ensures answer { result ≡ trouble_of self.old.plan }
         ensures left { self.new ≡ record self.old { plan = after_a_call self.old.plan } }
@@ -90,10 +90,11 @@ impl<D: Source> Source for Faulty<D> {
         ensures bound { ReadsAtMost result buffer.new }
         ensures bytes { ReadConsumes
             (faulty_known_bytes (plan_of self.old).trouble (D.remaining (device_of self.old)))
-            (faulty_known_bytes (plan_of self.new).trouble (D.remaining (device_of self.new))) result buffer.new }
+            (faulty_known_bytes (plan_of self.new).trouble (D.remaining (device_of self.new)))
+            result buffer.new }
         ensures count { own_failed self.new + D.failed (device_of self.new)
             ≡ own_failed self.old + D.failed (device_of self.old) + failed_calls result }
-        // Beside the trait's clauses: what the plan says.
+        // In addition to the clauses of the trait, the plan is followed.
         ensures most { IfOk result (λ count. count ≤ (plan_of self.old).most) }
         ensures trouble { IfSome (trouble_of (plan_of self.old)) (λ trouble.
             GoesWrong trouble result) }
@@ -136,7 +137,7 @@ impl<D: Sink> Sink for Faulty<D> {
         ensures held { D.is_flushed (device_of self.new) → D.is_flushed (device_of self.old) }
         ensures count { own_failed self.new + D.failed (device_of self.new)
             ≡ own_failed self.old + D.failed (device_of self.old) + failed_writes result bytes.now }
-        // Beside the trait's clauses: what the plan says.
+        // In addition to the clauses of the trait, the plan is followed.
         ensures most { IfOk result (λ count. count ≤ (plan_of self.old).most) }
         ensures trouble { IfSome (trouble_of (plan_of self.old)) (λ trouble.
             GoesWrong trouble result) }

@@ -1,5 +1,5 @@
-//! Capture files of the libpcap savefile layout (pcap-savefile(5)): read in both byte orders and
-//! both time units, written in little-endian order with nanoseconds.
+//! Capture files in the libpcap savefile format (pcap-savefile(5)). They are read in both byte
+//! orders and both time units, and written in little-endian order with nanoseconds.
 //!
 //! ```text
 //! file    magic (4) major (2) minor (2) zone (4) sigfigs (4) snapshot length (4) link type (4)
@@ -34,8 +34,8 @@ pub use record_reader::RecordReader;
 pub use watched::Watched;
 pub use writing::{write_capture, write_text};
 
-/// The most bytes that a record may have: larger captured lengths are refused.
+/// The largest captured length of a record, in bytes. A record with a larger one is a fault.
 pub const LARGEST_RECORD: u32 = 262_144;
 
-/// The most bytes that [`read_capture`] asks its source for.
+/// The largest number of bytes that [`read_capture`] asks its source for.
 pub const MOST_ASKED: u64 = 68_719_476_736;

@@ -1,4 +1,4 @@
-//! The bytes read ahead of what is handed on.
+//! The buffer of bytes that were read ahead.
 ghost use Rattle.std.specs.Prelude.{◌≡◌, ◌+◌, ◌-◌, ◌^◌, ◌<◌, ◌≤◌, [], length, drop, slice_range, vec_len, IfOk, OnErr};
 ghost use Rattle.std.specs.Io.KnownBytes.{IsAtEnd, Keeps, prepend_known};
 ghost use Rattle.napt_capture.specs.Device.{failed_calls};
@@ -7,10 +7,10 @@ use crate::device::{DeviceFault, Source};
 use std::alloc::{AllocError, Global};
 use std::marker::Model;
 
-/// The size of a buffer in bytes: more than a record and its header.
+/// The size of the buffer in bytes, which is more than a record and its header have.
 const ROOM: usize = 1_048_576;
 
-/// What was read from a source and not yet handed on: at most 1,048,576 bytes.
+/// The bytes read from a source and not yet consumed: at most 1,048,576.
 #[derive(Drop)]
 pub(crate) struct ReadAhead {
     buffer: Vec<u8>,
@@ -30,7 +30,7 @@ impl Model for ReadAhead {
 }
 
 impl ReadAhead {
-    /// Nothing. All memory is taken here.
+    /// Returns an empty buffer. This is the only call that allocates.
     pub(crate) fn new(alloc: Global) -> Result<ReadAhead, AllocError>
         ensures { IfOk result (λ ahead. ahead ≡ []) }
     {
@@ -42,7 +42,7 @@ impl ReadAhead {
         })
     }
 
-    /// The bytes.
+    /// Returns the bytes.
     pub(crate) fn as_slice(&self) -> &[u8]
         ensures value { result.now ≡ self.now }
         ensures bound { length result.now ≤ 1048576 }
@@ -52,7 +52,7 @@ impl ReadAhead {
         &all[begin..end]
     }
 
-    /// Drops `count` bytes from the front.
+    /// Removes `count` bytes from the front.
     pub(crate) fn consume(&mut self, count: usize)
         requires { count ≤ length self.old }
         ensures { self.new ≡ drop count self.old }
@@ -60,7 +60,7 @@ impl ReadAhead {
         self.begin += count;
     }
 
-    /// Reads once, after what there is, and returns how many bytes came: 0 only at the end of the source.
+    /// Reads once, after the bytes present, and returns the count: 0 only at the end of the source.
     pub(crate) fn read_more<R: Source>(&mut self, source: &mut R) -> Result<usize, DeviceFault>
         requires can_fail { R.failed source.old < 2 ^ 64 - 1 }
         requires room { length self.old < 1048576 }
@@ -79,7 +79,7 @@ impl ReadAhead {
     }
 }
 
-/// Moves a part of a buffer to its front, and returns its new end.
+/// Moves a range of the buffer to its front, and returns the new end of the range.
 fn move_to_front(buffer: &mut Vec<u8>, begin: usize, end: usize) -> usize
     requires order { begin ≤ end }
     requires bound { end ≤ vec_len buffer.old }

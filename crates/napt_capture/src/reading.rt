@@ -1,4 +1,4 @@
-//! Reading a capture.
+//! Reading whole captures, and the headers of files and records.
 ghost use Rattle.std.specs.Prelude.{◌≡◌, ◌≢◌, ◌+◌, ◌-◌, ◌*◌, ◌^◌, ◌<◌, ◌≤◌, ℕ, All, length, take, drop, IfOk, IfErr, IfSome, Err};
 ghost use Rattle.std.specs.Io.KnownBytes.{Consumes, IsAtEnd};
 ghost use Rattle.napt_capture.specs.{Device.failed_calls, Capture.{failed_reads, size_in, format_in}, Text.IsWritable};
@@ -12,28 +12,28 @@ use crate::{LARGEST_RECORD, MOST_ASKED};
 use byteorder::{BigEndian, ByteOrder};
 use std::alloc::Global;
 
-/// The bytes of a file's header.
+/// The size of the header of a file, in bytes.
 const FILE_HEADER: usize = 24;
 
-/// The bytes of a record's header.
+/// The size of the header of a record, in bytes.
 pub(crate) const RECORD_HEADER: usize = 16;
 
-/// The link type of raw IP: packets begin with the IP header.
+/// The link type of raw IP, where packets begin with the IP header.
 const RAW: u32 = 101;
 
 /// The link type of raw IPv4.
 const RAW_IPV4: u32 = 228;
 
-/// What follows the records so far.
+/// What follows the records read so far.
 #[derive(Debug, Drop)]
 pub enum NextRead {
     /// A further record.
     Whole(Record),
-    /// The end, and whether it comes inside a record.
+    /// The end of the file, and whether it comes inside a record.
     End(bool),
 }
 
-/// What a record's header says.
+/// The fields of the header of a record. The time is in nanoseconds.
 #[derive(Clone, Copy)]
 pub(crate) struct RecordHeader {
     pub(crate) time: u64,
@@ -41,17 +41,17 @@ pub(crate) struct RecordHeader {
     pub(crate) original: u32,
 }
 
-/// Reads a capture file: all records before its end, or its first fault. It asks for 24 bytes, then for 16 and
-/// the captured bytes of each record, and for nothing past a header with a fault.
+/// Reads a capture file: all records up to its end, or its first fault. It asks for 24 bytes, then
+/// for 16 and the captured bytes of each record, and for nothing after a header with a fault.
 ///
-/// Returns `Read` if and only if a read failed, which was then the last one; `Memory` if memory ran out, which is taken for
-/// records alone.
+/// Returns `Read` if and only if a read failed, which was then the last one, and `Memory` if an
+/// allocation failed. Only records are allocated.
 pub fn read_capture<R: Source>(alloc: Global, reader: &mut R) -> Result<Capture, CaptureFault>
     requires { R.failed reader.old < 2 ^ 64 - 1 }
-    // If the reader's bytes are known, they are read as what they are.
+    // If the bytes of the source are known, the result is that of reading them.
     ensures answer { IsReadResult result
         (LeavesBytes (R.remaining reader.old) (R.remaining reader.new) (ReadCapturePost result)) }
-    // What was read can be written.
+    // All records that were read can be written.
     ensures writable { IfOk result (λ capture. All IsWritable capture.records) }
     ensures few { IfOk result (λ capture. length capture.records < 2 ^ 32) }
     ensures memory { IfErr result (IsForRecords (R.remaining reader.old)) }
@@ -72,7 +72,7 @@ pub fn read_capture<R: Source>(alloc: Global, reader: &mut R) -> Result<Capture,
     }
 }
 
-/// Fills the buffer as far as the source has bytes; returns how far.
+/// Fills the buffer as far as the source has bytes, and returns the number of bytes read.
 fn fill<R: Source>(reader: &mut R, buffer: &mut [u8]) -> Result<usize, DeviceFault>
     requires { R.failed reader.old < 2 ^ 64 - 1 }
     ensures bound { IfOk result (λ n. n ≤ length buffer.new) }
@@ -92,10 +92,11 @@ fn fill<R: Source>(reader: &mut R, buffer: &mut [u8]) -> Result<usize, DeviceFau
     Ok(filled)
 }
 
-/// Reads the header of a file.
+/// Reads the header of a file and returns its byte order and time unit, or its fault.
 pub(crate) fn read_file_header<R: Source>(reader: &mut R) -> Result<CaptureFormat, CaptureFault>
     requires { R.failed reader.old < 2 ^ 64 - 1 }
-    ensures header { IsReadResult result (LeavesBytes (R.remaining reader.old) (R.remaining reader.new)
+    ensures header { IsReadResult result (LeavesBytes (R.remaining reader.old)
+        (R.remaining reader.new)
         (λ bytes left. (format_in (take 24 bytes) ≡ result) × (left ≡ drop 24 bytes))) }
     ensures memory { result ≢ Err CaptureFault.Memory }
     ensures count { R.failed reader.new ≡ R.failed reader.old + failed_reads result }
@@ -108,7 +109,7 @@ pub(crate) fn read_file_header<R: Source>(reader: &mut R) -> Result<CaptureForma
     format_of_file(&header)
 }
 
-/// The spelling that a file's header shows.
+/// Returns the byte order and time unit that a header of a file shows, or its fault.
 fn format_of_file(header: &[u8]) -> Result<CaptureFormat, CaptureFault>
     requires { length header.now ≡ 24 }
     ensures is { format_in header.now ≡ result }
@@ -127,7 +128,7 @@ fn format_of_file(header: &[u8]) -> Result<CaptureFormat, CaptureFault>
     Ok(spelling)
 }
 
-/// Reads the record of this number, after `asked` bytes.
+/// Reads the record with this number, after `asked` bytes were asked for.
 fn read_record<R: Source>(
     alloc: Global,
     reader: &mut R,
@@ -137,7 +138,8 @@ fn read_record<R: Source>(
 ) -> Result<NextRead, CaptureFault>
     requires can_fail { R.failed reader.old < 2 ^ 64 - 1 }
     requires within { asked ≤ MOST_ASKED }
-    ensures next { IsReadResult result (LeavesBytes (R.remaining reader.old) (R.remaining reader.new)
+    ensures next { IsReadResult result (LeavesBytes (R.remaining reader.old)
+        (R.remaining reader.new)
         (NextPost spelling asked number result)) }
     ensures room { IfOk result (IsWithin asked) }
     ensures memory { TakesMemory result → IfSome (R.remaining reader.old) (λ all. 16 ≤ length all) }
@@ -169,7 +171,7 @@ fn read_record<R: Source>(
     }))
 }
 
-/// What the header of record `number` says.
+/// Returns the fields of the header of record `number`, or its fault.
 pub(crate) fn fields_of(
     spelling: CaptureFormat,
     header: &[u8],

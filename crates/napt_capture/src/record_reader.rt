@@ -1,4 +1,4 @@
-//! Reading a capture record after record, as it comes.
+//! Reading a capture one record at a time.
 ghost use Rattle.std.specs.{Prelude.{◌≡◌, IfOk}, Option.ForSome};
 ghost use Rattle.napt_capture.specs.Reading.{RecordIsAhead};
 
@@ -10,15 +10,15 @@ use crate::read_ahead::ReadAhead;
 use crate::reading::{NextRead, RECORD_HEADER, RecordHeader, fields_of, read_file_header};
 use std::alloc::{AllocError, Global};
 
-/// A capture read one record at a time, through a buffer of 1,048,576 bytes: whatever the file holds, it takes no more
-/// memory of its own. Every call must be given the same source, which may have any number of bytes and records.
+/// A reader of one record at a time, through a buffer of 1,048,576 bytes; it allocates nothing else
+/// of its own. Each call must be given the same source, with any number of bytes and records.
 #[derive(Drop)]
 pub struct RecordReader {
     spelling: CaptureFormat,
-    /// The number of the next record, which saturates.
+    /// The number of the next record. It saturates.
     number: u64,
     ahead: ReadAhead,
-    /// The fields of the next record, if it is known to be whole in what was read ahead.
+    /// The fields of the next record, if it is known to be whole in the bytes read ahead.
     whole: Option<RecordHeader>,
     ghost stands: { ForSome whole (RecordIsAhead spelling number ahead) },
 }
@@ -33,8 +33,8 @@ impl RecordReader {
     ghost use Rattle.napt_capture.specs.Reading.{LeavesBytes, IsWritableNext, IsReadResult};
     ghost use Rattle.napt_capture.specs.RecordReaders.{RecordsAskSource, HandsOutNothing, HandsOutNext, next_number, next_record, remaining_text, spelling_of_reader};
 
-    /// Reads the header of the file, its first 24 bytes. Returns `NoHeader`, `BadMagic`, `BadVersion` or `BadLink` by
-    /// that header, `Read` if and only if a read failed, and `Memory`, before any read, if the buffer is refused.
+    /// Reads the file header. Returns `NoHeader`, `BadMagic`, `BadVersion` or `BadLink` for its 24
+    /// bytes, `Read` if and only if a read failed, or `Memory`, before any read, for the buffer.
     pub fn open<R: Source>(alloc: Global, source: &mut R) -> Result<RecordReader, CaptureFault>
         requires { R.failed source.old < 2 ^ 64 - 1 }
         ensures header { IsReadResult result
@@ -55,8 +55,8 @@ impl RecordReader {
         })
     }
 
-    /// Whether the next record, or the fault in its place, was already read, so that [`RecordReader::next`] doesn't ask the
-    /// source.
+    /// Returns whether the next record, or the fault of its header, is already in the buffer, so
+    /// that [`RecordReader::next`] does not ask the source.
     #[inline(always)]
     pub fn has_whole(&self) -> bool
         ensures whole { result ≡ true → ¬ RecordsAskSource self.now }
@@ -65,12 +65,12 @@ impl RecordReader {
         !matches!(self.front(), Ok(None))
     }
 
-    /// Reads the next record into the given vector, whose contents are dropped and whose room is reused. The source is
-    /// asked only while the buffer holds no whole record, and each time for as much as the buffer has room for.
+    /// Reads the next record into `vector`, whose contents are dropped and whose capacity is
+    /// reused. The source is asked only while the buffer has no whole record, for as much as fits.
     ///
-    /// Returns `BadFraction` or `TooLong` by the record's header, `Read` if and only if a read failed, `Memory` if the
-    /// vector could not grow. The end and a fault lose nothing: a later call goes on from there, and returns the end,
-    /// or the header's fault, again.
+    /// Returns `BadFraction` or `TooLong` for the header of the record, `Read` if and only if a
+    /// read failed, and `Memory` if `vector` could not grow. After the end or a fault nothing is
+    /// lost: a later call continues there, and returns the end or the header's fault again.
     #[inline(always)]
     pub fn next<R: Source>(
         &mut self,
@@ -78,13 +78,14 @@ impl RecordReader {
         vector: Vec<u8>,
     ) -> Result<NextRead, CaptureFault>
         requires can_fail { R.failed source.old < 2 ^ 64 - 1 }
-        ensures next { IsReadResult result (LeavesBytes (remaining_text self.old (R.remaining source.old))
+        ensures next { IsReadResult result
+            (LeavesBytes (remaining_text self.old (R.remaining source.old))
             (remaining_text self.new (R.remaining source.new)) (HandsOutNext self.old result)) }
         ensures number { IfOk result (λ next. self.new.number ≡ next_number next self.old.number) }
         ensures kept { OnErr result (HandsOutNothing self.old (R.remaining source.old)
             self.new (R.remaining source.new)) }
         ensures spelling { self.new.spelling ≡ self.old.spelling }
-        // If it is known without the source, the source is not asked.
+        // If the bytes read ahead determine the result, the source is not asked.
         ensures asks { (¬ RecordsAskSource self.old) → source.new ≡ source.old }
         ensures writable { IfOk result IsWritableNext }
         ensures count { R.failed source.new ≡ R.failed source.old + failed_reads result }
@@ -93,8 +94,8 @@ impl RecordReader {
         self.consume(vector)
     }
 
-    /// What the bytes read ahead begin with: the fields of a whole record, `None` if it is not whole, or the fault of
-    /// its header.
+    /// Returns the fields of the record at the front of the bytes read ahead, `None` if it is not
+    /// whole, or the fault of its header.
     #[inline(always)]
     fn front(&self) -> Result<Option<RecordHeader>, CaptureFault>
         ensures whole { IfOk result (λ front. IfSome front
@@ -109,7 +110,7 @@ impl RecordReader {
         }
     }
 
-    /// The same where it is not known yet: behind what was just read.
+    /// Does the same if no whole record is known, as after each read.
     #[inline(never)]
     fn first_front(&self) -> Result<Option<RecordHeader>, CaptureFault>
         ensures whole { IfOk result (λ front. IfSome front
@@ -121,7 +122,7 @@ impl RecordReader {
         self.read_front()
     }
 
-    /// The same, from the bytes.
+    /// Does the same from the bytes alone.
     #[inline(always)]
     fn read_front(&self) -> Result<Option<RecordHeader>, CaptureFault>
         ensures whole { IfOk result (λ front. IfSome front
@@ -141,7 +142,7 @@ impl RecordReader {
         Ok(Some(fields))
     }
 
-    /// The fields of a whole record that the bytes read ahead begin with, if they do.
+    /// Returns the fields of the record at the front of the bytes read ahead, if it is whole.
     #[inline(always)]
     fn whole_front(&self) -> Option<RecordHeader>
         ensures { IfSome result (RecordIsAhead self.now.spelling self.now.number self.now.ahead) }
@@ -152,14 +153,15 @@ impl RecordReader {
         }
     }
 
-    /// Reads until what is next is known, or to the end.
+    /// Reads until what comes next is known, or to the end of the source.
     #[inline(always)]
     fn read_ahead<R: Source>(&mut self, source: &mut R) -> Result<(), DeviceFault>
         requires can_fail { R.failed source.old < 2 ^ 64 - 1 }
         ensures kept { HandsOutNothing self.old (R.remaining source.old)
             self.new (R.remaining source.new) }
         ensures known { OnOk result (RecordsAskSource self.new → IsAtEnd (R.remaining source.new)) }
-        ensures asks { (¬ RecordsAskSource self.old) → (source.new ≡ source.old) × (self.new ≡ self.old) }
+        ensures asks { (¬ RecordsAskSource self.old) → (source.new ≡ source.old) ×
+            (self.new ≡ self.old) }
         ensures count { R.failed source.new ≡ R.failed source.old + failed_calls result }
     {
         while !self.has_whole() {
@@ -171,10 +173,11 @@ impl RecordReader {
         Ok(())
     }
 
-    /// Takes what is next from the bytes read ahead.
+    /// Removes what comes next from the bytes read ahead and returns it.
     #[inline(always)]
     fn consume(&mut self, vector: Vec<u8>) -> Result<NextRead, CaptureFault>
-        ensures next { IsReadResult result (HandsOutNext self.old result self.old.ahead self.new.ahead) }
+        ensures next { IsReadResult result
+            (HandsOutNext self.old result self.old.ahead self.new.ahead) }
         ensures number { IfOk result (λ next. self.new.number ≡ next_number next self.old.number) }
         ensures read { result ≢ Err Read }
         ensures kept { OnErr result (self.new ≡ self.old) }
@@ -198,7 +201,7 @@ impl RecordReader {
     }
 }
 
-/// These bytes, in the vector's room.
+/// Copies the bytes into the vector, whose capacity is reused.
 #[inline(always)]
 fn copied(bytes: &[u8], vector: Vec<u8>) -> Result<Vec<u8>, AllocError>
     ensures { IfOk result (λ copy. copy.items ≡ bytes.now) }

@@ -1,11 +1,11 @@
-//! Any std reader or writer as a source or a sink.
+//! A std reader or writer as a source or a sink.
 ghost use Rattle.std.specs.Prelude.{◌≡◌, false};
 
 use crate::device::{DeviceFault, Sink, Source};
 use std::io::{Read, Write};
 
-/// A std reader or writer that counts its failed calls. Each call goes to the device once, and returns
-/// what it returned.
+/// A std reader or writer with a count of its failed calls. Each call makes one call of the device
+/// and returns its result.
 #[derive(Drop)]
 pub struct Watched<D> {
     device: D,
@@ -16,7 +16,7 @@ pub struct Watched<D> {
 impl<D> Watched<D> {
     ghost use Rattle.napt_capture.specs.Watched.{device_of, failed_of, flushed_of};
 
-    /// Watches the device from here on. What it buffered before may need a flush.
+    /// Wraps a device. It counts as unflushed, since it may have buffered bytes.
     pub fn new(device: D) -> Self
         ensures device { device_of result ≡ device }
         ensures count { failed_of result ≡ 0 }
@@ -29,7 +29,7 @@ impl<D> Watched<D> {
         }
     }
 
-    /// Gives the device back.
+    /// Returns the underlying device.
     pub fn into_inner(self) -> D
         ensures { result ≡ device_of self }
     {

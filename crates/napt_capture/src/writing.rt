@@ -1,4 +1,4 @@
-//! Writing a capture, or any text.
+//! Writing a whole capture, or any text.
 ghost use Rattle.std.specs.{Prelude.{◌≡◌, ◌+◌, ◌-◌, ◌^◌, ◌<◌, ◌≤◌, length, take, All, OnOk, IfErr}, Io.KnownBytes.Appends};
 ghost use Rattle.napt_capture.specs.{Device.failed_calls, Text.{IsWritable, record_text, text}, Writing.PutPost};
 
@@ -7,7 +7,7 @@ use crate::contents::Record;
 use crate::device::Sink;
 use crate::fault::WriteFault;
 
-/// Writes the text of a capture file with these records, and flushes it. It takes no memory.
+/// Writes a capture file with these records, and flushes the writer. It does not allocate.
 pub fn write_capture<W: Sink>(writer: &mut W, records: &[Record]) -> Result<(), WriteFault>
     requires can_fail { W.failed writer.old < 2 ^ 64 - 1 }
     requires few { length records.now < 2 ^ 32 }
@@ -16,7 +16,8 @@ pub fn write_capture<W: Sink>(writer: &mut W, records: &[Record]) -> Result<(), 
         (text records.now)) }
     ensures flushed { OnOk result (W.is_flushed writer.new) }
     ensures err { IfErr result (λ fault. (fault.written ≤ length (text records.now))
-        × Appends (W.contents writer.old) (W.contents writer.new) (take fault.written (text records.now))) }
+        × Appends (W.contents writer.old) (W.contents writer.new)
+        (take fault.written (text records.now))) }
     ensures count { W.failed writer.new ≡ W.failed writer.old + failed_calls result }
 {
     let mut written = CaptureWriter::create(writer)?;
@@ -26,7 +27,7 @@ pub fn write_capture<W: Sink>(writer: &mut W, records: &[Record]) -> Result<(), 
     written.finish(writer)
 }
 
-/// Appends one record to what is written.
+/// Writes one record after those written before.
 #[tactic(auto, using(crate::proofs::PutSteps::record_text_whole))]
 fn append_record<W: Sink>(
     writer: &mut W,
@@ -43,7 +44,7 @@ fn append_record<W: Sink>(
     written.record(writer, packet.time, &packet.bytes)
 }
 
-/// Writes these bytes, and flushes them. It takes no memory.
+/// Writes these bytes, and flushes the writer. It does not allocate.
 pub fn write_text<W: Sink>(writer: &mut W, bytes: &[u8]) -> Result<(), WriteFault>
     requires { W.failed writer.old < 2 ^ 64 - 1 }
     ensures ok { OnOk result (Appends (W.contents writer.old) (W.contents writer.new) bytes.now) }

@@ -1,4 +1,4 @@
--- Rows of nodes, and what leaves one a row.
+-- Rows of nodes, and the changes after which one is still a row.
 use Rattle.std.proofs.lemmas.Grind.{common_steps}
 use Rattle.std.proofs.Common.{◌≡◌, ◌≢◌, ℕ, ◌+◌, ◌-◌, ◌<◌, ◌≤◌, ◌⊎◌, inl, inr, Bool, true, false, cond, nat_lt, refl, sym, ◌∙◌, ap, arith, eqb, subst}
 use Rattle.std.proofs.lemmas.Bool.{eq-eqb, cases_eq, true≢false, Decides.nat_tests}
@@ -12,17 +12,17 @@ on_same x y a b e = ap (λ v. cond v a b) (eq-eqb x y e)
 pub on_other : {X : Type 0} (x y : ℕ) (a b : X) → x ≢ y → cond (eqb x y) a b ≡ b
 on_other x y a b n = grind (arith, common_steps, nat_tests)
 
--- ranks above that of p go down
+-- The ranks after p is unlinked: those above that of p are one less.
 abbrev pub lowered : (ℕ → ℕ) → ℕ → ℕ → ℕ
 lowered rank p x = cond (nat_lt (rank p) (rank x)) (rank x - 1) (rank x)
 
--- n gets that of p, and ranks from that of p on go up
+-- The ranks after n is linked before p: n gets that of p, and those from that of p on are one more.
 abbrev pub raised : (ℕ → ℕ) → ℕ → ℕ → ℕ → ℕ
 raised rank p n x = cond (eqb x n) (rank p) (cond (nat_lt (rank x) (rank p)) (rank x) (rank x + 1))
 
 module _ (first last : ℕ) (linked after : ℕ → Bool) (next prev new_next new_prev rank : ℕ → ℕ) (p : ℕ)
     (is : IsRow first last linked next prev rank) where
-  -- IT IS TAKEN OUT
+  -- A NODE IS UNLINKED
 
   abbrev low : ℕ → ℕ
   low = lowered rank p
@@ -37,7 +37,7 @@ module _ (first last : ℕ) (linked after : ℕ → Bool) (next prev new_next ne
     still : (x : ℕ) → x ≢ p → linked x ≡ true → after x ≡ true
     still x ne l = stay x ∙ (on_other x p false (linked x) ne ∙ l)
 
-    -- it is below p or above it
+    -- Another linked node is below p or above it.
     pub side : (x : ℕ) → after x ≡ true → ((rank x < rank p) × (low x ≡ rank x))
         ⊎ ((rank p < rank x) × (low x + 1 ≡ rank x))
     side x h = grind (arith, common_steps, nat_tests, was)
@@ -107,11 +107,11 @@ module _ (first last : ℕ) (linked after : ℕ → Bool) (next prev new_next ne
               (grind (arith, nat_tests, side x hx, side y hy, e));
         }
 
-    -- the order of the others stays
+    -- The order of the other nodes is unchanged.
     pub less_out : (x y : ℕ) → after x ≡ true → after y ≡ true → rank x < rank y → low x < low y
     less_out x y hx hy lt = grind (arith, nat_tests, side x hx, side y hy, lt)
 
-  -- ONE IS PUT BEFORE IT
+  -- A NODE IS LINKED BEFORE p
 
   module _ (n : ℕ) (at : linked p ≡ true) (not_first : p ≢ first) (absent : linked n ≡ false)
       (stay : (x : ℕ) → after x ≡ cond (eqb x n) true (linked x))
@@ -135,7 +135,7 @@ module _ (first last : ℕ) (linked after : ℕ → Bool) (next prev new_next ne
     pub rank_n : (x : ℕ) → x ≡ n → up_in x ≡ rank p
     rank_n x e = on_same x n (rank p) (cond (nat_lt (rank x) (rank p)) (rank x) (rank x + 1)) e
 
-    -- it is below p or not
+    -- A linked node is below p, or is p or above it.
     pub side_in : (x : ℕ) → linked x ≡ true → ((rank x < rank p) × (up_in x ≡ rank x))
         ⊎ ((rank p ≤ rank x) × (up_in x ≡ rank x + 1))
     side_in x l = grind (arith, common_steps, nat_tests, on_other, not_n)
@@ -215,7 +215,7 @@ module _ (first last : ℕ) (linked after : ℕ → Bool) (next prev new_next ne
     pub row_in : IsRow first last after new_next new_prev up_in
     row_in = grind (arith, common_steps, nat_tests, still_in, bounds_in, onward_in, back_in, apart_in)
 
-    -- the order of the others stays, and n is between them
+    -- The order of the other nodes is unchanged, and n lies between them.
     pub less_in : (x y : ℕ) → linked x ≡ true → linked y ≡ true → rank x < rank y → up_in x < up_in y
     less_in x y lx ly lt = grind (arith, nat_tests, side_in x lx, side_in y ly, lt)
 

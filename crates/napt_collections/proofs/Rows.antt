@@ -1,4 +1,4 @@
--- Words in a row.
+-- The bits of a list of words.
 use Rattle.std.proofs.Common.{◌≡◌, ◌≢◌, ℕ, ◌+◌, ◌-◌, ◌*◌, ◌/◌, ◌%◌, ◌^◌, ◌<◌, ◌≤◌, true, false, List, length, get_or, set, Some, None, refl, sym, ◌∙◌, ap, arith, ltb, eqb-true, w64, replicate}
 use Rattle.std.{specs.{Prelude.◌==◌, Int.{bit_at, trailing_ones}}, proofs.lemmas.{Bool.Decides.nat_tests, Grind.common_steps, List.length-replicate}}
 use Rattle.std.proofs.lemmas.Nat.Bits.{bit_at-zero, bit_at_ones, bit_at-trailing_ones}
@@ -7,14 +7,14 @@ use Rattle.napt_collections.{specs.BitSets.{has_bit, has, IsFirstAbsent, MarksFu
 pub same_default : (words : List ℕ) (i c d : ℕ) → i < length words → get_or words i c ≡ get_or words i d
 same_default words i c d lt = grind (arith, common_steps)
 
--- a number of the set that is of this word
+-- The set has a number exactly if its word has its bit.
 pub word_bit : (words : List ℕ) (i d j : ℕ) → i < length words → 64 * i ≤ j → j < 64 * i + 64 → has words j
     ≡ has_bit (get_or words i d) (j - 64 * i)
 word_bit words i d j lt low high = grind (arith, common_steps, nat_tests, same_default)
 
 module _ (words : List ℕ) (i d lo from : ℕ) (lt : i < length words) (within : from ≤ 64 * i + lo) (before : (j : ℕ) →
     from ≤ j → j < 64 * i + lo → has words j ≡ true) where
-  -- the first clear bit of a word, after which none was clear
+  -- The first clear bit of this word is the first absent number, if no number before it is absent.
   pub first_here : (k : ℕ) → IsFirstAbsent (has_bit (get_or words i d)) lo 64 (Some k) → IsFirstAbsent (has words)
       from (64 * length words) (Some (64 * i + k))
   first_here k h = grind (arith, common_steps, nat_tests, word_bit)
@@ -34,7 +34,7 @@ module _ (words full : List ℕ) (m : MarksFullWords words full) where
       ∙ (ap (λ (w : ℕ). has_bit w (j - 64 * i)) e ∙ is_set full_word (j - 64 * i)
       (bit_at_ones 64 (j - 64 * i) (omega arith)))
 
-  -- all words from `lo` up to `hi` are full
+  -- The set has all numbers of a range of full words.
   pub in_full_words : (lo hi : ℕ) → hi ≤ 1024 → ((i : ℕ) → lo ≤ i → i < hi → has full i ≡ true) → (j : ℕ) →
       64 * lo ≤ j → j < 64 * hi → has words j ≡ true
   in_full_words lo hi top all j low high =
@@ -43,7 +43,7 @@ module _ (words full : List ℕ) (m : MarksFullWords words full) where
   pub not_full : (i d : ℕ) → i < 1024 → has full i ≡ false → get_or words i d < 2 ^ 64 → get_or words i d + 1 < 2 ^ 64
   not_full i d lt h small = grind (arith, common_steps, nat_tests, same_default)
 
-  -- the first clear bit of a word that is not full
+  -- The first clear bit of a word that is not full is the number of its trailing ones.
   pub first_open : (i d : ℕ) → i < 1024 → has full i ≡ false → get_or words i d < 2 ^ 64 →
       IsFirstAbsent (has_bit (get_or words i d)) 0 64 (Some (trailing_ones w64 (get_or words i d)))
   first_open i d lt h small =
@@ -52,7 +52,7 @@ module _ (words full : List ℕ) (m : MarksFullWords words full) where
       bit_at w j ≡ 1) = bit_at-trailing_ones w64 w (not_full i d lt h small) in
       (omega arith, f.0, is_clear w (trailing_ones w64 w) f.1, λ j le less. is_set w j (f.2 j less))
 
--- MARKS STAY RIGHT
+-- THE MARKS STAY RIGHT
 
 pub marked : (words full : List ℕ) (place w f d : ℕ) → place < 1024 → MarksFullWords words full → has_bit f (place % 64)
     ≡ (w == full_word) → ((i : ℕ) → i < 64 → i ≢ place % 64 → has_bit f i ≡ has_bit (get_or full (place / 64) d) i) →
@@ -60,7 +60,7 @@ pub marked : (words full : List ℕ) (place w f d : ℕ) → place < 1024 → Ma
 marked words full place w f d lt m here others =
     grind (arith, common_steps, nat_tests, same_default)
 
--- NONE
+-- THE EMPTY SET
 
 pub empty_has : (n : ℕ) → has_bit 0 n ≡ false
 empty_has n = is_clear 0 n (bit_at-zero n)
@@ -78,14 +78,14 @@ empty_marked = record {
   marks = λ i within. empty_has_none 16 i ∙ sym (ap (λ (w : ℕ). w == full_word) (zero_at 1024 i));
 }
 
--- THE FIRST OVER ALL WORDS
+-- THE FIRST ABSENT NUMBER OVER ALL WORDS
 
 module _ (words full : List ℕ) (m : MarksFullWords words full) (from d : ℕ) (within : from < 65536)
     (here : IsFirstAbsent (has_bit (get_or words (from / 64) d)) (from % 64) 64 None) where
   up_to_next : (j : ℕ) → from ≤ j → j < 64 * (from / 64 + 1) → has words j ≡ true
   up_to_next = grind (arith, common_steps, none_here)
 
-  -- up to a full word, or to the end
+  -- The set has all numbers up to `hi`, if the words before it are full.
   up_to : (hi : ℕ) → hi ≤ 1024 → ((i : ℕ) → from / 64 + 1 ≤ i → i < hi → has full i ≡ true) → (j : ℕ) → from ≤ j →
       j < 64 * hi → has words j ≡ true
   up_to hi top all j le less = elim (ltb j (64 * (from / 64 + 1))) as (λ v. ltb j (64 * (from / 64 + 1)) ≡ v →

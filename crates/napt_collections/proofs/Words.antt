@@ -1,4 +1,4 @@
--- Bits of one word, and the first clear one.
+-- The bits of one word, and its first clear bit.
 use Rattle.std.proofs.lemmas.Grind.{common_steps}
 use Rattle.std.proofs.Common.{◌≡◌, ◌≢◌, ℕ, ◌+◌, ◌-◌, ◌*◌, ◌%◌, ◌^◌, ◌<◌, ◌≤◌, max, true, false, refl, sym, ◌∙◌, ap, w64, arith, eqb, eqb-true}
 use Rattle.std.{specs.{Prelude.◌==◌, Int.{bit_at, trailing_ones, RustNames.bit_or}}, proofs.lemmas.{Bool.Decides.nat_tests, Nat.{one_shl, or_lt}}}
@@ -11,7 +11,7 @@ is_set word i h = grind (arith, nat_tests)
 pub is_clear : (word i : ℕ) → bit_at word i ≡ 0 → has_bit word i ≡ false
 is_clear word i h = grind (arith, nat_tests)
 
--- a word with a clear bit is not full
+-- A word with a clear bit is not full.
 pub open_word : (word i : ℕ) → i < 64 → has_bit word i ≡ false → (word == full_word) ≡ false
 open_word word i lt clear = elim (eqb word full_word) as (λ v. eqb word full_word ≡ v → (word == full_word) ≡ false) [
   | true ↦ λ e.
@@ -20,7 +20,7 @@ open_word word i lt clear = elim (eqb word full_word) as (λ v. eqb word full_wo
   | false ↦ λ e. e
 ] refl
 
--- the bits below `from` are set
+-- The word with all bits below `from` set.
 abbrev pub filled : ℕ → ℕ → ℕ
 filled word from = bit_or word (1 * 2 ^ from % 2 ^ 64 - 1)
 
@@ -37,7 +37,7 @@ module _ (word from : ℕ) (within : from < 64) where
   pub filled_from : (i : ℕ) → from ≤ i → bit_at (filled word from) i ≡ bit_at word i
   filled_from i le = grind (arith, common_steps, nat_tests, bit_at_ones_above, filled_is)
 
-  -- where all bits are set, those from `from` on were
+  -- If all bits of `filled` are set, the bits of the word from `from` on are set.
   pub all_set : filled word from ≡ 2 ^ 64 - 1 → (j : ℕ) → from ≤ j → j < 64 → has_bit word j ≡ true
   all_set e j le lt = is_set word j (sym (filled_from j le) ∙ ap (λ (n : ℕ). bit_at n j) e ∙ bit_at_ones 64 j lt)
 

@@ -1,4 +1,4 @@
--- Nodes in a row, each linked to the next.
+-- Nodes in a row, each with links to the node before it and the node after it.
 use Rattle.std.specs.Prelude.{◌≡◌, ◌≢◌, ℕ, ◌+◌, ◌≤◌, Bool, true, List, slice_index_or}
 use Rattle.napt_collections.specs.declared.links.Links.{Links}
 
@@ -11,7 +11,7 @@ next links node = (slice_index_or links node no_links).after
 abbrev pub prev : List Links → ℕ → ℕ
 prev links node = (slice_index_or links node no_links).before
 
--- the linked nodes are a row from the first to the last, in which ranks tell how far along each is
+-- The linked nodes form one row from `first` to `last`, where `rank` numbers them by steps of one along `next`.
 pub record IsRow (first last : ℕ) (linked : ℕ → Bool) (next prev rank : ℕ → ℕ) : Type 0 where
   pub first_linked : linked first ≡ true
   pub last_linked : linked last ≡ true

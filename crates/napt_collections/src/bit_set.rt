@@ -9,13 +9,13 @@ use std::marker::Model;
 
 const WORDS: usize = 1024;
 
-/// A set of the numbers from 0 to 65,535, one bit each; contracts see its words, which the definition `has` reads.
+/// A set of the numbers from 0 to 65,535, one bit each. Contracts see its words.
 ///
-/// A second, smaller set has a bit for each full word, so that a search skips up to 4,096 numbers at a look.
+/// A second, smaller set marks the full words, so that a search can skip 4,096 numbers at a time.
 #[derive(Drop)]
 pub struct BitSet {
     words: Vec<u64>,
-    /// A bit for each full word.
+    /// One bit for each word, which is set if the word is full.
     full: Vec<u64>,
 }
 
@@ -32,7 +32,7 @@ impl Model for BitSet {
 }
 
 impl BitSet {
-    /// The empty set. It takes 8,320 bytes, and no other call takes any; `AllocError` if they are refused.
+    /// Returns an empty set. It takes 8,320 bytes and is the only call that allocates.
     pub fn new(alloc: Global) -> Result<BitSet, AllocError>
         ensures { IfOk result (λ set. (n : ℕ) → has set n ≡ false) }
     {
@@ -42,15 +42,15 @@ impl BitSet {
         })
     }
 
-    /// Whether the set has the number.
+    /// Returns whether the set has the number.
     pub fn contains(&self, number: u16) -> bool
         ensures { result ≡ has self.now number }
     {
         has_bit(self.words[usize::from(number / 64)], u32::from(number % 64))
     }
 
-    /// The first number from `from` on, and below `end`, that is not in the set; `None` if all are, or if there are
-    /// none. At most 18 words are looked at.
+    /// Returns the first number from `from` on and below `end` that is not in the set, or `None` if
+    /// there is no such number. It reads at most 18 words.
     pub fn first_absent(&self, from: u32, end: u32) -> Option<u32>
         requires { end ≤ 2 ^ 16 }
         ensures { IsFirstAbsent (has self.now) from end result }
@@ -62,7 +62,7 @@ impl BitSet {
         if number < end { Some(number) } else { None }
     }
 
-    /// Adds the number, if it is absent.
+    /// Adds the number. A number that is already present stays.
     pub fn insert(&mut self, number: u16)
         ensures { (n : ℕ) → has self.new n ≡ ((n == number) || has self.old n) }
     {
@@ -76,7 +76,7 @@ impl BitSet {
         );
     }
 
-    /// Removes the number, if it is present.
+    /// Removes the number. Nothing changes if it is absent.
     pub fn remove(&mut self, number: u16)
         ensures { (n : ℕ) → has self.new n ≡ (not (n == number) && has self.old n) }
     {

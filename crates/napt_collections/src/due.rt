@@ -1,4 +1,4 @@
-//! The queue.
+//! A queue of items by time.
 
 ghost use Rattle.std.specs.{Prelude.{◌≡◌, ◌+◌, ◌-◌, ◌<◌, ◌≤◌, [], ◌∷◌, All, Contains, IfOk, IfSome, IfNone, OnOk, OnErr}, List.Sorted.IsPermutation};
 
@@ -7,10 +7,10 @@ use std::cmp::Reverse;
 use std::collections::BinaryHeap;
 use std::marker::Model;
 
-/// A queue of entries, each a time (in any unit) and an item; an entry of the least time is taken first. Contracts see
-/// the entries in no particular order, with repetitions, and how many more fit without growth (`room`).
+/// A queue of entries, each a time in any unit and an item. An entry with the least time is popped
+/// first. Contracts see the entries in no particular order, and the spare capacity (`room`).
 ///
-/// Growth is a separate call, `reserve`, so that a caller can secure the memory before it changes anything.
+/// Only [`Due::reserve`] grows the queue, so that memory can be reserved before anything changes.
 #[derive(Drop)]
 pub struct Due<T: Ord> {
     heap: BinaryHeap<Reverse<(u64, T)>>,
@@ -28,12 +28,12 @@ impl<T: Ord> Model for Due<T> {
       room = heap_capacity due.heap - heap_len due.heap;
     } };
 
-    // as a heap whose greatest element has the least time
+    // The heap is a max-heap whose greatest element has the least time.
     ghost invariant = { λ due. IsHeapOrdered T.cmp (heap_items due.heap) };
 }
 
 impl<T: Ord + Copy> Due<T> {
-    /// The empty queue. It takes no memory.
+    /// Returns an empty queue. It does not allocate.
     pub fn new(alloc: Global) -> Due<T>
         ensures { result.entries ≡ [] }
     {
@@ -42,7 +42,7 @@ impl<T: Ord + Copy> Due<T> {
         }
     }
 
-    /// Makes room for one more entry, and changes none; `AllocError` if memory is refused.
+    /// Reserves capacity for one more entry, or returns `AllocError` if memory is refused.
     pub fn reserve(&mut self) -> Result<(), AllocError>
         ensures entries { self.new.entries ≡ self.old.entries }
         ensures room { OnOk result (0 < self.new.room) }
@@ -50,7 +50,7 @@ impl<T: Ord + Copy> Due<T> {
         self.heap.reserve(1)
     }
 
-    /// Adds an entry, for which there is room. It takes no memory.
+    /// Adds an entry, for which there must be capacity. It does not allocate.
     pub fn push(&mut self, time: u64, item: T)
         requires { 0 < self.old.room }
         ensures entries { IsPermutation ((time, item) ∷ self.old.entries) self.new.entries }
@@ -62,7 +62,7 @@ impl<T: Ord + Copy> Due<T> {
         }
     }
 
-    /// An entry of the least time, which stays; `None` if there are none.
+    /// Returns an entry with the least time, which stays in the queue, or `None` if it is empty.
     pub fn peek(&self) -> Option<(u64, T)>
         ensures some { IfSome result (λ e. Contains self.now.entries e) }
         ensures least { IfSome result (λ e. All (λ other. e.0 ≤ other.0) self.now.entries) }
@@ -74,7 +74,7 @@ impl<T: Ord + Copy> Due<T> {
         }
     }
 
-    /// Takes out an entry of the least time, and frees its room; `None` if there are none. It takes no memory.
+    /// Removes and returns an entry with the least time, or returns `None` if the queue is empty.
     pub fn pop(&mut self) -> Option<(u64, T)>
         ensures some { IfSome result (λ e. IsPermutation self.old.entries (e ∷ self.new.entries)) }
         ensures least { IfSome result (λ e. All (λ other. e.0 ≤ other.0) self.old.entries) }

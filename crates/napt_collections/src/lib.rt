@@ -1,5 +1,5 @@
-//! Collections for a table of bindings, each useful alone: a set of numbers that finds the first absent one ([`BitSet`]),
-//! a queue of times ([`Due`]), and nodes linked in a row ([`Links`]).
+//! Collections for a table of bindings: [`BitSet`], a set of numbers that finds the first absent
+//! one, [`Due`], a queue of items by time, and [`Links`], nodes linked in a row.
 #![tactic(auto)]
 
 mod bit_set;

@@ -1,18 +1,18 @@
-//! Nodes in a row, each linked to the one before it and the one after it.
+//! Nodes in a row, each linked to the node before it and to the node after it.
 //!
-//! The first and the last node of a row stay, so each other node has one before it and one after it.
+//! The first and the last node of a row are never unlinked, so all others have neighbours.
 
 ghost use Rattle.std.specs.Prelude.{◌≡◌, ℕ, ◌==◌, ◌<◌, cond, length};
 ghost use Rattle.napt_collections.specs.Links.{next, prev};
 
-/// The nodes before and after a node.
+/// The indices of the nodes before and after a node.
 #[derive(Clone, Copy)]
 pub struct Links {
     pub before: u32,
     pub after: u32,
 }
 
-/// Changes what is after a node.
+/// Sets the node after a node.
 fn set_after(links: &mut [Links], node: u32, after: u32)
     requires { node < length links.old }
     ensures nexts { (x : ℕ) → next links.new x ≡ cond (x == node) after (next links.old x) }
@@ -22,7 +22,7 @@ fn set_after(links: &mut [Links], node: u32, after: u32)
     links[node as usize] = Links { before, after };
 }
 
-/// Changes what is before a node.
+/// Sets the node before a node.
 fn set_before(links: &mut [Links], node: u32, before: u32)
     requires { node < length links.old }
     ensures nexts { (x : ℕ) → next links.new x ≡ next links.old x }
@@ -32,7 +32,7 @@ fn set_before(links: &mut [Links], node: u32, before: u32)
     links[node as usize] = Links { before, after };
 }
 
-/// Takes a node out of its row.
+/// Removes a node from its row.
 pub fn unlink(links: &mut [Links], node: u32)
     requires within { node < length links.old }
     requires before { prev links.old node < length links.old }
@@ -47,7 +47,7 @@ pub fn unlink(links: &mut [Links], node: u32)
     set_before(links, after, before);
 }
 
-/// Puts a node into the row of another one, right before it.
+/// Inserts a node into the row of `after`, directly before it.
 pub fn link_before(links: &mut [Links], node: u32, after: u32)
     requires within { node < length links.old }
     requires after { after < length links.old }

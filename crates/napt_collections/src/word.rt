@@ -1,9 +1,9 @@
-//! The bits of words.
+//! Operations on the bits of words.
 
 ghost use Rattle.std.specs.Prelude.{◌≡◌, ◌≢◌, ℕ, true, false, ◌*◌, ◌^◌, ◌<◌, ◌≤◌, length};
 ghost use Rattle.napt_collections.specs.BitSets.{has_bit, has, IsFirstAbsent, MarksFullWords};
 
-/// The first clear bit of the word from `from` on.
+/// Returns the first clear bit of the word from bit `from` on.
 pub(crate) fn first_clear(word: u64, from: u32) -> Option<u32>
     requires { from < 64 }
     ensures { IsFirstAbsent (has_bit word) from 64 result }
@@ -16,7 +16,7 @@ pub(crate) fn first_clear(word: u64, from: u32) -> Option<u32>
     }
 }
 
-/// The first clear bit from `from` on, counted over all words.
+/// Returns the first clear bit from bit `from` on, counted over all words.
 pub(crate) fn first_clear_of(words: &[u64], from: usize) -> Option<usize>
     requires { length words.now ≤ 1024 }
     ensures { IsFirstAbsent (has words.now) from (64 * length words.now) result }
@@ -36,7 +36,7 @@ pub(crate) fn first_clear_of(words: &[u64], from: usize) -> Option<usize>
     None
 }
 
-/// The first clear bit from `from` on, by a bit for each full word: full words past the first are skipped.
+/// Does the same for 1024 words. The bits of `full` let it skip full words after the first one.
 pub(crate) fn first_clear_over(words: &[u64], full: &[u64], from: usize) -> Option<usize>
     requires marked { MarksFullWords words.now full.now }
     requires within { from < 65536 }
@@ -50,7 +50,7 @@ pub(crate) fn first_clear_over(words: &[u64], full: &[u64], from: usize) -> Opti
     Some(64 * next + words[next].trailing_ones() as usize)
 }
 
-/// Whether the bit is set.
+/// Returns whether bit `k` is set.
 pub(crate) fn has_bit(word: u64, k: u32) -> bool
     requires { k < 64 }
     ensures { result ≡ has_bit word k }
@@ -58,7 +58,7 @@ pub(crate) fn has_bit(word: u64, k: u32) -> bool
     (word >> k) & 1 == 1
 }
 
-/// The word with the bit set.
+/// Returns the word with bit `k` set.
 pub(crate) fn with_bit(word: u64, k: u32) -> u64
     requires { k < 64 }
     ensures set { has_bit result k ≡ true }
@@ -67,7 +67,7 @@ pub(crate) fn with_bit(word: u64, k: u32) -> u64
     word | (1 << k)
 }
 
-/// The word with the bit clear.
+/// Returns the word with bit `k` clear.
 pub(crate) fn without_bit(word: u64, k: u32) -> u64
     requires { k < 64 }
     ensures clear { has_bit result k ≡ false }
@@ -76,7 +76,7 @@ pub(crate) fn without_bit(word: u64, k: u32) -> u64
     word & !(1 << k)
 }
 
-/// The word with the bit set if `is_set`, else clear.
+/// Returns the word with bit `k` set if `is_set`, else clear.
 pub(crate) fn with_mark(word: u64, k: u32, is_set: bool) -> u64
     requires { k < 64 }
     ensures here { has_bit result k ≡ is_set }

@@ -9,7 +9,7 @@ use Rattle.napt_translate.specs.Translators.{TranslatorModel, initial_translator
 use Rattle.napt_pool.specs.{declared.machine.Machine.Ghosts, Histories.{replies, ArePrefixesOf}, Pools.zip_with}
 use Rattle.napt_laws.specs.Dispatching.{IsFrontOf}
 use Rattle.napt_dispatch.{specs.Dispatch.{started_from, of_worker, local_bindings, AnswersAreRight}, proofs.Lanes.fronts_both}
-use Rattle.napt_sequential.specs.{declared.{passage.Passage.Passage, leg_trace.TracedAnswer.TracedAnswer}, CountedTranslators.traced_answer, Steps.told_replies}
+use Rattle.napt_sequential.specs.{declared.{passage.Passage.Passage, leg_trace.TracedAnswer.TracedAnswer}, CountedTranslators.traced_answer, Steps.traced_replies}
 
 -- LISTS
 
@@ -72,7 +72,7 @@ started_at rules start (suc n) w d lt =
 module _ {P : Type 0} (tells : Passage → P) {g : Ghosts TranslatorModel Leg (TracedAnswer P)} where
   replies_kept : ((s : TranslatorModel) (leg : Leg) → g.stepped s leg ≡ translator_after leg s) →
       ((s : TranslatorModel) (leg : Leg) → g.reply s leg ≡ traced_answer tells leg s) → (s : TranslatorModel)
-      (legs : List Leg) → replies g s legs ≡ told_replies tells s.rules s.table.address legs (local_state s.table)
+      (legs : List Leg) → replies g s legs ≡ traced_replies tells s.rules s.table.address legs (local_state s.table)
   replies_kept stepped_is reply_is s [] = refl
   replies_kept stepped_is reply_is s (leg ∷ legs) =
       rw (reply_is s leg, stepped_is s leg, replies_kept stepped_is reply_is (translator_after leg s) legs) refl
@@ -86,7 +86,7 @@ module _ {P : Type 0} (tells : Passage → P) {g : Ghosts TranslatorModel Leg (T
       length offered ≡ length rules.pool → AnswersAreRight tells rules start offered taken
   right_since rules start starts offered taken began is_taken stepped_is reply_is many = λ w lt.
       let long = length_started rules start (length rules.pool) in
-      let is : of_worker taken w ≡ told_replies tells rules (slice_index rules.pool w) (of_worker offered w)
+      let is : of_worker taken w ≡ traced_replies tells rules (slice_index rules.pool w) (of_worker offered w)
       (local_bindings start (slice_index rules.pool w)) =
       rw (
         is_taken,

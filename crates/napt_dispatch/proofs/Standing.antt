@@ -19,12 +19,12 @@ use Rattle.napt_dispatch.specs.DispatcherInvariants.{PoolGrows, Lane, Dispatcher
 use Rattle.napt_dispatch.proofs.{DispatchEnds.map_at, Lanes.{fronts_both, place_within}, QueueStates.{queue_own, queue_other, length_with, nothing, of_replicate}}
 use Rattle.napt_dispatch.proofs.Windows.{known_set, returning_known, ended_known, second_known, left_front, left_whole, timed_outcomes, departed_long, departed_outcomes}
 use Rattle.napt_dispatch.specs.declared.dispatcher.holding.QueueHead.TheVariants as fronts
-use Rattle.napt_laws.specs.{Dispatching.{IsFrontOf, outcome_told, OutcomeIsTold, IsForetold, OnwardIsForetold}, SecondLegs.{first_act, second_legs, second_of, IsSeconded}}
+use Rattle.napt_laws.specs.{Dispatching.{IsFrontOf, outcome_of_end, OutcomeIsGiven, IsEndForeseen, OnwardIsForeseen}, SecondLegs.{first_act, second_legs, second_of, IsSeconded}}
 use Rattle.napt_laws.proofs.{DispatchLaws.answers_tell, OneMoreInput.outcomes_long, OneInput.{acts_begin, outcomes_begin, get_at, grown}}
 use Rattle.napt_laws.proofs.{Places.{legs_append, answers_fill, cond_map, place_stands, acts_grow}, Pools.stands_at}
 use Rattle.napt_pool.specs.{declared.pool.Pool.Pool, Pools.{accepted_items, taken_answers}}
 use Rattle.napt_sequential.specs.{declared.{leg_trace.TracedAnswer.TracedAnswer, passage.{Passage.TheVariants.Nothing, Trace.Trace}}, CountedTranslators.{traced_act, traced_by}}
-use Rattle.napt_sequential.{specs.{Steps.{steps_of, told_replies}, Traces.{passage_of, traces_of}}, proofs.{JoinedSteps.{steps_get, refused_trace}, TracesAlone.right_told}}
+use Rattle.napt_sequential.{specs.{Steps.{steps_of, traced_replies}, Traces.{passage_of, traces_of}}, proofs.{JoinedSteps.{steps_get, refused_trace}, TracesAlone.right_told}}
 use Rattle.napt_sequential.{proofs.TracedLegs.{IsTraced, IsPlaced, legs_traced}, specs.declared.passage.Passage.Passage}
 
 -- FRONTS
@@ -40,15 +40,15 @@ short_front (x ∷ xs) (y ∷ ys) zs le h =
     (more.0, (cc))
 
 length_replies : {P : Type 0} (tells : Passage → P) (rules : Rules) (address : ℕ) (legs : List Leg) (kept : LocalState) →
-    length (told_replies tells rules address legs kept) ≡ length legs
+    length (traced_replies tells rules address legs kept) ≡ length legs
 length_replies tells rules address [] kept = refl
 length_replies tells rules address (l ∷ legs) kept =
     ap suc (length_replies tells rules address legs (local_after rules address l kept))
 
 replies_more : {P : Type 0} (tells : Passage → P) (rules : Rules) (address : ℕ) (legs more : List Leg) (kept : LocalState) →
     (others : List (TracedAnswer P))
-    × (told_replies tells rules address (legs ++ more) kept ≡ told_replies tells rules address legs kept ++ others)
-replies_more tells rules address [] more kept = (told_replies tells rules address more kept, refl)
+    × (traced_replies tells rules address (legs ++ more) kept ≡ traced_replies tells rules address legs kept ++ others)
+replies_more tells rules address [] more kept = (traced_replies tells rules address more kept, refl)
 replies_more {P} tells rules address (l ∷ legs) more kept =
     let rest = replies_more tells rules address legs more (local_after rules address l kept) in
     (rest.0, ap (λ (xs : List (TracedAnswer P)). traced_by tells rules address l kept ∷ xs) rest.1)
@@ -64,15 +64,15 @@ right_before {P} {tells} rules start done all pool last_pool d s grows right = �
     let o = s.lanes w lt in
     let more = grows.offered w in
     let others = replies_more tells rules address lane.offered more.0 (local_bindings start address) in
-    let whole : IsFrontOf lane.taken (told_replies tells rules address lane.offered (local_bindings start address) ++ others.0) =
+    let whole : IsFrontOf lane.taken (traced_replies tells rules address lane.offered (local_bindings start address) ++ others.0) =
     subst (λ l. IsFrontOf lane.taken l)
-    (ap (λ legs. told_replies tells rules address legs (local_bindings start address)) (sym more.1)
+    (ap (λ legs. traced_replies tells rules address legs (local_bindings start address)) (sym more.1)
     ∙ others.1) (fronts_both _ _ _ (grows.taken w) (right w lt)) in
-    let long : length (told_replies tells rules address lane.offered (local_bindings start address)) ≡ length lane.offered =
+    let long : length (traced_replies tells rules address lane.offered (local_bindings start address)) ≡ length lane.offered =
     length_replies tells rules address lane.offered (local_bindings start address) in
     let parts : length lane.offered ≡ length o.before + length o.rest =
     ap length o.parts ∙ length-append o.before o.rest in
-    short_front lane.taken (told_replies tells rules address lane.offered (local_bindings start address)) others.0
+    short_front lane.taken (traced_replies tells rules address lane.offered (local_bindings start address)) others.0
     (omega (arith, long, parts, o.long)) whole
 
 -- a front of a front
@@ -203,7 +203,7 @@ offers_keep {tells = tells} rules start all w legs offered taken q progress read
       };
       right = λ o right.
           let all = ap length o.parts ∙ length-append o.before o.rest in
-          short_front taken (told_replies tells rules address offered (local_bindings start address)) more.0
+          short_front taken (traced_replies tells rules address offered (local_bindings start address)) more.0
           (omega (arith, all, o.long, replies)) (rw more.1 at right);
       legs = λ known.
           let rest = drop (length legs) q.ready in
@@ -284,12 +284,12 @@ act_at tells timers Q (a ∷ acts) (l ∷ before) more leg (t ∷ taken) rest to
     act_at tells timers Q acts before more leg taken rest told (omega arith) each.1 (cc (legs)) (cc (answers))
 
 record Tells (rules : Rules) (start : State) (all : List Arrival) (a : LegAct) : Type 0 where
-  pub told : OutcomeIsTold (effect_from rules start all).outcomes a
+  pub told : OutcomeIsGiven (effect_from rules start all).outcomes a
   pub seconded : IsSeconded (effect_from rules start all).acts a
   pub traced : IsTraced rules.timers (traces_of rules start all) (effect_from rules start all).acts a
 
 each_tells : (rules : Rules) (start : State) (all : List Arrival) (acts : List LegAct) →
-    Each (OutcomeIsTold (effect_from rules start all).outcomes) acts →
+    Each (OutcomeIsGiven (effect_from rules start all).outcomes) acts →
     Each (IsSeconded (effect_from rules start all).acts) acts →
     Each (IsTraced rules.timers (traces_of rules start all) (effect_from rules start all).acts) acts →
     Each (Tells rules start all) acts
@@ -341,7 +341,7 @@ module _ {P : Type 0} (tells : Passage → P) (rules : Rules) (start : State) (a
 
     -- or its packet goes onward
     onward : (first second : P) (place : ℕ) (packet : List ℕ) → a.end ≡ ends.Onward place packet →
-        Departs first second (outcome_told a.end)
+        Departs first second (outcome_of_end a.end)
     onward first second place packet is = rw is tt
 
     first_there : slice_get whole_here.firsts number ≡ Some (tells trace.first)
@@ -355,7 +355,7 @@ module _ {P : Type 0} (tells : Passage → P) (rules : Rules) (start : State) (a
     IsKnownNow passages = ProgressIsKnown whole_here number (Answered (owed_of a.leg) a.end passages.0 passages.1)
 
     known_now : (first second : P) → slice_get whole_here.firsts number ≡ Some first →
-        Departs first second (outcome_told a.end) → IsKnownNow (first, second)
+        Departs first second (outcome_of_end a.end) → IsKnownNow (first, second)
     known_now first second is departs = grind (arith, common_steps, nat_tests, first_known, is_outgoing, second_asked)
 
     -- a first leg
@@ -445,7 +445,7 @@ module _ {P : Type 0} (tells : Passage → P) (rules : Rules) (start : State) (a
           counted = o.counted;
         };
     right = λ o right.
-        front_less taken (told ∷ []) (told_replies tells rules address offered (local_bindings start address)) right;
+        front_less taken (told ∷ []) (traced_replies tells rules address offered (local_bindings start address)) right;
     legs = λ known. refl;
     known = λ o right front known. known_set (whole_of tells rules start all) progress told.answer.number
         (now_told owed) (answer_known was is o right front (known told.answer.number was there)) known;
@@ -561,7 +561,7 @@ module _ {P : Type 0} (tells : Passage → P) (rules : Rules) (start : State) (d
       (steps_get rules start all_of number (outcomes.Dropped cause) _ there
       (refused_trace rules start done rest input number now long clock cause is)))) known))
 
-  module _ (packet : List ℕ) (admitted : admission rules input ≡ Ok packet) (foretold : OnwardIsForetold)
+  module _ (packet : List ℕ) (admitted : admission rules input ≡ Ok packet) (foretold : OnwardIsForeseen)
       (is : IsPacket packet) (w : ℕ) (within : w < length rules.pool) (served : at_place w
       ≡ served_at rules (way_from input.side) packet)
       (same : progress_in later.progress ≡ progress_in d.progress) where
@@ -585,7 +585,7 @@ module _ {P : Type 0} (tells : Passage → P) (rules : Rules) (start : State) (d
         let at_w : ℕ = served_at rules (way_from input.side) packet in
         let first : LegEffect = act rules at_w leg_of before.list in
         let never : (place : ℕ) (q : List ℕ) → first.end ≢ ends.Onward place q = λ place q h.
-        let f : IsForetold rules leg_of place q = foretold rules at_w leg_of before.list place q is.0 is.1 h in
+        let f : IsEndForeseen rules leg_of place q = foretold rules at_w leg_of before.list place q is.0 is.1 h in
         let n : pool_place rules (destination packet).address ≡ None = none (from_inside input.side f.way) in
         let t : pool_place rules (destination packet).address ≡ Some place = f.served in
         cc in
@@ -635,7 +635,7 @@ refused_admits rules number now input d later cause distinct is queues written =
 -- an input with a first leg, and perhaps a place for its second
 pub admitted_admits : {P : Type 0} {tells : Passage → P} (rules : Rules) (number now : ℕ) (input : Arrival)
     (d later : Dispatcher P) (packet : List ℕ)
-    (w : ℕ) → Distinct rules.pool → OnwardIsForetold → IsPacket packet → admission rules input ≡ Ok packet →
+    (w : ℕ) → Distinct rules.pool → OnwardIsForeseen → IsPacket packet → admission rules input ≡ Ok packet →
     slice_get rules.pool w ≡ Some (served_at rules (way_from input.side) packet) →
     progress_in later.progress ≡ progress_in d.progress →
     (to : Option ℕ) → IfSome to (λ place. (input.side ≡ Inside) × (pool_place rules (destination packet).address

@@ -12,7 +12,7 @@ use Rattle.napt_dispatch.specs.{Dispatch.{input_results, input_result}, declared
 use Rattle.napt_dispatch.specs.{declared.dispatcher.progress.OpenInput.OpenInput, OutcomeLists.collected_outcome, DispatcherInvariants.{AnswersTo, IsSecond, IsSecondOf}}
 use Rattle.napt_dispatch.specs.{RunsThrough.timed_results, declared.outcome_sink.InputResult.InputResult}
 use Rattle.napt_dispatch.specs.RunProgresses.{RunProgressModel, RunLegs, time_in, end_of_answer, progress_ended, ended_in, second_leg_asked, AsksForSecondLeg, first_by, first_in, unmarked, known_in, progress_arrived, mark_of, progress_in, times_in, marks_in, departed_with, departed_in, is_unknown, passages_after, progress_expecting, IsUnmarked, ProgressIsWritten, HasMark, InputIsMarked, FirstMayLeave, FirstInputLeaves, NoneBehind, KnowsSecond, ProgressIsKnown, AllKnown, OutcomesAreHandedOver}
-use Rattle.napt_laws.specs.{Dispatching.{IsFrontOf, outcome_told}, SecondLegs.second_legs}
+use Rattle.napt_laws.specs.{Dispatching.{IsFrontOf, outcome_of_end}, SecondLegs.second_legs}
 
 -- LISTS
 
@@ -61,7 +61,7 @@ pub returning_known : {P : Type 0} (whole : RunLegs P) (n : ℕ) (p : InputProgr
     ProgressIsKnown whole n (Returning first)
 returning_known whole n p leg first legs is known = grind (arith, common_steps, nat_tests)
 
-told_end : (o : Outcome) → outcome_told (end_of_answer o) ≡ Some o
+told_end : (o : Outcome) → outcome_of_end (end_of_answer o) ≡ Some o
 told_end o = grind (arith, common_steps, nat_tests)
 
 no_first : {P : Type 0} (first : P) (o : Outcome) → first_by first (end_of_answer o) ≡ None

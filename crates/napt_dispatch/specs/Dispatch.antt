@@ -8,7 +8,7 @@ use Rattle.napt_rules.specs.{Prelude.{bindings_at, live_and_held, Arrival, rows,
 use Rattle.napt_translate.specs.Translators.{TranslatorModel, initial_translator, with_local_state}
 use Rattle.napt_pool.specs.{Faults.{IsFaultOf, is_shut}, declared.fault.PoolFault.PoolFault}
 use Rattle.napt_sequential.specs.declared.{fault.RunFault.RunFault, passage.Passage.Passage, leg_trace.TracedAnswer.TracedAnswer, outcome.StepResult.StepResult}
-use Rattle.napt_sequential.specs.Steps.{steps_of, told_replies}
+use Rattle.napt_sequential.specs.Steps.{steps_of, traced_replies}
 use Rattle.napt_dispatch.specs.declared.outcome_sink.InputResult.{InputResult}
 use Rattle.napt_sequential.specs.declared.fault.RunFault.TheVariants as faults
 use Rattle.napt_laws.specs.Dispatching.{IsFrontOf}
@@ -62,7 +62,7 @@ abbrev pub AnswersAreRight : {P : Type 0} → (Passage → P) → Rules → Stat
 AnswersAreRight tells rules start offered taken =
     (w : ℕ) → w < length rules.pool →
     let address : ℕ = slice_index rules.pool w in
-    IsFrontOf (of_worker taken w) (told_replies tells rules address (of_worker offered w) (local_bindings start address))
+    IsFrontOf (of_worker taken w) (traced_replies tells rules address (of_worker offered w) (local_bindings start address))
 
 -- WHAT INPUTS COME TO
 

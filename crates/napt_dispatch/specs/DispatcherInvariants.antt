@@ -7,7 +7,7 @@ use Rattle.std.specs.Prelude.{◌≡◌, ◌≢◌, ◌⊎◌, ℕ, ◌+◌, ◌
 use Rattle.napt_config.specs.Rules.{Rules}
 use Rattle.napt_rules.specs.{Prelude.{Arrival, LegAct, State, last_clock, effect_from, legs_at}, declared.Leg.Leg}
 use Rattle.napt_pool.specs.{declared.pool.Pool.Pool, Pools.{initial_machines, accepted_items, taken_answers, capacity_of}}
-use Rattle.napt_sequential.specs.{declared.{fault.RunFault.RunFault, passage.Passage.{Passage, TheVariants.Nothing}, leg_trace.TracedAnswer.TracedAnswer}, Steps.told_replies}
+use Rattle.napt_sequential.specs.{declared.{fault.RunFault.RunFault, passage.Passage.{Passage, TheVariants.Nothing}, leg_trace.TracedAnswer.TracedAnswer}, Steps.traced_replies}
 use Rattle.napt_wire.specs.declared.Way.{Way}
 use Rattle.napt_laws.specs.{Dispatching.IsFrontOf, SecondLegs.second_legs}
 use Rattle.napt_dispatch.specs.declared.{outcome_sink.InputResult.InputResult, dispatcher.{Dispatcher.Dispatcher, holding.{QueueHead.QueueHead, PendingLeg.PendingLeg}}}
@@ -79,7 +79,7 @@ lane_legs acts lane = lane.offered ++ turned_legs acts lane.queue.ready lane.que
 -- the answers of worker w, and what is told with them, are its translator's
 abbrev pub IsRight : {P : Type 0} → (Passage → P) → Rules → State → ℕ → Lane P → Type 0
 IsRight tells rules start w lane = let address : ℕ = slice_index rules.pool w in
-    IsFrontOf lane.taken (told_replies tells rules address lane.offered (local_bindings start address))
+    IsFrontOf lane.taken (traced_replies tells rules address lane.offered (local_bindings start address))
 
 abbrev pub AreRight : {P : Type 0} → (Passage → P) → Rules → State → DispatcherModel P → Type 0
 AreRight tells rules start state = (w : ℕ) → w < length rules.pool → IsRight tells rules start w (state.lane w)

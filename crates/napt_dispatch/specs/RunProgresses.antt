@@ -4,7 +4,7 @@ use Rattle.napt_wire.specs.declared.{Cause.Cause, Way.{Way, TheVariants.{Outgoin
 use Rattle.napt_config.specs.Rules.{Rules}
 use Rattle.napt_rules.specs.{declared.{End.End, Leg.Leg, Outcome.Outcome}, Prelude.{Arrival, LegAct, State, effect_from}}
 use Rattle.napt_rules.specs.declared.End.TheVariants as ends
-use Rattle.napt_laws.specs.{SecondLegs.second_legs, Dispatching.outcome_told}
+use Rattle.napt_laws.specs.{SecondLegs.second_legs, Dispatching.outcome_of_end}
 use Rattle.napt_rules.specs.declared.Outcome.TheVariants as outcomes
 use Rattle.napt_sequential.specs.{declared.passage.Passage.Passage, Traces.traces_of}
 use Rattle.napt_dispatch.specs.declared.{outcome_sink.InputResult.InputResult, dispatcher.progress.{OpenInput.OpenInput, InputProgress.InputProgress}}
@@ -71,7 +71,7 @@ departed_with now first second (Some outcome) =
 
 -- if it is known
 abbrev pub departed_in : {P : Type 0} → InputProgress P → Option (InputResult P)
-departed_in (Answered owed end first second) = departed_with owed.now first second (outcome_told end)
+departed_in (Answered owed end first second) = departed_with owed.now first second (outcome_of_end end)
 departed_in _ = None
 
 abbrev pub has_ended : {P : Type 0} → InputProgress P → Bool
@@ -146,7 +146,7 @@ pub record RunLegs (P : Type 0) : Type 0 where
 abbrev pub whole_of : {P : Type 0} → (Passage → P) → Rules → State → List Arrival → RunLegs P
 whole_of tells rules start inputs = record {
   acts = (effect_from rules start inputs).acts;
-  input_results = input_results tells rules start inputs;
+  departed = input_results tells rules start inputs;
   firsts = map (λ trace. tells trace.first) (traces_of rules start inputs);
 }
 

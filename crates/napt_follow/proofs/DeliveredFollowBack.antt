@@ -1,4 +1,4 @@
--- What was delivered follows back.
+-- A delivered packet, sent again as a reply, is the original packet.
 use Rattle.std.proofs.Common.{arith, rules, ◌≡◌, ℕ, Bool, true, cond, List, Some, None, Ok, refl, sym, ◌∙◌, ap, subst, eqb-true, find, unwrap_or}
 use Rattle.std.proofs.lemmas.{Grind.common_steps, Bool.{Decides.nat_tests, and_parts}}
 use Rattle.napt_rules.specs.Prelude.{Binding, purge, is_of_inside, has_number, by_inside, row, IsNumber, IsPaired, IsSound, PurgeStaysSound, Protocol, Endpoint, Kind, Outside, Incoming, source, kind, local_of, local_end, CanCarry, reading, LastDestinationCounts, LastReversionCounts, DestinationsAreGiven, kind_with_inner_source, SourcesAreGiven, Rules, pair_of, is_inside}
@@ -11,7 +11,7 @@ address_of_it : (address : ℕ) (protocol : Protocol) (number : ℕ) (b : Bindin
     ≡ true → b.row.external.address ≡ address
 address_of_it address protocol number b h = eqb-true _ _ (and_parts _ _ h).0
 
--- where a packet is sent, by its kind and the inside endpoint that it names
+-- The packet as it is sent, by its kind and the inside endpoint that it names.
 abbrev sent_by : Rules → ℕ → List Binding → List ℕ → Kind → Endpoint → List ℕ
 sent_by rules now list packet k inside = readdressed k (unwrap_or (reply_target rules now list (protocol_by k) inside)
     (record inside { address = (source packet).address })) packet
@@ -21,8 +21,10 @@ same_way : (rules : Rules) (now : ℕ) (list : List Binding) (packet : List ℕ)
 same_way rules now list packet k inside = grind (arith, common_steps, nat_tests)
 
 sent_to : (rules : Rules) (now : ℕ) (list : List Binding) (packet : List ℕ) (k : Kind) (inside x : Endpoint) →
-    kind packet ≡ kind_with_inner_source inside k → local_of (kind_with_inner_source inside k) Incoming packet ≡ inside →
-    reply_target rules now list (protocol_by k) inside ≡ Some x → packet_followed rules now list packet ≡ readdressed k x packet
+    kind packet ≡ kind_with_inner_source inside k →
+    local_of (kind_with_inner_source inside k) Incoming packet ≡ inside →
+    reply_target rules now list (protocol_by k) inside ≡ Some x →
+    packet_followed rules now list packet ≡ readdressed k x packet
 unfolding local_end
 sent_to rules now list packet k inside x k_is local_is to = grind (arith, common_steps, nat_tests, same_way)
 

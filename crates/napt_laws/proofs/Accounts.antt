@@ -10,7 +10,7 @@ use Rattle.napt_laws.proofs.Endpoints.{inside_parts, protocol_is, same_itself, e
 use Rattle.napt_laws.proofs.{SeenElements.{ago_before, ago_later, find_seen}, StepRows.rows_push, StepsSound.{purge_stays_sound, out_stays_sound}}
 use Rattle.napt_laws.proofs.StepsLive.{sent_is_fresh, made_is_fresh, received_is_fresh}
 
--- ENDS
+-- ENDPOINTS
 
 ends_from : (a b : Row) → have_same_ends a b ≡ true → HaveSameEnds a b
 ends_from a b e =
@@ -33,14 +33,14 @@ ends_test a b e =
 
 -- TIME
 
--- what is dead stays so
+-- A dead binding stays dead.
 dead : (timers : Timers) (n m : ℕ) → n ≤ m → (b : Binding) → is_live timers n b ≡ false → is_live timers m b ≡ false
 dead timers n m le b e = elim (is_live timers m b) as (λ v. is_live timers m b ≡ v → v ≡ false) [
   | true ↦ λ h. absurd (true≢false (sym (lived timers n m le b h) ∙ e))
   | false ↦ λ h. refl
 ] refl
 
--- what is dead by a time lived at no later one
+-- A binding that is dead at a time was live at no later one.
 before_dead : (timers : Timers) (now t : ℕ) (b : Binding) → is_live timers now b ≡ false → is_live timers t b ≡ true →
     t ≤ now
 before_dead timers now t b e h = elim (nat_le t now) as (λ v. nat_le t now ≡ v → t ≤ now) [
@@ -50,7 +50,7 @@ before_dead timers now t b e h = elim (nat_le t now) as (λ v. nat_le t now ≡ 
       absurd (true≢false (sym (lived timers now t (omega (arith, less)) b h) ∙ e))
 ] refl
 
--- ONE OF A LIST
+-- ONE ELEMENT OF A LIST
 
 module _ (P : Binding → Type 0) where
   one_left : (xs ys : List Binding) → HasOne P xs → HasOne P (xs ++ ys)
@@ -70,7 +70,7 @@ module _ (P : Binding → Type 0) where
   one_kept t (x ∷ xs) e (inr h) = subst (λ v. HasOne P (cond (not v) (x ∷ filter (λ x. not (t x)) xs)
       (filter (λ x. not (t x)) xs))) (sym e.0) (inr (one_kept t xs e.1 h))
 
-  -- it is among those that do not pass, or one passes
+  -- An element with the property is among those that fail the test, or one that passes it has the property.
   one_split : (t : Binding → Bool) (xs : List Binding) → HasOne P xs →
       HasOne P (filter (λ x. not (t x)) xs) ⊎ ((x : Binding) × (P x) × (t x ≡ true))
   one_split t [] h = absurd h
@@ -86,7 +86,7 @@ module _ (P : Binding → Type 0) where
             ]
       ] refl
 
-  -- at most one passes: it is among the others, or that one
+  -- At most one passes: the element with the property is among the others, or it is that one.
   one_but : (t : Binding → Bool) (xs : List Binding) (b : Binding) → Once t xs → find t xs ≡ Some b → HasOne P xs →
       HasOne P (filter (λ x. not (t x)) xs) ⊎ P b
   one_but t [] b o e h = absurd h
@@ -105,7 +105,7 @@ module _ (P : Binding → Type 0) where
         ]
       ] refl e
 
-  -- the found one is changed
+  -- The element that is found is changed.
   one_changed : (t : Binding → Bool) (f : Binding → Binding) (xs : List Binding) (b : Binding) → find t xs ≡ Some b →
       (P b → P (f b)) → HasOne P xs → HasOne P (change_first t f xs)
   one_changed t f [] b e keeps h = absurd h
@@ -149,7 +149,8 @@ module _ (timers : Timers) (ago : ℕ) (h : Holder) where
             (live_same timers ago ago (omega arith) b ∙ alive)
       ] refl
 
-  one_purged : (xs : List Binding) → HasOne (HolderCoversBinding timers h) xs → IsAccounted timers ago (purge timers ago xs) h
+  one_purged : (xs : List Binding) → HasOne (HolderCoversBinding timers h) xs →
+      IsAccounted timers ago (purge timers ago xs) h
   one_purged [] o = absurd o
   one_purged (x ∷ xs) o = elim (is_live timers ago x) as (λ v. is_live timers ago x ≡ v →
       IsAccounted timers ago (map (with_live_flows timers ago)
@@ -193,7 +194,7 @@ module _ (timers : Timers) (now later : ℕ) (le : now ≤ later) (list : List B
       AreBindingsAccounted timers later (live_and_held timers later list) hs
   taken_accounted hs a = record { apart = a.apart; past = past_later hs a.past; each = each_later hs a.each }
 
--- THROUGH A LIVE BINDING
+-- A PACKET THROUGH A LIVE BINDING
 
 module _ (timers : Timers) (now : ℕ) (list : List Binding) (t : Binding → Bool) (f : Binding → Binding)
     (same : (b : Binding) → row (f b) ≡ row b) (b : Binding) (is : find t list ≡ Some b)
@@ -204,13 +205,13 @@ module _ (timers : Timers) (now : ℕ) (list : List Binding) (t : Binding → Bo
   abbrev its : Holder → Bool
   its h = is_live timers now h.binding && have_same_ends (row went) (row h.binding)
 
-  -- by whether it is changed
+  -- By whether the holder is changed.
   by_its : (P : Holder → Type 0) (h : Holder) → (its h ≡ true → P (record h { binding = went })) →
       (its h ≡ false → P h) → P (holder_after timers now went h)
   by_its P h changed kept = elim (its h) as (λ v. its h ≡ v → P (cond v (record h { binding = went }) h))
       [ true ↦ changed | false ↦ kept ] refl
 
-  -- the ends stay
+  -- The endpoints of a holder stay.
   left_ends : (h : Holder) → HaveSameEnds (row (holder_after timers now went h).binding) (row h.binding)
   left_ends h = by_its (λ k. HaveSameEnds (row k.binding) (row h.binding)) h
       (λ e. ends_from (row went) (row h.binding) (and_parts (is_live timers now h.binding)
@@ -291,7 +292,7 @@ module _ (timers : Timers) (now : ℕ) (list : List Binding) (t : Binding → Bo
     each = each_accounted hs a.each;
   }
 
--- IN
+-- AN INCOMING PACKET
 
 module _ (timers : Timers) (tm : AreTimers timers) (inbound : InboundRules) (address : ℕ) (packet : InboundPacket)
     (all : List Binding) (holders : List Holder) (a : AreBindingsAccounted timers packet.now all holders) where
@@ -301,7 +302,8 @@ module _ (timers : Timers) (tm : AreTimers timers) (inbound : InboundRules) (add
   alive_in : (b : Binding) → find (is_of_live_destination timers address packet) all ≡ Some b →
       is_live timers packet.now (live_binding_after_in timers inbound packet b) ≡ true
   alive_in b is =
-      let passes = find_passes (is_of_live_destination timers address packet) (λ b. Unit {0}) all b (each_true all) is in
+      let passes = find_passes (is_of_live_destination timers address packet) (λ b. Unit {0}) all b (each_true all) is
+      in
       (received_is_fresh timers tm inbound packet b
       (and_parts (is_of_destination address packet b) (is_live timers packet.now b) passes.0).1).live
 
@@ -318,14 +320,15 @@ module _ (timers : Timers) (tm : AreTimers timers) (inbound : InboundRules) (add
 pub in_keeps_accounts : InKeepsAccounts
 in_keeps_accounts timers tm inbound address packet list now le holders a =
     let all : List Binding = live_and_held timers packet.now list in
-    subst (λ (o : Option Binding). AreBindingsAccounted timers packet.now (in_found timers inbound all address packet o).list
+    subst (λ (o : Option Binding). AreBindingsAccounted timers packet.now
+    (in_found timers inbound all address packet o).list
     (holders_after timers packet.now (in_found timers inbound all address packet o).through holders))
     (sym (find_seen (is_live timers packet.now) (is_of_destination address packet) (with_live_flows timers packet.now)
     (λ b. refl) all))
     (entered timers tm inbound address packet all holders (taken_accounted timers now packet.now le list holders a)
     (find (is_of_live_destination timers address packet) all) refl)
 
--- OUT
+-- AN OUTGOING PACKET
 
 last_of : (P : Row → Type 0) (rs : List Row) (r : Row) → Each P (rs ++ r ∷ []) → P r
 last_of P [] r h = h.0
@@ -357,13 +360,14 @@ module _ (granting : AssignmentRules) (timers : Timers) (tm : AreTimers timers) 
   alive_out b = (sent_is_fresh timers tm packet b).live
 
   found_kept : (b : Binding) → find (is_of_live_source timers address packet) all ≡ Some b →
-      AreBindingsAccounted timers packet.now (change_first (is_of_live_source timers address packet) (live_binding_after_out timers packet) all)
+      AreBindingsAccounted timers packet.now (change_first (is_of_live_source timers address packet)
+      (live_binding_after_out timers packet) all)
       (map (holder_after timers packet.now (live_binding_after_out timers packet b)) holders)
   found_kept b is = found_accounted timers packet.now all (is_of_live_source timers address packet)
       (live_binding_after_out timers packet) (λ b. refl) b is (alive_out b) holders a
 
   module _ (none : find (is_of_live_source timers address packet) all ≡ None) where
-    -- the endpoint's own one, if there is one, is dead
+    -- The packet's source has no live binding, so its own binding in the list, if there is one, is dead.
     own_dead : (b : Binding) → find t all ≡ Some b → is_live timers packet.now b ≡ false
     own_dead b is =
         let passes = find_passes t (λ b. is_of_live_source timers address packet b ≡ false) all b
@@ -373,7 +377,8 @@ module _ (granting : AssignmentRules) (timers : Timers) (tm : AreTimers timers) 
           | false ↦ λ e. refl
         ] refl
 
-    module _ (n : ℕ) (sound : AreBindingsApart (map row (others ++ binding_after_out packet (new_binding address packet n) ∷ [])))
+    module _ (n : ℕ) (sound : AreBindingsApart (map row
+        (others ++ binding_after_out packet (new_binding address packet n) ∷ [])))
         (again : (b : Binding) → find t all ≡ Some b → b.row.external.number ≡ n) where
       abbrev new : Binding
       new = binding_after_out packet (new_binding address packet n)
@@ -381,7 +386,8 @@ module _ (granting : AssignmentRules) (timers : Timers) (tm : AreTimers timers) 
       new_alive : is_live timers packet.now new ≡ true
       new_alive = (made_is_fresh timers tm address packet n).live
 
-      covers_new : (h : Holder) (b : Binding) → find t all ≡ Some b → HolderCoversBinding timers h b → HolderCoversBinding timers h new
+      covers_new : (h : Holder) (b : Binding) → find t all ≡ Some b → HolderCoversBinding timers h b →
+          HolderCoversBinding timers h new
       covers_new h b is c =
           let passes = find_passes t (λ b. Unit {0}) all b (each_true all) is in
           let p = inside_parts address packet.protocol packet.inside (row b) passes.0 in
@@ -396,7 +402,8 @@ module _ (granting : AssignmentRules) (timers : Timers) (tm : AreTimers timers) 
                 (c.lives at l)) new new_alive;
           }
 
-      made_one : (found : Option Binding) → find t all ≡ found → (h : Holder) → HasOne (HolderCoversBinding timers h) all →
+      made_one : (found : Option Binding) → find t all ≡ found → (h : Holder) →
+          HasOne (HolderCoversBinding timers h) all →
           HasOne (HolderCoversBinding timers h) (others ++ new ∷ [])
       made_one None is h o = one_left (HolderCoversBinding timers h) others (new ∷ [])
           (one_kept (HolderCoversBinding timers h) t all (find_none t all is) o)
@@ -442,7 +449,7 @@ module _ (granting : AssignmentRules) (timers : Timers) (tm : AreTimers timers) 
             (record { ends = record { protocol = refl; external = refl; inside = refl }; lives = λ at l. l })));
       }
 
-    -- by what is granted
+    -- By whether a number is held for the source or a free one is chosen.
     granted_number : (found : Option Binding) → find t all ≡ found → (n : ℕ) →
         granted_again granting all address packet found ≡ Ok n → (b : Binding) → find t all ≡ Some b →
         b.row.external.number ≡ n
@@ -505,7 +512,8 @@ module _ (timers : Timers) (now : ℕ) where
   each_begun before [] = tt
   each_begun before (x ∷ xs) = (
     inr (subst (HasOne (HolderCoversBinding timers (begun x))) (append_assoc before (x ∷ []) xs)
-        (one_left (HolderCoversBinding timers (begun x)) (before ++ x ∷ []) xs (one_last (HolderCoversBinding timers (begun x)) before x
+        (one_left (HolderCoversBinding timers (begun x)) (before ++ x ∷ []) xs
+        (one_last (HolderCoversBinding timers (begun x)) before x
         (record { ends = record { protocol = refl; external = refl; inside = refl }; lives = λ at l. l })))),
     subst (λ (l : List Binding). Each (IsAccounted timers (hold_ago timers now) l) (map begun xs))
         (append_assoc before (x ∷ []) xs) (each_begun (before ++ x ∷ []) xs),

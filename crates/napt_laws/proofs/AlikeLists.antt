@@ -1,4 +1,4 @@
--- Lists of bindings that are alike, and what keeps them so.
+-- Lists of bindings that are alike, and the changes that keep them so.
 use Rattle.std.proofs.Common.{◌≡◌, ℕ, ◌≤◌, Bool, true, false, not, cond, List, [], ◌∷◌, ◌++◌, map, filter, find, Some, refl, sym, ◌∙◌, ap, subst, arith}
 use Rattle.std.{specs.{List.{list_any, Sorted.IsPermutation}, Option.option_map}, proofs.lemmas.{List.{map-append, Elements.filter-append}, Bool.true≢false, Option.same_Some}}
 use Rattle.std.proofs.lemmas.List.Sorted.{IsPermutation-refl, IsPermutation-sym, IsPermutation-trans, IsPermutation-map, IsPermutation-append, IsPermutation-append_comm, IsPermutation-cons}
@@ -26,7 +26,7 @@ module _ {X Y : Type 0} (f : X → Y) (q : Y → Bool) where
   once_of [] o = tt
   once_of (x ∷ xs) o = ((λ h. sym (any_of_all xs) ∙ o.0 h), once_of xs o.1)
 
--- ONE THAT IS CHANGED, of those that pass a test, is behind the others in some order
+-- A CHANGED ELEMENT, of those that pass a test, comes after the others in some order
 module _ {X : Type 0} (s t : X → Bool) (f : X → X) where
   abbrev others : List X → List X
   others xs = filter (λ x. not (t x)) xs
@@ -56,7 +56,7 @@ module _ {X : Type 0} (s t : X → Bool) (f : X → X) where
             ] refl
       ] e
 
--- WHAT KEEPS LISTS ALIKE
+-- CHANGES THAT KEEP LISTS ALIKE
 
 module _ (timers : Timers) where
   pub purge_moved : (now : ℕ) (a b : List Binding) → IsPermutation a b →
@@ -130,7 +130,7 @@ module _ (timers : Timers) where
       ) (alike.held t le);
     }
 
-    -- one that both have goes, and one comes
+    -- An element of both lists is removed, and one is added.
     pub alike_put : (q : Row → Bool) (a b : List Binding) → AreAlike timers now a b → (new : Binding) →
         (x y : List Binding) → IsPermutation x (filter (λ b. q b.row) a ++ new ∷ []) →
         IsPermutation y (filter (λ b. q b.row) b ++ new ∷ []) → AreAlike timers now x y

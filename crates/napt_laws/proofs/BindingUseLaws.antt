@@ -1,13 +1,13 @@
--- What a leg says of the binding that its packet went through.
+-- What a leg records of the binding that its packet went through.
 use Rattle.std.proofs.Common.{◌≡◌, ℕ, Bool, true, false, cond, List, Option, Some, None, Result, Ok, Err, refl, ◌∙◌, ap, subst, find}
 use Rattle.std.specs.Option.{option_map}
 use Rattle.napt_wire.specs.declared.Kind.TheVariants.{Udp, Tcp, Echo, ErrorOf}
 use Rattle.napt_rules.specs.declared.{AssignmentRules.AssignmentRules, InboundRules.InboundRules, OutboundPacket.OutboundPacket, InboundPacket.InboundPacket, Leg.Leg, End.TheVariants.Dropped}
 use Rattle.napt_rules.specs.Prelude.{Binding, purge, live_and_held, permits, inbound_rules, is_of_source, binding_after_out, new_binding, OutboundEffect, out_made, granted_again, out_found, step_out, is_of_destination, binding_after_in, InboundEffect, in_found, step_in, AreTimers, Timers, onward_end, end_out, end_in, outbound_packet, inbound_packet, LegEffect, act_by, Cause, Way, Outgoing, Incoming, Kind, kind, is_error, Rules, assignment_rules}
-use Rattle.napt_laws.{specs.BindingUses.{BindingUseIsSaid, OutSaysItsBinding, InSaysItsBinding, ErrorsGoThroughNone, DroppedGoThroughNone}, proofs.Acts.of_act}
+use Rattle.napt_laws.{specs.BindingUses.{BindingUseIsSaid, OutboundNamesItsBinding, InboundNamesItsBinding, ErrorsGoThroughNone, DroppedGoThroughNone}, proofs.Acts.of_act}
 use Rattle.napt_laws.proofs.{Endpoints.inside_it, Finds.{find_changed, find_pushed}, Passes.in_passed, StepsLive.{sent_seen, made_is_seen, received_seen}, SeenElements.purge_taken}
 
--- OUT
+-- OUTGOING PACKETS
 
 module _ (timers : Timers) (t : AreTimers timers) (granting : AssignmentRules) (address : ℕ) (packet : OutboundPacket)
     (list : List Binding) where
@@ -40,21 +40,23 @@ module _ (timers : Timers) (t : AreTimers timers) (granting : AssignmentRules) (
     went = record { binding = binding_after_out packet b; made = false };
     is = refl;
     binding = ap (find (is_of_source address packet)) (sent_seen timers t address packet list)
-        ∙ (find_changed (is_of_source address packet) (binding_after_out packet) (λ x. refl) (purge timers packet.now list)
+        ∙ (find_changed (is_of_source address packet) (binding_after_out packet) (λ x. refl)
+        (purge timers packet.now list)
         ∙ ap (option_map (binding_after_out packet)) is);
     made = (λ made. cc, λ none. cc);
   }
 
-pub out_says_its_binding : OutSaysItsBinding
+pub out_says_its_binding : OutboundNamesItsBinding
 out_says_its_binding timers t granting address packet list =
     let all : List Binding = live_and_held timers packet.now list in
     let out : OutboundEffect = step_out timers granting address packet list in
     subst (λ (live : List Binding). BindingUseIsSaid out.number (find (is_of_source address packet) live)
     (find (is_of_source address packet) (purge timers packet.now out.list)) out.through)
     (purge_taken timers packet.now list)
-    (out_says timers t granting address packet all (find (is_of_source address packet) (purge timers packet.now all)) refl)
+    (out_says timers t granting address packet all (find (is_of_source address packet) (purge timers packet.now all))
+    refl)
 
--- IN
+-- INCOMING PACKETS
 
 module _ (timers : Timers) (t : AreTimers timers) (inbound : InboundRules) (address : ℕ) (packet : InboundPacket)
     (list : List Binding) where
@@ -82,7 +84,7 @@ module _ (timers : Timers) (t : AreTimers timers) (inbound : InboundRules) (addr
   in_says None none = refl
   in_says (Some b) is = passed_says b is (permits inbound b packet.remote)
 
-pub in_says_its_binding : InSaysItsBinding
+pub in_says_its_binding : InboundNamesItsBinding
 in_says_its_binding timers t inbound address packet list =
     let all : List Binding = live_and_held timers packet.now list in
     let came : InboundEffect = step_in timers inbound address packet list in
@@ -92,7 +94,7 @@ in_says_its_binding timers t inbound address packet list =
     (in_says timers t inbound address packet all (find (is_of_destination address packet) (purge timers packet.now all))
     refl)
 
--- NONE
+-- PACKETS THROUGH NO BINDING
 
 module _ (rules : Rules) (address : ℕ) (leg : Leg) (list : List Binding) where
   error_none : (way : Way) (k : Kind) → is_error k ≡ true → (act_by rules address leg list way k).through ≡ None

@@ -1,4 +1,4 @@
--- What the candidates of a number in a block are: the numbers of the block, each once, that at the place first.
+-- The candidates of a number in a port block are the numbers of the block, each once, the one at the place first.
 use Rattle.std.proofs.Common.{◌≡◌, ◌≢◌, ℕ, zero, suc, ◌+◌, ◌-◌, ◌*◌, ◌/◌, ◌%◌, ◌<◌, ◌≤◌, ◌==◌, Bool, true, false, nat_le, List, ◌∷◌, ◌++◌, map, Option, Some, None, ◌⊎◌, inl, inr, refl, sym, ◌∙◌, ap, subst, arith, leb-true, leb-false}
 use Rattle.std.{specs.List.{All, AllPairs, Contains, range_with_len}, proofs.lemmas.Nat.{mod_below, Gcd.dvd_of_mod-eq-zero}}
 use Rattle.std.proofs.Math.Nat.{mod-eq_of_lt, add-mod_left, mod-mod_of_dvd}
@@ -7,7 +7,7 @@ use Rattle.std.proofs.lemmas.List.FromFn.{length-map-range_with_len, get_or-map-
 use Rattle.napt_rules.specs.Prelude.{Each, IsBlockNumber, BlockCandidatesBegin, BlockCandidatesAreTheBlock, BlockCandidatesDiffer, BlockCandidatesKeepParity, numbers_below, mixed, every_other, each_one, place_in, block_from, candidates, IsPortBlock, PortBlock, NumberAssignment, Seed, Endpoint, Protocol}
 use Rattle.napt_laws.proofs.Classes.{AllPairs-append, each_from}
 
--- EACH NUMBER BELOW A LIMIT, CHANGED
+-- A FUNCTION OF EACH NUMBER BELOW A LIMIT
 
 module _ (f : ℕ → ℕ) (many : ℕ) where
   all_mapped : (P : ℕ → Type 0) → ((k : ℕ) → k < many → P (f k)) → All P (map f (numbers_below many))
@@ -39,10 +39,10 @@ unfolding numbers_below
 first_mapped f zero some = absurd (omega (arith, some))
 first_mapped f (suc many) some = (map f (range_with_len 1 many), refl)
 
--- IN A BLOCK
+-- PLACES IN A BLOCK
 
 module _ (block : PortBlock) (is : IsPortBlock block) where
-  -- a place wraps at most once
+  -- A place below twice the size wraps at most once.
   wrapped : (x : ℕ) → x < 2 * block.size → ((x % block.size ≡ x) × (x < block.size))
       ⊎ ((x % block.size ≡ x - block.size) × (block.size ≤ x))
   wrapped x small = elim (nat_le block.size x) as (λ v. nat_le block.size x ≡ v →
@@ -123,10 +123,10 @@ module _ (block : PortBlock) (is : IsPortBlock block) where
       let less : (place + 2 * k) % block.size < block.size = mod_below (place + 2 * k) block.size some in
       record { first = omega arith; last = omega (arith, less) })
 
--- FROM A PLACE OF IT ON
+-- THE NUMBERS FROM A PLACE ON
 
 module _ (block : PortBlock) (is : IsPortBlock block) (place : ℕ) (inside : place < block.size) where
-  -- by twos
+  -- The candidates where parity is kept.
   two_all : All (IsBlockNumber block) (block_from true block place)
   two_all = All-append (IsBlockNumber block) (every_other block place) (every_other block (place + 1))
       (every_is block is place) (every_is block is (place + 1))
@@ -172,7 +172,7 @@ module _ (block : PortBlock) (is : IsPortBlock block) (place : ℕ) (inside : pl
       let third = sym first ∙ (ap (λ n. (n - block.first) % 2) same ∙ second) in
       omega (arith, third))
 
-  -- by ones
+  -- The candidates where parity is free.
   abbrev one_at : ℕ → ℕ
   one_at k = (place + k) % block.size
 
@@ -233,7 +233,7 @@ module _ (block : PortBlock) (is : IsPortBlock block) (place : ℕ) (inside : pl
       pairs_mapped (λ k. block.first + one_at k) block.size (λ m n. m ≢ n)
       (λ i j less within same. ones_differ i j less within (omega (arith, same)))
 
-  -- by either
+  -- The candidates in either case.
   from_all : (keeps : Bool) → All (IsBlockNumber block) (block_from keeps block place)
   from_all true = two_all
   from_all false = one_all
@@ -263,8 +263,9 @@ place_inside (Some seed) true block is protocol inside =
 place_inside (Some seed) false block is protocol inside =
     let some : 0 < block.size = omega (arith, is.some) in mod_below (mixed seed protocol inside) block.size some
 
--- what holds of each number of a block holds of the candidates there
-pub each_of_block : (P : ℕ → Type 0) (choosing : NumberAssignment) (block : PortBlock) → IsPortBlock block → (protocol : Protocol)
+-- A property of each number of the block holds of each candidate there.
+pub each_of_block : (P : ℕ → Type 0) (choosing : NumberAssignment) (block : PortBlock) → IsPortBlock block →
+    (protocol : Protocol)
     (inside : Endpoint) → ((n : ℕ) → IsBlockNumber block n → P n) →
     Each P (candidates choosing (Some block) protocol inside)
 each_of_block P choosing block is protocol inside holds =

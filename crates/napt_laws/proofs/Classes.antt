@@ -1,4 +1,4 @@
--- What the candidates of a number are: those that may stand for it, each once, and which is the first.
+-- The candidates of a number are those that may stand for it, each once; and which of them is the first.
 use Rattle.std.proofs.Common.{◌≡◌, ◌≢◌, ℕ, zero, suc, ◌+◌, ◌%◌, ◌<◌, ◌≤◌, ◌==◌, Bool, true, false, not, ◌&&◌, ◌||◌, cond, nat_lt, nat_le, List, [], ◌∷◌, ◌++◌, length, slice_index_or, Option, Some, None, refl, sym, ◌∙◌, ap, subst, arith, filter}
 use Rattle.std.specs.{Bool.beq, Cmp.booleans_Decides, List.{All, AllPairs, Contains, range_with_len}}
 use Rattle.std.proofs.lemmas.{Bool.{and_parts, and_from, ltb-true, lt-ltb, leb-true, leb-false, le-leb, Decides.{Decides-eqb, nat_tests}}, Nat.mod_below}
@@ -93,7 +93,7 @@ AllPairs-append R (x ∷ xs) ys a b across =
     (AllPairs-append R xs ys (λ i j d less h. a (suc i) (suc j) d (omega (arith, less)) (omega (arith, h))) b
     (λ k d h. across (suc k) d (omega (arith, h))))
 
--- of numbers that rise, the least is the first
+-- Of rising numbers, the least is the first.
 least_first : (xs : List ℕ) (x : ℕ) → AllPairs (λ m n. m < n) xs → All (λ n. x ≤ n) xs → Contains xs x →
     (others : List ℕ) × (xs ≡ x ∷ others)
 least_first [] x rise least (k, h, is) = absurd (omega (arith, h))
@@ -113,7 +113,7 @@ rising_differ xs rise i j d less h = let lower = rise i j d less h in λ same. o
 above_differs : (number m n : ℕ) → number ≤ m → n < number → m ≢ n
 above_differs number m n above below = λ same. omega (arith, above, below, same)
 
--- NUMBERS THAT RISE, FROM ONE ON
+-- RISING NUMBERS, FROM ONE OF THEM ON
 
 same_place : (xs : List ℕ) (k : ℕ) (c d : ℕ) → k < length xs → slice_index_or xs k c ≡ slice_index_or xs k d
 same_place [] k c d h = absurd (omega (arith, h))
@@ -128,7 +128,7 @@ none_below (y ∷ xs) x above =
     ap (λ v. cond v (y ∷ filter (λ o. nat_lt o x) xs) (filter (λ o. nat_lt o x) xs)) no
     ∙ none_below xs x (λ k d h. above (suc k) d (omega (arith, h)))
 
--- of numbers that rise, as many are below the one at a place as its place says
+-- Of rising numbers, as many are below the one at a place as the place says.
 below_place : (xs : List ℕ) (k d : ℕ) → AllPairs (λ m n. m < n) xs → k < length xs →
     length (filter (λ o. nat_lt o (slice_index_or xs k d)) xs) ≡ k
 below_place [] k d rise h = absurd (omega (arith, h))
@@ -191,7 +191,7 @@ module _ (start : ℕ) (numbers : List ℕ) where
         (λ i d h j e g. above_differs start (slice_index_or from_it i d) (slice_index_or before_it j e)
         (from_above i d h) (before_below j e g))
 
--- THE NUMBERS THAT MAY STAND FOR ONE
+-- THE NUMBERS THAT MAY STAND FOR A NUMBER
 
 module _ (keeps : Bool) (protocol : Protocol) (number : ℕ) where
   abbrev numbers : List ℕ
@@ -241,7 +241,7 @@ module _ (keeps : Bool) (protocol : Protocol) (inside : Endpoint)
   start_first (Some seed) = below_place own (mixed seed protocol inside % length own) inside.number
       (numbers_rise keeps protocol inside.number) (place_within seed)
 
--- what holds of each number that may stand for one holds of its candidates
+-- A property of each number that may stand for a number holds of its candidates.
 pub each_candidate : (P : ℕ → Type 0) (choosing : NumberAssignment) (protocol : Protocol) (inside : Endpoint) →
     ((n : ℕ) → IsNumberFor choosing.keeps_parity protocol inside.number n → P n) →
     Each P (candidates choosing None protocol inside)

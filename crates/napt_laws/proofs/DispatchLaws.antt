@@ -4,15 +4,15 @@ use Rattle.std.specs.List.{slice_get}
 use Rattle.napt_rules.specs.Prelude.{BindingUse, Binding, Each, bindings_at, LegEffect, act, Arrival, LegAct, RunEffect, outcome_of, with_second_leg, run_from, effect_from, LocalState, local_after, local_answer, local_replies, answers_at, Incoming, destination, kind, SourcesLeaveDestinations, ErrorsLeaveDestinations, Rules, pool_place}
 use Rattle.napt_rules.specs.declared.{Leg.Leg, Answer.Answer, End.{End, TheVariants.{ToOutside, ToInside, Onward, Dropped}}, Outcome.Outcome}
 use Rattle.napt_laws.proofs.Lists.{each_weaker, each_append}
-use Rattle.napt_laws.specs.Dispatching.{IsFrontOf, RightAnswersAreTheRuns, RunsGrow, outcome_told, OutcomeIsTold, AnswersTellOutcomes, OnwardIsForetold}
+use Rattle.napt_laws.specs.Dispatching.{IsFrontOf, RightAnswersAreTheRuns, RunsGrow, outcome_of_end, OutcomeIsGiven, AnswersGiveOutcomes, OnwardIsForeseen}
 use Rattle.napt_laws.proofs.{EachLeg.each_leg, OneMoreInput.grows, RunsLocal.translators_answer_from, OnwardLegs.{OnwardBy, onward}}
 
--- FRONTS
+-- PREFIXES
 
 front_front : {X : Type 0} (xs ys zs : List X) → IsFrontOf xs ys → IsFrontOf ys zs → IsFrontOf xs zs
 front_front xs ys zs h g = (h.0 ++ g.0, sym (append_assoc xs h.0 g.0) ∙ (ap (λ (l : List _). l ++ g.0) h.1 ∙ g.1))
 
--- the replies to a front are a front of the replies
+-- The replies to a prefix of the legs are a prefix of the replies.
 replies_front : (rules : Rules) (address : ℕ) (xs rest : List Leg) (own : LocalState) →
     IsFrontOf (local_replies rules address xs own) (local_replies rules address (xs ++ rest) own)
 replies_front rules address [] rest own = (local_replies rules address rest own, refl)
@@ -37,17 +37,18 @@ runs_grow rules state inputs input = grows rules 0 state.clock inputs input stat
 
 -- OUTCOMES
 
--- the acts of a step have its number, and one that does not go onward tells its outcome
+-- The acts of a step have its number, and one that does not end onward gives its outcome.
 abbrev TellsHere : ℕ → List Outcome → LegAct → Type 0
-TellsHere number outcomes a = (a.leg.number ≡ number) × IfSome (outcome_told a.end) (λ o. outcomes ≡ o ∷ [])
+TellsHere number outcomes a = (a.leg.number ≡ number) × IfSome (outcome_of_end a.end) (λ o. outcomes ≡ o ∷ [])
 
-end_told : (e : End) → IfSome (outcome_told e) (λ o. outcome_of e ∷ [] ≡ o ∷ [])
+end_told : (e : End) → IfSome (outcome_of_end e) (λ o. outcome_of e ∷ [] ≡ o ∷ [])
 end_told (ToOutside packet) = refl
 end_told (ToInside packet) = refl
 end_told (Onward place packet) = tt
 end_told (Dropped cause) = refl
 
-follow_tells : (rules : Rules) (address : ℕ) (leg : Leg) (through : Option BindingUse) (list : List Binding) (end : End) →
+follow_tells : (rules : Rules) (address : ℕ) (leg : Leg) (through : Option BindingUse) (list : List Binding)
+    (end : End) →
     (let first : LegEffect = record { end = end; through = through; list = list } in
     Each (TellsHere leg.number (with_second_leg rules address leg first end).outcomes)
     (with_second_leg rules address leg first end).acts)
@@ -58,10 +59,10 @@ follow_tells rules address leg through list (Onward place packet) =
     let next : Leg = record leg { way = Incoming; packet = packet } in
     ((refl, tt), ((refl, end_told (act rules (destination packet).address next list).end), tt))
 
--- as IsTold, of outcomes that begin at a number
+-- The same as `OutcomeIsGiven`, for outcomes that begin at a number.
 abbrev TellsFrom : ℕ → List Outcome → LegAct → Type 0
 TellsFrom number all a = (number ≤ a.leg.number)
-    × IfSome (outcome_told a.end) (λ o. slice_get all (a.leg.number - number) ≡ Some o)
+    × IfSome (outcome_of_end a.end) (λ o. slice_get all (a.leg.number - number) ≡ Some o)
 
 here_from : (number : ℕ) (first all : List Outcome) (a : LegAct) (o : Option Outcome) → a.leg.number ≡ number →
     IfSome o (λ x. first ≡ x ∷ []) → IfSome o (λ x. slice_get (first ++ all) (a.leg.number - number) ≡ Some x)
@@ -88,10 +89,10 @@ tells_from rules = each_leg rules (λ number course. TellsHere number course.out
     each_append (TellsFrom number all) first.acts rest.acts
     (each_weaker (TellsHere number first.outcomes) (TellsFrom number all) (λ a h.
     let e : a.leg.number ≡ number = h.0 in
-    (omega arith, here_from number first.outcomes rest.outcomes a (outcome_told a.end) h.0 h.1)) first.acts here)
+    (omega arith, here_from number first.outcomes rest.outcomes a (outcome_of_end a.end) h.0 h.1)) first.acts here)
     (each_weaker (TellsFrom (number + 1) rest.outcomes) (TellsFrom number all) (λ a h.
     let e : number + 1 ≤ a.leg.number = h.0 in
-    (omega arith, later_from number one.0.0 first.outcomes rest.outcomes a (outcome_told a.end) one.0.1 h.0 h.1))
+    (omega arith, later_from number one.0.0 first.outcomes rest.outcomes a (outcome_of_end a.end) one.0.1 h.0 h.1))
     rest.acts later))
 
 told_from : (all : List Outcome) (a : LegAct) (o : Option Outcome) →
@@ -99,15 +100,16 @@ told_from : (all : List Outcome) (a : LegAct) (o : Option Outcome) →
 told_from all a None h = tt
 told_from all a (Some x) h = let same : a.leg.number ≡ a.leg.number - 0 = omega arith in ap (slice_get all) same ∙ h
 
-pub answers_tell : AnswersTellOutcomes
+pub answers_tell : AnswersGiveOutcomes
 answers_tell rules state inputs =
     let course : RunEffect = effect_from rules state inputs in
-    each_weaker (TellsFrom 0 course.outcomes) (OutcomeIsTold course.outcomes) (λ a h.
-    told_from course.outcomes a (outcome_told a.end) h.1) course.acts (tells_from rules 0 state.clock inputs state.list)
+    each_weaker (TellsFrom 0 course.outcomes) (OutcomeIsGiven course.outcomes) (λ a h.
+    told_from course.outcomes a (outcome_of_end a.end) h.1) course.acts
+    (tells_from rules 0 state.clock inputs state.list)
 
--- ONWARD
+-- LEGS THAT END ONWARD
 
-pub foretold : SourcesLeaveDestinations → ErrorsLeaveDestinations → OnwardIsForetold
+pub foretold : SourcesLeaveDestinations → ErrorsLeaveDestinations → OnwardIsForeseen
 foretold packets errors rules address leg list place packet side reads h =
     let goes : List ℕ → Type 0 = λ q. (destination q).address ≡ (destination leg.packet).address in
     let to : OnwardBy rules goes leg.way place packet = onward rules leg goes (packets side leg.packet reads)

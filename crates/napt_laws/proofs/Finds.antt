@@ -4,12 +4,12 @@ use Rattle.std.{specs.{Option.option_map, List.list_any}, proofs.lemmas.Option.s
 use Rattle.napt_rules.specs.Prelude.{change_first}
 use Rattle.napt_laws.proofs.Lists.{find_nowhere}
 
--- at most one element passes
+-- At most one element of the list passes the test.
 abbrev pub Once : {X : Type 0} → (X → Bool) → List X → Type 0
 Once t [] = Unit {0}
 Once t (x ∷ xs) = (t x ≡ true → list_any t xs ≡ false) × Once t xs
 
--- an element that is kept by a test, seen another way
+-- An optional element after a filter and a map.
 abbrev pub kept : {X : Type 0} → (X → Bool) → (X → X) → Option X → Option X
 kept q f None = None
 kept q f (Some x) = cond (q x) (Some (f x)) None
@@ -19,7 +19,7 @@ module _ {X : Type 0} (q t : X → Bool) (f : X → X) (same : (x : X) → t (f 
   any_kept [] h = refl
   any_kept (x ∷ xs) h = grind (arith, same x, any_kept xs)
 
-  -- what is found among the kept, where one at most passes
+  -- What is found in a list that was filtered and mapped, if at most one element passes the test.
   pub find_kept : (xs : List X) → Once t xs → find t (map f (filter q xs)) ≡ kept q f (find t xs)
   find_kept [] o = refl
   find_kept (x ∷ xs) o = elim (t x) as (λ v. t x ≡ v → find t (map f (cond (q x) (x ∷ filter q xs) (filter q xs)))
@@ -37,7 +37,7 @@ module _ {X : Type 0} (q t : X → Bool) (f : X → X) (same : (x : X) → t (f 
       ] refl
 
 module _ {X : Type 0} (t : X → Bool) (f : X → X) where
-  -- the changed one is found
+  -- The changed element is found.
   pub find_changed : ((x : X) → t (f x) ≡ t x) → (xs : List X) → find t (change_first t f xs) ≡ option_map f (find t xs)
   find_changed same [] = refl
   find_changed same (x ∷ xs) = elim (t x) as (λ v. t x ≡ v → find t (cond v (f x ∷ xs) (x ∷ change_first t f xs))
@@ -46,7 +46,7 @@ module _ {X : Type 0} (t : X → Bool) (f : X → X) where
         | false ↦ λ e. ap (λ v. cond v (Some x) (find t (change_first t f xs))) e ∙ find_changed same xs
       ] refl
 
-  -- and others as before
+  -- What is found by another test is unchanged.
   pub find_other : (s : X → Bool) → ((x : X) → s (f x) ≡ s x) → ((x : X) → t x ≡ true → s x ≡ false) → (xs : List X) →
       find s (change_first t f xs) ≡ find s xs
   find_other s same apart [] = refl
@@ -85,7 +85,7 @@ module _ {X : Type 0} (t : X → Bool) where
   ] e
 
 module _ {X : Type 0} (s t : X → Bool) where
-  -- what is found by one test passes another
+  -- If an element that one test finds passes another, the list has an element that passes that.
   pub any_found : (xs : List X) (b : X) → find s xs ≡ Some b → t b ≡ true → list_any t xs ≡ true
   any_found [] b e h = cc
   any_found (x ∷ xs) b e h = elim (s x) as (λ v. cond v (Some x) (find s xs) ≡ Some b → (t x || list_any t xs) ≡ true) [
@@ -104,7 +104,7 @@ module _ {X : Type 0} (s t : X → Bool) where
         ] refl
       ] e
 
-  -- a change by either test
+  -- Both tests find the same element, so the change is the same.
   pub change_same : (f : X → X) (xs : List X) (b : X) → find s xs ≡ Some b → t b ≡ true → Once t xs →
       change_first s f xs ≡ change_first t f xs
   change_same f [] b e h o = refl

@@ -1,11 +1,11 @@
--- Bindings that live and have no dead flows, and what packets leave of them.
+-- Bindings that are live and have no dead flows, and the bindings after packets.
 use Rattle.std.{proofs.Common.{◌≡◌, ℕ, ◌<◌, ◌≤◌, Bool, true, false, cond, List, [], ◌∷◌, ◌++◌, length, map, refl, ◌∙◌, ap, arith, filter}, specs.List.list_any}
 use Rattle.napt_rules.specs.declared.{Flow.Flow, InboundRules.InboundRules}
 use Rattle.napt_rules.specs.Prelude.{Binding, change_first, Each, no_marks, idle, is_live_flow, is_live, with_live_flows, purge, is_flow_of, flow_after, with_flow, sent_through, received_through, Protocol, Icmp, Tcp, Udp, Way, Outgoing, Incoming, Endpoint, Flags, AreTimers, Filter, MappingRefresh, Outbound, Both, Timers}
 use Rattle.napt_rules.proofs.{Lists.each_filter, Life.{lived, lived_flow, live_same, FlowsLive, flows_kept, flows_all, now_live, idle_ticks, used_live}}
 use Rattle.napt_laws.proofs.Lists.{each_changed, each_pushed, each_weaker, any_of, some_any, long_changed, long_pushed}
 
--- a binding of these
+-- The binding with these fields.
 abbrev pub binding_of : Protocol → Endpoint → Endpoint → Bool → ℕ → List Flow → Binding
 binding_of protocol inside external fixed last flows = record {
   row = record { protocol = protocol; inside = inside; external = external; fixed = fixed };
@@ -24,7 +24,7 @@ flows_before Udp timers n m le flows h = tt
 flows_before Tcp timers n m le flows h = each_weaker (λ f. is_live_flow timers m f ≡ true)
     (λ f. is_live_flow timers n f ≡ true) (lived_flow timers n m le) flows h
 
--- it was before
+-- A binding that is fresh at a time was fresh at each earlier one.
 pub fresh_before : (timers : Timers) (n m : ℕ) → n ≤ m → (b : Binding) → IsFresh timers m b → IsFresh timers n b
 fresh_before timers n m le b f = record {
   live = lived timers n m le b f.live;
@@ -83,10 +83,10 @@ no_flows Icmp timers now = tt
 no_flows Udp timers now = tt
 no_flows Tcp timers now = tt
 
--- WHAT A PACKET LEAVES
+-- THE BINDING AFTER A PACKET
 
 module _ (timers : Timers) (t : AreTimers timers) (remote : Endpoint) (flags : Flags) (now : ℕ) where
-  -- flows of TCP, of which one may be used
+  -- The flows of a TCP binding after a packet used one of them.
   abbrev used_flows : Way → List Flow → List Flow
   used_flows way flows = change_first (is_flow_of remote) (flow_after Tcp way flags now) flows
 
@@ -120,7 +120,8 @@ module _ (timers : Timers) (t : AreTimers timers) (remote : Endpoint) (flags : F
       (sent_through remote flags now b)
   sent_fresh b = sent_by b.row.protocol b.row.inside b.row.external b.row.fixed b.last b.flows
 
-  received_by : (filter : Filter) (refresh : MappingRefresh) (protocol : Protocol) (inside external : Endpoint) (fixed : Bool)
+  received_by : (filter : Filter) (refresh : MappingRefresh) (protocol : Protocol) (inside external : Endpoint)
+      (fixed : Bool)
       (last : ℕ) (flows : List Flow) → IsFresh timers now (binding_of protocol inside external fixed last flows) →
       IsFresh timers now (received_through (record { filter = filter; refresh = refresh }) remote flags now
       (binding_of protocol inside external fixed last flows))

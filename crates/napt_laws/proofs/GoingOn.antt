@@ -1,4 +1,4 @@
--- A run that goes on, from what another left: what has gone never counts, and the numbers go on.
+-- A run that goes on from the state after another: ended bindings have no effect, and input numbers continue.
 use Rattle.std.proofs.Common.{◌≡◌, ℕ, ◌+◌, ◌≤◌, max, List, [], ◌∷◌, ◌++◌, map, length, flat_map, Bool, Option, None, Result, Ok, Err, refl, sym, ◌∙◌, ap, arith, find}
 use Rattle.std.proofs.lemmas.List.{map-append}
 use Rattle.napt_wire.specs.declared.Protocol.TheVariants as protocols
@@ -7,7 +7,7 @@ use Rattle.napt_rules.specs.Prelude.{Binding, bindings_at, purge, hold_ago, live
 use Rattle.napt_rules.specs.declared.{Row.Row, Leg.Leg, Outcome.Outcome, End.{End, TheVariants.{ToOutside, ToInside, Onward, Dropped}}}
 use Rattle.napt_laws.proofs.{RunsBeside.{AreBeside, run_both}, OneMoreInput.{run_append, clock_on}, Purges.of_purge, SeenElements.{taken_later, taken_twice, purge_taken}}
 
--- THE NUMBERS
+-- THE NUMBERS OF INPUTS
 
 abbrev pub renumbered : ℕ → RunEffect → RunEffect
 renumbered before course = record course { acts = map (act_behind before) course.acts }
@@ -35,7 +35,7 @@ ahead_behind : (before : ℕ) (first rest : RunEffect) → effect_then (renumber
 ahead_behind before first rest = ap (λ (acts : List LegAct). record (effect_then first rest) { acts = acts })
     (sym (map-append (act_behind before) first.acts rest.acts))
 
--- a run from a later number on has the same legs, by later numbers
+-- A run from a later number on has the same legs with later numbers.
 pub run_behind : (rules : Rules) (before number at clock : ℕ) (inputs : List Arrival) (list : List Binding) →
     before + number ≡ at → run_from rules at clock inputs list
     ≡ renumbered before (run_from rules number clock inputs list)
@@ -51,9 +51,9 @@ run_behind rules before number at clock (input ∷ inputs) list e =
     (run_behind rules before (number + 1) (at + 1) now inputs first.list (omega (arith, e)))
     ∙ ahead_behind before first (run_from rules (number + 1) now inputs first.list))
 
--- WHAT HAS GONE
+-- BINDINGS THAT ARE GONE
 
--- lists that are one in what is taken at a time
+-- Two lists with the same live and held bindings at a time.
 abbrev AreAsOne : Rules → ℕ → List Binding → List Binding → Type 0
 AreAsOne rules now a b = live_and_held rules.timers now a ≡ live_and_held rules.timers now b
 
@@ -61,11 +61,11 @@ as_one_later : (rules : Rules) (n m : ℕ) → n ≤ m → (a b : List Binding) 
 as_one_later rules n m le a b same = sym (taken_later rules.timers n m le a)
     ∙ (ap (live_and_held rules.timers m) same ∙ taken_later rules.timers n m le b)
 
--- a leg, and what is taken at its time of the list that it leaves
+-- The effect of a leg, with the live and held bindings at its time as its list.
 abbrev acted_taken : Rules → ℕ → LegEffect → LegEffect
 acted_taken rules now acted = record acted { list = live_and_held rules.timers now acted.list }
 
--- one that leaves the list as it is
+-- The effect of a leg that leaves the list unchanged.
 abbrev unmoved : End → List Binding → LegEffect
 unmoved end list = record { end = end; through = None; list = list }
 
@@ -91,7 +91,7 @@ module _ (rules : Rules) (address : ℕ) (leg : Leg) (a b : List Binding) (same 
       acted_taken rules leg.now
       (record { end = end_in leg.packet came.inside; through = came.through; list = came.list })) same
 
-  -- an error finds a binding that lives, and leaves the list as it is
+  -- An error finds a live binding and leaves the list unchanged.
   seen : purge rules.timers leg.now a ≡ purge rules.timers leg.now b
   seen = sym (purge_taken rules.timers leg.now a)
       ∙ (ap (purge rules.timers leg.now) same ∙ purge_taken rules.timers leg.now b)
@@ -119,7 +119,7 @@ module _ (rules : Rules) (address : ℕ) (leg : Leg) (a b : List Binding) (same 
   act_same : acted_taken rules leg.now (act rules address leg a) ≡ acted_taken rules leg.now (act rules address leg b)
   act_same = same_by leg.way (kind leg.packet)
 
--- runs of lists that are one at their clock are one
+-- Runs from lists that have the same live and held bindings at the clock are the same.
 pub run_same : (rules : Rules) (number clock : ℕ) (inputs : List Arrival) (a b : List Binding) →
     AreAsOne rules clock a b → (let last : ℕ = last_clock clock inputs in
     course_taken rules last (run_from rules number clock inputs a)
@@ -136,13 +136,18 @@ run_same rules number clock inputs a b same =
     }) number clock inputs a b same in
     ap (λ (os : List Outcome). record { outcomes = os; acts = x.acts; list = live_and_held rules.timers last x.list })
     beside.outcomes
-    ∙ (ap (λ (acts : List LegAct). record { outcomes = y.outcomes; acts = acts; list = live_and_held rules.timers last x.list })
+    ∙ (ap (λ (acts : List LegAct). record {
+      outcomes = y.outcomes;
+      acts = acts;
+      list = live_and_held rules.timers last x.list;
+    })
     beside.acts ∙ ap (λ (l : List Binding). record { outcomes = y.outcomes; acts = y.acts; list = l }) beside.list)
 
--- WHAT A RUN GIVES
+-- THE RESULT OF A RUN
 
 rows_same : (rules : Rules) (now address : ℕ) (list : List Binding) →
-    rows rules.timers now (bindings_at address (live_and_held rules.timers now list)) ≡ rows rules.timers now (bindings_at address list)
+    rows rules.timers now (bindings_at address (live_and_held rules.timers now list))
+    ≡ rows rules.timers now (bindings_at address list)
 rows_same rules now address list = ap rows_of
     (ap (purge rules.timers now) (of_purge rules.timers (hold_ago rules.timers now) address list)
     ∙ purge_taken rules.timers now (bindings_at address list))
@@ -152,11 +157,12 @@ flat_same f g same [] = refl
 flat_same f g same (x ∷ xs) = ap (λ (l : List _). l ++ flat_map f xs) (same x)
     ∙ ap (λ (l : List _). g x ++ l) (flat_same f g same xs)
 
--- with what is taken at its clock alone, a course gives the same
+-- The result of a run is that of its live and held bindings at the clock.
 ran_taken : (rules : Rules) (now : ℕ) (course : RunEffect) → run_result_of rules now (course_taken rules now course)
     ≡ run_result_of rules now course
 ran_taken rules now course = ap (λ (rows : List Row). record (run_result_of rules now course) { bindings = rows })
-    (flat_same (λ (address : ℕ). rows rules.timers now (bindings_at address (live_and_held rules.timers now course.list)))
+    (flat_same (λ (address : ℕ). rows rules.timers now
+    (bindings_at address (live_and_held rules.timers now course.list)))
     (λ address. rows rules.timers now (bindings_at address course.list))
     (λ address. rows_same rules now address course.list) rules.pool)
 
@@ -172,7 +178,8 @@ legs_added : (address : ℕ) (first rest : List LegAct) → length (legs_at addr
 legs_added address [] rest = omega arith
 legs_added address (a ∷ first) rest = grind (arith, legs_added address first rest)
 
-counts_added : (f g h : ℕ → ℕ) → ((x : ℕ) → f x ≡ g x + h x) → (xs : List ℕ) → map f xs ≡ added_counts (map g xs) (map h xs)
+counts_added : (f g h : ℕ → ℕ) → ((x : ℕ) → f x ≡ g x + h x) → (xs : List ℕ) →
+    map f xs ≡ added_counts (map g xs) (map h xs)
 counts_added f g h sum [] = refl
 counts_added f g h sum (x ∷ xs) = ap (λ (n : ℕ). n ∷ map f xs) (sum x)
     ∙ ap (λ (l : List ℕ). (g x + h x) ∷ l) (counts_added f g h sum xs)
@@ -189,7 +196,8 @@ gone_change_nothing rules state inputs =
     (taken_twice rules.timers state.clock state.list) in
     record {
       ran = sym (ran_taken rules last (run_from rules 0 state.clock inputs here))
-          ∙ (ap (run_result_of rules last) same ∙ ran_taken rules last (run_from rules 0 state.clock inputs state.list));
+          ∙ (ap (run_result_of rules last) same ∙ ran_taken rules last
+          (run_from rules 0 state.clock inputs state.list));
       acts = ap (λ (r : RunEffect). r.acts) same;
       left = ap (λ (r : RunEffect). record { clock = last; list = r.list }) same;
     }
@@ -207,7 +215,7 @@ module _ (rules : Rules) (state : State) (first rest : List Arrival) where
   abbrev goes : RunEffect
   goes = effect_from rules (next_state rules state first) rest
 
-  -- the whole course, with what is taken in the end
+  -- The effect of the whole run, with the live and held bindings at the end.
   course_on : course_taken rules last (effect_from rules state (first ++ rest))
       ≡ course_taken rules last (effect_then begins (renumbered (length first) goes))
   course_on = ap (course_taken rules last)
@@ -222,7 +230,8 @@ module _ (rules : Rules) (state : State) (first rest : List Arrival) where
       ≡ run_then (run_result_from rules state first) (run_result_from rules (next_state rules state first) rest)
   ran_on = ap (λ (counts : List ℕ).
       record (run_result_of rules last (effect_then begins (renumbered (length first) goes))) { legs = counts })
-      (counts_added (λ (address : ℕ). length (legs_at address (begins.acts ++ map (act_behind (length first)) goes.acts)))
+      (counts_added (λ (address : ℕ). length (legs_at address
+      (begins.acts ++ map (act_behind (length first)) goes.acts)))
       (λ address. length (legs_at address begins.acts)) (λ address. length (legs_at address goes.acts))
       (λ address. legs_added address begins.acts (map (act_behind (length first)) goes.acts)
       ∙ ap (λ (n : ℕ). length (legs_at address begins.acts) + n) (numbers_apart (length first) address goes.acts))
@@ -230,7 +239,8 @@ module _ (rules : Rules) (state : State) (first rest : List Arrival) where
 
   go_on : RunGoesOn rules state first rest
   go_on = record {
-    ran = ap (λ (t : ℕ). run_result_of rules t (effect_from rules state (first ++ rest))) (clock_on state.clock first rest)
+    ran = ap (λ (t : ℕ). run_result_of rules t (effect_from rules state (first ++ rest)))
+        (clock_on state.clock first rest)
         ∙ (sym (ran_taken rules last (effect_from rules state (first ++ rest)))
         ∙ (ap (run_result_of rules last) course_on
         ∙ (ran_taken rules last (effect_then begins (renumbered (length first) goes)) ∙ ran_on)));

@@ -9,7 +9,7 @@ pub each_rows : (P : Row → Type 0) (list : List Binding) → Each P (map row l
 each_rows P [] h = tt
 each_rows P (b ∷ list) h = (h.0, each_rows P list h.1)
 
--- what holds of those that pass
+-- A property of each element that passes the test holds of the filtered list.
 pub each_of : {X : Type 0} (P : X → Type 0) (p : X → Bool) (xs : List X) → Each (λ x. p x ≡ true → P x) xs →
     Each P (filter p xs)
 each_of P p [] h = tt
@@ -18,10 +18,10 @@ each_of P p (x ∷ xs) h = elim (p x) as (λ v. p x ≡ v → Each P (cond v (x 
   | false ↦ λ e. each_of P p xs h.1
 ] refl
 
--- NOBODY ELSE HAS IT
+-- NO OTHER BINDING HAS THE NUMBER
 
 module _ (address : ℕ) (protocol : Protocol) (inside : Endpoint) where
-  -- a row apart from that of the inside endpoint does not have its number
+  -- A row that is apart from the inside endpoint's does not have its number.
   apart_number : (x b : Row) → (x.protocol ≡ b.protocol → x.external ≢ b.external) →
       is_of_inside address protocol inside b ≡ true → has_number address protocol b.external.number x ≡ false
   apart_number x b apart of = elim (has_number address protocol b.external.number x) as (λ v.
@@ -62,14 +62,14 @@ module _ (address : ℕ) (protocol : Protocol) (inside : Endpoint) where
             )
       ] refl e
 
--- WITHOUT ITS BINDING
+-- THE LIST WITHOUT THE BINDING
 
 module _ {X : Type 0} (t q : X → Bool) where
   pub no_more : (xs : List X) → length (filter q (filter (λ x. not (t x)) xs)) ≤ length (filter q xs)
   no_more [] = omega arith
   no_more (x ∷ xs) = grind (arith, no_more xs)
 
-  -- without the found one, which counts, fewer count
+  -- Without the found element, which counts, fewer elements count.
   pub one_less : (xs : List X) (b : X) → find t xs ≡ Some b → q b ≡ true →
       length (filter q (filter (λ x. not (t x)) xs)) < length (filter q xs)
   one_less [] b e counts = cc

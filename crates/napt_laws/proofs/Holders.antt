@@ -1,4 +1,4 @@
--- The host of an external endpoint, where hosts have blocks.
+-- The host of an external endpoint, where hosts have port blocks.
 use Rattle.std.proofs.Common.{◌≡◌, ℕ, ◌+◌, ◌-◌, ◌*◌, ◌/◌, ◌%◌, ◌^◌, ◌<◌, ◌≤◌, ◌==◌, ◌||◌, Bool, true, false, cond, List, [], ◌∷◌, length, get_or, Option, Some, None, nat_lt, refl, sym, ap, subst, ◌∙◌, eq-eqb, eqb-true, lt-ltb, leb-true, ltb-true, inl, inr, arith, All, IfSome, IsSome, position, option_map, option_and_then, unwrap_or}
 use Rattle.std.{specs.List.list_any, proofs.Math.Nat.{mod-lt, mod-eq_of_lt, mul_comm, mul-add-mod_self_right, div-div-eq-div-mul}}
 use Rattle.std.proofs.lemmas.Nat.{pow-add, div-add-mod', div-mul-add}
@@ -6,11 +6,11 @@ use Rattle.std.proofs.lemmas.Bool.{and_from, and_parts, or_parts, not-true, le-l
 use Rattle.std.proofs.lemmas.List.{Elements.{All-head, All-tail}, Quantifiers.position-Some}
 use Rattle.napt_rules.specs.Prelude.{Each, IsPaired, IsBlockNumber, IsInItsBlock, RunsAreSound, RunsKeepToBlocks, PortBlock, PrefixModel, IsPrefix, prefix_has, prefix_size, do_prefixes_meet, are_prefixes_apart, host_index, address_at}
 use Rattle.napt_rules.specs.declared.Row.{Row}
-use Rattle.napt_laws.specs.Hosts.{BlocksTellTheirHosts, HostsHaveTheirBlocks, BlocksAreApart, HostIsTold, RunsTellTheirHosts}
+use Rattle.napt_laws.specs.Hosts.{BlocksNameTheirHosts, HostsHaveTheirBlocks, BlocksAreApart, HostIsNamed, RunsNameTheirHosts}
 use Rattle.napt_config.specs.Rules.{Rules, RulesInvariant, AreBlocks, IsPoolList, contains_address, pool_address_for, paired_address, pair_of, nth_block, block_in, block_of, block_has_number, host_at, host_of}
 use Rattle.napt_config.proofs.{Indices.size_pos, Pools.{has-at, position_of_member}}
 
--- ---- one network
+-- ---- one prefix
 
 joined : (address host size : ℕ) → address % size ≡ 0 → host / size ≡ address / size → address + host % size ≡ host
 joined address host size whole same =
@@ -74,7 +74,7 @@ false_from : (b : Bool) → (b ≡ true → ⊥) → b ≡ false
 false_from true never = absurd (never refl)
 false_from false never = refl
 
--- an address of two networks: the larger contains the smaller
+-- An address in two prefixes: the larger prefix contains the smaller one.
 larger_has : (a b : PrefixModel) (host : ℕ) → a.bits ≤ b.bits → b.bits ≤ 32 → prefix_has a host ≡ true →
     prefix_has b host ≡ true → prefix_has a b.address ≡ true
 larger_has a b host fewer most of_a of_b =
@@ -94,7 +94,8 @@ both_meet a b host is_a is_b of_a of_b = elim (cases_lt a.bits b.bits) [
   | inr more ↦ or_right (prefix_has a b.address) _ (larger_has b a host more is_a.bits of_b of_a)
 ]
 
-meets_none : (a b : PrefixModel) (networks : List PrefixModel) (host index : ℕ) (here : Bool) → prefix_has b host ≡ here →
+meets_none : (a b : PrefixModel) (networks : List PrefixModel) (host index : ℕ) (here : Bool) →
+    prefix_has b host ≡ here →
     IsPrefix a → IsPrefix b → prefix_has a host ≡ true
     → (list_any (do_prefixes_meet a) networks ≡ false → (i : ℕ) → host_index networks host ≡ Some i → ⊥)
     → list_any (do_prefixes_meet a) (b ∷ networks) ≡ false
@@ -107,7 +108,8 @@ meets_none a b networks host index false here is_a is_b of_a more apart e =
     more (or_parts (do_prefixes_meet a b) _ apart).1 i found
 
 not_shared : (a : PrefixModel) (networks : List PrefixModel) (host index : ℕ) → IsPrefix a → All IsPrefix networks →
-    prefix_has a host ≡ true → list_any (do_prefixes_meet a) networks ≡ false → host_index networks host ≡ Some index → ⊥
+    prefix_has a host ≡ true → list_any (do_prefixes_meet a) networks ≡ false →
+    host_index networks host ≡ Some index → ⊥
 not_shared a [] host index is_a are of_a apart e = cc
 not_shared a (b ∷ networks) host index is_a are of_a apart e =
     meets_none a b networks host index (prefix_has b host) refl is_a (All-head IsPrefix b networks are) of_a
@@ -134,7 +136,8 @@ module _ (network : PrefixModel) (networks : List PrefixModel) (host index : ℕ
       let whole : prefix_size network + (index - prefix_size network) ≡ index = omega (arith, above) in
       rw (elsewhere, found) (ap Some whole)
 
-pub index_of-address : (inside : List PrefixModel) (host index : ℕ) → All IsPrefix inside → are_prefixes_apart inside ≡ true →
+pub index_of-address : (inside : List PrefixModel) (host index : ℕ) → All IsPrefix inside →
+    are_prefixes_apart inside ≡ true →
     address_at inside index ≡ Some host → host_index inside host ≡ Some index
 index_of-address [] host index are apart e = cc
 index_of-address (network ∷ networks) host index are apart e =
@@ -144,7 +147,7 @@ index_of-address (network ∷ networks) host index are apart e =
     (All-head IsPrefix network networks are) others (not-true _ first)
     (λ found. index_of-address networks host (index - prefix_size network) others rest found) e
 
--- ---- numbers of a block
+-- ---- the numbers of a block
 
 record InBlock (size nth number : ℕ) : Type 0 where
   pub low : 1024 ≤ number
@@ -176,7 +179,8 @@ of_block size nth number some low is =
 
 -- ---- places in a pool
 
-seated : (inside : List PrefixModel) (pool : List ℕ) (k : ℕ) (at : Option ℕ) → IsPoolList inside pool → k < length pool →
+seated : (inside : List PrefixModel) (pool : List ℕ) (k : ℕ) (at : Option ℕ) → IsPoolList inside pool →
+    k < length pool →
     position (λ other. other == get_or pool k 0) pool ≡ at → IsSome at → at ≡ Some k
 seated inside pool k None is within found some = absurd (false≢true some)
 seated inside pool k (Some i) is within found some =
@@ -189,7 +193,7 @@ place_of_pooled inside pool k is within =
     seated inside pool k (position (λ other. other == get_or pool k 0) pool) is within refl
     (position_of_member pool (get_or pool k 0) (has-at pool k 0 within))
 
--- ---- hosts of blocks
+-- ---- the hosts of blocks
 
 host_at_place : (size : ℕ) (inside : List PrefixModel) (addresses number place : ℕ) → 1024 ≤ number →
     host_at size inside addresses number place ≡ address_at inside ((number - 1024) / size * addresses + place)
@@ -209,7 +213,7 @@ host_at-is size inside addresses number place host e = low_enough (nat_lt number
 
 module _ (size : ℕ) (inside : List PrefixModel) (pool : List ℕ) (pairs : List (ℕ × ℕ)) (host : ℕ)
     (is_pool : IsPoolList inside pool) (are : All IsPrefix inside) where
-  -- the place of the host's address in the pool
+  -- The place in the pool of the host's external address.
   seat : (index : ℕ) → host_index inside host ≡ Some index →
       position (λ other. other == paired_address (Some size) inside pool pairs host) pool ≡ Some (index % length pool)
   unfolding paired_address
@@ -257,7 +261,8 @@ module _ (size : ℕ) (inside : List PrefixModel) (pool : List ℕ) (pairs : Lis
       (of_block size (index / length pool) number some low (sym nth))
 
 tells_at : (size : Option ℕ) (inside : List PrefixModel) (pool : List ℕ) (pairs : List (ℕ × ℕ)) (host number : ℕ)
-    (block : PortBlock) → IsPoolList inside pool → All IsPrefix inside → block_in size inside (length pool) host ≡ Some block
+    (block : PortBlock) → IsPoolList inside pool → All IsPrefix inside →
+    block_in size inside (length pool) host ≡ Some block
     → block_has_number block number ≡ true
     → option_and_then (λ s. option_and_then (host_at s inside (length pool) number)
     (position (λ other. other == paired_address size inside pool pairs host) pool)) size ≡ Some host
@@ -277,7 +282,7 @@ keeps_at None inside pool pairs host number block is_pool are blocks e told = cc
 keeps_at (Some size) inside pool pairs host number block is_pool are blocks e told =
     keeps size inside pool pairs host is_pool are number block (omega (arith, blocks.low)) blocks.apart e told
 
-pub blocks_tell : BlocksTellTheirHosts
+pub blocks_tell : BlocksNameTheirHosts
 blocks_tell rules host number block kept e has =
     tells_at rules.block rules.inside rules.pool rules.pairs host number block kept.pool kept.inside.networks e has
 
@@ -311,10 +316,10 @@ module _ (rules : Rules) (kept : RulesInvariant rules) where
       ∙ blocks_tell rules one.inside.address one.external.number block kept e
       (and_from _ _ (le-leb _ _ own.first) (lt-ltb _ _ own.last))
 
-  row_told : (one : Row) → IsPaired (pair_of rules) one → IsInItsBlock rules one → HostIsTold rules one
+  row_told : (one : Row) → IsPaired (pair_of rules) one → IsInItsBlock rules one → HostIsNamed rules one
   row_told one paired own loose = told_at one (block_of rules one.inside.address) paired refl (own loose)
 
-pub runs_tell : RunsAreSound → RunsKeepToBlocks → RunsTellTheirHosts
+pub runs_tell : RunsAreSound → RunsKeepToBlocks → RunsNameTheirHosts
 runs_tell sound own rules kept inputs =
-    each_of_both (IsPaired (pair_of rules)) (IsInItsBlock rules) (HostIsTold rules) (row_told rules kept) _
+    each_of_both (IsPaired (pair_of rules)) (IsInItsBlock rules) (HostIsNamed rules) (row_told rules kept) _
     (sound rules kept inputs).each (own rules kept inputs)

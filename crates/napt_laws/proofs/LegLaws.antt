@@ -1,4 +1,4 @@
--- What every leg keeps to.
+-- The laws of each leg.
 use Rattle.std.proofs.Common.{◌≡◌, ℕ, true, max, List, Option, Some, None, Result, Ok, Err, refl, ◌∙◌, ap}
 use Rattle.napt_wire.specs.declared.Kind.TheVariants.{Udp, Tcp, Echo, ErrorOf}
 use Rattle.napt_rules.specs.Prelude.{Binding, onward_end, outbound_end, end_out, end_in, error_out, error_in, act_by, LocalState, time_after, ErrorsChangeNothing, IsToItsSide, LegsEndAtTheirSide, is_in_or_dropped, InboundStaysInside, Way, Outgoing, Incoming, Cause, Endpoint, Kind, destination, kind, is_error, Rules, pool_place}
@@ -65,7 +65,7 @@ pub legs_end_at_their_side : LegsEndAtTheirSide
 legs_end_at_their_side rules address leg kept =
     leg_side rules address (record leg { now = max leg.now kept.at }) kept.list leg.way (kind leg.packet)
 
--- IN
+-- INCOMING LEGS
 
 came_in : (packet : List ℕ) (inside : Result Endpoint Cause) → is_in_or_dropped (end_in packet inside) ≡ true
 came_in packet (Ok inside) = refl

@@ -1,4 +1,4 @@
--- The legs of one address on its bindings alone.
+-- The legs of one address depend on and change its bindings alone.
 use Rattle.std.proofs.Common.{◌≡◌, ℕ, List, map, refl, ap}
 use Rattle.napt_rules.specs.Prelude.{Binding, bindings_at, act, Arrival, LegAct, run, last_clock, acts_at, legs_at, answer_of, legs_replies, list_after_legs, LegsAnswerAlone, LegsLeaveTheirOwn, Rules}
 use Rattle.napt_rules.specs.declared.End.{End}
@@ -10,7 +10,8 @@ record SeenAlone (rules : Rules) (address last : ℕ) (own : List Binding) (acts
   pub leaves : LocalListAgrees rules address last (list_after_legs rules address (map (λ a. a.leg) acts) own) new
 
 seen_alone : (rules : Rules) (inputs : List Arrival) (list : List Binding) (address : ℕ) →
-    SeenAlone rules address (last_clock 0 inputs) (bindings_at address list) (acts_at address (run rules inputs list).acts)
+    SeenAlone rules address (last_clock 0 inputs) (bindings_at address list)
+    (acts_at address (run rules inputs list).acts)
     (run rules inputs list).list
 seen_alone rules inputs list address =
     let is = run_alone rules address (λ own leg. (act rules address leg own).list)

@@ -1,4 +1,4 @@
--- A leg at one address, on all bindings and on that address's own.
+-- A leg at one address, on all bindings and on the bindings of that address alone.
 use Rattle.std.proofs.Common.{◌≡◌, ◌≢◌, ℕ, ◌≤◌, ◌&&◌, List, refl, sym, ◌∙◌, ap, eqb, find}
 use Rattle.napt_wire.specs.declared.Protocol.TheVariants as protocols
 use Rattle.napt_wire.specs.declared.Kind.TheVariants.{Udp, Tcp, Echo, ErrorOf}
@@ -7,19 +7,20 @@ use Rattle.napt_rules.specs.declared.{OutboundPacket.OutboundPacket, InboundPack
 use Rattle.napt_laws.{proofs.{Lists.find_filter, Purges.of_purge, SeenElements.{taken_later, taken_twice, purge_taken}, StepsLocal.{out_local, out_other, in_local, in_other}}, specs.LocalAgreement.LocalListAgrees}
 use Rattle.napt_laws.proofs.Acts.{of_act}
 
--- what a leg gives on the one and on the other
+-- The effects of a leg on the two lists agree.
 pub record ActsAlike (rules : Rules) (address now : ℕ) (own whole : LegEffect) : Type 0 where
   pub end : own.end ≡ whole.end
   pub through : own.through ≡ whole.through
   pub list : LocalListAgrees rules address now own.list whole.list
 
--- lists of which the same is taken agree
+-- Lists that have the same live and held bindings agree.
 pub agree : (rules : Rules) (address now : ℕ) (own list : List Binding) →
-    live_and_held rules.timers now own ≡ live_and_held rules.timers now (bindings_at address list) → LocalListAgrees rules address now own list
+    live_and_held rules.timers now own ≡ live_and_held rules.timers now (bindings_at address list) →
+    LocalListAgrees rules address now own list
 agree rules address now own list same = record {
   same = sym (purge_taken rules.timers now own) ∙ (ap (purge rules.timers now) same
       ∙ purge_taken rules.timers now (bindings_at address list));
-  live_and_held = same;
+  taken = same;
 }
 
 module _ (rules : Rules) (address : ℕ) (leg : Leg) (own list : List Binding)
@@ -45,7 +46,8 @@ module _ (rules : Rules) (address : ℕ) (leg : Leg) (own list : List Binding)
       record {
         end = ap (λ (o : OutboundEffect). end_out rules address leg.packet o.number) e;
         through = ap (λ (o : OutboundEffect). o.through) e;
-        list = agree rules address leg.now _ _ (ap (λ (o : OutboundEffect). live_and_held rules.timers leg.now o.list) e);
+        list = agree rules address leg.now _ _ (ap (λ (o : OutboundEffect). live_and_held rules.timers leg.now o.list)
+            e);
       }
 
   alike_in : (protocol : Protocol) (flags : Flags) → ActsAlike rules address leg.now
@@ -60,7 +62,8 @@ module _ (rules : Rules) (address : ℕ) (leg : Leg) (own list : List Binding)
       record {
         end = ap (λ (o : InboundEffect). end_in leg.packet o.inside) e;
         through = ap (λ (o : InboundEffect). o.through) e;
-        list = agree rules address leg.now _ _ (ap (λ (o : InboundEffect). live_and_held rules.timers leg.now o.list) e);
+        list = agree rules address leg.now _ _ (ap (λ (o : InboundEffect). live_and_held rules.timers leg.now o.list)
+            e);
       }
 
   alike_by : (way : Way) (kind : Kind) → ActsAlike rules address leg.now (act_by rules address leg own way kind)
@@ -90,7 +93,7 @@ module _ (rules : Rules) (address : ℕ) (leg : Leg) (own list : List Binding)
     list = agrees;
   }
 
--- later on they still agree
+-- Lists that agree at a time agree at each later one.
 pub agrees_later : (rules : Rules) (address n m : ℕ) → n ≤ m → (own list : List Binding) →
     LocalListAgrees rules address n own list → LocalListAgrees rules address m own list
 agrees_later rules address n m le own list agrees =
@@ -98,20 +101,24 @@ agrees_later rules address n m le own list agrees =
     agree rules address m own list
     (sym (later own) ∙ (ap (live_and_held rules.timers m) agrees.taken ∙ later (bindings_at address list)))
 
--- a leg at the address
-pub alike : (rules : Rules) (address n : ℕ) (own list : List Binding) → LocalListAgrees rules address n own list → (leg : Leg) →
+-- A leg at the address.
+pub alike : (rules : Rules) (address n : ℕ) (own list : List Binding) → LocalListAgrees rules address n own list →
+    (leg : Leg) →
     n ≤ leg.now → ActsAlike rules address leg.now (act rules address leg own) (act rules address leg list)
 alike rules address n own list agrees leg le =
     alike_by rules address leg own list (agrees_later rules address n leg.now le own list agrees) leg.way
     (kind leg.packet)
 
--- a leg at another address
+-- A leg at another address.
 module _ (rules : Rules) (address : ℕ) (leg : Leg) (list : List Binding) (other : ℕ) (differ : other ≢ address) where
   abbrev IsKept : LegEffect → Type 0
-  IsKept acted = live_and_held rules.timers leg.now (bindings_at other acted.list) ≡ live_and_held rules.timers leg.now (bindings_at other list)
+  IsKept acted = live_and_held rules.timers leg.now (bindings_at other acted.list)
+      ≡ live_and_held rules.timers leg.now (bindings_at other list)
 
-  kept_from : (new : List Binding) → bindings_at other new ≡ bindings_at other (live_and_held rules.timers leg.now list) →
-      live_and_held rules.timers leg.now (bindings_at other new) ≡ live_and_held rules.timers leg.now (bindings_at other list)
+  kept_from : (new : List Binding) → bindings_at other new
+      ≡ bindings_at other (live_and_held rules.timers leg.now list) →
+      live_and_held rules.timers leg.now (bindings_at other new)
+      ≡ live_and_held rules.timers leg.now (bindings_at other list)
   kept_from new e =
       ap (live_and_held rules.timers leg.now) (e ∙ of_purge rules.timers (hold_ago rules.timers leg.now) other list)
       ∙ taken_twice rules.timers leg.now (bindings_at other list)
@@ -124,7 +131,8 @@ module _ (rules : Rules) (address : ℕ) (leg : Leg) (list : List Binding) (othe
   kept_in protocol flags = kept_from _ (in_other rules.timers (inbound_rules rules) address
       (inbound_packet protocol flags leg.now leg.packet) other differ (live_and_held rules.timers leg.now list))
 
-pub kept : (rules : Rules) (address n : ℕ) (own list : List Binding) → LocalListAgrees rules address n own list → (at : ℕ) →
+pub kept : (rules : Rules) (address n : ℕ) (own list : List Binding) → LocalListAgrees rules address n own list →
+    (at : ℕ) →
     address ≢ at → (leg : Leg) → n ≤ leg.now → LocalListAgrees rules address leg.now own (act rules at leg list).list
 kept rules address n own list agrees at differ leg le =
     agree rules address leg.now own (act rules at leg list).list

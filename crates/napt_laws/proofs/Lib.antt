@@ -10,7 +10,7 @@ pub mod FreshBindings
 pub mod Classes
 pub mod Blocks
 pub mod Endpoints
--- STEPS: how a list of bindings begins, and what a packet does to it
+-- STEPS: the list of bindings at the start, and what a packet does to it
 
 pub mod HeldNumbers
 pub mod Passes

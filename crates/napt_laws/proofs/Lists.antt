@@ -1,9 +1,9 @@
--- Words on lists against one another.
+-- Laws of functions on lists.
 use Rattle.std.proofs.Common.{◌≡◌, Bool, true, false, ◌&&◌, ◌||◌, cond, List, [], ◌∷◌, ◌++◌, map, Option, Some, None, refl, sym, ◌∙◌, ap, subst, arith, suc, ◌<◌, length, filter, find}
 use Rattle.std.{specs.List.list_any, proofs.lemmas.Bool.or_parts}
 use Rattle.napt_rules.specs.Prelude.{change_first, Each}
 
--- two filters in either order
+-- Two filters commute.
 pub filter_swap : {X : Type 0} (p q : X → Bool) (xs : List X) → filter p (filter q xs) ≡ filter q (filter p xs)
 filter_swap p q [] = refl
 filter_swap p q (x ∷ xs) = grind (arith, filter_swap p q xs)
@@ -23,13 +23,13 @@ pub any_filter : {X : Type 0} (p q : X → Bool) (xs : List X) → list_any (λ 
 any_filter p q [] = refl
 any_filter p q (x ∷ xs) = grind (arith, any_filter p q xs)
 
--- a change among the kept ones
+-- A change of an element that the filter keeps commutes with the filter.
 pub filter_change : {X : Type 0} (p q : X → Bool) (f : X → X) (xs : List X) → ((x : X) → q x ≡ true → p x ≡ true) →
     ((x : X) → p (f x) ≡ p x) → filter p (change_first q f xs) ≡ change_first q f (filter p xs)
 filter_change p q f [] within same = refl
 filter_change p q f (x ∷ xs) within same = grind (arith, within x, same x, filter_change p q f xs within same)
 
--- a change among others
+-- A change of an element that the filter drops does not change the filtered list.
 pub filter_change_other : {X : Type 0} (p q : X → Bool) (f : X → X) (xs : List X) →
     ((x : X) → q x ≡ true → p x ≡ false) → ((x : X) → p (f x) ≡ p x) → filter p (change_first q f xs) ≡ filter p xs
 filter_change_other p q f [] apart same = refl
@@ -39,7 +39,7 @@ pub find_agree : {X : Type 0} (p q : X → Bool) (xs : List X) → ((x : X) → 
 find_agree p q [] same = refl
 find_agree p q (x ∷ xs) same = grind (arith, same x, find_agree p q xs same)
 
--- a filter that keeps more, before one that keeps less
+-- A filter after one that keeps more is that filter alone.
 pub filter_narrow : {X : Type 0} (p q : X → Bool) (xs : List X) → ((x : X) → q x ≡ true → p x ≡ true) →
     filter q (filter p xs) ≡ filter q xs
 filter_narrow p q [] less = refl
@@ -135,7 +135,7 @@ pub each_mapped : {X Y : Type 0} (P : Y → Type 0) (f : X → Y) (xs : List X) 
 each_mapped P f [] h = tt
 each_mapped P f (x ∷ xs) h = (h.0, each_mapped P f xs h.1)
 
--- a test that would have an answer, and has none
+-- If a conditional result is none, the test failed and the rest is none.
 pub passed : {X : Type 0} (t : Bool) (x : X) (others : Option X) → cond t (Some x) others ≡ None → (t ≡ false)
     × (others ≡ None)
 passed true x others h = cc
@@ -146,7 +146,7 @@ each_less P p [] h = tt
 each_less P p (x ∷ xs) h = elim (p x) as (λ v. Each P (cond v (x ∷ filter p xs) (filter p xs)))
     [ true ↦ (h.0, each_less P p xs h.1) | false ↦ each_less P p xs h.1 ]
 
--- what each has, and one among them
+-- A property of each element, with one of them in the middle of the list.
 pub each_mid : {X : Type 0} (P : X → Type 0) (xs ys : List X) (x : X) → Each P (xs ++ x ∷ ys) → P x × Each P (xs ++ ys)
 each_mid P [] ys x h = h
 each_mid P (z ∷ xs) ys x h = let mid = each_mid P xs ys x h.1 in (mid.0, (h.0, mid.1))

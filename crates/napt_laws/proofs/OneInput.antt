@@ -1,11 +1,11 @@
--- One input more.
+-- A run over one more input.
 use Rattle.std.proofs.Common.{◌≡◌, ℕ, zero, suc, ◌+◌, ◌<◌, max, List, [], ◌∷◌, ◌++◌, length, Some, Result, refl, sym, ◌∙◌, ap, arith, get_or, take, drop, slice_get}
 use Rattle.std.proofs.lemmas.List.{take_more, take-append-drop}
 use Rattle.napt_rules.specs.Prelude.{Binding, Arrival, admission, RunEffect, effect_then, first_leg, step_as, step, run_from, last_clock, State, effect_from, Cause, Rules}
 use Rattle.napt_rules.specs.declared.Outcome.{Outcome}
 use Rattle.napt_laws.{specs.Dispatching.IsFrontOf, proofs.{OneMoreInput.run_append, DispatchLaws.runs_grow}}
 
--- A RUN BEGINS AS THAT OF ITS FIRST INPUTS
+-- A RUN BEGINS WITH THE RUN OVER ITS FIRST INPUTS
 
 pub acts_begin : (rules : Rules) (number clock : ℕ) (xs ys : List Arrival) (list : List Binding) →
     IsFrontOf (run_from rules number clock xs list).acts (run_from rules number clock (xs ++ ys) list).acts
@@ -27,7 +27,7 @@ get_at (x ∷ xs) o rest (suc n) e = get_at xs o rest n (omega arith)
 module _ (rules : Rules) (state : State) (done rest : List Arrival) (input : Arrival) (number now : ℕ)
     (long : length done ≡ number)
     (clock : max (last_clock state.clock done) input.clock ≡ now) where
-  -- the run of one input more
+  -- The effect of the run over one more input.
   pub grown : (admitted_as : Result (List ℕ) Cause) → admission rules input ≡ admitted_as →
       effect_from rules state (done ++ input ∷ []) ≡ effect_then (effect_from rules state done)
       (step_as rules (first_leg number now input.side) admitted_as (effect_from rules state done).list)
@@ -36,9 +36,10 @@ module _ (rules : Rules) (state : State) (done rest : List Arrival) (input : Arr
       runs_grow rules state done input
       ∙ (ap (λ (n : ℕ). effect_then r (step rules n (max (last_clock state.clock done) input.clock) input r.list)) long
       ∙ (ap (λ (t : ℕ). effect_then r (step rules number t input r.list)) clock
-      ∙ ap (λ (a : Result (List ℕ) Cause). effect_then r (step_as rules (first_leg number now input.side) a r.list)) is))
+      ∙ ap (λ (a : Result (List ℕ) Cause). effect_then r (step_as rules (first_leg number now input.side) a r.list))
+      is))
 
--- A STEP OF THE LOOP
+-- ONE ROUND OF THE LOOP
 
 module _ (inputs : List Arrival) (n : ℕ) (lt : n < length inputs) (none : Arrival) where
   pub whole : (take n inputs ++ get_or inputs n none ∷ []) ++ drop (n + 1) inputs ≡ inputs

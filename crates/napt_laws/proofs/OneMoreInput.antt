@@ -1,19 +1,21 @@
--- A run of one input more.
+-- A run over one more input.
 use Rattle.std.proofs.Common.{◌≡◌, ℕ, suc, ◌+◌, ◌*◌, ◌≤◌, max, List, [], ◌∷◌, ◌++◌, length, refl, ◌∙◌, ap, arith, append-nil, append_assoc, length-append}
 use Rattle.napt_rules.specs.Prelude.{Binding, LegEffect, act, Arrival, RunEffect, effect_then, with_second_leg, first_leg, step, run_from, last_clock, opening, run_result, Rules}
 use Rattle.napt_rules.specs.declared.{Leg.Leg, End.{End, TheVariants.{ToOutside, ToInside, Onward, Dropped}}, Outcome.Outcome}
 use Rattle.napt_laws.proofs.AnyStep.{of_step}
 
-ahead_none : (course : RunEffect) → effect_then course (record { outcomes = []; acts = []; list = course.list }) ≡ course
+ahead_none : (course : RunEffect) → effect_then course (record { outcomes = []; acts = []; list = course.list })
+    ≡ course
 ahead_none course = rw (append-nil course.outcomes, append-nil course.acts) refl
 
-ahead_all : (first course next : RunEffect) → effect_then first (effect_then course next) ≡ effect_then (effect_then first course) next
+ahead_all : (first course next : RunEffect) → effect_then first (effect_then course next)
+    ≡ effect_then (effect_then first course) next
 ahead_all first course next = rw (
   append_assoc first.outcomes course.outcomes next.outcomes,
   append_assoc first.acts course.acts next.acts,
 ) refl
 
--- a run is that of its first inputs, ahead of that of the others
+-- A run over two lists is the run over the first, followed by the run over the second.
 pub run_append : (rules : Rules) (number clock : ℕ) (xs ys : List Arrival) (list : List Binding) (at : ℕ) →
     number + length xs ≡ at → run_from rules number clock (xs ++ ys) list
     ≡ effect_then (run_from rules number clock xs list)
@@ -30,7 +32,8 @@ run_append rules number clock (i ∷ xs) ys list at e =
 pub grows : (rules : Rules) (number clock : ℕ) (inputs : List Arrival) (input : Arrival) (list : List Binding)
     (at : ℕ) → number + length inputs ≡ at →
     run_from rules number clock (inputs ++ input ∷ []) list
-    ≡ effect_then (run_from rules number clock inputs list) (step rules at (max (last_clock clock inputs) input.clock) input
+    ≡ effect_then (run_from rules number clock inputs list)
+    (step rules at (max (last_clock clock inputs) input.clock) input
     (run_from rules number clock inputs list).list)
 grows rules number clock inputs input list at e =
     run_append rules number clock inputs (input ∷ []) list at e
@@ -45,9 +48,9 @@ pub clock_more : (clock : ℕ) (inputs : List Arrival) (input : Arrival) → las
     ≡ max (last_clock clock inputs) input.clock
 clock_more clock inputs input = clock_on clock inputs (input ∷ [])
 
--- HOW MANY OUTCOMES, AND LEGS
+-- THE NUMBER OF OUTCOMES AND OF LEGS
 
--- one outcome, and two legs at most
+-- An input has one outcome and at most two legs.
 abbrev pub IsOfOne : RunEffect → Type 0
 IsOfOne course = ((outcome : Outcome) × (course.outcomes ≡ outcome ∷ [])) × (length course.acts ≤ 2)
 

@@ -1,4 +1,4 @@
--- A packet on its way out goes where its destination has a place in the pool.
+-- An outgoing packet ends onward at its destination's place in the pool, and only if it has one.
 use Rattle.std.proofs.Common.{◌≡◌, ℕ, true, max, List, Option, Some, None, Result, Ok, Err, refl, sym, ap, subst}
 use Rattle.napt_wire.specs.declared.Kind.TheVariants.{Udp, Tcp, Echo, ErrorOf}
 use Rattle.napt_rules.specs.Prelude.{Binding, onward_end, outbound_end, end_out, error_out, act_by, IsForeseen, RulesForeseeEnd, Way, Outgoing, Cause, Endpoint, Kind, destination, kind, is_error, with_source, reverted, IsPacket, SourcesLeaveDestinations, ErrorsLeaveDestinations, Rules, pool_place}

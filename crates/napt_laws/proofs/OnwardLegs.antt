@@ -1,17 +1,17 @@
--- Which packets go onward, and where.
+-- Which packets end onward, and where.
 use Rattle.std.proofs.Common.{◌≡◌, ℕ, true, List, Option, Some, None, Result, Ok, Err, refl, sym, ◌∙◌, ap, subst}
 use Rattle.napt_wire.specs.declared.Kind.TheVariants.{Udp, Tcp, Echo, ErrorOf}
 use Rattle.napt_rules.specs.Prelude.{Binding, onward_end, end_out, end_in, error_out, error_in, act_by, act, Way, Outgoing, Incoming, Cause, Endpoint, Kind, destination, kind, is_error, with_source, reverted, Rules, pool_place}
 use Rattle.napt_rules.specs.declared.{Leg.Leg, End.TheVariants.Onward}
 
--- ONWARD
+-- PACKETS THAT END ONWARD
 
--- only on the way out, to the place of the packet's destination; P holds of the packet
+-- A leg ends onward only if it is outgoing, at the place of the packet's destination; P holds of the packet.
 abbrev pub OnwardBy : Rules → (List ℕ → Type 0) → Way → ℕ → List ℕ → Type 0
 OnwardBy rules P way place packet = (way ≡ Outgoing) × (pool_place rules (destination packet).address ≡ Some place)
     × P packet
 
--- where P holds of a packet that leaves
+-- The same, where P holds of each translated packet.
 module _ (rules : Rules) (leg : Leg) (P : List ℕ → Type 0) (sources : (end : Endpoint) → P (with_source end leg.packet))
     (errors : is_error (kind leg.packet) ≡ true → (end : Endpoint) → P (reverted Outgoing end leg.packet)) where
   onward_from : (gone : List ℕ) → P gone → (found : Option ℕ) → pool_place rules (destination gone).address ≡ found →

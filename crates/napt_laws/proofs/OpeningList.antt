@@ -1,4 +1,4 @@
--- The bindings that a translator begins with: apart, and live at each time.
+-- The bindings with which a translator begins share no endpoint and are live at each time.
 use Rattle.std.proofs.Common.{◌≡◌, ℕ, ◌<◌, Bool, true, false, ◌&&◌, ◌||◌, cond, List, [], ◌∷◌, map, refl, sym, ◌∙◌, ap, eqb-true, arith, All, filter}
 use Rattle.std.{specs.{Bool.beq, List.list_any}, proofs.lemmas.{Bool.{and_from, eq-eqb, or_parts, true≢false}, List.Elements.All-tail}}
 use Rattle.napt_rules.specs.Prelude.{Binding, Each, same_protocol, is_tcp, is_at, bindings_at, is_live_flow, with_live_flows, purge, redirect_protocol, redirect_binding, row, AreRowsApart, AreApart, AreBindingsApart, IsNumber, IsPaired, IsSound, OpeningIsSound, Endpoint, PrefixModel, IsRedirect, AreRedirectsSingle, share_inside, share_external, is_double, pair_of, Redirect, Timers}
@@ -11,7 +11,7 @@ protocol_same true false = refl
 protocol_same false true = refl
 protocol_same false false = refl
 
--- redirects that are not double are apart
+-- Redirects that are not double share no endpoint.
 apart_each : (pair : ℕ → ℕ) (a b : Redirect) → is_double pair a b ≡ false →
     AreApart (redirect_binding pair a) (redirect_binding pair b)
 apart_each pair a b single = λ same.
@@ -42,7 +42,8 @@ port_number : (tcp : Bool) (port : ℕ) → 0 < port → IsNumber (redirect_prot
 port_number true port some = some
 port_number false port some = some
 
-each_paired : (pair : ℕ → ℕ) (inside : List PrefixModel) (redirects : List Redirect) → All (IsRedirect inside) redirects →
+each_paired : (pair : ℕ → ℕ) (inside : List PrefixModel) (redirects : List Redirect) →
+    All (IsRedirect inside) redirects →
     Each (IsPaired pair) (map row (map (redirect_binding pair) redirects))
 each_paired pair inside [] all = tt
 each_paired pair inside (r ∷ redirects) all =
@@ -99,13 +100,15 @@ module _ (timers : Timers) (now : ℕ) (pair : ℕ → ℕ) where
   redirect_stays redirect = ap (λ (flows : List Flow). record (redirect_binding pair redirect) { flows = flows })
       (no_flows timers now (is_tcp (redirect_protocol redirect.tcp)))
 
-  -- a redirect never expires
+  -- A redirect never expires.
   pub redirects_stay : (address : ℕ) (redirects : List Redirect) →
-      purge timers now (bindings_at address (map (redirect_binding pair) redirects)) ≡ bindings_at address (map (redirect_binding pair) redirects)
+      purge timers now (bindings_at address (map (redirect_binding pair) redirects))
+      ≡ bindings_at address (map (redirect_binding pair) redirects)
   redirects_stay address [] = refl
   redirects_stay address (r ∷ redirects) =
       let rest : List Binding = bindings_at address (map (redirect_binding pair) redirects) in
-      elim (is_at address (redirect_binding pair r).row) as (λ v. purge timers now (cond v (redirect_binding pair r ∷ rest) rest)
+      elim (is_at address (redirect_binding pair r).row) as
+      (λ v. purge timers now (cond v (redirect_binding pair r ∷ rest) rest)
       ≡ cond v (redirect_binding pair r ∷ rest) rest) [
         | true ↦ ap (λ (b : Binding). b ∷ purge timers now rest) (redirect_stays r)
             ∙ ap (λ (list : List Binding). redirect_binding pair r ∷ list) (redirects_stay address redirects)

@@ -1,5 +1,5 @@
--- A run keeps of each binding that is no redirect what its configuration asks of a state's: its host is inside, it was
--- not used after the clock, and no two of its flows are of one remote.
+-- A run keeps what its configuration requires of a state's bindings except redirects: the host is inside, the binding
+-- was not used after the clock, and no two of its flows are of one remote.
 use Rattle.std.proofs.Common.{◌≡◌, ℕ, ◌≤◌, Bool, true, false, not, ◌||◌, cond, List, [], ◌∷◌, ◌++◌, map, refl, sym, ◌∙◌, ap, subst, arith, filter}
 use Rattle.std.{specs.List.list_any, proofs.lemmas.Bool.{or_parts, true≢false}}
 use Rattle.napt_wire.specs.declared.Kind.TheVariants as kinds
@@ -118,7 +118,8 @@ module _ (rules : Rules) where
   owned_taken clock now list h = each_purged (IsKept clock) rules.timers (hold_ago rules.timers now)
       (owned_live clock (hold_ago rules.timers now)) list h
 
-  owned_sent : (packet : OutboundPacket) (b : Binding) → IsKept packet.now b → IsKept packet.now (binding_after_out packet b)
+  owned_sent : (packet : OutboundPacket) (b : Binding) → IsKept packet.now b →
+      IsKept packet.now (binding_after_out packet b)
   owned_sent packet b own is =
       let o = own is in
       record {
@@ -140,7 +141,8 @@ module _ (rules : Rules) where
         last = elim (refreshes inbound.refresh b.row) as (λ v. cond v packet.now b.last ≤ packet.now)
             [ true ↦ omega arith | false ↦ o.last ];
         flows = elim (is_tcp b.row.protocol) as (λ v. AreFlowsOwn packet.now (cond v
-            (change_first (is_flow_of packet.remote) (flow_after b.row.protocol Incoming packet.flags packet.now) b.flows)
+            (change_first (is_flow_of packet.remote) (flow_after b.row.protocol Incoming packet.flags packet.now)
+            b.flows)
             b.flows)) [
               | true ↦ own_used b.row.protocol Incoming packet.flags packet.now (is_flow_of packet.remote) b.flows
                   o.flows
@@ -162,7 +164,8 @@ module _ (rules : Rules) where
     owned_out protocol flags host =
         let packet : OutboundPacket = outbound_packet rules protocol flags leg.now leg.packet in
         of_out (AreAllOwn rules leg.now) rules.timers address all_taken kept (assignment_rules rules) packet
-        (each_changed (IsKept leg.now) (is_of_live_source rules.timers address packet) (live_binding_after_out rules.timers packet)
+        (each_changed (IsKept leg.now) (is_of_live_source rules.timers address packet)
+        (live_binding_after_out rules.timers packet)
         (λ b its own. owned_sent packet (with_live_flows rules.timers leg.now b) (owned_live leg.now leg.now b own))
         all_taken kept)
         (λ n none is. each_pushed (IsKept leg.now) (other_bindings address packet all_taken)
@@ -210,5 +213,6 @@ taken_own rules keeps state takes inputs =
     owned_run rules 0 state.clock inputs (with_redirects rules state).list
     (each_append (IsKept rules state.clock) (opening rules) (dynamic_bindings rules state)
     (all_fixed rules state.clock (pair_of rules) rules.redirects)
-    (each_weaker (IsBindingOwn rules state.clock) (IsKept rules state.clock) (λ b own is. own) (dynamic_bindings rules state)
+    (each_weaker (IsBindingOwn rules state.clock) (IsKept rules state.clock) (λ b own is. own)
+    (dynamic_bindings rules state)
     (all rules keeps state takes).owned))

@@ -1,5 +1,5 @@
--- The list of a run begins with the redirects, which no packet changes, and none comes after them: so what a run leaves
--- goes on as it is, and is taken.
+-- The list of a run begins with the redirects, which no packet changes, and has no others: so the state after a run
+-- goes on unchanged, and its configuration takes it.
 use Rattle.std.proofs.Common.{◌≡◌, ℕ, Bool, true, false, not, ◌&&◌, ◌||◌, cond, List, [], ◌∷◌, ◌++◌, map, Option, Some, None, refl, sym, ◌∙◌, ap, subst, arith, append-nil, filter, find, nat_lt, ◌≤◌, le-leb, eq-eqb, IfSome}
 use Rattle.std.{specs.List.list_any, proofs.lemmas.{List.map-append, Bool.{and_from, not-true, Decides.nat_tests}}}
 use Rattle.napt_rules.specs.declared.{Flow.Flow, Row.Row, InboundRules.InboundRules, OutboundPacket.OutboundPacket, InboundPacket.InboundPacket, Leg.Leg, Misfit.Misfit}
@@ -9,10 +9,10 @@ use Rattle.napt_laws.proofs.{Acts.of_act, Endpoints.{end_is, protocol_is}, Openi
 use Rattle.napt_laws.proofs.{Lists.{each_changed, each_pushed, each_kept, each_less, each_mid}, StepsSound.{out_stays_sound, in_stays_sound, purge_stays_sound}}
 use Rattle.napt_laws.proofs.{RunsSound.run_sound, RunsBlocks.blocks_run, OwnBindings.{or_none, IsKept, owned_taken, taken_own}, TakenStates.{turned, state_sound, state_blocks}}
 
--- REDIRECTS FIRST
+-- REDIRECTS ARE FIRST
 
 module _ (pair : ℕ → ℕ) where
-  -- a list that begins with redirects, and has none behind them
+  -- The list begins with these redirects, and has no redirect after them.
   abbrev Begins : List Redirect → List Binding → Type 0
   Begins [] list = Each (λ b. not b.row.fixed ≡ true) list
   Begins (r ∷ redirects) [] = ⊥
@@ -28,7 +28,8 @@ module _ (pair : ℕ → ℕ) where
   begins_is [] list h = sym (filter_all (λ b. not b.row.fixed) list h)
   begins_is (r ∷ redirects) [] h = absurd h
   begins_is (r ∷ redirects) (b ∷ list) h = subst (λ (x : Binding). x ∷ list
-      ≡ redirect_binding pair r ∷ (map (redirect_binding pair) redirects ++ filter (λ b. not b.row.fixed) (x ∷ list))) (sym h.0)
+      ≡ redirect_binding pair r ∷ (map (redirect_binding pair) redirects ++ filter (λ b. not b.row.fixed) (x ∷ list)))
+      (sym h.0)
       (ap (λ (l : List Binding). redirect_binding pair r ∷ l) (begins_is redirects list h.1))
 
   begins_purged : (timers : Timers) (now : ℕ) (redirects : List Redirect) (list : List Binding) →
@@ -51,7 +52,7 @@ module _ (pair : ℕ → ℕ) where
         | false ↦ (h.0, begins_changed t f stays same redirects list h.1)
       ]
 
-  -- a source that has no live binding has no redirect: those are found
+  -- A source without a live binding has no redirect, since redirects are live.
   begins_others : (timers : Timers) (now : ℕ) (its : Row → Bool) (redirects : List Redirect) (list : List Binding) →
       Begins redirects list → find (λ b. its b.row) (purge timers now list) ≡ None →
       Begins redirects (filter (λ b. not (its b.row)) list)
@@ -62,7 +63,8 @@ module _ (pair : ℕ → ℕ) where
       let others : List Binding = filter (λ b. not (its b.row)) list in
       subst (λ (x : Binding). find (λ b. its b.row) (purge timers now (x ∷ list)) ≡ None →
       Begins (r ∷ redirects) (filter (λ b. not (its b.row)) (x ∷ list))) (sym h.0)
-      (elim (its (redirect_binding pair r).row) as (λ v. cond v (Some (with_live_flows timers now (redirect_binding pair r)))
+      (elim (its (redirect_binding pair r).row) as
+      (λ v. cond v (Some (with_live_flows timers now (redirect_binding pair r)))
       (find (λ b. its b.row) (purge timers now list)) ≡ None →
       Begins (r ∷ redirects) (cond (not v) (redirect_binding pair r ∷ others) others)) [
         | true ↦ λ e. cc
@@ -75,7 +77,7 @@ module _ (pair : ℕ → ℕ) where
   begins_pushed (r ∷ redirects) [] b is h = absurd h
   begins_pushed (r ∷ redirects) (x ∷ list) b is h = (h.0, begins_pushed redirects list b is h.1)
 
-  -- nothing else is there before any input
+  -- Before any input the list has the redirects alone.
   opening_stays : (timers : Timers) (now : ℕ) (redirects : List Redirect) →
       filter (λ b. not b.row.fixed) (purge timers now (map (redirect_binding pair) redirects)) ≡ []
   opening_stays timers now [] = refl
@@ -100,7 +102,8 @@ module _ (rules : Rules) where
     kept_out protocol flags =
         let packet : OutboundPacket = outbound_packet rules protocol flags leg.now leg.packet in
         of_out Keeps rules.timers address all_taken kept (assignment_rules rules) packet
-        (begins_changed (pair_of rules) (is_of_live_source rules.timers address packet) (live_binding_after_out rules.timers packet)
+        (begins_changed (pair_of rules) (is_of_live_source rules.timers address packet)
+        (live_binding_after_out rules.timers packet)
         (λ r. ap (binding_after_out packet) (redirect_stays rules.timers leg.now (pair_of rules) r)) (λ b. refl)
         rules.redirects all_taken kept)
         (λ n none is. begins_pushed (pair_of rules) rules.redirects (other_bindings address packet all_taken)
@@ -121,7 +124,7 @@ module _ (rules : Rules) where
     kept_leg = of_act rules address leg list (λ (a : LegEffect). Keeps a.list) kept_out kept_in (λ end. h) leg.way
         (kind leg.packet)
 
-  -- what a run from a state under the configuration leaves, with what has gone
+  -- The list after a run from a state that the configuration takes, with bindings that are gone.
   module _ (state : State) (inputs : List Arrival) where
     abbrev now : ℕ
     now = last_clock state.clock inputs
@@ -152,7 +155,7 @@ own_states_stay rules = (
       ∙ sym (left_is rules state inputs))),
 )
 
--- WHAT IS LEFT FITS
+-- THE STATE AFTER A RUN FITS
 
 open_by : {X : Type 0} (t : Bool) (x : X) (others : Option X) → t ≡ false → others ≡ None → cond t (Some x) others
     ≡ None
@@ -163,7 +166,8 @@ tested Icmp n h = refl
 tested Tcp n h = le-leb 1 n h
 tested Udp n h = le-leb 1 n h
 
-its_number : (block : Option PortBlock) (n : ℕ) → IfSome block (λ block. IsBlockNumber block n) → is_its_number block n ≡ true
+its_number : (block : Option PortBlock) (n : ℕ) → IfSome block (λ block. IsBlockNumber block n) →
+    is_its_number block n ≡ true
 its_number None n h = refl
 its_number (Some block) n h = and_from _ _ (le-leb _ _ h.first) (le-leb _ _ h.last)
 
@@ -241,7 +245,8 @@ module _ (carry : PacketsCarryNumbers) (rules : Rules) (keeps : RulesInvariant r
   blocks : Each (IsInItsBlock rules) (map row left)
   blocks = purge_keeps (Each (IsInItsBlock rules)) (λ p list h. each_kept (IsInItsBlock rules) row p list h)
       rules.timers (hold_ago rules.timers clock) _
-      (blocks_run rules keeps 0 state.clock inputs (with_redirects rules state).list (state_blocks rules keeps state takes))
+      (blocks_run rules keeps 0 state.clock inputs (with_redirects rules state).list
+      (state_blocks rules keeps state takes))
 
   own : AreAllOwn rules clock left
   own = owned_taken rules clock clock _ (taken_own rules keeps state takes inputs)
@@ -254,7 +259,8 @@ module _ (carry : PacketsCarryNumbers) (rules : Rules) (keeps : RulesInvariant r
       (each_less (IsKept rules clock) (λ b. not b.row.fixed) left own)
       (each_kept (IsPaired (pair_of rules)) row (λ b. not b.row.fixed) left sound.each)
       (each_kept (IsInItsBlock rules) row (λ b. not b.row.fixed) left blocks)
-      (subst AreBindingsApart (ap (map row) (left_is rules state inputs) ∙ map-append row (opening rules) free) sound.apart)
+      (subst AreBindingsApart (ap (map row) (left_is rules state inputs) ∙ map-append row (opening rules) free)
+      sound.apart)
 
 pub own_states_are_taken : PacketsCarryNumbers → OwnStatesAreTaken
 own_states_are_taken carry rules = (

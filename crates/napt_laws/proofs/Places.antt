@@ -3,24 +3,27 @@ use Rattle.std.proofs.Common.{◌≡◌, ◌≢◌, ℕ, ◌+◌, ◌≤◌, ◌
 use Rattle.std.proofs.lemmas.List.{map-append, Elements.filter-append}
 use Rattle.napt_rules.specs.Prelude.{BindingUse, Binding, Each, way_from, served_at, LegEffect, act, Arrival, admission, LegAct, RunEffect, with_second_leg, last_clock, State, effect_from, acts_at, legs_at, Way, Outgoing, destination, IsPacket, Rules}
 use Rattle.napt_rules.specs.declared.{Leg.Leg, End.{End, TheVariants.{ToOutside, ToInside, Onward, Dropped}}}
-use Rattle.napt_laws.{proofs.Lists.{each_weaker, each_append}, specs.Dispatching.{IsFrontOf, OnwardIsForetold}}
+use Rattle.napt_laws.{proofs.Lists.{each_weaker, each_append}, specs.Dispatching.{IsFrontOf, OnwardIsForeseen}}
 use Rattle.napt_laws.specs.SecondLegs.{first_act, acts_of, acts_of_number, all_but_first, second_legs, second_of, IsSeconded, AnswersFillPlaces, PlacesStandForLegs}
 use Rattle.napt_laws.proofs.{EachLeg.each_leg, OneInput.{acts_begin, grown}}
 
--- the legs of an address in acts, and in more
+-- The legs of an address in two lists of acts are those of the first and then those of the second.
 pub legs_append : (address : ℕ) (xs ys : List LegAct) → legs_at address (xs ++ ys) ≡ legs_at address xs
     ++ legs_at address ys
-legs_append address xs ys = ap (map (λ (a : LegAct). a.leg)) (filter-append (λ (a : LegAct). a.address == address) xs ys)
+legs_append address xs ys = ap (map (λ (a : LegAct). a.leg))
+    (filter-append (λ (a : LegAct). a.address == address) xs ys)
     ∙ map-append (λ (a : LegAct). a.leg) (acts_at address xs) (acts_at address ys)
 
-numbered_all : (k : ℕ) (P : LegAct → Type 0) → ((a : LegAct) → P a → a.leg.number ≡ k) → (acts : List LegAct) → Each P acts →
+numbered_all : (k : ℕ) (P : LegAct → Type 0) → ((a : LegAct) → P a → a.leg.number ≡ k) → (acts : List LegAct) →
+    Each P acts →
     acts_of_number k acts ≡ acts
 numbered_all k P is [] h = refl
 numbered_all k P is (a ∷ acts) h =
     ap (λ b. cond b (a ∷ acts_of_number k acts) (acts_of_number k acts)) (eq-eqb a.leg.number k (is a h.0))
     ∙ ap (λ (xs : List LegAct). a ∷ xs) (numbered_all k P is acts h.1)
 
-numbered_none : (k : ℕ) (P : LegAct → Type 0) → ((a : LegAct) → P a → a.leg.number ≢ k) → (acts : List LegAct) → Each P acts →
+numbered_none : (k : ℕ) (P : LegAct → Type 0) → ((a : LegAct) → P a → a.leg.number ≢ k) → (acts : List LegAct) →
+    Each P acts →
     acts_of_number k acts ≡ []
 numbered_none k P isnt [] h = refl
 numbered_none k P isnt (a ∷ acts) h =
@@ -29,7 +32,7 @@ numbered_none k P isnt (a ∷ acts) h =
 
 -- ONE INPUT
 
--- the acts of one input have its number, and one that goes out tells the others
+-- The acts of one input have its number, and the end of an outgoing one says which others there are.
 abbrev SecondsHere : ℕ → List LegAct → LegAct → Type 0
 SecondsHere number acts a = (a.leg.number ≡ number) × (a.leg.way ≡ Outgoing →
     map (λ (x : LegAct). x.leg) (all_but_first acts) ≡ second_of a.leg a.end)
@@ -43,9 +46,9 @@ follow_seconds rules address leg through list (ToInside packet) = ((refl, λ way
 follow_seconds rules address leg through list (Dropped cause) = ((refl, λ way. refl), tt)
 follow_seconds rules address leg through list (Onward place packet) = ((refl, λ way. refl), ((refl, λ way. cc), tt))
 
--- A RUN
+-- A WHOLE RUN
 
--- of acts whose numbers begin at one
+-- The same for acts whose numbers begin at a number.
 abbrev SecondsFrom : ℕ → List LegAct → LegAct → Type 0
 SecondsFrom number acts a = (number ≤ a.leg.number) × IsSeconded acts a
 
@@ -54,7 +57,8 @@ module _ (number : ℕ) (firsts rests : List LegAct) (here : Each (SecondsHere n
   of_first : acts_of_number number (firsts ++ rests) ≡ firsts
   of_first =
       filter-append (λ (a : LegAct). a.leg.number == number) firsts rests
-      ∙ (ap (λ (xs : List LegAct). acts_of_number number firsts ++ xs) (numbered_none number (SecondsFrom (number + 1) rests)
+      ∙ (ap (λ (xs : List LegAct). acts_of_number number firsts ++ xs)
+      (numbered_none number (SecondsFrom (number + 1) rests)
       (λ a h. let le : number + 1 ≤ a.leg.number = h.0 in λ e. absurd (omega arith)) rests later)
       ∙ (append-nil (acts_of_number number firsts) ∙ numbered_all number (SecondsHere number firsts) (λ a h.
       h.0) firsts here))
@@ -77,7 +81,8 @@ module _ (number : ℕ) (firsts rests : List LegAct) (here : Each (SecondsHere n
   rest_seconded a h =
       let le : number + 1 ≤ a.leg.number = h.0 in (
         omega arith,
-        λ way. ap (λ (xs : List LegAct). map (λ (x : LegAct). x.leg) (all_but_first xs)) (of_rest a.leg.number le) ∙ h.1 way,
+        λ way. ap (λ (xs : List LegAct). map (λ (x : LegAct). x.leg) (all_but_first xs)) (of_rest a.leg.number le)
+            ∙ h.1 way,
       )
 
   seconds_more : Each (SecondsFrom number (firsts ++ rests)) (firsts ++ rests)
@@ -94,7 +99,7 @@ answers_fill rules state inputs =
     (follow_seconds rules) (λ number first rest one. seconds_more number first.acts rest.acts) 0 state.clock inputs
     state.list)
 
--- ONE INPUT MORE
+-- ONE MORE INPUT
 
 pub cond_map : (b : Bool) (a : LegAct) → map (λ (x : LegAct). x.leg) (cond b (a ∷ []) []) ≡ cond b (a.leg ∷ []) []
 cond_map true a = refl
@@ -104,7 +109,8 @@ cond_none : (b : Bool) → cond b (let ls : List Leg = [] in ls) [] ≡ []
 cond_none true = refl
 cond_none false = refl
 
-cond_two : (b c : Bool) (x y : LegAct) → map (λ (a : LegAct). a.leg) (cond b (x ∷ cond c (y ∷ []) []) (cond c (y ∷ []) []))
+cond_two : (b c : Bool) (x y : LegAct) → map (λ (a : LegAct). a.leg)
+    (cond b (x ∷ cond c (y ∷ []) []) (cond c (y ∷ []) []))
     ≡ cond b (x.leg ∷ []) [] ++ cond c (y.leg ∷ []) []
 cond_two true true x y = refl
 cond_two true false x y = refl
@@ -135,7 +141,7 @@ at_seam : {X : Type 0} (P : X → Type 0) (xs : List X) (x : X) (rest : List X) 
 at_seam P [] x rest h = h.0
 at_seam P (y ∷ xs) x rest h = at_seam P xs x rest h.1
 
--- a first leg comes first
+-- The first leg comes first.
 head_by : (rules : Rules) (address : ℕ) (leg : Leg) (first : LegEffect) (e : End) → (tail : List LegAct)
     × ((with_second_leg rules address leg first e).acts
     ≡ record { address = address; leg = leg; end = first.end; through = first.through } ∷ tail)
@@ -162,9 +168,10 @@ module _ (rules : Rules) (state : State) (done rest : List Arrival) (input : Arr
 
   pub acts_grow : (effect_from rules state (done ++ input ∷ [])).acts ≡ before.acts
       ++ acts_of rules at_first leg_of before.list
-  acts_grow = ap (λ (r : RunEffect). r.acts) (grown rules state done rest input number now long clock (Ok packet) admitted)
+  acts_grow = ap (λ (r : RunEffect). r.acts) (grown rules state done rest input number now long clock (Ok packet)
+      admitted)
 
-  -- the run over all inputs tells the second legs by the end of the first
+  -- In the run over all inputs, the end of the first leg says which second leg there is.
   filled : way_from input.side ≡ Outgoing → second_legs number whole
       ≡ second_of leg_of (act rules at_first leg_of before.list).end
   filled way =
@@ -180,7 +187,7 @@ module _ (rules : Rules) (state : State) (done rest : List Arrival) (input : Arr
       at_seam (IsSeconded whole) before.acts (first_act rules at_first leg_of before.list) (head.0 ++ front.0)
       (subst (Each (IsSeconded whole)) is (answers_fill rules state ((done ++ input ∷ []) ++ rest))) way
 
-  pub place_stands : OnwardIsForetold → IsPacket packet → way_from input.side ≡ Outgoing → (address : ℕ) →
+  pub place_stands : OnwardIsForeseen → IsPacket packet → way_from input.side ≡ Outgoing → (address : ℕ) →
       legs_at address (effect_from rules state (done ++ input ∷ [])).acts
       ≡ legs_at address before.acts ++ (cond (at_first == address) (leg_of ∷ []) []
       ++ cond ((destination packet).address == address) (second_legs number whole) [])
@@ -196,7 +203,7 @@ module _ (rules : Rules) (state : State) (done rest : List Arrival) (input : Arr
       ∙ ap (λ (ls : List Leg). cond (at_first == address) (leg_of ∷ []) []
       ++ cond ((destination packet).address == address) ls []) (sym (filled way))))
 
-pub places_stand : OnwardIsForetold → PlacesStandForLegs
+pub places_stand : OnwardIsForeseen → PlacesStandForLegs
 places_stand foretold rules state done rest input packet side admitted is address =
     let number : ℕ = length done in
     let now : ℕ = max (last_clock state.clock done) input.clock in

@@ -1,4 +1,4 @@
--- The place of an address in the pool is one at which the pool has it.
+-- The pool has the address at the place that is found for it.
 use Rattle.std.proofs.Common.{◌≡◌, ℕ, ◌==◌, List, Option, Some, None, IfOk, ok_or, slice_get, ◌∙◌, ap, refl, ◌<◌, true, false, length, get_or, position, eqb-true}
 use Rattle.std.proofs.lemmas.{Option.slice_get-get_or, List.Quantifiers.position-Some}
 use Rattle.napt_wire.specs.declared.Cause.{Cause}

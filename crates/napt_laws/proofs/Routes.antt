@@ -1,4 +1,4 @@
--- Where a packet is routed to, and the step of an input by that.
+-- The place to which a packet is routed, and the step of an input in terms of it.
 use Rattle.std.proofs.Common.{◌≡◌, ℕ, false, List, Option, Some, None, Result, Ok, Err, IsSome, refl, ◌∙◌, ap, ok_or, is_some, not}
 use Rattle.napt_config.proofs.Pools.{paired_in_pool, position_of_member}
 use Rattle.napt_rules.specs.Prelude.{Binding, side_refusal, way_from, served_at, routed_by_refusal, route, Arrival, admission_from, admission_as, refused_effect, admitted_effect, first_leg, step_as, step, Side, Inside, Outside, Outgoing, Cause, Spoofed, NotOurs, destination, local_end, Rules, RulesInvariant, pair_of, pool_place, reading}
@@ -6,7 +6,7 @@ use Rattle.napt_laws.proofs.Lists.{passed}
 
 -- ROUTES
 
--- a host's external address is in the pool
+-- The external address of a host is in the pool.
 pair_in_pool : (rules : Rules) → RulesInvariant rules → (host : ℕ) → IsSome (pool_place rules (pair_of rules host))
 pair_in_pool rules keeps host = position_of_member rules.pool (pair_of rules host)
     (paired_in_pool rules.block rules.inside rules.pool rules.pairs host keeps.pool.some keeps.pairs.externals)
@@ -15,8 +15,9 @@ some_is : (o : Option ℕ) → not (is_some o) ≡ false → IsSome o
 some_is (Some x) h = refl
 some_is None h = cc
 
--- the address that serves a packet that is not refused is in the pool
-served_in_pool : (rules : Rules) → RulesInvariant rules → (side : Side) (packet : List ℕ) → side_refusal rules side packet
+-- The address that serves a packet that is not refused is in the pool.
+served_in_pool : (rules : Rules) → RulesInvariant rules → (side : Side) (packet : List ℕ) →
+    side_refusal rules side packet
     ≡ None → IsSome (pool_place rules (served_at rules (way_from side) packet))
 served_in_pool rules keeps Inside packet h = pair_in_pool rules keeps (local_end Outgoing packet).address
 served_in_pool rules keeps Outside packet h = some_is (pool_place rules (destination packet).address)
@@ -32,7 +33,8 @@ placed (Some place) cause some h = cc
 placed None cause some h = cc
 
 routed_err : (rules : Rules) (address : ℕ) (refused : Option Cause) (cause : Cause) →
-    (refused ≡ None → IsSome (pool_place rules address)) → routed_by_refusal rules address refused ≡ Err cause → refused ≡ Some cause
+    (refused ≡ None → IsSome (pool_place rules address)) → routed_by_refusal rules address refused ≡ Err cause →
+    refused ≡ Some cause
 routed_err rules address (Some other) cause served h = cc
 routed_err rules address None cause served h = absurd (placed (pool_place rules address) cause (served refl) h)
 
@@ -67,5 +69,6 @@ module _ (rules : Rules) (number now : ℕ) (input : Arrival) (list : List Bindi
   step_refused cause against = judged (Some cause) against
 
   pub step_admitted : side_refusal rules input.side packet ≡ None → step rules number now input list
-      ≡ admitted_effect rules (served_at rules (way_from input.side) packet) (first_leg number now input.side packet) list
+      ≡ admitted_effect rules (served_at rules (way_from input.side) packet) (first_leg number now input.side packet)
+      list
   step_admitted free = judged None free

@@ -1,4 +1,4 @@
--- The numbers that a sound list of bindings tells are numbers of their protocol.
+-- The numbers in the rows of a sound list of bindings are numbers of their protocol.
 use Rattle.std.proofs.Common.{◌≡◌, ℕ, Bool, true, false, List, Option, Some, None, Result, Ok, Err, refl, eqb-true, find, IfOk, IfSome}
 use Rattle.std.{specs.Option.option_map, proofs.lemmas.Bool.and_parts}
 use Rattle.napt_rules.specs.declared.{AssignmentRules.AssignmentRules, InboundRules.InboundRules}
@@ -69,7 +69,8 @@ module _ (pair : ℕ → ℕ) (address : ℕ) (protocol : Protocol) where
 -- STEPS
 
 module _ (pair : ℕ → ℕ) (address : ℕ) where
-  module _ (timers : Timers) (inbound : InboundRules) (packet : InboundPacket) (list : List Binding) (s : IsSound pair list) where
+  module _ (timers : Timers) (inbound : InboundRules) (packet : InboundPacket) (list : List Binding)
+      (s : IsSound pair list) where
     entered_named : (b : Binding) (passes : Bool) → IsNumber packet.protocol b.row.inside.number →
         IfOk (in_passed timers inbound list address packet b passes).inside
         (λ inside. IsNumber packet.protocol inside.number)
@@ -88,7 +89,8 @@ module _ (pair : ℕ → ℕ) (address : ℕ) where
         IsNumber packet.protocol inside.number)
     in_named = found_named (find (is_of_destination address packet) (purge timers packet.now list)) refl
 
-  module _ (timers : Timers) (granting : AssignmentRules) (packet : OutboundPacket) (keeps : IfSome packet.block IsPortBlock)
+  module _ (timers : Timers) (granting : AssignmentRules) (packet : OutboundPacket)
+      (keeps : IfSome packet.block IsPortBlock)
       (list : List Binding) (s : IsSound pair list) where
     made_named : (number : Result ℕ Cause) →
         granted_again granting list address packet (find (is_of_source address packet) list) ≡ number →

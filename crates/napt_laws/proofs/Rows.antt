@@ -30,7 +30,7 @@ mapped R f (x ∷ xs) h =
     AllPairs-cons R (f x) (map f xs) (All-map (R (f x)) f xs (head_pairs (λ x y. R (f x) (f y)) x xs h))
     (mapped R f xs (tail_pairs (λ x y. R (f x) (f y)) x xs h))
 
--- IN ORDER
+-- SORTED ROWS
 
 turned : (a b : Row) → AreRowsApart a b → AreRowsApart b a
 turned a b h = λ same. let p = h (sym same) in ((λ e. p.0 (sym e)), (λ e. p.1 (sym e)))
@@ -41,7 +41,8 @@ apart_put x [] here h = AllPairs-cons AreRowsApart x [] here h
 apart_put x (y ∷ xs) here h = elim (nat_le (rank x) (rank y)) as (λ v.
     AllPairs AreRowsApart (cond v (x ∷ y ∷ xs) (y ∷ insert_row x xs))) [
       | true ↦ AllPairs-cons AreRowsApart x (y ∷ xs) here h
-      | false ↦ AllPairs-cons AreRowsApart y (insert_row x xs) (All-permutation (AreRowsApart y) (x ∷ xs) (insert_row x xs)
+      | false ↦ AllPairs-cons AreRowsApart y (insert_row x xs)
+          (All-permutation (AreRowsApart y) (x ∷ xs) (insert_row x xs)
           (put-moves x xs) (All-cons (AreRowsApart y) x xs (turned x y (All-head (AreRowsApart x) y xs here))
           (head_pairs AreRowsApart y xs h)))
           (apart_put x xs (All-tail (AreRowsApart x) y xs here) (tail_pairs AreRowsApart y xs h))
@@ -57,7 +58,7 @@ apart_ordered (x ∷ xs) h =
 -- TWO ADDRESSES
 
 module _ (list : List Binding) (apart : AllPairs AreApart list) (a b : ℕ) (differ : a ≢ b) where
-  -- at two places of the list
+  -- Two bindings at two places of the list.
   meet : (i j : ℕ) (d : Binding) → i < length list → j < length list → is_at a (get_or list i d).row ≡ true →
       is_at b (get_or list j d).row ≡ true → AreApart (get_or list i d) (get_or list j d)
   meet i j d i_in j_in at_a at_b =

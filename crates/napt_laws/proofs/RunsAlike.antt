@@ -1,4 +1,4 @@
--- Runs from states that are alike are one.
+-- Runs from states that are alike have the same result.
 use Rattle.std.proofs.Common.{◌≡◌, ℕ, ◌+◌, ◌*◌, ◌^◌, ◌<◌, ◌≤◌, true, false, ◌||◌, List, [], ◌∷◌, ◌++◌, map, flat_map, length, refl, sym, ◌∙◌, ap, subst, arith, eqb-true}
 use Rattle.std.{specs.List.{list_any, Sorted.IsPermutation}, proofs.lemmas.List.Sorted.{IsPermutation-sym, IsPermutation-map}}
 use Rattle.napt_rules.specs.Prelude.{Binding, Each, bindings_at, is_at, purge, row, protocol_rank, rows, sorted_rows, act, Arrival, LegAct, RunEffect, run_from, last_clock, legs_at, run_result_of, AreRowsApart, AreBindingsApart, IsSound, AreAlike, AlikeRunGoesOn, AlikeStatesGoOn, Protocol, Icmp, Tcp, Udp, PacketsCarryNumbers, Rules, RulesInvariant, pair_of}
@@ -71,7 +71,8 @@ module _ (rules : Rules) (now : ℕ) (pair : ℕ → ℕ) (a b : List Binding) (
         let low : Each IsSmall (here a) = each_moved IsSmall (sorted_rows (here a)) (here a)
         (IsPermutation-sym _ _ (in_order-moves (here a))) small in
         let apart : AreBindingsApart (here a) =
-        (purge_stays_sound (λ host. address) rules.timers now (bindings_at address a) (sound_at pair address a sound)).apart in
+        (purge_stays_sound (λ host. address) rules.timers now (bindings_at address a)
+        (sound_at pair address a sound)).apart in
         sym (in_order_alike (here a) (here b) (λ x. filter_once (same_rank x) (here a) (here b) moved
         (once_ranked address x (here a) apart (at_address, low))))
 
@@ -86,7 +87,7 @@ module _ (rules : Rules) (now : ℕ) (pair : ℕ → ℕ) (a b : List Binding) (
 -- RUNS
 
 module _ (carry : PacketsCarryNumbers) (rules : Rules) (keeps : RulesInvariant rules) where
-  -- two sound lists that are alike
+  -- Two sound lists that are alike.
   record AreTwo (now : ℕ) (a b : List Binding) : Type 0 where
     pub one : IsSound (pair_of rules) a
     pub other : IsSound (pair_of rules) b

@@ -1,10 +1,10 @@
--- Runs of two lists side by side: what each leg does alike, a run does.
+-- Runs of two lists side by side: a relation that each leg keeps is kept by a run.
 use Rattle.std.proofs.Common.{◌≡◌, ℕ, ◌+◌, ◌≤◌, max, List, [], ◌∷◌, ◌++◌, Option, Result, Ok, Err, refl, ◌∙◌, ap, subst, arith}
 use Rattle.napt_rules.specs.Prelude.{BindingUse, Binding, LegEffect, act, Arrival, admission, LegAct, RunEffect, outcome_of, leg_effect, with_second_leg, admitted_effect, served_at, reading, first_leg, step_as, step, run_from, last_clock, Incoming, Cause, destination, Rules}
 use Rattle.napt_rules.specs.declared.{Leg.Leg, Outcome.Outcome, End.{End, TheVariants.{ToOutside, ToInside, Onward, Dropped}}}
 use Rattle.napt_laws.proofs.Turns.{IsServed, was_admitted, serves}
 
--- lists that are so at a time; what a leg leaves of the one and of the other, and what a course does
+-- The relation of the two lists at a time, after a leg, and after a run.
 module _ (R : ℕ → List Binding → List Binding → Type 0) (now : ℕ) where
   pub record AreActsBeside (x y : LegEffect) : Type 0 where
     pub end : x.end ≡ y.end
@@ -24,7 +24,8 @@ module _ (rules : Rules) (R : ℕ → List Binding → List Binding → Type 0)
     once_both : AreBeside R leg.now (leg_effect address leg x) (leg_effect address leg y)
     once_both = record {
       outcomes = ap (λ (e : End). outcome_of e ∷ []) same.end;
-      acts = ap (λ (e : End). (let a : LegAct = record { address = address; leg = leg; end = e; through = x.through } in a)
+      acts = ap (λ (e : End). (let a : LegAct = record { address = address; leg = leg; end = e; through = x.through }
+          in a)
           ∷ []) same.end
           ∙ ap (λ (t : Option BindingUse). (let a : LegAct =
           record { address = address; leg = leg; end = y.end; through = t } in a) ∷ []) same.through;
@@ -43,7 +44,8 @@ module _ (rules : Rules) (R : ℕ → List Binding → List Binding → Type 0)
         legs to next x.list y.list (record { at = refl; read = λ out. cc; ours = λ out. cc }) same.list in
         record {
           outcomes = ap (λ (e : End). outcome_of e ∷ []) second.end;
-          acts = ap (λ (acts : List LegAct). acts ++ (leg_effect to next (act rules to next x.list)).acts) once_both.acts
+          acts = ap (λ (acts : List LegAct). acts ++ (leg_effect to next (act rules to next x.list)).acts)
+              once_both.acts
               ∙ ap (λ (e : End). (leg_effect address leg y).acts ++ (let a : LegAct =
               record { address = to; leg = next; end = e; through = (act rules to next x.list).through } in a) ∷ [])
               second.end ∙ ap (λ (t : Option BindingUse). (leg_effect address leg y).acts ++ (let a : LegAct =

@@ -1,4 +1,4 @@
--- Every step keeps each binding that is no redirect in its host's block.
+-- Each step keeps every binding except redirects in its host's port block.
 use Rattle.std.proofs.Common.{◌≡◌, ℕ, Bool, false, not, List, [], ◌∷◌, map, Option, Some, None, Ok, refl, sym, subst, filter, find, IfSome}
 use Rattle.std.proofs.lemmas.Bool.{or_parts}
 use Rattle.napt_rules.specs.Prelude.{Binding, Each, is_live, with_live_flows, purge, is_of_source, other_bindings, granted_again, block_of, inbound_rules, candidates, is_free, redirect_binding, opening, new_binding, row, LegEffect, outbound_packet, inbound_packet, act_out, act_in, act_by, Arrival, run_from, IsBlockNumber, IsInItsBlock, RunsKeepToBlocks, Protocol, Way, Flags, Kind, kind, Rules, RulesInvariant, IsPortBlock, pair_of, PortBlock, NumberAssignment, Endpoint, Redirect, assignment_rules}
@@ -6,7 +6,7 @@ use Rattle.napt_rules.specs.declared.{OutboundPacket.OutboundPacket, Row.Row, Le
 use Rattle.napt_laws.proofs.{Acts.of_act, Blocks.each_of_block, Lists.{each_pushed, each_kept, find_passes}, Quotas.granted_is_chosen, HeldNumbers.each_rows, Endpoints.inside_parts, SeenElements.ended}
 use Rattle.napt_laws.proofs.{StepRows.{out_keeps, in_keeps}, Turns.run_keeps}
 
--- a candidate is of the block, where there is one
+-- A candidate is a number of the host's block, if it has one.
 found_in_block : (choosing : NumberAssignment) (block : Option PortBlock) → IfSome block IsPortBlock → (free : ℕ → Bool)
     (protocol : Protocol) (inside : Endpoint) (n : ℕ) → find free (candidates choosing block protocol inside)
     ≡ Some n → IfSome block (λ block. IsBlockNumber block n)
@@ -15,7 +15,7 @@ found_in_block choosing (Some block) is free protocol inside n e =
     (find_passes free (IsBlockNumber block) (candidates choosing (Some block) protocol inside) n
     (each_of_block (IsBlockNumber block) choosing block is protocol inside (λ m h. h)) e).1
 
--- redirects keep the numbers that the configuration gives them
+-- Redirects have the numbers that the configuration gives them.
 pub opening_in_blocks : (rules : Rules) (pair : ℕ → ℕ) (redirects : List Redirect) →
     Each (IsInItsBlock rules) (map row (map (redirect_binding pair) redirects))
 opening_in_blocks rules pair [] = tt
@@ -29,14 +29,15 @@ module _ (rules : Rules) (keeps : RulesInvariant rules) where
       AreInBlocks (map row (filter p list))
   fewer p list h = each_kept (IsInItsBlock rules) row p list h
 
-  -- a number that is granted is of the block, and one that is granted again was
+  -- A number that is assigned is of the block, and one that is assigned again was.
   module _ (address : ℕ) (packet : OutboundPacket) (its : packet.block ≡ block_of rules packet.inside.address)
       (list : List Binding) (none : find (is_of_source address packet) (purge rules.timers packet.now list) ≡ None)
       (h : AreInBlocks (map row list)) (n : ℕ) where
     granted_in_block : (held : Option Binding) → find (is_of_source address packet) list ≡ held →
         granted_again (assignment_rules rules) list address packet held ≡ Ok n →
         IsInItsBlock rules (row (new_binding address packet n))
-    granted_in_block None is e = λ loose. subst (λ (b : Option PortBlock). IfSome b (λ block. IsBlockNumber block n)) its
+    granted_in_block None is e = λ loose. subst (λ (b : Option PortBlock). IfSome b (λ block. IsBlockNumber block n))
+        its
         (found_in_block rules.choosing packet.block
         (subst (λ (b : Option PortBlock). IfSome b IsPortBlock) (sym its) (keeps.blocks packet.inside.address))
         (is_free list address packet.protocol) packet.protocol packet.inside n
@@ -49,7 +50,8 @@ module _ (rules : Rules) (keeps : RulesInvariant rules) where
         (is_of_source address packet) (with_live_flows rules.timers packet.now) (λ b. refl) list none b is in
         let same : b.row.external.number ≡ n = cc in
         subst (λ m. IfSome (block_of rules packet.inside.address) (λ block. IsBlockNumber block m)) same
-        (subst (λ (e : Endpoint). IfSome (block_of rules e.address) (λ block. IsBlockNumber block b.row.external.number))
+        (subst (λ (e : Endpoint). IfSome (block_of rules e.address)
+        (λ block. IsBlockNumber block b.row.external.number))
         (sym p.inside_is) (found.1 (or_parts b.row.fixed _ dead).0))
 
   -- ONE LEG
@@ -60,7 +62,8 @@ module _ (rules : Rules) (keeps : RulesInvariant rules) where
     blocks_sent protocol flags =
         let packet : OutboundPacket = outbound_packet rules protocol flags leg.now leg.packet in
         out_keeps AreInBlocks fewer rules.timers address (assignment_rules rules) packet (λ all n kept none is.
-        each_pushed (IsInItsBlock rules) (map row (other_bindings address packet all)) (row (new_binding address packet n))
+        each_pushed (IsInItsBlock rules) (map row (other_bindings address packet all))
+        (row (new_binding address packet n))
         (fewer (λ b. not (is_of_source address packet b)) all kept)
         (granted_in_block address packet refl all none kept n (find (is_of_source address packet) all) refl is)) list h
 

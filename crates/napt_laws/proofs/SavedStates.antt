@@ -1,4 +1,4 @@
--- A state as it is saved, one address after another, is alike, taken if it was, and goes on.
+-- A state that is saved one address after another is alike, is taken if the original is, and goes on.
 use Rattle.std.proofs.Common.{◌≡◌, ℕ, zero, suc, ◌^◌, ◌<◌, ◌≤◌, Bool, true, false, not, ◌||◌, cond, List, [], ◌∷◌, ◌++◌, map, filter, flat_map, length, Some, None, get_or, refl, sym, ◌∙◌, ap, subst, arith, eqb-true, slice_get, ◌==◌}
 use Rattle.std.{specs.List.{list_any, Sorted.IsPermutation}, proofs.lemmas.{Bool.{or_parts, Decides.nat_tests}, List.{length-map, Elements.filter-append}, Option.{same_Some, slice_get_within, slice_get-get_or}}}
 use Rattle.std.proofs.lemmas.List.Sorted.{IsPermutation-refl, IsPermutation-sym, IsPermutation-trans, IsPermutation-cons, IsPermutation-middle, IsPermutation-append_right}
@@ -13,7 +13,7 @@ use Rattle.napt_laws.proofs.{TakenStates.{all, state_sound, taken_sound}, OwnSta
 
 -- A LIST, SPLIT BY ADDRESS
 
--- the address is one of these, at one place
+-- The address of the row is one of these, at one place.
 abbrev IsOneOf : List ℕ → Row → Type 0
 IsOneOf pool r = Once (λ address. is_at address r) pool × (list_any (λ address. is_at address r) pool ≡ true)
 
@@ -41,7 +41,8 @@ split_with (address ∷ pool) b list one =
     IsPermutation (b ∷ split (address ∷ pool) list)
     (cond v (b ∷ bindings_at address list) (bindings_at address list) ++ split pool (b ∷ list))) [
       | true ↦ λ e is.
-          subst (λ (l : List Binding). IsPermutation (b ∷ split (address ∷ pool) list) ((b ∷ bindings_at address list) ++ l))
+          subst (λ (l : List Binding). IsPermutation (b ∷ split (address ∷ pool) list)
+          ((b ∷ bindings_at address list) ++ l))
           (sym (split_without pool b list (one.0.0 e))) (IsPermutation-refl _)
       | false ↦ λ e is.
           IsPermutation-trans _ _ _
@@ -55,7 +56,7 @@ all_split pool [] each = subst (IsPermutation []) (sym (nothing_split pool)) (Is
 all_split pool (b ∷ list) each =
     IsPermutation-trans _ _ _ (IsPermutation-cons b _ _ (all_split pool list each.1)) (split_with pool b list each.0)
 
--- parts that are alike, address by address
+-- The parts are alike to the bindings of their addresses.
 module _ (timers : Timers) (now : ℕ) (list : List Binding) where
   abbrev AreParts : List ℕ → List (List Binding) → Type 0
   AreParts pool parts = (place address : ℕ) (part : List Binding) → slice_get pool place ≡ Some address →
@@ -119,10 +120,10 @@ ordered_are_alike rules keeps state ordered sound order =
     (joined_alike rules.timers state.clock state.list rules.pool (all_in_pool rules keeps state.list sound.each)
     order.parts order.many (λ place address part at is. (order.each place address part at is).alike))
 
--- TAKEN
+-- THE SAVED STATE IS TAKEN
 
 module _ (timers : Timers) (now : ℕ) where
-  -- parts of which each is taken at a time
+  -- Parts whose bindings are all live or held are together live or held.
   parts_taken : (parts : List (List Binding)) → ((i : ℕ) (part : List Binding) → slice_get parts i ≡ Some part →
       live_and_held timers now part ≡ part) →
       live_and_held timers now (flat_map (λ part. part) parts) ≡ flat_map (λ part. part) parts
@@ -146,7 +147,7 @@ filter_joined p (part ∷ parts) =
     ap (λ (l : List Binding). filter p part ++ l) (filter_joined p parts)
     ∙ sym (filter-append p part (flat_map (λ part. part) parts))
 
--- the part of a filtered list of parts
+-- A part of a filtered list of parts is a filtered part.
 part_of : (p : Binding → Bool) (parts : List (List Binding)) (i : ℕ) (part : List Binding) →
     slice_get (map (filter p) parts) i ≡ Some part →
     (whole : List Binding) × (slice_get parts i ≡ Some whole) × (filter p whole ≡ part)
@@ -162,7 +163,7 @@ module _ (rules : Rules) (keeps : RulesInvariant rules) (state ordered : State)
   abbrev is_loose : Binding → Bool
   is_loose b = not b.row.fixed
 
-  -- the part of a place is that of some address
+  -- The part at a place is that of some address of the pool.
   here : (i : ℕ) (part : List Binding) → slice_get order.parts i ≡ Some part → (address : ℕ)
       × AreBindingsLeft rules.timers now (bindings_at address state.list) part
   here i part is =
@@ -216,7 +217,8 @@ module _ (rules : Rules) (keeps : RulesInvariant rules) (state ordered : State)
   loose_rows paired =
       subst (λ (l : List Binding). IsPermutation (map row l) (map row (dynamic_bindings rules ordered)))
       (loose_twice _ (taken_twice rules.timers now state.list))
-      (subst (λ (l : List Binding). IsPermutation (map row (live_and_held rules.timers now (dynamic_bindings rules state))) (map row l))
+      (subst (λ (l : List Binding). IsPermutation (map row
+      (live_and_held rules.timers now (dynamic_bindings rules state))) (map row l))
       (ap (live_and_held rules.timers now) loose_is ∙ (loose_twice _ ordered_taken ∙ sym loose_is))
       ((loose_alike paired).held (hold_ago rules.timers now) (omega arith)))
 
@@ -244,7 +246,7 @@ module _ (rules : Rules) (keeps : RulesInvariant rules) (state ordered : State)
 pub ordered_are_taken : OrderedStatesAreTaken
 ordered_are_taken rules keeps state ordered takes order = ordered_is_taken rules keeps state ordered order takes
 
--- GOING ON
+-- THE RUN GOES ON
 
 module _ (carry : PacketsCarryNumbers) (rules : Rules) (keeps : RulesInvariant rules) (state saved : State)
     (takes : TakesState rules state) (first rest : List Arrival)
@@ -271,7 +273,8 @@ module _ (carry : PacketsCarryNumbers) (rules : Rules) (keeps : RulesInvariant r
       (loose_alike rules keeps left saved order (all rules keeps left left_taken).paired))
 
   same : AlikeRunGoesOn rules left (with_redirects rules saved) rest
-  same = alike_go_on carry rules keeps left (with_redirects rules saved) left_sound (state_sound rules keeps saved saved_taken)
+  same = alike_go_on carry rules keeps left (with_redirects rules saved) left_sound
+      (state_sound rules keeps saved saved_taken)
       order.clock under_alike rest
 
   whole : RunGoesOn rules (with_redirects rules state) first rest
@@ -281,13 +284,15 @@ module _ (carry : PacketsCarryNumbers) (rules : Rules) (keeps : RulesInvariant r
   goes_on_saved = record {
     taken = saved_taken;
     outcomes = ap (λ (r : RunResult). r.outcomes) whole.ran
-        ∙ ap (λ (os : List Outcome). (effect_from rules (with_redirects rules state) first).outcomes ++ os) (sym same.outcomes);
+        ∙ ap (λ (os : List Outcome). (effect_from rules (with_redirects rules state) first).outcomes ++ os)
+        (sym same.outcomes);
     acts = whole.acts ∙ ap (λ (acts : List LegAct). (effect_from rules (with_redirects rules state) first).acts
         ++ map (act_behind (length first)) acts) (sym same.acts);
     ran = λ small. whole.ran ∙ ap (run_then (run_result_from rules (with_redirects rules state) first))
         (sym (same.ran (subst (Each (λ r. r.external.number < 2 ^ 16))
         (ap (λ (r : RunResult). r.bindings) whole.ran) small)));
-    left = subst (λ (t : ℕ). AreAlike rules.timers t (next_state rules (with_redirects rules state) (first ++ rest)).list
+    left = subst (λ (t : ℕ). AreAlike rules.timers t
+        (next_state rules (with_redirects rules state) (first ++ rest)).list
         (next_state rules (with_redirects rules saved) rest).list) (sym (clock_on state.clock first rest))
         (subst (λ (s : State). AreAlike rules.timers (last_clock left.clock rest) s.list
         (next_state rules (with_redirects rules saved) rest).list) (sym whole.left) same.left);

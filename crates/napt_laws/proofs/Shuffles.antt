@@ -66,7 +66,7 @@ module _ {X : Type 0} where
     any_same : (xs ys : List X) → Shuffled xs ys → list_any p xs ≡ list_any p ys
     any_same xs ys s = list_any-IsPermutation p xs ys (moved s)
 
-    -- what one element passes at most is passed in every order by the same
+    -- If at most one element passes a test, each order of the list has the same one.
     once_same : (xs ys : List X) → Shuffled xs ys → Once p xs → (filter p xs ≡ filter p ys) × Once p ys
     once_same xs ys none o = (refl, o)
     once_same xs ys (under {x} {xs = us} {ys = vs} s) o =

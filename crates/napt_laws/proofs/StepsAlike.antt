@@ -1,4 +1,4 @@
--- A packet sees the same of lists that are alike, and leaves what is alike.
+-- A packet has the same answer on lists that are alike, and leaves lists that are alike.
 use Rattle.std.proofs.Common.{◌≡◌, ℕ, Bool, true, false, not, ◌&&◌, cond, List, [], ◌∷◌, ◌++◌, map, length, filter, find, Option, Some, None, Result, Ok, Err, refl, sym, ◌∙◌, ap, subst, arith, ok_or}
 use Rattle.std.{specs.{List.{Sorted.IsPermutation}, Option.option_map}, proofs.lemmas.{List.{length-map, Sorted.{IsPermutation-refl, length_permutation, list_any-IsPermutation}}, Option.same_Some, Bool.and_parts}}
 use Rattle.napt_wire.specs.declared.Protocol.TheVariants as protocols
@@ -10,7 +10,7 @@ use Rattle.napt_config.specs.declared.settings.Timers.{Timers}
 use Rattle.napt_laws.proofs.{Lists.find_agree, Finds.{Once, passes}, SeenElements.{find_seen, purge_taken}, Endpoints.{once_inside, once_number}, StepsSound.purge_stays_sound}
 use Rattle.napt_laws.proofs.{Shuffles.{filter_moved, find_once}, AlikeLists.{filter_of, any_of_all, find_of, once_of, changed_last, alike_taken, alike_put}}
 
--- THE ROWS OF A LIST, in some order, tell whether a number is granted and which
+-- THE ROWS OF A LIST, in any order, determine whether a number is assigned and which
 
 module _ (a b : List Binding) (rows : IsPermutation (map row a) (map row b)) where
   free_same : (address : ℕ) (protocol : Protocol) (n : ℕ) → is_free a address protocol n ≡ is_free b address protocol n
@@ -24,7 +24,8 @@ module _ (a b : List Binding) (rows : IsPermutation (map row a) (map row b)) whe
       let long = λ (l : List Binding). sym (length-map (filter (λ b. q b.row) l) row) ∙ ap length (filter_of row q l) in
       long a ∙ (sym (length_permutation _ _ (filter_moved q _ _ rows)) ∙ sym (long b))
 
-  granted_same : (granting : AssignmentRules) (address : ℕ) (packet : OutboundPacket) → assigned_number granting a address packet
+  granted_same : (granting : AssignmentRules) (address : ℕ) (packet : OutboundPacket) →
+      assigned_number granting a address packet
       ≡ assigned_number granting b address packet
   granted_same granting address packet =
       ap (λ n. cond (reaches_quota granting.quota n) (Err OverQuota)
@@ -66,7 +67,7 @@ pub record AreInAlike (timers : Timers) (now : ℕ) (x y : InboundEffect) : Type
   pub through : x.through ≡ y.through
   pub list : AreAlike timers now x.list y.list
 
--- one of a list that is seen is changed: it goes, and what became of it comes
+-- A visible binding is changed: it is removed, and the changed one is added.
 module _ (timers : Timers) (now : ℕ) (q : Row → Bool) (g : Binding → Binding) (binding : Binding) where
   abbrev changed : List Binding → List Binding
   changed = change_first (λ b. q b.row && is_live timers now b) (λ b. g (with_live_flows timers now b))
@@ -97,10 +98,12 @@ module _ (timers : Timers) (now : ℕ) (q : Row → Bool) (g : Binding → Bindi
       alike_put timers now (λ r. not (q r)) a b alike (g binding) _ _ (seen_last a once_a in_a)
       (seen_last b once_b in_b)
 
--- on the bindings whose numbers are taken
-module _ (timers : Timers) (a b : List Binding) (one : AreBindingsApart (map row a)) (other : AreBindingsApart (map row b))
+-- A step on the live and held bindings.
+module _ (timers : Timers) (a b : List Binding) (one : AreBindingsApart (map row a))
+    (other : AreBindingsApart (map row b))
     (rows : IsPermutation (map row a) (map row b)) where
-  module _ (granting : AssignmentRules) (address : ℕ) (packet : OutboundPacket) (alike : AreAlike timers packet.now a b) where
+  module _ (granting : AssignmentRules) (address : ℕ) (packet : OutboundPacket)
+      (alike : AreAlike timers packet.now a b) where
     abbrev source : Row → Bool
     source = is_of_inside address packet.protocol packet.inside
 
@@ -130,30 +133,32 @@ module _ (timers : Timers) (a b : List Binding) (one : AreBindingsApart (map row
           (once_inside address packet.protocol packet.inside b other) alike in_a in_b;
     }
 
-  module _ (inbound : InboundRules) (address : ℕ) (packet : InboundPacket) (alike : AreAlike timers packet.now a b) where
-    in_alike : (o : Option Binding) → find (is_of_destination address packet) (purge timers packet.now a) ≡ o →
-        find (is_of_destination address packet) (purge timers packet.now b) ≡ o → AreInAlike timers packet.now
-        (in_found timers inbound a address packet o) (in_found timers inbound b address packet o)
-    in_alike None in_a in_b = record { inside = refl; through = refl; list = alike }
-    in_alike (Some binding) in_a in_b =
-        let by : Bool → List Binding → InboundEffect = λ v list. cond v
-        (record {
-          inside = Ok binding.row.inside;
-          through = Some (record { binding = binding_after_in inbound packet binding; made = false });
-          list = change_first (is_of_live_destination timers address packet) (live_binding_after_in timers inbound packet) list;
-        })
-        (record { inside = Err Filtered; through = None; list = list }) in
-        elim (permits inbound binding packet.remote) as (λ v. AreInAlike timers packet.now (by v a) (by v b)) [
-          | true ↦ record {
-            inside = refl;
-            through = refl;
-            list = changed_alike timers packet.now (has_number address packet.protocol packet.number)
-                (binding_after_in inbound packet) binding a b
-                (once_number address packet.protocol packet.number a one)
-                (once_number address packet.protocol packet.number b other) alike in_a in_b;
-          }
-          | false ↦ record { inside = refl; through = refl; list = alike }
-        ]
+  module _ (inbound : InboundRules) (address : ℕ) (packet : InboundPacket) (alike : AreAlike timers packet.now a b)
+    where
+      in_alike : (o : Option Binding) → find (is_of_destination address packet) (purge timers packet.now a) ≡ o →
+          find (is_of_destination address packet) (purge timers packet.now b) ≡ o → AreInAlike timers packet.now
+          (in_found timers inbound a address packet o) (in_found timers inbound b address packet o)
+      in_alike None in_a in_b = record { inside = refl; through = refl; list = alike }
+      in_alike (Some binding) in_a in_b =
+          let by : Bool → List Binding → InboundEffect = λ v list. cond v
+          (record {
+            inside = Ok binding.row.inside;
+            through = Some (record { binding = binding_after_in inbound packet binding; made = false });
+            list = change_first (is_of_live_destination timers address packet)
+                (live_binding_after_in timers inbound packet) list;
+          })
+          (record { inside = Err Filtered; through = None; list = list }) in
+          elim (permits inbound binding packet.remote) as (λ v. AreInAlike timers packet.now (by v a) (by v b)) [
+            | true ↦ record {
+              inside = refl;
+              through = refl;
+              list = changed_alike timers packet.now (has_number address packet.protocol packet.number)
+                  (binding_after_in inbound packet) binding a b
+                  (once_number address packet.protocol packet.number a one)
+                  (once_number address packet.protocol packet.number b other) alike in_a in_b;
+            }
+            | false ↦ record { inside = refl; through = refl; list = alike }
+          ]
 
 -- A LEG
 
@@ -170,7 +175,7 @@ module _ (rules : Rules) (pair : ℕ → ℕ) (address : ℕ) (leg : Leg) (a b :
   apart_held : (list : List Binding) → IsSound pair list → AreBindingsApart (map row (held_of list))
   apart_held list sound = (purge_stays_sound pair rules.timers (hold_ago rules.timers leg.now) list sound).apart
 
-  -- what lives is found in both
+  -- A live binding is found in both lists.
   seen : (q : Row → Bool) → ((list : List Binding) → AreBindingsApart (map row list) → Once (λ b. q b.row) list) →
       find (λ x. q x.row) (purge rules.timers leg.now a) ≡ find (λ x. q x.row) (purge rules.timers leg.now b)
   seen q once = find_once (λ x. q x.row) _ _ alike.live

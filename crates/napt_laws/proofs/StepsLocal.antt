@@ -1,4 +1,4 @@
--- A step at one address, on all bindings and on that address's own.
+-- A step at one address, on all bindings and on the bindings of that address alone.
 use Rattle.std.proofs.Common.{◌≡◌, ◌≢◌, ℕ, Bool, true, false, not, ◌&&◌, cond, List, [], ◌∷◌, ◌++◌, Option, Some, None, Result, Ok, Err, refl, sym, ◌∙◌, ap, eqb, eq-eqb, append-nil, find}
 use Rattle.std.proofs.lemmas.{Bool.{ne_eqb, eqb-true, and_parts, true≢false}, List.Elements.filter-append}
 use Rattle.napt_rules.specs.declared.{AssignmentRules.AssignmentRules, InboundRules.InboundRules}
@@ -6,7 +6,8 @@ use Rattle.napt_rules.specs.Prelude.{Binding, same_protocol, same_endpoint, is_a
 use Rattle.napt_rules.specs.declared.{Row.Row, OutboundPacket.OutboundPacket, InboundPacket.InboundPacket}
 use Rattle.napt_laws.proofs.{Lists.{find_filter, filter_swap, filter_narrow, filter_change, filter_change_other}, Purges.of_purge, Passes.{in_passed, of_out, of_in}, Quotas.granted_local}
 
-of_push : (address : ℕ) (list : List Binding) (b : Binding) → is_at address b.row ≡ true → bindings_at address (list ++ b ∷ [])
+of_push : (address : ℕ) (list : List Binding) (b : Binding) → is_at address b.row ≡ true →
+    bindings_at address (list ++ b ∷ [])
     ≡ bindings_at address list ++ b ∷ []
 of_push address list b h = filter-append (λ b. is_at address b.row) list (b ∷ [])
     ∙ ap (λ v. bindings_at address list ++ cond v (b ∷ []) []) h
@@ -16,7 +17,7 @@ of_push_other : (address : ℕ) (list : List Binding) (b : Binding) → is_at ad
 of_push_other address list b h = filter-append (λ b. is_at address b.row) list (b ∷ [])
     ∙ (ap (λ v. bindings_at address list ++ cond v (b ∷ []) []) h ∙ append-nil (bindings_at address list))
 
--- what is seen at the address of what is of the address
+-- A search at the address finds the same among its own live bindings.
 seen_local : (timers : Timers) (now address : ℕ) (q : Binding → Bool) (list : List Binding) →
     find (λ b. is_at address b.row && q b) (purge timers now (bindings_at address list))
     ≡ find (λ b. is_at address b.row && q b) (purge timers now list)
@@ -24,7 +25,7 @@ seen_local timers now address q list =
     ap (find (λ b. is_at address b.row && q b)) (sym (of_purge timers now address list))
     ∙ find_filter (λ b. is_at address b.row) q (purge timers now list)
 
--- OUT
+-- OUTGOING PACKETS
 
 module _ (timers : Timers) (granting : AssignmentRules) (address : ℕ) (packet : OutboundPacket) where
   abbrev is_its : Binding → Bool
@@ -38,7 +39,8 @@ module _ (timers : Timers) (granting : AssignmentRules) (address : ℕ) (packet 
       ≡ bindings_at address (other_bindings address packet list)
   others_local = filter_swap (λ b. not (is_of_source address packet b)) (λ b. is_at address b.row)
 
-  out_made_local : (list : List Binding) (granted : Result ℕ Cause) → out_made (bindings_at address list) address packet granted
+  out_made_local : (list : List Binding) (granted : Result ℕ Cause) →
+      out_made (bindings_at address list) address packet granted
       ≡ record {
         number = (out_made list address packet granted).number;
         through = (out_made list address packet granted).through;
@@ -65,16 +67,18 @@ module _ (timers : Timers) (granting : AssignmentRules) (address : ℕ) (packet 
       }
   out_found_local list (Some b) =
       ap (λ (l : List Binding). record (out_found timers granting list address packet (Some b)) { list = l })
-      (sym (filter_change (λ b. is_at address b.row) (is_of_live_source timers address packet) (live_binding_after_out timers packet)
+      (sym (filter_change (λ b. is_at address b.row) (is_of_live_source timers address packet)
+      (live_binding_after_out timers packet)
       list is_there (λ b. refl)))
   out_found_local list None =
       ap (λ (held : Option Binding). out_made (bindings_at address list) address packet
       (granted_again granting (bindings_at address list) address packet held))
       (find_filter (λ b. is_at address b.row) is_its list)
-      ∙ (ap (out_made (bindings_at address list) address packet) (again_local list (find (is_of_source address packet) list))
+      ∙ (ap (out_made (bindings_at address list) address packet)
+      (again_local list (find (is_of_source address packet) list))
       ∙ out_made_local list (granted_again granting list address packet (find (is_of_source address packet) list)))
 
-  -- an outgoing leg needs the bindings of its address alone
+  -- An outgoing packet depends on the bindings of its address alone.
   pub out_local : (list : List Binding) → out_taken timers granting address packet (bindings_at address list) ≡ record {
     number = (out_taken timers granting address packet list).number;
     through = (out_taken timers granting address packet list).through;
@@ -95,18 +99,21 @@ module _ (timers : Timers) (granting : AssignmentRules) (address : ℕ) (packet 
       | false ↦ λ e. refl
     ] refl
 
-    -- and changes no other address's
+    -- An outgoing packet changes no other address's bindings.
     pub out_other : (list : List Binding) →
         bindings_at other (out_taken timers granting address packet list).list ≡ bindings_at other list
     out_other list =
-        of_out (λ (l : List Binding). bindings_at other l ≡ bindings_at other list) timers address list refl granting packet
-        (filter_change_other (λ b. is_at other b.row) (is_of_live_source timers address packet) (live_binding_after_out timers packet)
+        of_out (λ (l : List Binding). bindings_at other l ≡ bindings_at other list) timers address list refl granting
+        packet
+        (filter_change_other (λ b. is_at other b.row) (is_of_live_source timers address packet)
+        (live_binding_after_out timers packet)
         list (λ b h. not_at b.row (is_there b h)) (λ b. refl))
-        (λ n none is. of_push_other other (other_bindings address packet list) (binding_after_out packet (new_binding address packet n))
+        (λ n none is. of_push_other other (other_bindings address packet list)
+        (binding_after_out packet (new_binding address packet n))
         (ne_eqb address other (λ e. differ (sym e)))
         ∙ filter_narrow (λ b. not (is_of_source address packet b)) (λ b. is_at other b.row) list not_its)
 
--- IN
+-- INCOMING PACKETS
 
 module _ (timers : Timers) (inbound : InboundRules) (address : ℕ) (packet : InboundPacket) where
   abbrev goes_to : Binding → Bool
@@ -137,7 +144,7 @@ module _ (timers : Timers) (inbound : InboundRules) (address : ℕ) (packet : In
   in_found_local list None = refl
   in_found_local list (Some b) = in_passed_local list b (permits inbound b packet.remote)
 
-  -- an incoming leg needs the bindings of its address alone
+  -- An incoming packet depends on the bindings of its address alone.
   pub in_local : (list : List Binding) → in_taken timers inbound address packet (bindings_at address list) ≡ record {
     inside = (in_taken timers inbound address packet list).inside;
     through = (in_taken timers inbound address packet list).through;
@@ -148,7 +155,7 @@ module _ (timers : Timers) (inbound : InboundRules) (address : ℕ) (packet : In
       (seen_local timers packet.now address goes_to list)
       ∙ in_found_local list (find (is_of_destination address packet) (purge timers packet.now list))
 
-  -- and changes no other address's
+  -- An incoming packet changes no other address's bindings.
   pub in_other : (other : ℕ) → other ≢ address → (list : List Binding) →
       bindings_at other (in_taken timers inbound address packet list).list ≡ bindings_at other list
   in_other other differ list =

@@ -1,4 +1,4 @@
--- A state that a configuration takes is sound under it, and so is every run from it.
+-- A state that a configuration takes is sound under it, and so is each run from it.
 use Rattle.std.proofs.Common.{◌≡◌, ℕ, ◌≤◌, max, true, false, not, ◌&&◌, ◌||◌, List, [], ◌∷◌, ◌++◌, map, Option, Some, None, refl, sym, ◌∙◌, ap, subst, arith, append-nil, eqb-true, nat_lt, IfSome}
 use Rattle.std.proofs.lemmas.{List.map-append, Bool.{and_parts, or_parts, not-false, true≢false, leb-true, Decides.nat_tests}}
 use Rattle.napt_rules.specs.Prelude.{Binding, Each, same_protocol, same_endpoint, row, opening, State, AreRowsApart, AreBindingsApart, IsNumber, IsPaired, IsSound, count_for, IsBlockNumber, IsInItsBlock, dynamic_bindings, with_redirects, is_number, is_its_number, is_numbered, flows_share, clashes, clashes_with_any, misfit_of, misfit_or, misfit_in, TakesState, TakenStatesAreSound, TakenStatesKeepToBlocks, TakenStatesKeepQuota, IsBindingOwn, Protocol, Icmp, Tcp, Udp, PacketsCarryNumbers, Rules, RulesInvariant, pair_of, block_of, is_inside, PortBlock}
@@ -40,12 +40,13 @@ clash_none a (b ∷ list) h =
 used_by : (clock n : ℕ) → nat_lt clock n ≡ false → n ≤ clock
 used_by clock n h = grind (arith, nat_tests, h)
 
--- rows that are apart, with one among them
+-- Rows that are apart, with one in the middle.
 
 pub turned : (a b : Row) → AreRowsApart b a → AreRowsApart a b
 turned a b apart = λ same. let parts = apart (sym same) in ((λ e. parts.0 (sym e)), (λ e. parts.1 (sym e)))
 
-apart_with : (xs ys : List Row) (r : Row) → Each (AreRowsApart r) xs → Each (AreRowsApart r) ys → AreBindingsApart (xs ++ ys) →
+apart_with : (xs ys : List Row) (r : Row) → Each (AreRowsApart r) xs → Each (AreRowsApart r) ys →
+    AreBindingsApart (xs ++ ys) →
     AreBindingsApart (xs ++ r ∷ ys)
 apart_with [] ys r before behind h = (behind, h)
 apart_with (x ∷ xs) ys r before behind h =
@@ -90,7 +91,7 @@ module _ (rules : Rules) (clock : ℕ) where
         others = clash_none b.row rest (passed (clashes_with_any b.row rest) _ None redirects.1).0;
       }
 
-  -- ALL OF THEM
+  -- ALL BINDINGS
 
   none_of : (row : Row) (why : Option Misfit) (others : Option (Row × Misfit)) → misfit_or row why others ≡ None →
       (why ≡ None) × (others ≡ None)
@@ -149,5 +150,6 @@ taken_blocks rules keeps state takes inputs =
 
 pub taken_quota : TakenStatesKeepQuota
 taken_quota rules quota is state inputs address host =
-    within_run in_keeps_quota rules quota is (max quota (count_for address host (with_redirects rules state).list)) (omega arith)
+    within_run in_keeps_quota rules quota is (max quota (count_for address host (with_redirects rules state).list))
+    (omega arith)
     address host 0 state.clock inputs (with_redirects rules state).list (omega arith)

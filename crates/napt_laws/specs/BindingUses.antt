@@ -1,32 +1,35 @@
--- What is said of the binding that a packet went through.
+-- What a leg records of the binding that its packet went through.
 --
--- RFC 3022, section 4: out through the binding of the source, which is made where there is none; in through that of the
--- destination. An ICMP error goes through none (RFC 5508, REQ-3 to REQ-6).
+-- RFC 3022, section 4: an outgoing packet goes through the binding of its source, which is made if there is none, and
+-- an incoming one through that of its destination. An ICMP error goes through none (RFC 5508, REQ-3 to REQ-6).
 use Rattle.std.specs.Prelude.{◌≡◌, ◌↔◌, ℕ, true, List, Option, Some, None, Result, Ok, Err}
 use Rattle.napt_rules.specs.declared.{AssignmentRules.AssignmentRules, InboundRules.InboundRules, OutboundPacket.OutboundPacket, InboundPacket.InboundPacket, Leg.Leg, End.TheVariants.Dropped}
 use Rattle.napt_rules.specs.Prelude.{BindingUse, Binding, OutboundEffect, step_out, InboundEffect, step_in, by_inside, by_number, act, Cause, kind, is_error, Rules, AreTimers, Timers}
 
--- the binding that a packet finds after its leg, which it made if and only if it found none before
+-- The binding recorded is the one that is found after the leg, which made it if and only if none was found before.
 pub record IsThrough (before after : Option Binding) (through : Option BindingUse) : Type 0 where
   pub went : BindingUse
   pub is : through ≡ Some went
   pub binding : after ≡ Some went.binding
   pub made : (went.made ≡ true) ↔ (before ≡ None)
 
--- by whether the packet was translated: one that was refused went through none
-abbrev pub BindingUseIsSaid : {X : Type 0} → Result X Cause → Option Binding → Option Binding → Option BindingUse → Type 0
+-- A packet that was translated went through a binding, and one that was refused through none.
+abbrev pub BindingUseIsSaid : {X : Type 0} → Result X Cause → Option Binding → Option Binding → Option BindingUse →
+    Type 0
 BindingUseIsSaid (Ok translated) before after through = IsThrough before after through
 BindingUseIsSaid (Err cause) before after through = through ≡ None
 
-abbrev pub OutSaysItsBinding : Type 0
-OutSaysItsBinding = (timers : Timers) → AreTimers timers → (granting : AssignmentRules) (address : ℕ) (packet : OutboundPacket)
+abbrev pub OutboundNamesItsBinding : Type 0
+OutboundNamesItsBinding = (timers : Timers) → AreTimers timers →
+    (granting : AssignmentRules) (address : ℕ) (packet : OutboundPacket)
     (list : List Binding) →
     let out : OutboundEffect = step_out timers granting address packet list in
     BindingUseIsSaid out.number (by_inside timers address packet.now packet.protocol packet.inside list)
     (by_inside timers address packet.now packet.protocol packet.inside out.list) out.through
 
-abbrev pub InSaysItsBinding : Type 0
-InSaysItsBinding = (timers : Timers) → AreTimers timers → (inbound : InboundRules) (address : ℕ) (packet : InboundPacket)
+abbrev pub InboundNamesItsBinding : Type 0
+InboundNamesItsBinding = (timers : Timers) → AreTimers timers →
+    (inbound : InboundRules) (address : ℕ) (packet : InboundPacket)
     (list : List Binding) →
     let came : InboundEffect = step_in timers inbound address packet list in
     BindingUseIsSaid came.inside (by_number timers address packet.now packet.protocol packet.number list)

@@ -1,51 +1,53 @@
--- Laws of runs for a dispatcher, which hands each leg to the translator of its address and takes the answers one by
+-- Laws of runs for a dispatcher, which offers each leg to the translator of its address and takes the answers one by
 -- one.
 use Rattle.std.specs.{Prelude.{◌≡◌, ℕ, max, List, [], ◌∷◌, ◌++◌, length, Option, Some, None, IfSome, Ok}, List.slice_get}
 use Rattle.napt_rules.specs.Prelude.{Binding, Each, bindings_at, act, Arrival, LegAct, RunEffect, effect_then, outcome_of, step, last_clock, State, effect_from, legs_at, local_replies, answers_at, Side, Outgoing, destination, reading, Rules, pool_place}
 use Rattle.napt_rules.specs.declared.{Leg.Leg, Answer.Answer, End.{End, TheVariants.Onward}, Outcome.Outcome}
 
--- xs begins ys
+-- The list xs is a prefix of ys.
 abbrev pub IsFrontOf : {X : Type 0} → List X → List X → Type 0
 IsFrontOf {X} xs ys = (rest : List X) × (xs ++ rest ≡ ys)
 
--- where a translator was given a front of its address's legs, and answered some of them as it does, these are the run's
--- answers
+-- If a translator was offered the first legs of its address and gave the first of their answers, these are the first
+-- answers that the run has there.
 abbrev pub RightAnswersAreTheRuns : Type 0
 RightAnswersAreTheRuns = (rules : Rules) (state : State) (inputs : List Arrival) (address : ℕ) (given : List Leg)
     (taken : List Answer) →
     let course : RunEffect = effect_from rules state inputs in
     IsFrontOf given (legs_at address course.acts) →
-    IsFrontOf taken (local_replies rules address given (record { list = bindings_at address state.list; at = state.clock })) →
+    IsFrontOf taken (local_replies rules address given
+    (record { list = bindings_at address state.list; at = state.clock })) →
     IsFrontOf taken (answers_at address course.acts)
 
--- a run over one input more is the run, and the step of that input
+-- A run over one more input is the run, followed by the step of that input.
 abbrev pub RunsGrow : Type 0
 RunsGrow = (rules : Rules) (state : State) (inputs : List Arrival) (input : Arrival) →
     let course : RunEffect = effect_from rules state inputs in
     effect_from rules state (inputs ++ input ∷ [])
-    ≡ effect_then course (step rules (length inputs) (max (last_clock state.clock inputs) input.clock) input course.list)
+    ≡ effect_then course (step rules (length inputs) (max (last_clock state.clock inputs) input.clock) input
+    course.list)
 
--- the outcome that the end of a leg tells, where it is the last
-abbrev pub outcome_told : End → Option Outcome
-outcome_told (Onward place packet) = None
-outcome_told end = Some (outcome_of end)
+-- The outcome of an input by the end of its last leg; an end onward gives none.
+abbrev pub outcome_of_end : End → Option Outcome
+outcome_of_end (Onward place packet) = None
+outcome_of_end end = Some (outcome_of end)
 
--- each leg that does not go onward tells the outcome of its input
-abbrev pub OutcomeIsTold : List Outcome → LegAct → Type 0
-OutcomeIsTold all a = IfSome (outcome_told a.end) (λ outcome. slice_get all a.leg.number ≡ Some outcome)
+-- Each leg that does not end onward gives the outcome of its input.
+abbrev pub OutcomeIsGiven : List Outcome → LegAct → Type 0
+OutcomeIsGiven all a = IfSome (outcome_of_end a.end) (λ outcome. slice_get all a.leg.number ≡ Some outcome)
 
-abbrev pub AnswersTellOutcomes : Type 0
-AnswersTellOutcomes = (rules : Rules) (state : State) (inputs : List Arrival) →
+abbrev pub AnswersGiveOutcomes : Type 0
+AnswersGiveOutcomes = (rules : Rules) (state : State) (inputs : List Arrival) →
     let course : RunEffect = effect_from rules state inputs in
-    Each (OutcomeIsTold course.outcomes) course.acts
+    Each (OutcomeIsGiven course.outcomes) course.acts
 
--- a leg goes onward only on its way out, and to the place of its packet's destination (RFC 4787, REQ-9)
-pub record IsForetold (rules : Rules) (leg : Leg) (place : ℕ) (packet : List ℕ) : Type 0 where
+-- A leg that ends onward is outgoing, and the place is that of its packet's destination (RFC 4787, REQ-9).
+pub record IsEndForeseen (rules : Rules) (leg : Leg) (place : ℕ) (packet : List ℕ) : Type 0 where
   pub way : leg.way ≡ Outgoing
   pub served : pool_place rules (destination leg.packet).address ≡ Some place
   pub kept : (destination packet).address ≡ (destination leg.packet).address
 
-abbrev pub OnwardIsForetold : Type 0
-OnwardIsForetold = (rules : Rules) (address : ℕ) (leg : Leg) (list : List Binding) (place : ℕ) (packet : List ℕ)
+abbrev pub OnwardIsForeseen : Type 0
+OnwardIsForeseen = (rules : Rules) (address : ℕ) (leg : Leg) (list : List Binding) (place : ℕ) (packet : List ℕ)
     (side : Side) → reading side leg.packet ≡ Ok leg.packet →
-    (act rules address leg list).end ≡ Onward place packet → IsForetold rules leg place packet
+    (act rules address leg list).end ≡ Onward place packet → IsEndForeseen rules leg place packet

@@ -1,31 +1,33 @@
--- Whose an external endpoint is, where hosts have blocks (RFC 7422, section 2): one inside host's at most, at all
--- times, and the configuration alone says which.
+-- Which inside host an external endpoint belongs to, where hosts have port blocks (RFC 7422, section 2): one at most,
+-- at all times, which the configuration alone gives.
 use Rattle.std.specs.Prelude.{◌≡◌, ℕ, true, false, List, map, Some, IfSome}
 use Rattle.napt_config.specs.Rules.{Rules, RulesInvariant, pair_of, block_of, block_has_number, host_of}
 use Rattle.napt_rules.specs.{declared.Row.Row, Prelude.{Each, row, Arrival, run, opening, PortBlock}}
 
--- the host of each number of a host's block, at the host's external address, is that host
-abbrev pub BlocksTellTheirHosts : Type 0
-BlocksTellTheirHosts = (rules : Rules) (host number : ℕ) (block : PortBlock) → RulesInvariant rules → block_of rules host
+-- The host of each number of a host's block, at the host's external address, is that host.
+abbrev pub BlocksNameTheirHosts : Type 0
+BlocksNameTheirHosts = (rules : Rules) (host number : ℕ) (block : PortBlock) → RulesInvariant rules →
+    block_of rules host
     ≡ Some block → block_has_number block number ≡ true → host_of rules (pair_of rules host) number ≡ Some host
 
--- and of no number beside it
+-- A host has no numbers outside its block.
 abbrev pub HostsHaveTheirBlocks : Type 0
-HostsHaveTheirBlocks = (rules : Rules) (host number : ℕ) (block : PortBlock) → RulesInvariant rules → block_of rules host
+HostsHaveTheirBlocks = (rules : Rules) (host number : ℕ) (block : PortBlock) → RulesInvariant rules →
+    block_of rules host
     ≡ Some block → host_of rules (pair_of rules host) number ≡ Some host → block_has_number block number ≡ true
 
--- no two hosts of one address have a number in common
+-- No two hosts of one external address have a number in common.
 abbrev pub BlocksAreApart : Type 0
 BlocksAreApart = (rules : Rules) (a b number : ℕ) (of_a of_b : PortBlock) → RulesInvariant rules → block_of rules a
     ≡ Some of_a → block_of rules b ≡ Some of_b → pair_of rules a ≡ pair_of rules b → block_has_number of_a number
     ≡ true → block_has_number of_b number ≡ true → a ≡ b
 
--- the host of a binding's external endpoint is that of the binding, where it is no redirect and has a block
-abbrev pub HostIsTold : Rules → Row → Type 0
-HostIsTold rules row = row.fixed ≡ false → IfSome (block_of rules row.inside.address)
+-- The host of a binding's external endpoint is the binding's own, unless it is a redirect or has no block.
+abbrev pub HostIsNamed : Rules → Row → Type 0
+HostIsNamed rules row = row.fixed ≡ false → IfSome (block_of rules row.inside.address)
     (λ block. host_of rules row.external.address row.external.number ≡ Some row.inside.address)
 
--- so it is of each binding after any inputs: who had a number is told without a log
-abbrev pub RunsTellTheirHosts : Type 0
-RunsTellTheirHosts = (rules : Rules) → RulesInvariant rules → (inputs : List Arrival) →
-    Each (HostIsTold rules) (map row (run rules inputs (opening rules)).list)
+-- This holds of each binding after any inputs: who had a number is known without a log.
+abbrev pub RunsNameTheirHosts : Type 0
+RunsNameTheirHosts = (rules : Rules) → RulesInvariant rules → (inputs : List Arrival) →
+    Each (HostIsNamed rules) (map row (run rules inputs (opening rules)).list)

@@ -1,20 +1,20 @@
--- The second legs of hairpins (RFC 4787, REQ-9) by the number of their input, before the answer of its first leg is
+-- The second legs of hairpins (RFC 4787, REQ-9) by the number of their input, before the answer to the first leg is
 -- known.
 use Rattle.std.specs.Prelude.{◌≡◌, ℕ, ◌==◌, max, cond, List, [], ◌∷◌, ◌++◌, length, map, filter, Ok}
 use Rattle.napt_rules.specs.Prelude.{Binding, Each, served_at, LegEffect, act, Arrival, admission, LegAct, RunEffect, admitted_effect, last_clock, State, effect_from, legs_at, Outgoing, Incoming, Inside, destination, IsPacket, Rules}
 use Rattle.napt_rules.specs.declared.{Leg.Leg, End.{End, TheVariants.Onward}}
 
--- a first leg
+-- What a first leg does: its address, its end, and the binding that it used.
 abbrev pub first_act : Rules → ℕ → Leg → List Binding → LegAct
 first_act rules address leg list =
     let first : LegEffect = act rules address leg list in
     record { address = address; leg = leg; end = first.end; through = first.through }
 
--- a first leg, and the second where there is one
+-- What a first leg does, and then its second leg if it has one.
 abbrev pub acts_of : Rules → ℕ → Leg → List Binding → List LegAct
 acts_of rules address leg list = (admitted_effect rules address leg list).acts
 
--- the acts of the input of a number
+-- The acts of the input with this number.
 abbrev pub acts_of_number : ℕ → List LegAct → List LegAct
 acts_of_number number acts = filter (λ a. a.leg.number == number) acts
 
@@ -22,16 +22,16 @@ abbrev pub all_but_first : List LegAct → List LegAct
 all_but_first [] = []
 all_but_first (a ∷ acts) = acts
 
--- the legs of the input of a number after its first: none, or one
+-- The second leg of the input with this number, if it has one.
 abbrev pub second_legs : ℕ → List LegAct → List Leg
 second_legs number acts = map (λ a. a.leg) (all_but_first (acts_of_number number acts))
 
--- the second leg that the end of a first one asks for
+-- The second leg that a first leg with this end requires: one if the end is onward.
 abbrev pub second_of : Leg → End → List Leg
 second_of leg (Onward place packet) = record leg { way = Incoming; packet = packet } ∷ []
 second_of leg _ = []
 
--- a leg on its way out tells by its end the second leg of its input
+-- The end of an outgoing leg says which second leg its input has.
 abbrev pub IsSeconded : List LegAct → LegAct → Type 0
 IsSeconded acts a = a.leg.way ≡ Outgoing → second_legs a.leg.number acts ≡ second_of a.leg a.end
 
@@ -40,7 +40,7 @@ AnswersFillPlaces = (rules : Rules) (state : State) (inputs : List Arrival) →
     let course : RunEffect = effect_from rules state inputs in
     Each (IsSeconded course.acts) course.acts
 
--- one input from inside more: its first leg where it is served, and its second legs where its packet goes
+-- One more input from inside adds its first leg at its host's address, and its second leg at its destination's.
 abbrev pub PlacesStandForLegs : Type 0
 PlacesStandForLegs = (rules : Rules) (state : State) (done rest : List Arrival) (input : Arrival) (packet : List ℕ) →
     input.side ≡ Inside → admission rules input ≡ Ok packet → IsPacket packet → (address : ℕ) →

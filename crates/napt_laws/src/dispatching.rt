@@ -1,22 +1,22 @@
 //! Laws of runs for a dispatcher.
 
-ghost use Rattle.napt_laws.specs.Dispatching.{RightAnswersAreTheRuns, RunsGrow, AnswersTellOutcomes, OnwardIsForetold};
+ghost use Rattle.napt_laws.specs.Dispatching.{RightAnswersAreTheRuns, RunsGrow, AnswersGiveOutcomes, OnwardIsForeseen};
 ghost use Rattle.napt_laws.specs.SecondLegs.{AnswersFillPlaces, PlacesStandForLegs};
 
 use napt_wire::packets_keep_their_way;
 
-/// What a dispatcher relies on while it hands out legs and takes answers.
+/// Law: what a dispatcher relies on while it offers legs to translators and takes their answers.
 pub fn right_answers()
     ensures right { RightAnswersAreTheRuns }
     ensures grow { RunsGrow }
-    ensures told { AnswersTellOutcomes }
-    ensures foretold { OnwardIsForetold }
+    ensures told { AnswersGiveOutcomes }
+    ensures foretold { OnwardIsForeseen }
 {
     packets_keep_their_way();
 }
 
-/// An input from inside may have a second leg: a place stands for it until the end of the first leg tells it
-/// (RFC 4787, REQ-9).
+/// Law: an input from inside may have a second leg, and a placeholder stands for it until the end
+/// of the first leg says whether it does (RFC 4787, REQ-9).
 pub fn places_stand_for_legs()
     ensures fill { AnswersFillPlaces }
     ensures stand { PlacesStandForLegs }

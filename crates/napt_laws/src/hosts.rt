@@ -1,19 +1,19 @@
-//! Whose an external endpoint is, where hosts have blocks.
-ghost use Rattle.napt_laws.specs.Hosts.{BlocksTellTheirHosts, HostsHaveTheirBlocks, BlocksAreApart, RunsTellTheirHosts};
+//! Which inside host an external endpoint belongs to, where hosts have port blocks.
+ghost use Rattle.napt_laws.specs.Hosts.{BlocksNameTheirHosts, HostsHaveTheirBlocks, BlocksAreApart, RunsNameTheirHosts};
 
 use crate::runs::{runs_are_sound, runs_keep_to_blocks};
 
-/// The host of an external endpoint follows from the configuration alone: that of the block that has it.
+/// Law: the configuration alone gives the host of an external endpoint: the one whose block has it.
 pub fn blocks_have_one_host()
-    ensures told { BlocksTellTheirHosts }
+    ensures told { BlocksNameTheirHosts }
     ensures own { HostsHaveTheirBlocks }
     ensures apart { BlocksAreApart }
 {}
 
-/// After any inputs the configuration tells the inside host of each binding that is no redirect, by its external endpoint,
-/// where hosts have blocks.
-pub fn runs_tell_their_hosts()
-    ensures { RunsTellTheirHosts }
+/// Law: where hosts have port blocks, the configuration gives the inside host of each binding after
+/// any inputs by its external endpoint, except for redirects.
+pub fn runs_name_their_hosts()
+    ensures { RunsNameTheirHosts }
 {
     runs_are_sound();
     runs_keep_to_blocks();

@@ -1,7 +1,7 @@
-//! The laws of the definition of a run: what holds of every step, leg and run, whatever the code.
+//! Laws of the definition of a run: what holds of every step, leg and run, whatever the code.
 //!
-//! Each function is a law, which its contract states, and does nothing; `napt_rules` has the definition and the statements,
-//! `specs/` those for whoever runs each address apart, `proofs/` the lemmas.
+//! Each function is a law that its contract states, and does nothing. `napt_rules` has the definition
+//! and most statements, `specs/` those for translators of one address, `proofs/` the lemmas.
 #![tactic(auto)]
 
 mod dispatching;
@@ -12,8 +12,8 @@ mod runs;
 mod steps;
 
 pub use dispatching::{places_stand_for_legs, right_answers};
-pub use hosts::{blocks_have_one_host, runs_tell_their_hosts};
-pub use legs::{legs_are_local, legs_keep_to_their_way, legs_say_their_binding};
+pub use hosts::{blocks_have_one_host, runs_name_their_hosts};
+pub use legs::{legs_are_local, legs_keep_to_their_way, legs_name_their_binding};
 pub use numbers::candidates_are_the_class;
 pub use runs::{
     own_states_stay, runs_are_sound, runs_go_on, runs_keep_the_quota, runs_keep_to_blocks,

@@ -7,8 +7,8 @@ ghost use Rattle.napt_rules.specs.Prelude.{TakenStatesAreSound, TakenStatesKeepT
 use crate::steps::{no_host_exceeds_its_quota, opening_is_sound, steps_stay_sound};
 use napt_wire::packets_carry_numbers;
 
-/// A run over inputs and then others is a run over the first, and then one over the others from the state that it leaves, or
-/// from one of which packets see the same.
+/// Law: a run over two lists of inputs is a run over the first, and then one over the second from
+/// the state after the first, or from a state that is alike.
 pub fn runs_go_on()
     ensures go_on { RunsGoOn }
     ensures gone { GoneBindingsChangeNothing }
@@ -18,7 +18,7 @@ pub fn runs_go_on()
     packets_carry_numbers();
 }
 
-/// After any inputs no two bindings share an endpoint (RFC 4787, REQ-1 and REQ-3).
+/// Law: after any inputs no two bindings share an endpoint (RFC 4787, REQ-1 and REQ-3).
 pub fn runs_are_sound()
     ensures sound { RunsAreSound }
     ensures apart { RunsStayApart }
@@ -28,22 +28,22 @@ pub fn runs_are_sound()
     opening_is_sound();
 }
 
-/// After any inputs no inside host has more bindings than the quota allows (RFC 6888, REQ-4).
+/// Law: after any inputs no host has more bindings than the quota (RFC 6888, REQ-4).
 pub fn runs_keep_the_quota()
     ensures { RunsKeepQuota }
 {
     no_host_exceeds_its_quota();
 }
 
-/// After any inputs each binding that is no redirect has an external number of its inside host's block, where the host has
-/// one (RFC 7422, section 2): so the configuration alone tells who had a number.
+/// Law: after any inputs each binding but a redirect has an external number of its inside host's block,
+/// if the host has one (RFC 7422, section 2), so the configuration gives the host of a number.
 pub fn runs_keep_to_blocks()
     ensures { RunsKeepToBlocks }
 {}
 
-/// From each state that a configuration takes, runs keep what they keep from its redirects on; a host that has more bindings
-/// than the quota gets no further one. Each binding is an inside host's, no use of it is after the clock, and no two of its
-/// flows are of one remote.
+/// Law: runs from each state that a configuration takes keep what runs from its redirects keep; a
+/// host with more bindings than the quota gets no further one. Each binding is an inside host's,
+/// was not used after the clock, and has at most one flow for each remote.
 pub fn taken_states_are_kept()
     ensures sound { TakenStatesAreSound }
     ensures blocks { TakenStatesKeepToBlocks }
@@ -53,7 +53,7 @@ pub fn taken_states_are_kept()
     packets_carry_numbers();
 }
 
-/// A state that a run leaves goes on as it was left, under the configuration of the run, which takes it.
+/// Law: a configuration takes each state after a run of its own, and goes on from it unchanged.
 pub fn own_states_stay()
     ensures stay { OwnStatesStay }
     ensures taken { OwnStatesAreTaken }
@@ -61,8 +61,8 @@ pub fn own_states_stay()
     packets_carry_numbers();
 }
 
-/// What a run leaves, saved one address after another, is a state of which packets see the same: the configuration of the run
-/// takes it, and the run that goes on from it is the rest of the run over all inputs.
+/// Law: the state after a run, saved one address after another, is alike to it: the run's
+/// configuration takes it, and the run from it is the rest of the run over all inputs.
 pub fn saved_runs_go_on()
     ensures alike { OrderedStatesAreAlike }
     ensures taken { OrderedStatesAreTaken }
@@ -71,8 +71,8 @@ pub fn saved_runs_go_on()
     packets_carry_numbers();
 }
 
-/// A translator of one external address answers as the sequential one does, from each state, and is left with its bindings
-/// there, the live ones and the held ones.
+/// Law: a translator of one external address, from each state, gives the answers of the sequential
+/// one, and then has the same live and held bindings there.
 pub fn translators_are_local()
     ensures answers { TranslatorsAnswerFrom }
     ensures keeps { TranslatorsKeepFrom }

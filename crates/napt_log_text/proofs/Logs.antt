@@ -70,7 +70,8 @@ module _ (timers : Timers) (pair : ℕ → ℕ) where
       in_order_of_end (filter (is_open 0) (numbered_from n (entries redirects))) ≡ numbered_from n (entries redirects)
   in_order n [] = refl
   in_order n (r ∷ redirects) =
-      ap (placed (record { number = n; entry = first_entry timers 0 (redirect_binding pair r) })) (in_order (n + 1) redirects)
+      ap (placed (record { number = n; entry = first_entry timers 0 (redirect_binding pair r) }))
+      (in_order (n + 1) redirects)
       ∙ placed_first n r redirects
 
 module _ (rules : Rules) where
@@ -94,7 +95,8 @@ module _ (rules : Rules) where
   living_anew inputs = ap (λ (all : List Entry). in_order_of_end (filter (is_open (last_clock 0 inputs))
       (numbered_entries (log_on rules (initial_state rules) all inputs).entries))) filled_anew
 
-  opening_anew : opening_text rules (log_begun rules (initial_state rules)).living ≡ opening_text rules (living_of rules [])
+  opening_anew : opening_text rules (log_begun rules (initial_state rules)).living
+      ≡ opening_text rules (living_of rules [])
   unfolding log_of living_of
   opening_anew = ap (opening_text rules)
       (open_all ∙ sym (in_order rules.timers (pair_of rules) 1 rules.redirects))
@@ -105,7 +107,8 @@ logs_begin_anew begins rules inputs =
     let log : LogStateModel = log_begun rules (initial_state rules) in
     let so_far : log_so_far_from rules (initial_state rules) (log_anew rules) None inputs ≡ log_so_far rules inputs =
     ap₂ (λ (x y : TimeText). x ++ y) (opening_anew rules)
-    (added_as (text_of rules (initial_state rules) None log) (λ before input. told_rows rules (part_told rules before input)) [] []
+    (added_as (text_of rules (initial_state rules) None log)
+    (λ before input. told_rows rules (part_told rules before input)) [] []
     inputs (λ before input. ap (told_rows rules) (begins rules before input))) in
     record {
       so_far = so_far;
@@ -118,7 +121,8 @@ joined_parts : (a b c d : TimeText) → (a ++ (b ++ c)) ++ d ≡ ((a ++ b) ++ []
 joined_parts a b c d = simp (append_assoc, append-nil)
 
 -- a run's first input begins no piece
-none_first : (rules : Rules) (each : Option ℕ) (now : ℕ) (log : LogStateModel) → piece_opening rules each None now log ≡ []
+none_first : (rules : Rules) (each : Option ℕ) (now : ℕ) (log : LogStateModel) →
+    piece_opening rules each None now log ≡ []
 none_first rules None now log = refl
 none_first rules (Some seconds) now log = refl
 
@@ -211,7 +215,8 @@ logs_join on rules state origin first =
 
 pub pieces_stand_alone : LogsGoOn → PiecesStandAlone
 pieces_stand_alone on rules state origin each first input rest begins =
-    alone rules state (next_state rules state first) origin first (on rules state origin.log first) refl each input begins
+    alone rules state (next_state rules state first) origin first (on rules state origin.log first) refl each input
+    begins
     rest
 
 pub saved_logs_join : SavedLogsGoOn → SavedLogsJoin
@@ -256,7 +261,8 @@ module _ (rules : Rules) (state : State) (by : List Trace → Trace → TimeText
       (sym all ∙ (sym front.1 ∙ (ap (λ (l : List Trace). l ++ front.0) next
       ∙ append_assoc (traces before) (t ∷ []) front.0))) in
       ap (log_added by (traces before)) later_is
-      ∙ (ap (λ (text : TimeText). text ++ log_added by (traces before ++ t ∷ []) front.0) (same before input t next refl)
+      ∙ (ap (λ (text : TimeText). text ++ log_added by (traces before ++ t ∷ []) front.0)
+      (same before input t next refl)
       ∙ ap (λ (l : TimeText). adds before input ++ l)
       (ap (λ (ts : List Trace). log_added by ts front.0) (sym next)
       ∙ rows_same (before ++ input ∷ []) more front.0 (sym front.1)))

@@ -21,7 +21,8 @@ IsEndpointField endpoint = (endpoint.address < 2 ^ 32) × (endpoint.number < 2 ^
 
 abbrev pub IsEntryField : LogEntry → Type 0
 IsEntryField listed =
-    (listed.number < 2 ^ 64) × IsEndpointField listed.entry.binding.inside × IsEndpointField listed.entry.binding.external
+    (listed.number < 2 ^ 64) × IsEndpointField listed.entry.binding.inside ×
+    IsEndpointField listed.entry.binding.external
 
 abbrev pub IsEvent : LogEvent → Type 0
 IsEvent (Made listed) = (listed.entry.made < 2 ^ 64) × IsEntryField listed

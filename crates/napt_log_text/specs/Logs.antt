@@ -31,7 +31,8 @@ log_added adds before [] = []
 log_added adds before (next ∷ more) = adds before next ++ log_added adds (before ++ next ∷ []) more
 
 abbrev pub log_rows_after : Rules → List Arrival → List Arrival → TimeText
-log_rows_after rules before inputs = log_added (λ front input. told_rows rules (part_told rules front input)) before inputs
+log_rows_after rules before inputs = log_added (λ front input. told_rows rules (part_told rules front input)) before
+    inputs
 
 -- before the first input only the redirects live
 abbrev pub opening_text : Rules → List LogEntry → TimeText
@@ -130,7 +131,8 @@ LogsJoin = (rules : Rules) (state : State) (origin : LogOrigin) (first rest : Li
     Join rules state (next_state rules state first) origin first rest
 
 abbrev pub SavedLogsJoin : Type 0
-SavedLogsJoin = (rules : Rules) → RulesInvariant rules → (state saved : State) → TakesState rules state → (origin : LogOrigin)
+SavedLogsJoin = (rules : Rules) → RulesInvariant rules → (state saved : State) → TakesState rules state →
+    (origin : LogOrigin)
     (first rest : List Arrival) → IsStateInOrder rules (next_state rules (with_redirects rules state) first) saved →
     Join rules (with_redirects rules state) (with_redirects rules saved) origin first rest
 
@@ -160,7 +162,9 @@ TracesHaveTheRows = (rules : Rules) → RulesInvariant rules → (inputs : List 
     rows_with rules None (begun_anew rules) [] (traces rules inputs) ≡ log_rows_after rules [] inputs
 
 abbrev pub TracesHaveTheRest : Type 0
-TracesHaveTheRest = (rules : Rules) → RulesInvariant rules → (state : State) → TakesState rules state → (log : LogStateModel) →
+TracesHaveTheRest = (rules : Rules) → RulesInvariant rules → (state : State) → TakesState rules state →
+    (log : LogStateModel) →
     IsLogOf rules (with_redirects rules state) log → (each : Option ℕ) (inputs : List Arrival) →
-    rows_with rules each (record { clock = state.clock; log = log }) [] (traces_of rules (with_redirects rules state) inputs)
+    rows_with rules each (record { clock = state.clock; log = log }) []
+    (traces_of rules (with_redirects rules state) inputs)
     ≡ rows_from rules (with_redirects rules state) each log inputs

@@ -24,7 +24,8 @@ clock_text seconds =
 -- that of times
 unfoldable pub date_text : ℕ → TimeText
 date_text time =
-    day_text (date_on (time / ns_per_log_second / 86400)) ++ codes "T" ++ clock_text (time / ns_per_log_second % 86400) ++ codes "."
+    day_text (date_on (time / ns_per_log_second / 86400)) ++ codes "T"
+    ++ clock_text (time / ns_per_log_second % 86400) ++ codes "."
     ++ padded 9 (time % ns_per_log_second)
     ++ codes "Z"
 

@@ -93,7 +93,8 @@ fn add_entry(listed: &LogEntry, text: &mut String) -> Result<(), AllocError>
     ensures { OnOk result (string_bytes text.new
         ≡ string_bytes text.old ++ (decimal listed.now.number
         ++ codes "," ++ rows.csv_flag listed.now.entry.binding.fixed ++ codes ","
-        ++ decimal listed.now.entry.sent ++ codes "," ++ decimal listed.now.entry.received ++ codes ","
+        ++ decimal listed.now.entry.sent ++ codes "," ++ decimal listed.now.entry.received
+        ++ codes ","
         ++ rows.time_text (rows.last_use listed.now.entry))) }
 {
     add_field(listed.number, text)?;

@@ -118,7 +118,8 @@ pub fn add_nobody(
     text: &mut String,
 ) -> Result<(), AllocError>
     ensures { OnOk result (string_bytes text.new ≡ string_bytes text.old
-        ++ holders.nobody_line (option_map (λ known. known.now) config.entry) last request.now nearest.now) }
+        ++ holders.nobody_line (option_map (λ known. known.now) config.entry) last request.now
+        nearest.now) }
 {
     text.push_str("nobody had ")?;
     add_protocol(request.protocol, text)?;
@@ -163,7 +164,8 @@ fn add_reason(
     text: &mut String,
 ) -> Result<(), AllocError>
     ensures { OnOk result (string_bytes text.new ≡ string_bytes text.old
-        ++ holders.reason_text (option_map (λ known. known.now) config.entry) last request.now nearest.now) }
+        ++ holders.reason_text (option_map (λ known. known.now) config.entry) last request.now
+        nearest.now) }
 {
     if is_foreign(config, request.party.address) {
         return text.push_str(": it is no address of the pool");

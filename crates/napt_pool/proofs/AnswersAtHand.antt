@@ -1,11 +1,11 @@
--- What is at hand of what came out of an answer ring.
+-- The answers at hand: those that were received from an answer ring, and not handed out.
 use Rattle.std.proofs.lemmas.Grind.{common_steps}
 use Rattle.std.proofs.Common.{◌≡◌, sym, ap, ◌∙◌, arith, List, map, length, [], ◌∷◌, ◌++◌, append-nil, append_assoc, length-append}
 use Rattle.std.{proofs.lemmas.List.{length-map, take_at}, specs.Prelude.{Option, None, Some, MatchOption, option_to_list}}
 use Rattle.napt_pool.specs.{declared.message.Reply.{Reply, TheVariants.Done}, Histories.{all_but_last, answers_of, each_reply}}
 use Rattle.napt_pool.proofs.{HistoryGrowth.{answers_of-append, each_reply-next}, Ending.answers_of-map}
 
--- what comes before the last is the front
+-- All but the last elements are the list before them.
 pub front_is : {X : Type 0} (e hs ys : List X) → hs ++ ys ≡ e → all_but_last (length ys) e ≡ hs
 front_is {X} e hs ys is = grind (arith, common_steps, length-append, take_at)
 
@@ -15,16 +15,17 @@ module _ {I A : Type 0} (e e' more out : List (Reply I A)) (ys ys' : List A)
   whole : (all_but_last (length ys) e ++ out) ++ map Done ys' ≡ e'
   whole = grind (arith, common_steps, append_assoc)
 
-  -- what is handed out now
+  -- What is handed out now: what was before, and `out`.
   handed : all_but_last (length ys') e' ≡ all_but_last (length ys) e ++ out
   handed = grind (arith, common_steps, length-map, front_is, whole)
 
-  -- what is left is at hand
+  -- The answers that are left are still at hand.
   stays : all_but_last (length ys') e' ++ map Done ys' ≡ e'
   stays = ap (λ r. r ++ map Done ys') handed ∙ whole
 
--- The next of the answers that are at hand: b is what was handed out before
-module _ {I A : Type 0} (e b : List (Reply I A)) (ys ys' : List A) (hand : all_but_last (length ys) e ++ map Done ys ≡ e)
+-- The next one of the answers at hand is handed out, where `b` was handed out before.
+module _ {I A : Type 0} (e b : List (Reply I A)) (ys ys' : List A)
+    (hand : all_but_last (length ys) e ++ map Done ys ≡ e)
     (base : all_but_last (length ys) e ≡ b) where
   abbrev out_of : Option A → List (Reply I A)
   out_of got = map Done (option_to_list got)
@@ -50,12 +51,12 @@ module _ {I A : Type 0} (e b : List (Reply I A)) (ys ys' : List A) (hand : all_b
   next_taken None is = ap answers_of (grows None is ∙ append-nil b)
   next_taken (Some x) is = ap answers_of (grows (Some x) is) ∙ answers_of-append b (Done x ∷ [])
 
--- The same of the answers alone
+-- The same for the answers alone.
 pub taken_grown : {I A : Type 0} (h h' : List (Reply I A)) (xs : List A) → h' ≡ h ++ map Done xs →
     answers_of h' ≡ answers_of h ++ xs
 taken_grown {I} h h' xs is = grind (arith, common_steps, answers_of-append, answers_of-map)
 
--- All of a reply is put at hand, where nothing is
+-- All answers of a reply come at hand, if nothing was at hand before.
 module _ {I A : Type 0} (e b : List (Reply I A)) (xs ys zs : List A) (none : ys ≡ []) (put : zs ≡ xs)
     (hand : all_but_last (length ys) e ++ map Done ys ≡ e) (heard : all_but_last (length ys) e ≡ b ++ map Done xs) where
   all_of_it : b ++ map Done zs ≡ e
@@ -67,11 +68,11 @@ module _ {I A : Type 0} (e b : List (Reply I A)) (xs ys zs : List A) (none : ys 
   pub back_hand : all_but_last (length zs) e ++ map Done zs ≡ e
   back_hand = ap (λ r. r ++ map Done zs) back_heard ∙ all_of_it
 
--- The next reply out of the ring, where nothing is at hand
+-- The next reply of the ring, if nothing was at hand before.
 module _ {I A : Type 0} (t t' : List (Reply I A)) (ys ys' : List A) (r : Reply I A)
     (hand : all_but_last (length ys) (each_reply t) ++ map Done ys ≡ each_reply t) (none : ys ≡ [])
     (popped : t' ≡ t ++ r ∷ []) where
-  -- it is handed out as it came
+  -- It is handed out as it was received.
   came_moves : ys' ≡ [] → map Done ys ++ each_reply (r ∷ []) ≡ each_reply (r ∷ []) ++ map Done ys'
   came_moves left = grind (arith, common_steps, append-nil)
 

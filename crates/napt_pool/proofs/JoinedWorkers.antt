@@ -1,4 +1,4 @@
--- The workers that were joined so far.
+-- The ends of the workers that were closed and joined.
 use Rattle.std.proofs.lemmas.Grind.{common_steps}
 use Rattle.std.proofs.Common.{rules, ◌≡◌, ℕ, zero, suc, ◌+◌, ◌<◌, add-one, refl, sym, ap, ◌∙◌, arith, Bool, true, false, List, map, length, [], ◌∷◌, ◌++◌, append_assoc, length-append, ◌⊎◌, inl, inr, ⊎_elim, get_or}
 use Rattle.std.{specs.Prelude.{Result, Ok, Err, OnOk, IfOk, IfErr, MatchResult, Contains, replicate}, proofs.lemmas.List.{length-map, nil_from_length}}
@@ -8,7 +8,7 @@ use Rattle.napt_pool.{specs.declared.{closing.{ClosingWorker.ClosingWorker, Ende
 use Rattle.napt_pool.specs.{declared.thread_state.ThreadState.ThreadState, Faults.{is_shut, is_gate_shut, fault_of, IsFaultOf, IsFaultUpTo, IsLeastFault}}
 use Rattle.napt_pool.specs.Histories.{after, replies, ArePrefixesOf}
 use Rattle.napt_pool.specs.Workers.{IsEnd, AreEnds, closing_machine, closing_thread_state, closing_accepted, closing_taken, closing_heard}
-use Rattle.napt_pool.{specs.Pools.{initial_machines, accepted_items, taken_answers, handed_out_replies, thread_states, zip_with, HasTold, HaveReceived, CloseErr}, proofs.Ending.length-replies}
+use Rattle.napt_pool.{specs.Pools.{initial_machines, accepted_items, taken_answers, handed_out_replies, thread_states, zip_with, HasReported, HaveReceived, CloseErr}, proofs.Ending.length-replies}
 
 no_rest : {A : Type 0} (t rest : List A) → length (t ++ rest) ≡ length t → t ++ rest ≡ t
 no_rest [] [] e = refl
@@ -31,7 +31,8 @@ shut_is GateShut w = refl
 shut_is Ring w = refl
 
 module _ {M G I A : Type 0} (g : Ghosts M I A) (open_gate : Bool) where
-  pub AreEnds-push : (ws : List (ClosingWorker M G I A)) (es : List (Result (Ended M I A) WorkerFault)) (w : ClosingWorker M G I A)
+  pub AreEnds-push : (ws : List (ClosingWorker M G I A)) (es : List (Result (Ended M I A) WorkerFault))
+      (w : ClosingWorker M G I A)
       (e : Result (Ended M I A) WorkerFault)
       → AreEnds g open_gate ws es → IsEnd g open_gate w e → AreEnds g open_gate (ws ++ w ∷ []) (es ++ e ∷ [])
   AreEnds-push [] [] w e h k = (k, tt)
@@ -39,7 +40,7 @@ module _ {M G I A : Type 0} (g : Ghosts M I A) (open_gate : Bool) where
   AreEnds-push (v ∷ ws) [] w e h k = absurd h
   AreEnds-push (v ∷ ws) (f ∷ es) w e h k = (h.0, AreEnds-push ws es w e h.1 k)
 
-  -- each machine is the fold over what was accepted
+  -- The machines are the folds of the steps over the accepted items.
   pub machines_are : (ws : List (ClosingWorker M G I A)) (es : List (Ended M I A)) → AreEnds g open_gate ws (map Ok es)
       → map (λ e. e.machine) es ≡ zip_with (after g) (map closing_machine ws) (map closing_accepted ws)
   machines_are [] [] h = refl
@@ -47,7 +48,7 @@ module _ {M G I A : Type 0} (g : Ghosts M I A) (open_gate : Bool) where
   machines_are (w ∷ ws) [] h = absurd h
   machines_are (w ∷ ws) (e ∷ es) h = grind (arith, machines_are ws es h.1)
 
-  -- what was taken and what is handed back are the replies to what was accepted
+  -- The answers taken, followed by those returned, are the replies to the accepted items.
   pub answers_are : (ws : List (ClosingWorker M G I A)) (es : List (Ended M I A)) → AreEnds g open_gate ws (map Ok es)
       → zip_with (λ t rest. t ++ rest) (map closing_taken ws) (map (λ e. e.answers.items) es)
       ≡ zip_with (replies g) (map closing_machine ws) (map closing_accepted ws)
@@ -56,7 +57,7 @@ module _ {M G I A : Type 0} (g : Ghosts M I A) (open_gate : Bool) where
   answers_are (w ∷ ws) [] h = absurd h
   answers_are (w ∷ ws) (e ∷ es) h = grind (arith, answers_are ws es h.1)
 
-  -- what was taken is the first of them, also where a worker stopped
+  -- The answers taken are a prefix of these replies, also if a worker stopped.
   pub taken_are : (ws : List (ClosingWorker M G I A)) (es : List (Result (Ended M I A) WorkerFault)) →
       AreEnds g open_gate ws es
       → ArePrefixesOf (map closing_taken ws) (zip_with (replies g) (map closing_machine ws) (map closing_accepted ws))
@@ -71,7 +72,7 @@ module _ {M G I A : Type 0} (g : Ghosts M I A) (open_gate : Bool) where
       → map closing_taken ws ≡ ts → ArePrefixesOf ts (zip_with (replies g) ms xs)
   taken_at ws es ms xs ts ends began accepted taken = rw (← began, ← accepted, ← taken) (taken_are ws es ends)
 
-  -- where no answer is owed, nothing is handed back
+  -- If all answers were taken, they are the replies.
   pub settled : (ts : List (List A)) (ws : List (ClosingWorker M G I A)) (es : List (Ended M I A)) →
       AreEnds g open_gate ws (map Ok es)
       → map closing_taken ws ≡ ts → map length ts ≡ map length (map closing_accepted ws) →
@@ -92,7 +93,7 @@ module _ {M G I A : Type 0} (g : Ghosts M I A) (open_gate : Bool) where
       (closing_accepted w) ∙ sym count ∙ sym (ap length head))) ∙ whole in
       cc
 
-  -- a worker that stopped, behind a gate that promises yes, does not say that it was shut
+  -- If its gate is always open, no worker stops because it was shut.
   gate_at : (ws : List (ClosingWorker M G I A)) (before : List (Ended M I A)) (stop : WorkerFault)
       (rest : List (Result (Ended M I A) WorkerFault))
       → AreEnds g open_gate ws (map Ok before ++ Err stop ∷ rest) → open_gate ≡ true → is_gate_shut stop ≡ false
@@ -101,11 +102,12 @@ module _ {M G I A : Type 0} (g : Ghosts M I A) (open_gate : Bool) where
   gate_at (w ∷ ws) [] stop rest h is_open = h.0.gate is_open
   gate_at (w ∷ ws) (b ∷ bs) stop rest h is_open = gate_at ws bs stop rest h.1 is_open
 
-  least_not_shut : (ws : List (ClosingWorker M G I A)) (es : List (Result (Ended M I A) WorkerFault)) (fault : PoolFault)
+  least_not_shut : (ws : List (ClosingWorker M G I A)) (es : List (Result (Ended M I A) WorkerFault))
+      (fault : PoolFault)
       → AreEnds g open_gate ws es → IsLeastFault es fault → open_gate ≡ true → is_shut fault ≡ false
   least_not_shut ws es fault h least is_open = grind (arith, shut_is, gate_at)
 
-  -- the same of what `close` gives
+  -- The same for the result of `close`.
   module _ {T : Type 0} (items : T → List (Ended M I A)) (r : Result T PoolFault) (ws : List (ClosingWorker M G I A))
       (es : List (Result (Ended M I A) WorkerFault))
       (ms : List M) (xs : List (List I)) (ends : AreEnds g open_gate ws es) (began : map closing_machine ws ≡ ms)
@@ -148,14 +150,16 @@ module _ {M G I A : Type 0} (g : Ghosts M I A) (open_gate : Bool) where
 
   pub least_if_err : {T : Type 0} (p : Pool M G I A) (ws : List (ClosingWorker M G I A))
       (es : List (Result (Ended M I A) WorkerFault))
-      → map closing_machine ws ≡ initial_machines p → map closing_accepted ws ≡ accepted_items p → map closing_taken ws ≡ taken_answers p
-      → map closing_heard ws ≡ handed_out_replies p → map closing_thread_state ws ≡ thread_states p → AreEnds g open_gate ws es
+      → map closing_machine ws ≡ initial_machines p → map closing_accepted ws ≡ accepted_items p →
+      map closing_taken ws ≡ taken_answers p
+      → map closing_heard ws ≡ handed_out_replies p → map closing_thread_state ws ≡ thread_states p →
+      AreEnds g open_gate ws es
       → (r : Result T PoolFault) → IfErr r (λ fault. IsLeastFault es fault) →
       IfErr r (λ fault. CloseErr g open_gate p fault)
   least_if_err p ws es h k j q s t r u = grind (arith, machines_are, taken_are)
 
-  -- a worker that told that it stopped: where all ended well there is none, and else the least that stopped is that one
-  -- or one before it
+  -- A worker whose report was handed out: not all workers ended well, and the first one that stopped is this worker or
+  -- one before it.
   all_well_untold : (ws : List (ClosingWorker M G I A)) (es : List (Ended M I A)) → AreEnds g open_gate ws (map Ok es)
       → (w : ℕ) (stop : WorkerFault) → Contains (get_or (map closing_heard ws) w []) (Failed stop) → ⊥
   all_well_untold [] [] h w stop c = let below = c.1 in absurd (omega arith)
@@ -177,9 +181,10 @@ module _ {M G I A : Type 0} (g : Ghosts M I A) (open_gate : Bool) where
   least_up_to (v ∷ ws) (b ∷ bs) s rest h (suc w) stop c = grind (arith, least_up_to ws bs s rest h.1 w stop c)
 
   pub told_is : {T : Type 0} (p : Pool M G I A) (items : T → List (Ended M I A)) (ws : List (ClosingWorker M G I A))
-      (es : List (Result (Ended M I A) WorkerFault)) → AreEnds g open_gate ws es → map closing_heard ws ≡ handed_out_replies p
+      (es : List (Result (Ended M I A) WorkerFault)) → AreEnds g open_gate ws es →
+      map closing_heard ws ≡ handed_out_replies p
       → (r : Result T PoolFault) → IfOk r (λ v. map Ok (items v) ≡ es) → IfErr r (λ fault. IsLeastFault es fault)
-      → (w : ℕ) (fault : PoolFault) → HasTold p w fault → MatchResult r (λ _. ⊥) (IsFaultUpTo w fault)
+      → (w : ℕ) (fault : PoolFault) → HasReported p w fault → MatchResult r (λ _. ⊥) (IsFaultUpTo w fault)
   told_is p items ws es h listened (Ok v) ended least w fault told =
       let here = rw (← ended) at h in
       let c : Contains (get_or (map closing_heard ws) w []) (Failed told.0) = rw listened told.1 in
@@ -226,7 +231,7 @@ replicate-suc (suc n) d = ap (λ r. d ∷ r) (replicate-suc n d)
 replicate-next : {Y : Type 0} (n : ℕ) (d : Y) → replicate (n + 1) d ≡ replicate n d ++ d ∷ []
 replicate-next n d = rw add-one (replicate-suc n d)
 
--- one element more, in a list of which every f is d
+-- One more element of a list for which every f is d.
 pub all-push : {X Y : Type 0} (f : X → Y) (xs xs' : List X) (n n' : ℕ) (x : X) (d : Y)
     → xs' ≡ xs ++ x ∷ [] → n' ≡ n + 1 → f x ≡ d → map f xs ≡ replicate n d → map f xs' ≡ replicate n' d
 all-push f xs xs' n n' x d e k fx was = grind (arith, common_steps, map-snoc, replicate-next)
@@ -235,6 +240,6 @@ pub map-split-step : {X Y : Type 0} (f : X → Y) (xs xs' : List X) (rest more a
     → xs' ≡ xs ++ x ∷ [] → f x ≡ y → rest ≡ y ∷ more → map f xs ++ rest ≡ all → map f xs' ++ more ≡ all
 map-split-step f xs xs' rest more all x y e fx step was = grind (arith, common_steps, map-snoc, split-step)
 
--- an iterator of which nothing is left to count has no elements left
+-- An iterator without elements to count has no elements.
 pub drained : {X Z : Type 0} (it : _) → into_iter_len {X = X} {Z = Z} it ≡ 0 → into_iter_items it ≡ []
 drained it e = search (rules, nil_from_length)

@@ -1,4 +1,4 @@
--- What faults and refusals say in words.
+-- The texts of faults and of refused offers.
 use Rattle.std.specs.Prelude.{ℕ, List, ◌++◌, codes, decimal}
 use Rattle.napt_pool.specs.declared.fault.{PoolFault.PoolFault, OfferRefused.OfferRefused}
 use Rattle.napt_pool.specs.declared.fault.PoolFault.TheVariants as Fault

@@ -1,4 +1,4 @@
--- The answers that were taken at a time.
+-- The answers that one call takes.
 use Rattle.std.specs.Prelude.{◌≡◌, ◌⊎◌, List, [], ◌∷◌, Option, None, Some}
 use Rattle.napt_pool.specs.declared.taken_answers.TakenAnswers.{TakenAnswers, TheVariants.{One, All}}
 
@@ -11,7 +11,7 @@ module _ {I A : Type 0} where
   answers_if None = []
   answers_if (Some t) = answers_in t
 
-  -- what a reply leaves at hand: less by the answer, if that was there; nothing else
+  -- Taking one answer that is at hand removes it. After any other call nothing is at hand, as before.
   abbrev pub LeavesAtHand : Option (TakenAnswers I A) → List A → List A → Type 0
   LeavesAtHand (Some (One x)) old new = (old ≡ x ∷ new) ⊎ ((old ≡ []) × (new ≡ []))
   LeavesAtHand _ old new = (old ≡ []) × (new ≡ [])

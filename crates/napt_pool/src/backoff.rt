@@ -8,13 +8,13 @@ use std::thread::Parker;
 use std::time::Duration;
 use std::{hint, thread};
 
-/// How often a thread looks again at once.
+/// The number of looks that are followed by a spin.
 const SPINS: u32 = 32;
 
-/// How many looks come before the first sleep: 480 of them follow a yield.
+/// The number of looks before the first sleep. All after the first 32 are followed by a yield.
 const LOOKS: u32 = 512;
 
-/// The shortest sleep, in ns. How long it really is, the system decides (on Linux some 50 microseconds).
+/// The shortest sleep, in ns. The system decides how long it really is (about 50 µs on Linux).
 const SHORTEST_SLEEP: u64 = 1;
 
 /// What a thread does before it looks again.
@@ -26,7 +26,7 @@ enum BackoffStep {
 }
 
 impl BackoffStep {
-    /// The pause after this many looks.
+    /// Returns the pause that follows this number of looks.
     const fn after(looks: u32) -> BackoffStep
         ensures spin { looks < 32 → result ≡ Spin }
         ensures yields { 32 ≤ looks → looks < 512 → result ≡ Yield }
@@ -44,8 +44,8 @@ impl BackoffStep {
 
 /// One wait for another thread; each wait has a `Backoff` of its own.
 ///
-/// The first looks follow one another at once, the next ones yield to other threads in between, and from then on the
-/// thread sleeps between looks. So a short wait costs little, and a long one leaves the processor to others.
+/// First the thread spins between looks, then it yields to other threads, and then it sleeps. A
+/// short wait costs little, and a long one leaves the processor to others.
 #[derive(Drop)]
 pub struct Backoff {
     looks: u32,
@@ -53,7 +53,7 @@ pub struct Backoff {
 }
 
 impl Backoff {
-    /// Begins a wait.
+    /// Returns the state at the beginning of a wait.
     pub const fn new() -> Backoff
         ensures { result.looks ≡ 0 }
     {
@@ -63,8 +63,8 @@ impl Backoff {
         }
     }
 
-    /// Pauses before the next look: 32 times for an instant, 480 times to yield to other threads, and then each time
-    /// for the system's shortest sleep.
+    /// Pauses before the next look: the first 32 pauses spin, the next 480 yield to other threads,
+    /// and each later one is the system's shortest sleep.
     pub fn pause<R: Wait>(&mut self, rt: &R)
         ensures counted { self.old.looks < 512 → self.new.looks ≡ self.old.looks + 1 }
         ensures asleep { 512 ≤ self.old.looks → self.new.looks ≡ self.old.looks }

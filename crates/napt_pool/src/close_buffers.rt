@@ -8,7 +8,7 @@ use crate::gate::Gate;
 use crate::machine::Machine;
 use std::alloc::{AllocError, Global};
 
-/// Buffers for closing `count` workers, so that closing them takes no memory.
+/// Buffers for closing `count` workers, so that closing them does not allocate.
 #[derive(Drop)]
 pub(crate) struct CloseBuffers<M: Machine, G: Gate> {
     pub(crate) count: usize,

@@ -1,4 +1,4 @@
-//! Why an item, a worker or a pool was refused.
+//! Why an offer is refused, and why a worker or a pool fails.
 
 ghost use Rattle.std.specs.Prelude.{◌≡◌, ℕ, Some};
 ghost use Rattle.napt_pool.specs.{Faults.fault_of, Messages.{fault_message, refusal_message}};
@@ -9,13 +9,13 @@ use std::fmt;
 /// Why a worker stopped, or a pool could not be started.
 #[derive(Debug, Clone, Copy, PartialEq, Eq)]
 pub enum PoolFault {
-    /// Memory was refused: to `start`, or to a machine's step.
+    /// Memory was refused, to `Pool::start` or to a step of a machine.
     Memory,
-    /// The runtime refused a thread. Only `start` returns it.
+    /// The runtime refused a thread. Only `Pool::start` returns it.
     NoThread,
     /// The gate refused this worker as often as it may be asked for one item.
     GateShut(u32),
-    /// The two ends of a ring do not agree. No cause of it is known.
+    /// The two ends of a ring do not agree. No cause of this is known.
     Ring,
 }
 
@@ -37,11 +37,11 @@ impl Error for PoolFault {}
 /// Why an item was not accepted, with the item.
 #[derive(Drop)]
 pub enum OfferRefused<I> {
-    /// As many answers are untaken as the pool's capacity.
+    /// The number of items without a taken answer has reached the pool's capacity.
     Full(I),
-    /// Memory was refused. `offer` takes none, so it never returns this.
+    /// Memory was refused. Offers do not allocate, so none returns it.
     Memory(I),
-    /// The ring has no slot for it, though the count of untaken answers allows one. No cause of it is known.
+    /// The ring has no slot, though the capacity allows the item. No cause of this is known.
     Ring(I),
 }
 
@@ -69,7 +69,7 @@ impl<I> fmt::Display for OfferRefused<I> {
 
 impl<I: Drop> Error for OfferRefused<I> {}
 
-/// Why a worker ended without meeting Close.
+/// Why a worker ended before it received Close.
 #[derive(Debug, Clone, Copy, PartialEq, Eq)]
 pub(crate) enum WorkerFault {
     Memory,
@@ -78,7 +78,7 @@ pub(crate) enum WorkerFault {
 }
 
 impl WorkerFault {
-    /// The fault of the worker with this number.
+    /// Returns the fault of the pool if the worker with this number stopped for this reason.
     pub(crate) fn of_worker(self, worker: u32) -> PoolFault
         ensures { result ≡ fault_of self worker }
     {

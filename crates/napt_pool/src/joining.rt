@@ -1,4 +1,4 @@
-//! Closing and joining a list of workers.
+//! Closing and joining all workers of a pool.
 
 ghost use Rattle.std.specs.Prelude.{◌≡◌, ◌≤◌, ◌<◌, ◌^◌, vec_len, vec_capacity, [], map, IfOk, IfErr};
 ghost use Rattle.napt_pool.specs.Faults.{IsLeastFault};
@@ -12,16 +12,16 @@ use crate::machine::Machine;
 use crate::worker::WorkerHandle;
 use std::thread::Threads;
 
-/// Why a worker was not started, and how those started before it ended.
+/// Why a worker could not be started, and how the workers started before it ended.
 #[derive(Drop)]
 pub(crate) struct StartFailure<M: Machine> {
     pub(crate) fault: PoolFault,
-    // How many were started.
+    // The number of workers that were started.
     pub(crate) started: usize,
     pub(crate) ends: Vec<Result<Ended<M>, WorkerFault>>,
 }
 
-/// Closes and joins each worker, since the next one was not started.
+/// Closes and joins the workers started so far, because the next one could not be started.
 pub(crate) fn give_up<M: Machine, G: Gate, R: Threads>(
     rt: &R,
     fault: PoolFault,
@@ -71,7 +71,7 @@ pub(crate) fn close_all<M: Machine, G: Gate>(
     into
 }
 
-/// Joins each worker.
+/// Joins each worker, in order, and returns how it ended.
 pub(crate) fn join_all<M: Machine, G: Gate, R: Threads>(
     rt: &R,
     workers: Vec<ClosingWorker<M, G>>,
@@ -89,7 +89,7 @@ pub(crate) fn join_all<M: Machine, G: Gate, R: Threads>(
     into
 }
 
-/// The ends of all workers, or the fault of the first that stopped, by number.
+/// Returns the ends of all workers, or the fault of the first one by number that stopped.
 pub(crate) fn all_ended<M: Machine>(
     ends: Vec<Result<Ended<M>, WorkerFault>>,
     into: Vec<Ended<M>>,

@@ -1,4 +1,4 @@
-//! What a worker runs.
+//! The machine that a worker runs.
 
 ghost use Rattle.std.specs.Prelude.{◌≡◌, MatchResult};
 
@@ -16,12 +16,12 @@ pub trait Machine: Send + Drop {
     /// The answer to an item.
     ghost reply: { Self → Self.Item → Self.Answer };
 
-    /// Steps on the item and answers it. An `Err` means that memory was refused; the state is unchanged.
+    /// Steps on the item and returns its answer. If memory is refused, the state is unchanged.
     fn step(&mut self, alloc: Global, item: Self::Item) -> Result<Self::Answer, AllocError>
         ensures { MatchResult result (λ answer. (answer ≡ reply self.old item)
             × (self.new ≡ stepped self.old item)) (λ _. self.new ≡ self.old) };
 
-    /// How much it holds, for people who watch a run. No contract speaks of it.
+    /// Returns the size of the state, for progress displays. No contract mentions it.
     fn size(&self) -> u64 {
         0
     }

@@ -1,4 +1,4 @@
-//! The start of a worker's thread, and what is promised of its end.
+//! Starting the thread of a worker, and the promise of how it ends.
 
 ghost use Rattle.std.specs.Prelude.{◌≡◌, [], IfOk, IfErr};
 ghost use Rattle.rtrb.specs.Ring.{sent, received};
@@ -15,7 +15,7 @@ use std::sync::{Arc, Wait};
 use std::thread;
 use std::thread::{Promise, PromisedHandle, Threads};
 
-/// What a worker's thread promises: its end follows from the state in which it began.
+/// What the thread of a worker promises: its end follows from the state in which it began.
 #[derive(Drop)]
 pub(crate) struct ThreadPromise<M: Machine, G: Gate> {
     pub(crate) initial: Snapshot<ThreadState<M, G>>,

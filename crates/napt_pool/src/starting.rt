@@ -1,4 +1,4 @@
-//! Starting a list of workers.
+//! Starting all workers of a pool.
 
 ghost use Rattle.std.specs.Prelude.{◌≡◌, ◌≤◌, vec_len, IfOk, IfErr};
 ghost use Rattle.napt_pool.specs.{Faults.IsStartFault, Workers.{AreWorkersNew, AreWorkersGivenUp}};
@@ -13,7 +13,7 @@ use std::alloc::Global;
 use std::sync::{Arc, Wait};
 use std::thread::Threads;
 
-/// Starts a worker for each machine. If one is refused, those already started are closed and joined.
+/// Starts a worker for each machine. If one fails to start, those before are closed and joined.
 pub(crate) fn start_all<
     M: Machine,
     G: Gate + Send + Sync + Drop + 'static,

@@ -1,13 +1,13 @@
-//! What is taken from a worker at a time.
+//! The answers that one call takes from a worker.
 
 use crate::message::AnsweredBatch;
 
 /// Answers of a worker, in order.
 #[derive(Drop)]
 pub enum TakenAnswers<I, A> {
-    /// One answer: to an item that was offered alone, or from what `take` left of a batch.
+    /// One answer: to an item that was offered alone, or one that is at hand after `take`.
     One(A),
-    /// The answers to the items of one batch, or to the first of them where the worker stopped among them.
+    /// The answers to the items of a batch, or to the first of them if the worker then stopped.
     All(AnsweredBatch<I, A>),
 }
 
@@ -15,7 +15,7 @@ impl<I, A> TakenAnswers<I, A> {
     ghost use Rattle.std.specs.Prelude.{◌≡◌, length};
     ghost use Rattle.napt_pool.specs.TakenAnswers.{answers_in};
 
-    /// How many answers there are.
+    /// Returns the number of answers.
     pub fn len(&self) -> usize
         ensures { result ≡ length (answers_in self.now) }
     {

@@ -6,7 +6,7 @@ use Rattle.napt_program.specs.declared.options.LineFault.{LineFault}
 use Rattle.napt_program.specs.declared.options.LineFault.TheVariants as fault
 use Rattle.napt_program.specs.declared.role.FileRole.TheVariants as role
 use Rattle.napt_program.specs.declared.stop.Stop.TheVariants as stop
-use Rattle.napt_records.specs.{Faults.tells_shut_gate, declared.Fault.{Fault, TheVariants.Capture}}
+use Rattle.napt_records.specs.{Faults.is_shut_gate_fault, declared.Fault.{Fault, TheVariants.Capture}}
 use Rattle.napt_wire.specs.declared.Side.TheVariants.{Outside}
 
 -- what may fail as a file: one that is named, or a closed standard stream
@@ -35,7 +35,7 @@ IsRunStop streams named (stop.LogFile refusal) = is_some named.log ≡ true
 IsRunStop streams named stop.Log = is_some named.log ≡ true
 IsRunStop streams named (stop.State refusal) = is_some named.resume ≡ true
 IsRunStop streams named stop.Save = is_some named.save ≡ true
-IsRunStop streams named (stop.Run fault) = (tells_shut_gate fault ≡ false) × IsOfGiven named fault
+IsRunStop streams named (stop.Run fault) = (is_shut_gate_fault fault ≡ false) × IsOfGiven named fault
 IsRunStop streams named other = ⊥
 
 -- the text of the help or the version could not be made or written
@@ -76,5 +76,5 @@ LineIsTaken other = Unit {0}
 
 -- no shut gate
 abbrev pub IsStopUnderOpenGate : Stop → Type 0
-IsStopUnderOpenGate (stop.Run fault) = tells_shut_gate fault ≡ false
+IsStopUnderOpenGate (stop.Run fault) = is_shut_gate_fault fault ≡ false
 IsStopUnderOpenGate other = Unit {0}

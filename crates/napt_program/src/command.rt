@@ -3,7 +3,7 @@
 ghost use Rattle.std.specs.{Prelude.{◌≡◌, ◌≢◌, ◌⊎◌, [], Err, IfErr, IfOk, IfSome, None, false, is_some, true}, IoError.error_kind};
 ghost use Rattle.napt_program.specs.{CommandLine.files_with_log, Command.{IsRunStop, stop_after}, Devices.{AreFresh, IsFreshLog}};
 ghost use Rattle.napt_program.specs.{Standard.standard_again, Streams.closed_stream};
-ghost use Rattle.napt_records.specs.Faults.{tells_shut_gate};
+ghost use Rattle.napt_records.specs.Faults.{is_shut_gate_fault};
 ghost use Rattle.napt_account.specs.ResumedLogRuns.{IsFew};
 ghost use Rattle.napt_rules.specs.Prelude.{TakesState};
 
@@ -135,7 +135,7 @@ fn entries_of(alloc: Global, log: Option<LogPosition>) -> SavedLogState
 /// Why a program stops after a fault of its run. What stands for an outside capture that was not given has no fault: if it
 /// could not be read, memory was refused to the run.
 pub fn stop_of_run(options: &OptionsWithLog, fault: Fault) -> Stop
-    requires { tells_shut_gate fault ≡ false }
+    requires { is_shut_gate_fault fault ≡ false }
     ensures stop { (streams : StandardStreams) → IsRunStop streams (files_with_log options.now) result }
     ensures exact { result ≡ stop_after (files_with_log options.now) fault }
 {

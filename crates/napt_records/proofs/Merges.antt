@@ -5,7 +5,7 @@ use Rattle.std.{specs.Prelude.{filter, slice_get}, proofs.lemmas.{Bool.{ltb-fals
 use Rattle.napt_capture.specs.{Contents.RecordModel, Text.IsWritable, Capture.CaptureReading, declared.fault.CaptureFault.CaptureFault}
 use Rattle.napt_rules.specs.Prelude.{Arrival, Side, Inside, Outside}
 use Rattle.napt_sequential.specs.Inputs.{InputIsTaken}
-use Rattle.napt_records.specs.{Output.IsTimely, MergeLaws.{HaveAll, MergeEnds, MergeMeets, MergesBefore, MergesFront, MergesWhole, TellsInsideFirst, held_of}}
+use Rattle.napt_records.specs.{Output.IsTimely, MergeLaws.{HaveAll, MergeEnds, MergeMeets, MergesBefore, MergesFront, MergesWhole, ReportsInsideFirst, held_of}}
 use Rattle.napt_records.specs.RecordMerging.{MergedInputs, TakesRecord, outside_alone, alone_by, at_end, at_fault, outside_before, input_of, inputs_from, inputs_until, is_outside_next, merged_inputs, merged_from, unless_fault, outside_until}
 use Rattle.napt_records.specs.declared.stream_merger.{CutFlags.CutFlags, SideFault.SideFault}
 use Rattle.napt_records.specs.Merge.{of_record, of_input, is_from, latest, clock_at, reach, IsMerged}
@@ -305,7 +305,7 @@ merges_before inside outside fault is =
           omega (arith, few, all_counted other inside outside (take k inputs) have),
     )
 
-pub tells_inside_first : TellsInsideFirst
+pub tells_inside_first : ReportsInsideFirst
 tells_inside_first inside outside fault its is also have =
     let p = before_from inside.end outside.end inside.records outside.records 0 in
     let few = p.first fault its is also in

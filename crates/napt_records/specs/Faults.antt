@@ -4,6 +4,6 @@ use Rattle.napt_sequential.specs.Faults.{is_run_gate_fault}
 use Rattle.napt_records.specs.declared.fault.Fault.{Fault, TheVariants.Run}
 
 -- whether a fault says that the gate was shut
-abbrev pub tells_shut_gate : Fault → Bool
-tells_shut_gate (Run fault) = is_run_gate_fault fault
-tells_shut_gate _ = false
+abbrev pub is_shut_gate_fault : Fault → Bool
+is_shut_gate_fault (Run fault) = is_run_gate_fault fault
+is_shut_gate_fault _ = false

@@ -48,8 +48,8 @@ MergesBefore = (inside outside : CaptureReading) (fault : SideFault) → (inputs
     → ¬ HaveAll other inside outside (take k (inputs_until inside outside).arrivals))
 
 -- and if both sides have a fault next, the inside's ends it
-abbrev pub TellsInsideFirst : Type 0
-TellsInsideFirst = (inside outside : CaptureReading) (fault its : CaptureFault) →
+abbrev pub ReportsInsideFirst : Type 0
+ReportsInsideFirst = (inside outside : CaptureReading) (fault its : CaptureFault) →
     (inputs_until inside outside).end ≡ Err (record { side = Outside; fault = fault }) → inside.end ≡ Err its
     → ¬ HaveAll Inside inside outside (inputs_until inside outside).arrivals
 

@@ -1,5 +1,5 @@
 //! Laws of merging.
-ghost use Rattle.napt_records.specs.MergeLaws.{CapturesCanBeCut, MergeEnds, MergeIsInOrder, MergeMeets, MergesBefore, MergesFront, MergesWhole, TellsInsideFirst};
+ghost use Rattle.napt_records.specs.MergeLaws.{CapturesCanBeCut, MergeEnds, MergeIsInOrder, MergeMeets, MergesBefore, MergesFront, MergesWhole, ReportsInsideFirst};
 
 /// The merged list has each side's records in order, the sides in order, and the clocks.
 pub fn merge_is_in_order()
@@ -15,7 +15,7 @@ pub fn merge_until_fault()
     ensures ends { MergeEnds }
     ensures meets { MergeMeets }
     ensures before { MergesBefore }
-    ensures inside_first { TellsInsideFirst }
+    ensures inside_first { ReportsInsideFirst }
 {}
 
 /// Behind each front of the merged list both captures can be cut: merging the first parts gives that front, and merging the

@@ -52,7 +52,8 @@ module _ {R Q : Type 0} {G : Ghosts R} {H : Ghosts Q} (begin end : StreamMerger 
   none_more : (old new : ℕ) → new ≡ old → new ≡ old + 0
   none_more old new is = is ∙ sym (add-zero old)
 
-  pub read_well : (inputs : List Arrival) → InputsCame HandsOutInputs MergeEndsWith begin inputs None end → ReadBy (Ok tt)
+  pub read_well : (inputs : List Arrival) → InputsCame HandsOutInputs MergeEndsWith begin inputs None end →
+      ReadBy (Ok tt)
   read_well inputs came = grind (arith, common_steps, nat_tests, came_same, came_counts, none_more)
 
   read_some : (inputs : List Arrival) → HandsOutInputs begin inputs end → ReadBy (Ok tt)
@@ -62,7 +63,8 @@ module _ {R Q : Type 0} {G : Ghosts R} {H : Ghosts Q} (begin end : StreamMerger 
       MergeEndsWith begin inputs (Some stop) end → ReadBy (told stop.side stop.fault)
   read_to_fault inputs stop came = grind (arith, common_steps, nat_tests, came_failed, came_same, ℕ, same_by)
 
-  pub read_somehow : (inputs : List Arrival) → HandsOutInputs begin inputs end ⊎ ((stop : Option SideFault) × InputsCame HandsOutInputs
+  pub read_somehow : (inputs : List Arrival) → HandsOutInputs begin inputs end ⊎
+      ((stop : Option SideFault) × InputsCame HandsOutInputs
       MergeEndsWith begin inputs stop end) → (read : Result (Unit {0}) Fault) × IsOfReading read × ReadBy read
   read_somehow inputs (inl handed) = (Ok tt, tt, read_some inputs handed)
   read_somehow inputs (inr (None, came)) = (Ok tt, tt, read_well inputs came)

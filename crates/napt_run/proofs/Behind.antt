@@ -35,7 +35,8 @@ IfHeld-by P (Some bytes) (Some others) p = p bytes others refl refl
 abbrev pub Ended : Side → CaptureFault → MergedInputs → List Arrival → Type 0
 Ended side fault all inputs = all ≡ record { arrivals = inputs; end = Err (record { side = side; fault = fault }) }
 
-ended_is : (side : Side) (fault : CaptureFault) (all : MergedInputs) (inputs : List Arrival) → Ended side fault all inputs →
+ended_is : (side : Side) (fault : CaptureFault) (all : MergedInputs) (inputs : List Arrival) →
+    Ended side fault all inputs →
     all.end ≡ Err (record { side = side; fault = fault })
 ended_is side fault all inputs is = ap (λ (i : MergedInputs). i.end) is
 
@@ -88,7 +89,8 @@ module _ {R Q W V : Type 0} {G : source.Ghosts R} {H : source.Ghosts Q} {S : sin
   front inputs first later mid whole handed =
       IfHeld-by (λ all. IsFrontOf first all.arrivals) bytes others (front_at inputs first later mid whole handed)
 
-  wrote : (inputs : List Arrival) → AreTimes (run_left_of origin inputs) → SinkTakes old (run_left_of origin inputs) new →
+  wrote : (inputs : List Arrival) → AreTimes (run_left_of origin inputs) →
+      SinkTakes old (run_left_of origin inputs) new →
       IsSettled new → Writes open_gate origin bytes others [] old new inputs
   wrote inputs all took settled = grind (arith, common_steps, nat_tests)
 
@@ -97,7 +99,8 @@ module _ {R Q W V : Type 0} {G : source.Ghosts R} {H : source.Ghosts Q} {S : sin
   counted inputs few took = all_counted origin inputs old new counts few took
 
   -- they are all inputs
-  pub whole_is : (inputs : List Arrival) (cuts : CutFlags) → InputsCame HandsOutInputs MergeEndsWith begin inputs None end →
+  pub whole_is : (inputs : List Arrival) (cuts : CutFlags) →
+      InputsCame HandsOutInputs MergeEndsWith begin inputs None end →
       cuts.inside ≡ cut_of end.inside → cuts.outside ≡ cut_of end.outside →
       IfHeld bytes others (λ all. all ≡ record { arrivals = inputs; end = Ok cuts })
   whole_is inputs cuts came cut_inside cut_outside =
@@ -122,7 +125,8 @@ module _ {R Q W V : Type 0} {G : source.Ghosts R} {H : source.Ghosts Q} {S : sin
       }
 
   refused : (side : Side) (fault : CaptureFault) (inputs : List Arrival) →
-      InputsCame HandsOutInputs MergeEndsWith begin inputs (Some (record { side = side; fault = fault })) end → (b o : List ℕ) →
+      InputsCame HandsOutInputs MergeEndsWith begin inputs (Some (record { side = side; fault = fault })) end →
+      (b o : List ℕ) →
       bytes ≡ Some b → others ≡ Some o → Refuses side fault (files_until b o) inputs
   refused side fault inputs came b o is same =
       let of_files = begun_files begin b o (begun b o is same) in
@@ -174,7 +178,8 @@ module _ {R Q W V : Type 0} {G : source.Ghosts R} {H : source.Ghosts Q} {S : sin
 
   -- the run itself failed, and no output did
   halted : (inputs : List Arrival) (went : List TimedOutcomes) → HasCome HandsOutInputs MergeEndsWith begin inputs end →
-      IsFrontOf went (run_left_of origin inputs) → SinkTakes old went new → RunHalts open_gate origin bytes others [] old new
+      IsFrontOf went (run_left_of origin inputs) → SinkTakes old went new →
+      RunHalts open_gate origin bytes others [] old new
   halted inputs went come front_is took =
       let (mid, handed) = came_somehow inputs come in
       let first = front_of origin inputs went front_is in
@@ -184,13 +189,15 @@ module _ {R Q W V : Type 0} {G : source.Ghosts R} {H : source.Ghosts Q} {S : sin
         to_outside = record {
           inputs = first.first;
           front_of_all = front_of_all;
-          left = inl (subst (λ (l : List TimedOutcomes). OutputGrows old.to_outside (records_text sides.Outside l) new.to_outside)
+          left = inl (subst (λ (l : List TimedOutcomes). OutputGrows old.to_outside (records_text sides.Outside l)
+              new.to_outside)
               first.went_is (took.to_outside all));
         };
         to_inside = record {
           inputs = first.first;
           front_of_all = front_of_all;
-          left = inl (subst (λ (l : List TimedOutcomes). OutputGrows old.to_inside (records_text sides.Inside l) new.to_inside)
+          left = inl (subst (λ (l : List TimedOutcomes). OutputGrows old.to_inside (records_text sides.Inside l)
+              new.to_inside)
               first.went_is (took.to_inside all));
         };
       }
@@ -288,7 +295,8 @@ module _ {R Q W V : Type 0} {G : source.Ghosts R} {H : source.Ghosts Q} {S : sin
       }
   failed Report fault e = absurd e.failed
 
-  halts : RunPassesHalted origin HandsOutInputs MergeEndsWith begin old end new → RunHalts open_gate origin bytes others [] old new
+  halts : RunPassesHalted origin HandsOutInputs MergeEndsWith begin old end new →
+      RunHalts open_gate origin bytes others [] old new
   halts p = elim p.took [
     | inl took ↦ halted p.inputs p.went p.come p.front took
     | inr fails ↦ failed fails.0.which fails.0.fault (early fails.0.which fails.0.fault (record {

@@ -34,7 +34,8 @@ module _ {P : Type 0} (tells : Passage → P) where
   Goes origin inputs = timed_results inputs (input_results tells origin.rules origin.state inputs)
 
   timed_outcomes : (inputs : List Arrival) (all : List StepResult) →
-      outcomes_in (timed_results inputs (map (input_result tells) all)) ≡ timed_results inputs (map (λ s. s.outcome) all)
+      outcomes_in (timed_results inputs (map (input_result tells) all))
+      ≡ timed_results inputs (map (λ s. s.outcome) all)
   timed_outcomes [] all = refl
   timed_outcomes (input ∷ inputs) [] = refl
   timed_outcomes (input ∷ inputs) (step ∷ all) = grind (arith, common_steps, nat_tests, timed_outcomes inputs all)
@@ -47,10 +48,12 @@ module _ {P : Type 0} (tells : Passage → P) where
   timed_legs (input ∷ inputs) (step ∷ all) same =
       ap (λ (l : List (Legs P)). legs_of step.trace ∷ l) (timed_legs inputs all (omega (arith, same)))
 
-  outcomes_left : (origin : OriginModel) (inputs : List Arrival) → outcomes_in (Goes origin inputs) ≡ run_left_of origin inputs
+  outcomes_left : (origin : OriginModel) (inputs : List Arrival) →
+      outcomes_in (Goes origin inputs) ≡ run_left_of origin inputs
   outcomes_left origin inputs = grind (arith, common_steps, nat_tests, timed_outcomes, steps_outcomes, outcomes_of)
 
-  legs_left : (origin : OriginModel) (inputs : List Arrival) → legs_in (Goes origin inputs) ≡ legs_told tells origin inputs
+  legs_left : (origin : OriginModel) (inputs : List Arrival) →
+      legs_in (Goes origin inputs) ≡ legs_told tells origin inputs
   legs_left origin inputs = grind (arith, common_steps, nat_tests, timed_legs, steps_long, steps_traces)
 
   outcomes_front : (origin : OriginModel) (inputs : List Arrival) (went : List (ℕ × InputResult P)) →
@@ -81,11 +84,13 @@ module _ {P A F W V K E : Type 0} {S : sink.Ghosts W} {T : sink.Ghosts V} (tells
   Failed went fault = passing.DeparturesFail (TakesBoth enters) (FailsEither enters fails) before went fault after
 
   abbrev Told : Option F → Type 0
-  Told end = passing.RunThroughEnd tells origin.rules origin.state hands ends (TakesBoth enters) (FailsEither enters fails)
+  Told end = passing.RunThroughEnd tells origin.rules origin.state hands ends (TakesBoth enters)
+      (FailsEither enters fails)
       (AreSettled is_settled) from before left after end
 
   abbrev Halted : Type 0
-  Halted = passing.RunThroughErr tells origin.rules origin.state hands ends (TakesBoth enters) (FailsEither enters fails)
+  Halted = passing.RunThroughErr tells origin.rules origin.state hands ends (TakesBoth enters)
+      (FailsEither enters fails)
       (AreSettled is_settled) from before left after
 
   abbrev pub RunPasses : Result RunSummary (PassFault F (LeavingFault E)) → Type 0
@@ -231,10 +236,12 @@ module _ {P A F W V K E : Type 0} {S : sink.Ghosts W} {T : sink.Ghosts V} (tells
 
   -- WHERE THEY ARE LEFT
 
-  same_failed : (went : List (ℕ × InputResult P)) (fault : LeavingFault E) → Failed went fault → IsSameSinkPlace before after
+  same_failed : (went : List (ℕ × InputResult P)) (fault : LeavingFault E) → Failed went fault →
+      IsSameSinkPlace before after
   same_failed went fault f = grind (arith, common_steps, nat_tests)
 
-  pub same_place : (result : Result RunSummary (PassFault F (LeavingFault E))) → RunPasses result → IsSameSinkPlace before after
+  pub same_place : (result : Result RunSummary (PassFault F (LeavingFault E))) → RunPasses result →
+      IsSameSinkPlace before after
   same_place result p = grind (arith, common_steps, nat_tests, same_failed)
 
 -- OVER CAPTURES
@@ -259,7 +266,8 @@ module _ {R Q W V P K E : Type 0} {G : source.Ghosts R} {H : source.Ghosts Q} {S
       EntersFront tells origin enters fails is_settled bytes others old new
   enters_front e = record { inputs = e.first; front = held e.first e.later e.come; entered = e.entered }
 
-  fails_over : (fault : E) → FailsFirst tells origin HandsOutInputs MergeEndsWith enters fails is_settled from old left new fault →
+  fails_over : (fault : E) → FailsFirst tells origin HandsOutInputs MergeEndsWith enters fails is_settled from old
+      left new fault →
       LogFailsOver tells origin enters fails is_settled bytes others old new fault
   fails_over fault e = record { inputs = e.first; front = held e.first e.later e.come; failed = e.failed }
 

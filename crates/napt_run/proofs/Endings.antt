@@ -7,7 +7,7 @@ use Rattle.napt_capture.specs.declared.device.Sink.{Ghosts}
 use Rattle.napt_dispatch.specs.declared.workers.RunSummary.{RunSummary}
 use Rattle.napt_run.specs.Origins.{OriginModel, ran_by}
 use Rattle.napt_records.specs.{Counts.AreCountsOf, Report.{report_of, report_text}, declared.{Fault.{Fault, TheVariants.{Run, Write}}, Which.Which}}
-use Rattle.napt_records.specs.{declared.Which.TheVariants.{Outside, Inside, Report}, Faults.tells_shut_gate}
+use Rattle.napt_records.specs.{declared.Which.TheVariants.{Outside, Inside, Report}, Faults.is_shut_gate_fault}
 use Rattle.napt_rules.specs.{Prelude.{Arrival}, declared.Outcome.Outcome}
 use Rattle.napt_run.specs.{Captures.{failed_readings, failed_writings}, Runs.{IfHeld, IsToldOf, passed_if}}
 use Rattle.napt_run.specs.Streams.{DeviceGetsFrom, Explains, GetsReport, HasAll, HasPart, HasRead, HasText, IsOfRun, IsReading, IsReportFault, IsSettledBy, IsStopFault, LeavesInTheEnd, ReportGetsFrom, Reports, ReportsAll, Streams, stream_ended}
@@ -65,11 +65,11 @@ explains_ends inside outside = at_end (λ told result. IfErr told (Explains insi
     (λ totals p. IfHeld-all (λ all. Unit {0}) inside outside (λ all. tt)) (λ fault p. p)
 
 pub gate_of : (open_gate : Bool) (fault : Fault) → open_gate ≡ true → IsStopFault open_gate fault →
-    tells_shut_gate fault ≡ false
+    is_shut_gate_fault fault ≡ false
 gate_of open_gate fault is p = grind (arith, common_steps, nat_tests)
 
 pub gate_ends : (open_gate : Bool) (told : Result Totals Fault) (result : Result (Unit {0}) Fault) → Ends told result →
-    IfErr told (IsStopFault open_gate) → open_gate ≡ true → IfErr result (λ fault. tells_shut_gate fault ≡ false)
+    IfErr told (IsStopFault open_gate) → open_gate ≡ true → IfErr result (λ fault. is_shut_gate_fault fault ≡ false)
 gate_ends open_gate told result ends stop is = grind (arith, common_steps, nat_tests, at_end, gate_of)
 
 pub few_ends : (open_gate : Bool) (told : Result Totals Fault) (result : Result (Unit {0}) Fault) → Ends told result →
@@ -143,7 +143,8 @@ module _ (told : Result Totals Fault) (result : Result (Unit {0}) Fault) (ends :
   settled_by holds settled = holds (settled_ends told result ends settled)
 
   module _ {D : Type 0} (S : Ghosts D) (origin : OriginModel) (inside outside : Option (List ℕ)) (old new : D) where
-    device_by : (which : Which) → (Streams origin which (stream_ended told) inside outside (S.contents old) (S.contents new) →
+    device_by : (which : Which) → (Streams origin which (stream_ended told) inside outside (S.contents old)
+        (S.contents new) →
         Streams origin which (stream_ended result) inside outside (S.contents old) (S.contents new)) →
         ((¬ IsOfRun result) → failed_writings which (stream_ended told) ≡ failed_writings which (stream_ended result)) →
         DeviceGetsFrom S origin which inside outside told old new →
@@ -259,7 +260,8 @@ pub ended_passed : (told : Result Totals Fault) (written : Result (Unit {0}) Fau
     result ≡ passed_if told written → stream_ended result ≡ result_and told written
 ended_passed told written result is = grind (arith, common_steps, nat_tests)
 
-pub err_ended : {T : Type 0} (result : Result T Fault) (P : Fault → Type 0) → IfErr (stream_ended result) P → IfErr result P
+pub err_ended : {T : Type 0} (result : Result T Fault) (P : Fault → Type 0) → IfErr (stream_ended result) P →
+    IfErr result P
 err_ended result P p = grind (arith, common_steps, nat_tests)
 
 pub left_if : (origin : OriginModel) (inside outside : Option (List ℕ)) (told : Result Totals Fault)

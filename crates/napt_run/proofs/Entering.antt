@@ -27,6 +27,7 @@ module _ {L : Type 0} {S : Ghosts L} (from : LoggedOrigin) (before : List Trace)
   pub enter_written : (trace : Trace) (mid : RunningLog L S) (output : Output L S) (text bytes : List ℕ) →
       LogIsAt from before old → EntersWith from before trace old mid text → bytes ≡ text →
       OutputGrows mid.output bytes output →
-      LogGoesOnFrom from (before ++ trace ∷ []) (rows_in from before (trace ∷ [])) old.output (record mid { output = output })
+      LogGoesOnFrom from (before ++ trace ∷ []) (rows_in from before (trace ∷ [])) old.output
+      (record mid { output = output })
   enter_written trace mid output text bytes at s same p =
       grind (arith, common_steps, nat_tests, ℕ, length-append, append-nil)

@@ -14,7 +14,8 @@ use Rattle.napt_run.specs.{OutputSinks.{AreTimes, TimedOutcomes, records_text}, 
 -- TEXTS
 
 records_same : (side : Side) (inputs : List Arrival) (outcomes : List Outcome) →
-    filter_map (λ (t : TimedOutcomes). record_at t.0 (packet_to side t.1)) (timed_results inputs outcomes) ≡ records_to side inputs
+    filter_map (λ (t : TimedOutcomes). record_at t.0 (packet_to side t.1)) (timed_results inputs outcomes)
+    ≡ records_to side inputs
     outcomes
 records_same side [] outcomes = refl
 records_same side (input ∷ inputs) [] = refl
@@ -72,7 +73,8 @@ left_long origin inputs = timed_long inputs (ran_by origin inputs).outcomes (as_
 
 -- FRONTS
 
-timed_append : (xs ys : List Arrival) (os ps : List Outcome) → length os ≡ length xs → timed_results (xs ++ ys) (os ++ ps)
+timed_append : (xs ys : List Arrival) (os ps : List Outcome) → length os ≡ length xs →
+    timed_results (xs ++ ys) (os ++ ps)
     ≡ timed_results xs os ++ timed_results ys ps
 timed_append [] ys [] ps same = refl
 timed_append [] ys (o ∷ os) ps same = absurd (omega (arith, same))
@@ -106,13 +108,15 @@ pub record Front (origin : OriginModel) (inputs : List Arrival) (went : List Tim
   pub whole : inputs ≡ first ++ later
   pub went_is : went ≡ run_left_of origin first
 
-pub front_of : (origin : OriginModel) (inputs : List Arrival) (went : List TimedOutcomes) → IsFrontOf went (run_left_of origin inputs) →
+pub front_of : (origin : OriginModel) (inputs : List Arrival) (went : List TimedOutcomes) →
+    IsFrontOf went (run_left_of origin inputs) →
     Front origin inputs went
 front_of origin inputs went (rest, is) =
     let first : List Arrival = take (length went) inputs in
     let later : List Arrival = drop (length went) inputs in
     let whole : first ++ later ≡ inputs = take-append-drop (length went) inputs in
-    let long : length (went ++ rest) ≡ length inputs = ap (λ (l : List TimedOutcomes). length l) is ∙ left_long origin inputs in
+    let long : length (went ++ rest) ≡ length inputs = ap (λ (l : List TimedOutcomes). length l) is
+    ∙ left_long origin inputs in
     let fits : length went ≤ length inputs = omega (arith, long, length-append went rest) in
     let (more, split) = left_front origin first later in
     let ends : went ++ rest ≡ run_left_of origin first ++ more = is ∙ ap (run_left_of origin) (sym whole) ∙ split in

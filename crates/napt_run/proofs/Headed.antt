@@ -18,7 +18,8 @@ none_held inside outside = grind (arith, common_steps, nat_tests, IfHeld-by)
 -- an output whose header was written before
 left_behind : {D : Type 0} {S : Ghosts D} (origin : OriginModel) (inside outside : Option (List ℕ)) (side : Side)
     (old mid new : Output D S) → OutputGrows old file_header mid → (inputs : List Arrival) →
-    IfHeld inside outside (λ all. IsFrontOf inputs all.arrivals) → OutputGrows mid (text_behind [] origin side inputs) new
+    IfHeld inside outside (λ all. IsFrontOf inputs all.arrivals) →
+    OutputGrows mid (text_behind [] origin side inputs) new
     ⊎ ((fault : WriteFault) × (broke : Breaks mid (text_behind [] origin side inputs) fault new) × (0 ≤ broke.count)) →
     IsLeft origin inside outside file_header side old new
 left_behind origin inside outside side old mid new begun inputs front (inl grown) = record {
@@ -82,7 +83,8 @@ module _ {W V : Type 0} {S : Ghosts W} {T : Ghosts V} (open_gate : Bool) (origin
       broke = breaks_more old.to_inside mid.to_inside new.to_inside _ _ fault begins.to_inside p.broke;
     }
 
-    halts : RunHalts open_gate origin inside outside [] mid new → RunHalts open_gate origin inside outside file_header old new
+    halts : RunHalts open_gate origin inside outside [] mid new →
+        RunHalts open_gate origin inside outside file_header old new
     halts p = record {
       to_outside = left_behind origin inside outside sides.Outside old.to_outside mid.to_outside new.to_outside
           begins.to_outside p.to_outside.inputs p.to_outside.front_of_all p.to_outside.left;

@@ -34,7 +34,8 @@ module _ {W V : Type 0} {S : Ghosts W} {T : Ghosts V} (time : ℕ) (packet : Lis
       Breaks old.to_outside (record_text (entry_of_packet time packet)) fault output)) →
       Counted old.counts (ToOutside packet) counts →
       MatchResult (named Outside r) (λ _. SinkTakes old ((time, ToOutside packet) ∷ [])
-      (record old { to_outside = output; counts = counts })) (λ fault. SinkFails old ((time, ToOutside packet) ∷ []) fault
+      (record old { to_outside = output; counts = counts }))
+      (λ fault. SinkFails old ((time, ToOutside packet) ∷ []) fault
       (record old { to_outside = output; counts = counts }))
   leaves_outside output counts r ok err counted =
       grind (arith, common_steps, nat_tests, grows_one, time_of_one, fewer, breaks_one)

@@ -9,8 +9,8 @@ use Rattle.napt_log_text.specs.{Logs.{LogOrigin, LogsBeginAnew, first_text, log_
 use Rattle.napt_account.specs.TrackedLogs.{KnownTraces}
 use Rattle.napt_capture.specs.declared.device.Sink.{Ghosts}
 use Rattle.napt_run.specs.LogOrigins.{IsTakenAs, LogTexts, LoggedOrigin, ending, text_so_far, texts_anew, texts_from, texts_of, whole_text}
-use Rattle.napt_run.specs.{Origins.{OriginModel, initial_origin, origin_of, resumed_origin}, RunningLogs.{IsReady, running_log_of}, declared.{start.RunOrigin.RunOrigin, running_log.RunningLog.RunningLog}}
-use Rattle.napt_run.specs.declared.log_start.{LogOriginStart.LogOriginStart, TakenLog.TakenLog}
+use Rattle.napt_run.specs.{Origins.{OriginModel, initial_origin, origin_of, resumed_origin}, RunningLogs.{IsReady, running_log_of}, declared.{start.Start.Start, running_log.RunningLog.RunningLog}}
+use Rattle.napt_run.specs.declared.log_start.{LogStart.LogStart, TakenLog.TakenLog}
 
 -- THERE IS ONE
 
@@ -124,7 +124,8 @@ pub texts_go_on : (origin : OriginModel) (log : LogOrigin) (each : Option ℕ) (
 unfolding text_so_far whole_text ending log_so_far_from log_text_from rows_from
 texts_go_on origin log each goes_on = refl
 
-same_origin : (origin : OriginModel) (a b : TimeText) (log other : LogStateModel) (each same : Option ℕ) (goes_on also : Bool) →
+same_origin : (origin : OriginModel) (a b : TimeText) (log other : LogStateModel) (each same : Option ℕ)
+    (goes_on also : Bool) →
     a ≡ b → log ≡ other → each ≡ same → goes_on ≡ also → (let f : LoggedOrigin = record {
       origin = origin;
       opening = a;
@@ -134,7 +135,7 @@ same_origin : (origin : OriginModel) (a b : TimeText) (log other : LogStateModel
     } in f) ≡ record { origin = origin; opening = b; log = other; each = same; goes_on = also }
 same_origin origin a b log other each same goes_on also text kept pieces goes = cc
 
-module _ {L : Type 0} {S : Ghosts L} (start : RunOrigin) (log_start : LogOriginStart) (taken : TakenLog)
+module _ {L : Type 0} {S : Ghosts L} (start : Start) (log_start : LogStart) (taken : TakenLog)
     (is_taken : IsTakenAs start log_start taken) where
   log_of : (it : RunningLog L S) → it.log ≡ taken.log → it.log.begun.log ≡ is_taken.log
   log_of it is = ap (λ (k : KnownTraces). k.begun.log) (is ∙ is_taken.known)
@@ -174,7 +175,8 @@ module _ {L : Type 0} {S : Ghosts L} (start : RunOrigin) (log_start : LogOriginS
   texts_taken log told also it is opens each goes =
       let once = taken_once start.config.now (origin_of start).state log_start.kept.now is_taken.log is_taken.told log
       told is_taken.is also in
-      let origin : LogStateModel → LogDelta → LogOrigin = λ l t. record { log = l; told = t; is_new = log_start.is_new } in
+      let origin : LogStateModel → LogDelta → LogOrigin =
+      λ l t. record { log = l; told = t; is_new = log_start.is_new } in
       let opening : string_bytes it.opening ≡ first_text start.config.now (origin log told) =
       opens ∙ (is_taken.opening ∙ ap₂ (λ (l : LogStateModel) (t : LogDelta). first_text start.config.now (origin l t))
       once.log_is once.told_is) in

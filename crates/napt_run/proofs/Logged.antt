@@ -72,7 +72,8 @@ module _ {L : Type 0} {S : Ghosts L} (from : LoggedOrigin) (inside outside : Opt
   Held Holds = IfHeld inside outside Holds
 
   bytes_of : (inputs : List Arrival) (count : ℕ) → count ≤ length (text_so_far from inputs) →
-      Appends Before After (take count (text_so_far from inputs)) → (all : MergedInputs) → IsFrontOf inputs all.arrivals →
+      Appends Before After (take count (text_so_far from inputs)) → (all : MergedInputs) →
+      IsFrontOf inputs all.arrivals →
       HasBytes (texts_of from) count all Before After
   bytes_of inputs count within appended all front = grind (arith, common_steps, nat_tests, cut_within, cut_is)
 
@@ -220,7 +221,8 @@ module _ {L : Type 0} {S : Ghosts L} (from : LoggedOrigin) (laws : AreLaws from.
       OutputGrows old.output (text_so_far from inputs) after.output
   wrote inputs enters = grew inputs (entered inputs enters).wrote
 
-  failed_over : (inputs : List Arrival) (fault : LogRunFault) → LogFails mid (told_traces from.origin inputs) fault after →
+  failed_over : (inputs : List Arrival) (fault : LogRunFault) →
+      LogFails mid (told_traces from.origin inputs) fault after →
       FailsBy from [] (traces_by from.origin inputs) fault mid after
   failed_over inputs fault fails = subst (λ (ts : List Trace). FailsBy from [] ts fault mid after)
       (traces_told from.origin inputs) (fails from [] begun.at)

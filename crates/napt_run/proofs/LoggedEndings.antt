@@ -110,7 +110,8 @@ module _ (texts : LogTexts) (inside outside : Option (List ℕ)) (old new : Opti
   logs_of (Err fault) written report p = same_logs fault p
 
 module _ (old new : ℕ) where
-  report_counts : (fault : Fault) → IsReportFault fault → new ≡ old → StreamsCountFailures {T = Unit {0}} (Err (Run fault)) old new
+  report_counts : (fault : Fault) → IsReportFault fault → new ≡ old →
+      StreamsCountFailures {T = Unit {0}} (Err (Run fault)) old new
   report_counts fault report p = grind (arith, common_steps, nat_tests)
 
   same_counts : (fault : LogRunFault) → StreamsCountFailures {T = Totals} (Err fault) old new →
@@ -181,6 +182,7 @@ unbegun_log S texts inside outside log = record {
 }
 
 -- and the report either
-pub unbegun_report : {U : Type 0} (S : Ghosts U) (origin : OriginModel) (inside outside : Option (List ℕ)) (report : U) →
+pub unbegun_report : {U : Type 0} (S : Ghosts U) (origin : OriginModel) (inside outside : Option (List ℕ))
+    (report : U) →
     ReportGetsFrom S origin inside outside (Err (faults.Run reasons.Memory)) report report
 unbegun_report S origin inside outside report = grind (arith, common_steps, nat_tests, IfHeld-all)

@@ -75,13 +75,15 @@ module _ {W V : Type 0} {S : Ghosts W} {T : Ghosts V} (origin : OriginModel) (in
 -- WHAT IS MADE OF IT
 
 -- a capture that was kept in memory, once it is taken out of its device
-pub kept_text : (origin : OriginModel) (side : Side) (inputs arrivals : List Arrival) (none last kept : List ℕ) → none ≡ [] →
+pub kept_text : (origin : OriginModel) (side : Side) (inputs arrivals : List Arrival) (none last kept : List ℕ) →
+    none ≡ [] →
     inputs ≡ arrivals → kept ≡ last → last ≡ none ++ capture_text origin side inputs →
     kept ≡ capture_text origin side arrivals
 kept_text origin side inputs arrivals none last kept empty are taken appended =
     grind (arith, common_steps, nat_tests, ℕ)
 
-pub told_report : (origin : OriginModel) (inputs arrivals : List Arrival) (tally : RunTally) (counts : OutcomeCounts) (rows : List Row)
+pub told_report : (origin : OriginModel) (inputs arrivals : List Arrival) (tally : RunTally) (counts : OutcomeCounts)
+    (rows : List Row)
     (cut_inside cut_outside : Bool) (told : List ℕ) → inputs ≡ arrivals → IsTallyOf origin inputs tally →
     counts ≡ tally.counts → rows ≡ tally.passed.bindings.items → ((outcomes : List Outcome) →
     AreCountsOf outcomes counts →

@@ -27,7 +27,8 @@ read_known (Some bytes) None result p = absurd p
 read_known (Some bytes) (Some left) result p = p.is
 
 pub unread : (side : Side) (old new : Option (List ℕ)) (fault : CaptureFault)
-    → IsReadResult {T = CaptureModel} (Err fault) (LeavesBytes old new (ReadCapturePost (Err fault))) → IsForRecords old fault →
+    → IsReadResult {T = CaptureModel} (Err fault) (LeavesBytes old new (ReadCapturePost (Err fault))) →
+    IsForRecords old fault →
     CaptureIsUnread side old (Capture side fault)
 unread side old new fault p memory = grind (arith, common_steps, nat_tests, StopsBy-says, read_known)
 
@@ -42,7 +43,8 @@ many_texts : (origin : OriginModel) (captures : CaptureFiles) → AreTooMany cap
     ≡ Err (Run TooMany)
 many_texts origin captures many = grind (arith, common_steps, nat_tests, le-leb)
 
-pub few_texts : (origin : OriginModel) (captures : CaptureFiles) → (AreTooMany captures → ⊥) → texts_by origin (Ok captures)
+pub few_texts : (origin : OriginModel) (captures : CaptureFiles) → (AreTooMany captures → ⊥) →
+    texts_by origin (Ok captures)
     ≡ Ok (texts_made origin captures)
 few_texts origin captures few = grind (arith, common_steps, nat_tests, lt-leb, lt_of_not-le)
 
@@ -59,7 +61,8 @@ abbrev pub AreMade : OriginModel → Option (List ℕ) → Option (List ℕ) →
 AreMade origin inside outside captures =
     IfKnown inside outside (λ bytes others. texts_from origin bytes others ≡ Ok (texts_made origin captures))
 
-pub texts_known : {X : Type 0} (x : X) (origin : OriginModel) (inside outside : Option (List ℕ)) (captures : CaptureFiles)
+pub texts_known : {X : Type 0} (x : X) (origin : OriginModel) (inside outside : Option (List ℕ))
+    (captures : CaptureFiles)
     → IsReadFrom inside captures.inside → IsReadFrom outside captures.outside
     → (AreTooMany captures → ◌≡◌ {A = Result X RunFault} (Ok x) (Err TooMany)) → AreMade origin inside outside captures
 texts_known x origin inside outside captures first second few =
@@ -100,11 +103,13 @@ outside_by origin (Some bytes) (Some others) contents (Capture sides.Inside faul
 outside_by origin (Some bytes) (Some others) contents (Run fault) first p = absurd p
 outside_by origin (Some bytes) (Some others) contents (Write which fault) first p = absurd p
 
-run_answer : (origin : OriginModel) (captures : CaptureFiles) (fault : RunFault) → (fault ≡ TooMany → AreTooMany captures) →
+run_answer : (origin : OriginModel) (captures : CaptureFiles) (fault : RunFault) →
+    (fault ≡ TooMany → AreTooMany captures) →
     (AreTooMany captures → fault ≡ TooMany) → Answers (texts_by origin (Ok captures)) (Err (Run fault))
 run_answer origin captures fault many only = grind (arith, common_steps, nat_tests, many_texts, few_texts)
 
-answers_run : {X : Type 0} (origin : OriginModel) (inside outside : Option (List ℕ)) (captures : CaptureFiles) (fault : RunFault)
+answers_run : {X : Type 0} (origin : OriginModel) (inside outside : Option (List ℕ)) (captures : CaptureFiles)
+    (fault : RunFault)
     → IsReadFrom inside captures.inside → IsReadFrom outside captures.outside
     → (◌≡◌ {A = Result X RunFault} (Err fault) (Err TooMany) → AreTooMany captures)
     → (AreTooMany captures → ◌≡◌ {A = Result X RunFault} (Err fault) (Err TooMany))
@@ -132,15 +137,18 @@ pub answered_inside : (origin : OriginModel) (inside outside : Option (List ℕ)
     CaptureIsUnread sides.Inside inside fault → Answered origin inside outside (Err fault)
 answered_inside origin inside outside fault p = grind (arith, common_steps, nat_tests, answers_inside, explains_inside)
 
-pub answered_outside : (origin : OriginModel) (inside outside : Option (List ℕ)) (contents : CaptureModel) (fault : Fault) →
-    IsReadFrom inside contents → CaptureIsUnread sides.Outside outside fault → Answered origin inside outside (Err fault)
+pub answered_outside : (origin : OriginModel) (inside outside : Option (List ℕ)) (contents : CaptureModel)
+    (fault : Fault) →
+    IsReadFrom inside contents → CaptureIsUnread sides.Outside outside fault →
+    Answered origin inside outside (Err fault)
 answered_outside origin inside outside contents fault first p = record {
   answer = outside_by origin inside outside contents fault first p;
   fault = explains_outside inside outside contents fault first p;
 }
 
 pub answered_run : {X : Type 0} (origin : OriginModel) (inside outside : Option (List ℕ))
-    (captures : CaptureFiles) (fault : RunFault) → IsReadFrom inside captures.inside → IsReadFrom outside captures.outside
+    (captures : CaptureFiles) (fault : RunFault) → IsReadFrom inside captures.inside →
+    IsReadFrom outside captures.outside
     → (◌≡◌ {A = Result X RunFault} (Err fault) (Err TooMany) → AreTooMany captures)
     → (AreTooMany captures → ◌≡◌ {A = Result X RunFault} (Err fault) (Err TooMany))
     → Answered origin inside outside (Err (Run fault))

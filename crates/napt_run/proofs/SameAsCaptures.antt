@@ -22,18 +22,20 @@ contents_are : (records : List RecordModel) (end : Result Bool CaptureFault) (co
     → (let held : CaptureReading = record { records = records; end = end } in held ≡ held_as contents)
 contents_are records end contents is = grind (arith, common_steps, nat_tests)
 
-held_is : (bytes : List ℕ) (contents : CaptureModel) → read_whole bytes ≡ Ok contents → capture_of_bytes bytes ≡ held_as contents
+held_is : (bytes : List ℕ) (contents : CaptureModel) → read_whole bytes ≡ Ok contents →
+    capture_of_bytes bytes ≡ held_as contents
 held_is bytes contents is = elim (cases_Bool (nat_lt MOST_ASKED (bytes_asked bytes))) [
   | inl large ↦ let never = rw large at is in absurd cc
   | inr few ↦ contents_are (capture_of_bytes bytes).records (capture_of_bytes bytes).end contents (rw few at is)
 ]
 
 -- the captures of which the texts are
-record OfCaptures (origin : OriginModel) (inside outside : Result CaptureModel CaptureFault) (all : RunTexts) : Type 0 where
-  captures : CaptureFiles
-  inside_is : inside ≡ Ok captures.inside
-  outside_is : outside ≡ Ok captures.outside
-  all_is : texts_made origin captures ≡ all
+record OfCaptures (origin : OriginModel) (inside outside : Result CaptureModel CaptureFault) (all : RunTexts) : Type 0
+  where
+    captures : CaptureFiles
+    inside_is : inside ≡ Ok captures.inside
+    outside_is : outside ≡ Ok captures.outside
+    all_is : texts_made origin captures ≡ all
 
 few_texts : (origin : OriginModel) (captures : CaptureFiles) (all : RunTexts) → texts_by origin (Ok captures) ≡ Ok all →
     texts_made origin captures ≡ all

@@ -81,7 +81,8 @@ module _ {W V : Type 0} {S : Ghosts W} {T : Ghosts V} (open_gate : Bool) (origin
 -- by what it was before and after
 record At {D : Type 0} {S : Ghosts D} (origin : OriginModel) (which : Which) (inside outside : Option (List ℕ))
     (result : Result Totals Fault) (old new : Output D S) : Type 0 where
-  gets : Streams origin which (stream_ended result) inside outside (S.contents old.device.now) (S.contents new.device.now)
+  gets : Streams origin which (stream_ended result) inside outside (S.contents old.device.now)
+      (S.contents new.device.now)
   same : new.device.ghost_name ≡ old.device.ghost_name
   counted : (¬ IsOfRun result) → Counted old new (failed_writings which (stream_ended result))
   settled : IsSettledBy (stream_ended result) → S.is_flushed new.device.now
@@ -122,7 +123,8 @@ module _ {D : Type 0} {S : Ghosts D} (origin : OriginModel) (which : Which) (ins
   has_front inputs fault none front broke = grind (arith, common_steps, nat_tests, IfHeld-map, broken_text)
 
   -- the run itself failed
-  has_part : (inputs : List Arrival) (fault : WriteFault) → IfHeld inside outside (λ all. IsFrontOf inputs all.arrivals) →
+  has_part : (inputs : List Arrival) (fault : WriteFault) →
+      IfHeld inside outside (λ all. IsFrontOf inputs all.arrivals) →
       (broke : Breaks old (text_behind file_header origin (side_of which) inputs) fault new) →
       length file_header ≤ broke.count →
       IfHeld inside outside (λ all. HasPart origin which all (S.contents old.device.now) (S.contents new.device.now))

@@ -66,7 +66,8 @@ pub record NextInput (origin : OriginModel) (inputs : List Arrival) (first : Lis
   pub first_is : first ≡ traces_by origin before
   pub grown : traces_by origin (before ++ input ∷ []) ≡ traces_by origin before ++ next ∷ []
 
-pub next_input : (origin : OriginModel) (inputs : List Arrival) (first : List Trace) (next : Trace) (others : List Trace) →
+pub next_input : (origin : OriginModel) (inputs : List Arrival) (first : List Trace) (next : Trace)
+    (others : List Trace) →
     traces_by origin inputs ≡ first ++ (next ∷ others) → NextInput origin inputs first next
 next_input origin inputs first next others is =
     let came : (first ++ next ∷ []) ++ others ≡ map (λ t. t) (traces_by origin inputs) =

@@ -79,9 +79,11 @@ module _ {R Q W V : Type 0} {G : source.Ghosts R} {H : source.Ghosts Q} {S : sin
   abbrev pub PassesOr : Result Totals Fault → Type 0
   PassesOr (Ok totals) = PassesAll totals
   PassesOr (Err (Capture side fault)) =
-      RunPassesTo origin HandsOutInputs MergeEndsWith from before left after (Some (record { side = side; fault = fault }))
+      RunPassesTo origin HandsOutInputs MergeEndsWith from before left after
+      (Some (record { side = side; fault = fault }))
   PassesOr (Err (Write which fault)) =
-      RunPassesEarly origin HandsOutInputs MergeEndsWith from before left after (record { which = which; fault = fault })
+      RunPassesEarly origin HandsOutInputs MergeEndsWith from before left after
+      (record { which = which; fault = fault })
   PassesOr (Err (Run fault)) =
       IsFaultUnder open_gate fault × RunPassesHalted origin HandsOutInputs MergeEndsWith from before left after
 

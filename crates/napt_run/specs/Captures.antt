@@ -98,13 +98,15 @@ abbrev pub IfKnown : Option (List ℕ) → Option (List ℕ) → (List ℕ → L
 IfKnown inside outside Holds = IfSome inside (λ bytes. IfSome outside (λ others. Holds bytes others))
 
 -- it got this share of its text
-abbrev pub GetsFrom : OriginModel → Which → OutputShare → Option (List ℕ) → Option (List ℕ) → Option (List ℕ) → Option (List ℕ) →
+abbrev pub GetsFrom : OriginModel → Which → OutputShare → Option (List ℕ) → Option (List ℕ) → Option (List ℕ) →
+    Option (List ℕ) →
     Type 0
 GetsFrom origin which nothing inside outside old new = new ≡ old
 GetsFrom origin which share inside outside old new = IfKnown inside outside (λ bytes others.
     IsOkAnd (texts_from origin bytes others) (λ all. OutputReceives share (text_to which all) old new))
 
-abbrev pub Gets : Rules → Which → OutputShare → Option (List ℕ) → Option (List ℕ) → Option (List ℕ) → Option (List ℕ) → Type 0
+abbrev pub Gets : Rules → Which → OutputShare → Option (List ℕ) → Option (List ℕ) → Option (List ℕ) →
+    Option (List ℕ) → Type 0
 Gets rules which share inside outside old new = GetsFrom (initial_origin rules) which share inside outside old new
 
 -- what is returned gives the state that the run leaves
@@ -136,7 +138,8 @@ IsReadable known = IfSome known (λ bytes. IsOk (read_whole bytes))
 
 -- it reads as its fault, unless the device failed, or memory, which is taken for records alone
 abbrev pub IsFaultIn : Option (List ℕ) → CaptureFault → Type 0
-IsFaultIn known fault = IsReadFault fault (IfSome known (λ bytes. read_whole bytes ≡ Err fault)) × IsForRecords known fault
+IsFaultIn known fault = IsReadFault fault (IfSome known (λ bytes. read_whole bytes ≡ Err fault)) ×
+    IsForRecords known fault
 
 abbrev pub Explains : Option (List ℕ) → Option (List ℕ) → Fault → Type 0
 Explains inside outside (Capture sides.Inside fault) = IsFaultIn inside fault

@@ -15,4 +15,5 @@ unless_refused side bytes inputs = unless_bad side (format_in (take 24 bytes)) i
 -- what is handed out of two files: both headers are read first, that of the inside capture before the other
 abbrev pub files_until : List ℕ → List ℕ → MergedInputs
 files_until inside outside =
-    unless_refused Inside inside (unless_refused Outside outside (inputs_until (capture_of_bytes inside) (capture_of_bytes outside)))
+    unless_refused Inside inside (unless_refused Outside outside
+    (inputs_until (capture_of_bytes inside) (capture_of_bytes outside)))

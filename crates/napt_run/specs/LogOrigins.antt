@@ -4,7 +4,7 @@ use Rattle.napt_config.specs.Rules.{Rules}
 use Rattle.napt_account.specs.{ResumedLogRuns.{LogStateModel, IsLogOf, IsTakenUp, living_from}, LogParts.LogDelta, TraceLogs.LogBeginning}
 use Rattle.napt_log_text.specs.{Logs.{LogOrigin, first_text, living_rows, log_so_far, log_so_far_from, log_text, log_text_from, rows_from}, Times.TimeText}
 use Rattle.napt_rules.specs.Prelude.{Arrival, with_redirects}
-use Rattle.napt_run.specs.{Origins.{OriginModel, origin_of}, declared.{start.RunOrigin.RunOrigin, log_start.{LogOriginStart.LogOriginStart, TakenLog.TakenLog}}}
+use Rattle.napt_run.specs.{Origins.{OriginModel, origin_of}, declared.{start.Start.Start, log_start.{LogStart.LogStart, TakenLog.TakenLog}}}
 
 -- the text of a log once these inputs came, and at the end of the run over them
 pub record LogTexts : Type 0 where
@@ -16,13 +16,13 @@ abbrev pub texts_anew : Rules → LogTexts
 texts_anew rules = record { so_far = log_so_far rules; whole = log_text rules }
 
 -- this holds of the log and what it tells first, however it is taken up
-abbrev pub IfTakenUp : RunOrigin → LogOriginStart → (LogOrigin → Type 0) → Type 0
+abbrev pub IfTakenUp : Start → LogStart → (LogOrigin → Type 0) → Type 0
 IfTakenUp start log_start Holds = (log : LogStateModel) (told : LogDelta) →
     IsTakenUp start.config.now (with_redirects start.config.now start.state.now) log_start.kept.now log told →
     Holds (record { log = log; told = told; is_new = log_start.is_new })
 
 -- of a run that goes on from there
-abbrev pub texts_from : RunOrigin → LogOriginStart → LogOrigin → LogTexts
+abbrev pub texts_from : Start → LogStart → LogOrigin → LogTexts
 texts_from start log_start log =
     let origin : OriginModel = origin_of start in
     let each : Option ℕ = option_map non_zero_u32_get log_start.each in
@@ -34,7 +34,7 @@ texts_from start log_start log =
 -- STEPS
 
 -- a log as it was taken up, and how its text begins
-pub record IsTakenAs (start : RunOrigin) (log_start : LogOriginStart) (taken : TakenLog) : Type 0 where
+pub record IsTakenAs (start : Start) (log_start : LogStart) (taken : TakenLog) : Type 0 where
   pub log : LogStateModel
   pub told : LogDelta
   pub is : IsTakenUp start.config.now (origin_of start).state log_start.kept.now log told

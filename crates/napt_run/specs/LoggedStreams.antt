@@ -6,7 +6,7 @@ use Rattle.napt_capture.specs.declared.{device.Sink.Ghosts, fault.CaptureFault.C
 use Rattle.napt_config.specs.Rules.{Rules}
 use Rattle.napt_laws.specs.Dispatching.{IsFrontOf}
 use Rattle.napt_account.specs.ResumedLogRuns.{LogStateModel, log_left}
-use Rattle.napt_records.specs.{RecordMerging.MergedInputs, declared.{Fault.Fault, Which.Which}, Faults.tells_shut_gate}
+use Rattle.napt_records.specs.{RecordMerging.MergedInputs, declared.{Fault.Fault, Which.Which}, Faults.is_shut_gate_fault}
 use Rattle.napt_records.specs.declared.Fault.TheVariants as faults
 use Rattle.napt_records.specs.declared.Which.TheVariants as outputs
 use Rattle.napt_rules.specs.Prelude.{Arrival}
@@ -61,7 +61,8 @@ abbrev pub HasPart : LogTexts → MergedInputs → Option (List ℕ) → Option 
 HasPart texts all old new = (count : ℕ) × HasBytes texts count all old new
 
 -- by the result of the run
-abbrev pub LogsOf : {T : Type 0} → LogTexts → Result T LogRunFault → MergedInputs → Option (List ℕ) → Option (List ℕ) → Type 0
+abbrev pub LogsOf : {T : Type 0} → LogTexts → Result T LogRunFault → MergedInputs → Option (List ℕ) →
+    Option (List ℕ) → Type 0
 LogsOf texts (Ok done) all old new = HasLog texts all old new
 LogsOf texts (Err (Log fault)) all old new = HasWritten texts fault.written all old new
 LogsOf texts (Err (Run (faults.Capture side fault))) all old new = HasRows texts side fault all old new
@@ -116,7 +117,7 @@ LoggedExplains inside outside (Run fault) = Explains inside outside fault
 
 -- a gate that is open is not told to be shut
 abbrev pub IsRunUnderOpenGate : LogRunFault → Type 0
-IsRunUnderOpenGate (Run fault) = tells_shut_gate fault ≡ false
+IsRunUnderOpenGate (Run fault) = is_shut_gate_fault fault ≡ false
 IsRunUnderOpenGate (Log fault) = Unit {0}
 
 -- STEPS

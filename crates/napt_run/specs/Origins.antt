@@ -3,7 +3,7 @@ use Rattle.std.specs.Prelude.{List}
 use Rattle.napt_config.specs.Rules.{Rules}
 use Rattle.napt_rules.specs.Prelude.{Arrival, RunResult, State, initial_state, next_state, run_result_from, with_redirects}
 use Rattle.napt_dispatch.specs.{RunsThrough.LeavesState, declared.workers.RunSummary.RunSummary}
-use Rattle.napt_run.specs.declared.start.RunOrigin.{RunOrigin}
+use Rattle.napt_run.specs.declared.start.Start.{Start}
 
 pub record OriginModel : Type 0 where
   pub rules : Rules
@@ -17,7 +17,7 @@ initial_origin rules = record { rules = rules; state = initial_state rules }
 abbrev pub resumed_origin : Rules → State → OriginModel
 resumed_origin rules state = record { rules = rules; state = with_redirects rules state }
 
-abbrev pub origin_of : RunOrigin → OriginModel
+abbrev pub origin_of : Start → OriginModel
 origin_of start = resumed_origin start.config.now start.state.now
 
 -- what a run over these inputs gives

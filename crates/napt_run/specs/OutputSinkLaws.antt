@@ -60,7 +60,8 @@ module _ {W : Type 0} {S : Ghosts W} where
 
 -- a fault behind what was written
 module _ {W : Type 0} {S : Ghosts W} where
-  unfoldable pub breaks_more : (x y z : Output W S) (first second : List ℕ) (fault : WriteFault) → OutputGrows x first y →
+  unfoldable pub breaks_more : (x y z : Output W S) (first second : List ℕ) (fault : WriteFault) →
+      OutputGrows x first y →
       Breaks y second fault z → Breaks x (first ++ second) fault z
   breaks_more x y z first second fault one two = record {
     same = two.same ∙ one.same;

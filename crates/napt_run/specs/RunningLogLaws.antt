@@ -9,7 +9,8 @@ use Rattle.napt_run.specs.{OutputSinkLaws.{breaks_more, grows_more, grows_none},
 use Rattle.napt_run.specs.{LogOrigins.{LoggedOrigin, begun_at}, RunningLogs.{Enters, LogFails, FailsBy, LogIsAt, rows_in, running_log_traces}, declared.logged_fault.LogRunFault.LogRunFault}
 use Rattle.napt_run.specs.declared.{logged_fault.LogRunFault.TheVariants.{Run, Log}, running_log.RunningLog.RunningLog}
 
-traces_join : (xs ys : List (Legs Passage)) → running_log_traces (xs ++ ys) ≡ running_log_traces xs ++ running_log_traces ys
+traces_join : (xs ys : List (Legs Passage)) → running_log_traces (xs ++ ys) ≡ running_log_traces xs
+    ++ running_log_traces ys
 traces_join xs ys =
     map-append (λ legs. let t : Trace = record { now = legs.0; first = legs.1; second = legs.2 } in t) xs ys
 
@@ -32,7 +33,8 @@ module _ {L : Type 0} {S : Ghosts L} where
       let first = one from before at in
       let second = two from (before ++ running_log_traces xs) first.at in
       record {
-        at = subst (λ (l : List Trace). LogIsAt from l z) (append_assoc before (running_log_traces xs) (running_log_traces ys)) second.at;
+        at = subst (λ (l : List Trace). LogIsAt from l z)
+            (append_assoc before (running_log_traces xs) (running_log_traces ys)) second.at;
         wrote = subst (λ (l : TimeText). OutputGrows x.output l z.output)
             (sym (rows_in-append from before (running_log_traces xs) (running_log_traces ys)))
             (grows_more x.output y.output z.output _ _ first.wrote second.wrote);
@@ -58,7 +60,8 @@ module _ {L : Type 0} {S : Ghosts L} where
   fails_by from before xs ys x y z (Run (faults.Write which fault)) one two = absurd two
 
   pub fails_more : (x y z : RunningLog L S) (xs ys : List (Legs Passage)) (fault : LogRunFault) →
-      Enters x (running_log_traces xs) y → LogFails y (running_log_traces ys) fault z → LogFails x (running_log_traces (xs ++ ys)) fault z
+      Enters x (running_log_traces xs) y → LogFails y (running_log_traces ys) fault z →
+      LogFails x (running_log_traces (xs ++ ys)) fault z
   fails_more x y z xs ys fault one two = subst (λ (ts : List Trace). LogFails x ts fault z) (sym (traces_join xs ys))
       (λ from before at.
       let first = one from before at in

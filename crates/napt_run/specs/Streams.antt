@@ -71,7 +71,8 @@ HasPart origin which all old new =
     × Appends old new (take count (capture_text origin (side_of which) inputs)))
 
 -- by the result of the run
-abbrev pub GetsOf : OriginModel → Which → Result (Unit {0}) Fault → MergedInputs → Option (List ℕ) → Option (List ℕ) → Type 0
+abbrev pub GetsOf : OriginModel → Which → Result (Unit {0}) Fault → MergedInputs → Option (List ℕ) → Option (List ℕ) →
+    Type 0
 GetsOf origin which (Ok done) all old new = HasAll origin which all old new
 GetsOf origin which (Err (Capture side fault)) all old new =
     (inputs : List Arrival) × AreTaken side fault all inputs
@@ -79,7 +80,8 @@ GetsOf origin which (Err (Capture side fault)) all old new =
 GetsOf origin which (Err (Write other fault)) all old new = HasWritten origin which other fault.written all old new
 GetsOf origin which (Err (Run fault)) all old new = HasText origin which all old new ⊎ HasPart origin which all old new
 
-abbrev pub Streams : OriginModel → Which → Result (Unit {0}) Fault → Option (List ℕ) → Option (List ℕ) → Option (List ℕ) →
+abbrev pub Streams : OriginModel → Which → Result (Unit {0}) Fault → Option (List ℕ) → Option (List ℕ) →
+    Option (List ℕ) →
     Option (List ℕ) → Type 0
 Streams origin which result inside outside old new =
     IfKnown inside outside (λ bytes others. GetsOf origin which result (files_until bytes others) old new)
@@ -93,7 +95,8 @@ GetsReport report (Err (Write Report fault)) old new =
     (fault.written ≤ length report) × Appends old new (take fault.written report)
 GetsReport report (Err other) old new = new ≡ old
 
-abbrev pub ReportsAll : OriginModel → Result (Unit {0}) Fault → MergedInputs → Option (List ℕ) → Option (List ℕ) → Type 0
+abbrev pub ReportsAll : OriginModel → Result (Unit {0}) Fault → MergedInputs → Option (List ℕ) → Option (List ℕ) →
+    Type 0
 ReportsAll origin result all old new =
     (cuts : CutFlags) × (all.end ≡ Ok cuts)
     × GetsReport (report_text cuts.inside cuts.outside (ran_by origin all.arrivals)) result old new
@@ -199,7 +202,8 @@ LeavesInTheEnd origin inside outside passed =
 -- STEPS
 
 -- the header of a capture of these bytes was read, and nothing else
-pub record IsBehindHeader {R : Type 0} (G : Ghosts R) (records : RecordReader) (bytes : Option (List ℕ)) (source : R) : Type
+pub record IsBehindHeader {R : Type 0} (G : Ghosts R) (records : RecordReader) (bytes : Option (List ℕ)) (source : R)
+    : Type
     0 where
   pub header : LeavesBytes bytes (G.remaining source)
       (λ bytes left. (format_in (take 24 bytes) ≡ Ok records.spelling) × (left ≡ drop 24 bytes))
@@ -209,7 +213,8 @@ pub record IsBehindHeader {R : Type 0} (G : Ghosts R) (records : RecordReader) (
 -- a fault of a side's capture, by its header
 abbrev pub IsHeaderFault : Side → Option (List ℕ) → Option (List ℕ) → Fault → Type 0
 IsHeaderFault side old new (Capture other fault) =
-    (other ≡ side) × (let answer : Result RecordReader CaptureFault = Err fault in IsReadResult answer (LeavesBytes old new
+    (other ≡ side) × (let answer : Result RecordReader CaptureFault = Err fault
+    in IsReadResult answer (LeavesBytes old new
     (λ bytes left. (format_in (take 24 bytes) ≡ Err fault) × (left ≡ drop 24 bytes))))
 IsHeaderFault side old new other = ⊥
 

@@ -6,7 +6,7 @@ ghost use Rattle.napt_run.specs.{LoggedOutputSinks.IsSameSinkPlace, LogRuns.as_r
 
 use crate::logged_output_sinks::{LeavingFault, LeavingWithLog};
 use crate::logging::{Logging, LoggingFault};
-use crate::start::{OriginSetting, RunOrigin};
+use crate::start::{OriginSetting, Start};
 use napt_capture::{Sink, Source};
 use napt_dispatch::{PassFault, RunSummary, run_through};
 use napt_pool::Gate;
@@ -46,7 +46,7 @@ impl<
             start,
             gate,
         } = self;
-        let RunOrigin { config, state } = start;
+        let Start { config, state } = start;
         run_through(rt, alloc, config, state, inputs, both, gate)
     }
 
@@ -58,7 +58,8 @@ impl<
     ) -> Result<Totals, LoggingFault<K::Fault>>
         ensures outputs { PassesOr G.is_open (origin_of self.entry.start) inputs.old
             both.old.leaving inputs.new both.new.leaving (as_run result) }
-        ensures log { EntersBy K.Told.tells (origin_of self.entry.start) HandsOutInputs MergeEndsWith K.enters
+        ensures log { EntersBy K.Told.tells (origin_of self.entry.start) HandsOutInputs
+            MergeEndsWith K.enters
             K.fails K.is_settled inputs.old both.old.log.now inputs.new both.new.log.now
             (passed_as result) }
         ensures same { IsSameSinkPlace both.old both.new }

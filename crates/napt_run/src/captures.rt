@@ -5,10 +5,10 @@ ghost use Rattle.napt_rules.specs.Prelude.{TakesState};
 ghost use Rattle.napt_run.specs.Captures.{Answers, AreOutputs, AreTooMany, Explains, Gets, GetsFrom, IfKnown, IsReadFrom, CaptureIsUnread, IsWriteFaultOf, OutputIsLeft, OutputReceives, failed_readings, failed_writings, output_to, share_of, texts, texts_from};
 ghost use Rattle.napt_run.specs.{Origins.origin_of, Streams.stream_ended};
 ghost use Rattle.napt_sequential.specs.Faults.{is_run_gate_fault};
-ghost use Rattle.napt_records.specs.Faults.{tells_shut_gate};
+ghost use Rattle.napt_records.specs.Faults.{is_shut_gate_fault};
 
 use crate::kept_texts::KeptTexts;
-use crate::start::{OriginSetting, RunOrigin, unbegun, without_state};
+use crate::start::{OriginSetting, Start, unbegun, without_state};
 use crate::whole_captures::RunTally;
 use napt_capture::{Capture, Sink, Source, Watched, read_capture, write_text};
 use napt_config::Config;
@@ -189,7 +189,7 @@ pub fn run_captures<
         (λ bytes others. Answers (texts config.now bytes others) result) }
     ensures fault { IfErr result
         (Explains (R.remaining inside.old) (Q.remaining outside.old)) }
-    ensures gate { G.is_open ≡ true → IfErr result (λ fault. tells_shut_gate fault ≡ false) }
+    ensures gate { G.is_open ≡ true → IfErr result (λ fault. is_shut_gate_fault fault ≡ false) }
     ensures inside_readings { R.failed inside.new
         ≡ R.failed inside.old + failed_readings Side.Inside result }
     ensures outside_readings { Q.failed outside.new
@@ -205,7 +205,7 @@ pub fn run_captures<
     ensures report_flushed { OnOk result (U.is_flushed report.new) }
 {
     let state = unbegun(alloc);
-    let start = RunOrigin {
+    let start = Start {
         config,
         state: &state,
     };
@@ -231,7 +231,7 @@ pub fn resume_captures<
 >(
     rt: &T,
     alloc: Global,
-    start: RunOrigin<'_>,
+    start: Start<'_>,
     inside: &mut R,
     outside: &mut Q,
     to_outside: &mut W,
@@ -246,21 +246,25 @@ pub fn resume_captures<
     requires to_inside { V.failed to_inside.old < 2 ^ 64 - 1 }
     requires report { U.failed report.old < 2 ^ 64 - 1 }
     ensures to_outside { GetsFrom (origin_of start.entry) Which.Outside
-        (share_of Which.Outside (stream_ended result)) (R.remaining inside.old) (Q.remaining outside.old)
+        (share_of Which.Outside (stream_ended result)) (R.remaining inside.old)
+        (Q.remaining outside.old)
         (W.contents to_outside.old) (W.contents to_outside.new) }
     ensures to_inside { GetsFrom (origin_of start.entry) Which.Inside
-        (share_of Which.Inside (stream_ended result)) (R.remaining inside.old) (Q.remaining outside.old)
+        (share_of Which.Inside (stream_ended result)) (R.remaining inside.old)
+        (Q.remaining outside.old)
         (V.contents to_inside.old) (V.contents to_inside.new) }
     ensures report { GetsFrom (origin_of start.entry) Which.Report
-        (share_of Which.Report (stream_ended result)) (R.remaining inside.old) (Q.remaining outside.old)
+        (share_of Which.Report (stream_ended result)) (R.remaining inside.old)
+        (Q.remaining outside.old)
         (U.contents report.old) (U.contents report.new) }
     ensures left { IfOk result
         (OutputIsLeft (origin_of start.entry) (R.remaining inside.old) (Q.remaining outside.old)) }
     ensures answer { IfKnown (R.remaining inside.old) (Q.remaining outside.old)
-        (λ bytes others. Answers (texts_from (origin_of start.entry) bytes others) (stream_ended result)) }
+        (λ bytes others. Answers (texts_from (origin_of start.entry) bytes others)
+        (stream_ended result)) }
     ensures fault { IfErr result
         (Explains (R.remaining inside.old) (Q.remaining outside.old)) }
-    ensures gate { G.is_open ≡ true → IfErr result (λ fault. tells_shut_gate fault ≡ false) }
+    ensures gate { G.is_open ≡ true → IfErr result (λ fault. is_shut_gate_fault fault ≡ false) }
     ensures inside_readings { R.failed inside.new
         ≡ R.failed inside.old + failed_readings Side.Inside result }
     ensures outside_readings { Q.failed outside.new

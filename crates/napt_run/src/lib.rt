@@ -29,7 +29,7 @@ mod whole_captures;
 
 pub use captures::{resume_captures, run_captures};
 pub use laws::streams_write_the_same;
-pub use log_start::{LogOriginStart, LoggedRunSummary};
+pub use log_start::{LogStart, LoggedRunSummary};
 pub use logged_fault::LogRunFault;
 pub use logged_streams::{resume_streams_with_log, run_streams_with_log};
 pub use napt_dispatch::{RunSummary, Worker, dispatch, run_workers};
@@ -41,5 +41,5 @@ pub use napt_sequential::{
     Input, NoTrace, Outcome, Run, RunFault, legs_are_local, places_stand_for_legs, right_answers,
     run_plain, runs_are_sound, runs_keep_the_quota, translators_are_local,
 };
-pub use start::RunOrigin;
+pub use start::Start;
 pub use streams::{resume_streams, run_streams};

@@ -6,7 +6,7 @@ ghost use Rattle.napt_account.specs.{ResumedLogRuns.{IsFew, filled, kept_at}, Re
 ghost use Rattle.napt_log_text.specs.Logs.{first_text};
 ghost use Rattle.napt_run.specs.LogOrigins.{IsTakenAs};
 
-use crate::start::RunOrigin;
+use crate::start::Start;
 use napt_account::{LogFromState, SavedLogState, TrackedLog, logs_go_on};
 use napt_dispatch::RunSummary;
 use napt_log_text::{add_first, add_opening};
@@ -15,7 +15,7 @@ use std::num::NonZeroU32;
 
 /// What the log of a run goes on from.
 #[derive(Clone, Copy)]
-pub struct LogOriginStart<'a> {
+pub struct LogStart<'a> {
     /// What was kept of it beside the state; without entries if the state was left without a log.
     pub kept: &'a SavedLogState,
     /// Whether its device has no text yet: then it begins with the header and a row for each binding that lives.
@@ -68,8 +68,8 @@ fn first_text(alloc: Global, resumed: &LogFromState<'_>, is_new: bool) -> Result
 /// Takes up the log of a run where its state is taken up. Fails only if memory is refused.
 pub(crate) fn take_up<'a>(
     alloc: Global,
-    start: RunOrigin<'a>,
-    log_start: LogOriginStart<'_>,
+    start: Start<'a>,
+    log_start: LogStart<'_>,
 ) -> Result<TakenLog<'a>, AllocError>
     requires few { IsFew log_start.kept.now }
     requires taken { TakesState start.config.now start.state.now }

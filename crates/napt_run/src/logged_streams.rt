@@ -7,13 +7,13 @@ ghost use Rattle.napt_run.specs.{LogOrigins.{IfTakenUp, texts_from, texts_of}, O
 ghost use Rattle.napt_run.specs.Streams.{HasRead, IsOfRun, LeavesInTheEnd, ReportGets, ReportGetsFrom};
 
 use crate::capture_run::Totals;
-use crate::log_start::{LogOriginStart, LoggedRunSummary, take_up};
+use crate::log_start::{LogStart, LoggedRunSummary, take_up};
 use crate::logged_fault::LogRunFault;
 use crate::logging::LoggingFault;
 use crate::output::Output;
 use crate::report_output::reported;
 use crate::running_log::RunningLog;
-use crate::start::{OriginSetting, RunOrigin, unbegun};
+use crate::start::{OriginSetting, Start, unbegun};
 use napt_account::{SavedLogState, traces_tell_the_log};
 use napt_capture::{Sink, Source};
 use napt_config::Config;
@@ -35,7 +35,7 @@ fn fault_of(halt: LoggingFault<LogRunFault>) -> LogRunFault
 }
 
 /// By the traces of its inputs a log of a state has their rows.
-fn log_laws(start: RunOrigin<'_>)
+fn log_laws(start: Start<'_>)
     requires { TakesState start.config.now start.state.now }
     ensures { (log : Kept) → IsLogOf start.entry.config.now (origin_of start.entry).state log →
         AreLaws (origin_of start.entry) log }
@@ -175,11 +175,11 @@ pub fn run_streams_with_log<
 {
     let state = unbegun(alloc);
     let kept = SavedLogState::none(alloc);
-    let start = RunOrigin {
+    let start = Start {
         config,
         state: &state,
     };
-    let log_start = LogOriginStart {
+    let log_start = LogStart {
         kept: &kept,
         is_new: true,
         each: None,
@@ -215,8 +215,8 @@ pub fn resume_streams_with_log<
 >(
     rt: &T,
     alloc: Global,
-    start: RunOrigin<'_>,
-    log_start: LogOriginStart<'_>,
+    start: Start<'_>,
+    log_start: LogStart<'_>,
     inside: &mut R,
     outside: &mut Q,
     to_outside: &mut W,
@@ -263,7 +263,7 @@ pub fn resume_streams_with_log<
         start,
         gate,
     };
-    let LogOriginStart { each, goes_on, .. } = log_start;
+    let LogStart { each, goes_on, .. } = log_start;
     let mut running = RunningLog::over(alloc, taken, each, goes_on, Output::over(log));
     let told = setting.stream_logged(inside, outside, to_outside, to_inside, &mut running);
     let left = running.take_left();

@@ -211,7 +211,8 @@ impl<L: Sink> Logging for RunningLog<'_, '_, L> {
     fn enter(&mut self, now: u64, first: Passage, second: Passage) -> Result<(), LogRunFault>
         ensures { MatchResult result
             (λ _. Enters self.old (running_log_traces ((now, first, second) ∷ [])) self.new)
-            (λ fault. LogFails self.old (running_log_traces ((now, first, second) ∷ [])) fault self.new) }
+            (λ fault. LogFails self.old (running_log_traces ((now, first, second) ∷ [])) fault
+            self.new) }
     {
         let text = self.rows(Trace { now, first, second })?;
         let rows = text.as_bytes();

@@ -13,7 +13,7 @@ use std::sync::Arc;
 
 /// A configuration, and the state from which a run goes on.
 #[derive(Clone, Copy)]
-pub struct RunOrigin<'a> {
+pub struct Start<'a> {
     pub config: &'a Config,
     /// Its redirects, and what has gone by its clock, count for nothing.
     pub state: &'a State,
@@ -24,7 +24,7 @@ pub struct RunOrigin<'a> {
 pub(crate) struct OriginSetting<'a, 'b, T, G> {
     pub(crate) rt: &'a T,
     pub(crate) alloc: Global,
-    pub(crate) start: RunOrigin<'b>,
+    pub(crate) start: Start<'b>,
     pub(crate) gate: Arc<G>,
     ghost is_taken: { TakesState start.config.now start.state.now },
 }

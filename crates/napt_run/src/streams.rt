@@ -1,14 +1,14 @@
 //! A run over captures as they arrive.
 ghost use Rattle.std.specs.Prelude.{◌≡◌, ◌≢◌, ◌-◌, ◌^◌, ◌<◌, IfErr, IfOk, Err, true, false};
 ghost use Rattle.napt_rules.specs.Prelude.{TakesState};
-ghost use Rattle.napt_records.specs.Faults.{tells_shut_gate};
+ghost use Rattle.napt_records.specs.Faults.{is_shut_gate_fault};
 ghost use Rattle.napt_run.specs.{LogRuns.as_run, Origins.origin_of, Runs.passed_if};
 ghost use Rattle.napt_run.specs.Streams.{DeviceGets, DeviceGetsFrom, Explains, HasRead, IsOfRun, LeavesInTheEnd, ReportGets, ReportGetsFrom, stream_ended};
 
 use crate::capture_run::Totals;
 use crate::logging::{LoggingFault, Unlogged};
 use crate::report_output::reported;
-use crate::start::{OriginSetting, RunOrigin, unbegun, without_state};
+use crate::start::{OriginSetting, Start, unbegun, without_state};
 use napt_capture::{Sink, Source};
 use napt_config::Config;
 use napt_dispatch::RunSummary;
@@ -89,13 +89,13 @@ pub fn run_streams<
     ensures fault { IfErr result
         (Explains (R.remaining inside.old) (Q.remaining outside.old)) }
     ensures too_many { result ≢ Err (Fault.Run RunFault.TooMany) }
-    ensures gate { G.is_open ≡ true → IfErr result (λ fault. tells_shut_gate fault ≡ false) }
+    ensures gate { G.is_open ≡ true → IfErr result (λ fault. is_shut_gate_fault fault ≡ false) }
     // Unless the run itself failed, the failed read is the reported one; a failed write may hide it.
     ensures readings { (¬ IsOfRun result) → HasRead R.failed Q.failed
         inside.old inside.new outside.old outside.new result }
 {
     let state = unbegun(alloc);
-    let start = RunOrigin {
+    let start = Start {
         config,
         state: &state,
     };
@@ -120,7 +120,7 @@ pub fn resume_streams<
 >(
     rt: &T,
     alloc: Global,
-    start: RunOrigin<'_>,
+    start: Start<'_>,
     inside: &mut R,
     outside: &mut Q,
     to_outside: &mut W,
@@ -147,7 +147,7 @@ pub fn resume_streams<
     ensures fault { IfErr result
         (Explains (R.remaining inside.old) (Q.remaining outside.old)) }
     ensures too_many { result ≢ Err (Fault.Run RunFault.TooMany) }
-    ensures gate { G.is_open ≡ true → IfErr result (λ fault. tells_shut_gate fault ≡ false) }
+    ensures gate { G.is_open ≡ true → IfErr result (λ fault. is_shut_gate_fault fault ≡ false) }
     // Unless the run itself failed, the failed read is the reported one; a failed write may hide it.
     ensures readings { (¬ IsOfRun (stream_ended result)) → HasRead R.failed Q.failed
         inside.old inside.new outside.old outside.new (stream_ended result) }

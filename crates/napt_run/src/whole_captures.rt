@@ -41,9 +41,11 @@ impl<
         requires to_outside { W.failed to_outside.old < 2 ^ 64 - 1 }
         requires to_inside { V.failed to_inside.old < 2 ^ 64 - 1 }
         ensures to_outside { OnOk result (Appends (W.contents to_outside.old)
-            (W.contents to_outside.new) (capture_text (origin_of self.entry.start) Side.Outside inputs)) }
+            (W.contents to_outside.new) (capture_text (origin_of self.entry.start) Side.Outside
+            inputs)) }
         ensures to_inside { OnOk result (Appends (V.contents to_inside.old)
-            (V.contents to_inside.new) (capture_text (origin_of self.entry.start) Side.Inside inputs)) }
+            (V.contents to_inside.new) (capture_text (origin_of self.entry.start) Side.Inside
+            inputs)) }
         ensures tally { IfOk result (IsTallyOf (origin_of self.entry.start) inputs) }
         ensures fault { IfErr result (IsFaultUnder G.is_open) }
     {
@@ -74,7 +76,8 @@ impl<
         requires timely { All IsTimely inputs }
         requires counts { AreCountsOf [] both.old.leaving.counts }
         ensures ok { IfOk result
-            (WritesAll file_header (origin_of self.entry.start) inputs both.old.leaving both.new.leaving) }
+            (WritesAll file_header (origin_of self.entry.start) inputs both.old.leaving
+            both.new.leaving) }
         ensures fault { IfErr result (IsFaultUnder G.is_open) }
     {
         match both.leaving.begin() {

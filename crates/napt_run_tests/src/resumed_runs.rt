@@ -8,7 +8,7 @@ use crate::gates::{GateMode, Hold};
 use crate::sample_inputs::THREE_ADDRESSES;
 use napt_capture::Watched;
 use napt_config::Config;
-use napt_run::{Fault, RunOrigin, RunSummary, State, resume_captures, resume_streams};
+use napt_run::{Fault, RunSummary, Start, State, resume_captures, resume_streams};
 use napt_state::take_up;
 use std::alloc::Global;
 use std::ops::Range;
@@ -45,7 +45,7 @@ fn run_on(
     macro_rules! passed_by {
         ($run:ident) => {
             $run(
-                rt, alloc, RunOrigin { config: &config, state: &state }, &mut inside, &mut outside, &mut to_outside,
+                rt, alloc, Start { config: &config, state: &state }, &mut inside, &mut outside, &mut to_outside,
                 &mut to_inside, &mut report, gate,
             )
         };

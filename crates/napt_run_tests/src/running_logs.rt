@@ -13,7 +13,7 @@ use crate::resumed_runs::nothing;
 use napt_account::SavedLogState;
 use napt_capture::{Watched, WriteFault};
 use napt_config::Config;
-use napt_run::{LogOriginStart, LogRunFault, RunOrigin, State, resume_streams_with_log};
+use napt_run::{LogRunFault, LogStart, Start, State, resume_streams_with_log};
 use napt_samples::hosts::{CLIENT, RESOLVER};
 use napt_state::take_up;
 use std::alloc::{AllocError, Global};
@@ -77,10 +77,10 @@ struct Part {
 }
 
 /// A new log of what was kept, in one piece, with which another run goes on.
-fn new_log(kept: &SavedLogState) -> LogOriginStart<'_>
+fn new_log(kept: &SavedLogState) -> LogStart<'_>
     ensures { result.kept ≡ kept.entry }
 {
-    LogOriginStart {
+    LogStart {
         kept,
         is_new: true,
         each: None,
@@ -92,7 +92,7 @@ fn new_log(kept: &SavedLogState) -> LogOriginStart<'_>
 fn run_on(
     rt: &impl TestRuntime,
     mut state: State,
-    log_start: LogOriginStart<'_>,
+    log_start: LogStart<'_>,
     times: &[u32],
 ) -> Result<Part, Fail>
     requires { IsFew log_start.kept.now }
@@ -102,7 +102,7 @@ fn run_on(
     if take_up(alloc, &config, &mut state)?.is_some() {
         return Err(Fail::new("the state is not taken"));
     }
-    let start = RunOrigin {
+    let start = Start {
         config: &config,
         state: &state,
     };
@@ -143,7 +143,7 @@ fn log_of_a_run_in_two_parts(rt: HostRuntime) -> Result<(), Fail> {
     let kept = kept(alloc, 2, 1, 300_000_010_000)?;
     assert_eq!(rt; first.kept.made, kept.made);
     assert!(rt; first.kept.living == kept.living);
-    let behind = LogOriginStart {
+    let behind = LogStart {
         is_new: false,
         goes_on: false,
         ..new_log(&kept)
@@ -164,7 +164,7 @@ fn log_of_a_run_in_pieces(rt: HostRuntime) -> Result<(), Fail> {
     let alloc = rt.alloc();
     let none = no_log(alloc);
     let kept = kept(alloc, 2, 1, 300_000_010_000)?;
-    let pieces = LogOriginStart {
+    let pieces = LogStart {
         each: NonZeroU32::new(1),
         ..new_log(&none)
     };

@@ -5,7 +5,7 @@ use Rattle.napt_config.specs.Rules.{Rules}
 use Rattle.napt_rules.specs.{Prelude.{Binding, bindings_at, LegEffect, act, Arrival, LegAct, last_clock, State, effect_from, acts_at, legs_at, LocalState, local_after}, declared.Leg.Leg}
 use Rattle.napt_laws.{specs.{LocalAgreement.IsTranslatorCurrent, Dispatching.IsFrontOf}, proofs.LegsLocal.alike}
 use Rattle.napt_laws.proofs.{RunsLocal.{on_time, leg_at_once, other_at_once}, Turns.{InTurn, run_turn}}
-use Rattle.napt_sequential.specs.{declared.{passage.Passage.Passage, leg_trace.TracedAnswer.TracedAnswer}, CountedTranslators.{act_of, act_there, traced_act}, Steps.told_replies}
+use Rattle.napt_sequential.specs.{declared.{passage.Passage.Passage, leg_trace.TracedAnswer.TracedAnswer}, CountedTranslators.{act_of, act_there, traced_act}, Steps.traced_replies}
 
 -- a leg acts there as in the run
 pub acts_same : {X : Type 0} (f : LegAct → X) (rules : Rules) (address clock : ℕ) (own : LocalState) (list : List Binding) →
@@ -16,12 +16,12 @@ acts_same f rules address clock own list once leg later = grind (arith, common_s
 module _ {P : Type 0} (tells : Passage → P) (rules : Rules) (address : ℕ) where
   alone : (clock : ℕ) (own : LocalState) (list : List Binding) (acts : List LegAct) (last : ℕ) (new : List Binding) →
       IsTranslatorCurrent rules address clock own list → InTurn rules clock list acts last new →
-      told_replies tells rules address (map (λ a. a.leg) (acts_at address acts)) own
+      traced_replies tells rules address (map (λ a. a.leg) (acts_at address acts)) own
       ≡ map (traced_act tells rules.timers) (acts_at address acts)
   alone clock own list [] last new once p = refl
   alone clock own list (a ∷ acts) last new once p =
       elim (eqb a.address address) as (λ v. eqb a.address address ≡ v →
-      told_replies tells rules address (map (λ (b : LegAct). b.leg) (cond v (a ∷ acts_at address acts)
+      traced_replies tells rules address (map (λ (b : LegAct). b.leg) (cond v (a ∷ acts_at address acts)
       (acts_at address acts))) own
       ≡ map (traced_act tells rules.timers) (cond v (a ∷ acts_at address acts) (acts_at address acts))) [
         | true ↦ λ h.
@@ -37,7 +37,7 @@ module _ {P : Type 0} (tells : Passage → P) (rules : Rules) (address : ℕ) wh
             let stays = leg_at_once rules address clock own list once a.leg p.0.later in
             let rest = alone a.leg.now (local_after rules address a.leg own) acted.list acts last new stays.left
             (subst (λ (r : LegEffect). InTurn rules a.leg.now r.list acts last new) e p.1) in
-            ap (λ (t : TracedAnswer P). t ∷ told_replies tells rules address (map (λ (b : LegAct). b.leg) (acts_at address acts))
+            ap (λ (t : TracedAnswer P). t ∷ traced_replies tells rules address (map (λ (b : LegAct). b.leg) (acts_at address acts))
             (local_after rules address a.leg own))
             (acts_same (traced_act tells rules.timers) rules address clock own list once a.leg p.0.later
             ∙ ap (traced_act tells rules.timers) is) ∙ ap (λ (ts : List (TracedAnswer P)). traced_act tells rules.timers a ∷ ts) rest
@@ -51,7 +51,7 @@ module _ {P : Type 0} (tells : Passage → P) (rules : Rules) (address : ℕ) wh
   fresh_of state = record { list = bindings_at address state.list; at = state.clock }
 
   pub told_alone : (state : State) (inputs : List Arrival) →
-      told_replies tells rules address (legs_at address (effect_from rules state inputs).acts) (fresh_of state)
+      traced_replies tells rules address (legs_at address (effect_from rules state inputs).acts) (fresh_of state)
       ≡ map (traced_act tells rules.timers) (acts_at address (effect_from rules state inputs).acts)
   told_alone state inputs =
       alone state.clock (fresh_of state) state.list (effect_from rules state inputs).acts
@@ -61,8 +61,8 @@ module _ {P : Type 0} (tells : Passage → P) (rules : Rules) (address : ℕ) wh
 
   -- what is told of a front of the legs begins what is told of all
   told_front : (xs rest : List Leg) (own : LocalState) →
-      IsFrontOf (told_replies tells rules address xs own) (told_replies tells rules address (xs ++ rest) own)
-  told_front [] rest own = (told_replies tells rules address rest own, refl)
+      IsFrontOf (traced_replies tells rules address xs own) (traced_replies tells rules address (xs ++ rest) own)
+  told_front [] rest own = (traced_replies tells rules address rest own, refl)
   told_front (x ∷ xs) rest own =
       grind (arith, common_steps, nat_tests, told_front xs rest (local_after rules address x own))
 
@@ -72,10 +72,10 @@ module _ {P : Type 0} (tells : Passage → P) (rules : Rules) (address : ℕ) wh
   -- where a translator was given a front of its address's legs, and told of some of them as it does, this is the run's
   pub right_told : (state : State) (inputs : List Arrival) (given : List Leg) (taken : List (TracedAnswer P)) →
       IsFrontOf given (legs_at address (effect_from rules state inputs).acts) →
-      IsFrontOf taken (told_replies tells rules address given (fresh_of state)) →
+      IsFrontOf taken (traced_replies tells rules address given (fresh_of state)) →
       IsFrontOf taken (map (traced_act tells rules.timers) (acts_at address (effect_from rules state inputs).acts))
   right_told state inputs given taken front right =
-      front_front taken (told_replies tells rules address given (fresh_of state)) _ right
-      (subst (λ (l : List (TracedAnswer P)). IsFrontOf (told_replies tells rules address given (fresh_of state)) l)
-      (ap (λ (ls : List Leg). told_replies tells rules address ls (fresh_of state)) front.1 ∙ told_alone state inputs)
+      front_front taken (traced_replies tells rules address given (fresh_of state)) _ right
+      (subst (λ (l : List (TracedAnswer P)). IsFrontOf (traced_replies tells rules address given (fresh_of state)) l)
+      (ap (λ (ls : List Leg). traced_replies tells rules address ls (fresh_of state)) front.1 ∙ told_alone state inputs)
       (told_front given front.0 (fresh_of state)))

@@ -15,6 +15,6 @@ abbrev pub steps_of : Rules → State → List Arrival → List StepResult
 steps_of rules state inputs = steps_joined (effect_from rules state inputs).outcomes (traces_of rules state inputs)
 
 -- what a translator tells of legs, one after another
-abbrev pub told_replies : {P : Type 0} → (Passage → P) → Rules → ℕ → List Leg → LocalState → List (TracedAnswer P)
-told_replies tells rules address legs kept =
+abbrev pub traced_replies : {P : Type 0} → (Passage → P) → Rules → ℕ → List Leg → LocalState → List (TracedAnswer P)
+traced_replies tells rules address legs kept =
     scan (λ own leg. local_after rules address leg own) (λ own leg. traced_by tells rules address leg own) kept legs

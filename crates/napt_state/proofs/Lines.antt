@@ -103,7 +103,8 @@ abbrev joined : StateTextBytes → List StateTextBytes → StateTextBytes
 joined first [] = first
 joined first (word ∷ more) = first ++ 32 ∷ joined word more
 
-words_text-joined : (first : StateTextBytes) (more : List StateTextBytes) → words_text (first ∷ more) ≡ joined first more ++ codes "\n"
+words_text-joined : (first : StateTextBytes) (more : List StateTextBytes) →
+    words_text (first ∷ more) ≡ joined first more ++ codes "\n"
 words_text-joined first [] = refl
 words_text-joined first (word ∷ more) = rw (words_text-joined word more) (simp append_assoc)
 
@@ -123,11 +124,13 @@ words_in-line line (first ∷ more) some none is =
     ap (slice_split is_space) (append_cancel_right _ _ (codes "\n") (sym is ∙ words_text-joined first more))
     ∙ split-joined first more none
 
-pub words_read : (entry : StateLine) (line : StateTextBytes) → line_text entry ≡ line ++ codes "\n" → words_in line ≡ split_words entry
+pub words_read : (entry : StateLine) (line : StateTextBytes) → line_text entry ≡ line ++ codes "\n" →
+    words_in line ≡ split_words entry
 unfolding line_text
 words_read entry line is = words_in-line line (split_words entry) (many entry) (in_words entry) is
 
-joined-line : (first : StateTextBytes) (more : List StateTextBytes) → have_marks (first ∷ more) ≡ false → IsLine (joined first more)
+joined-line : (first : StateTextBytes) (more : List StateTextBytes) → have_marks (first ∷ more) ≡ false →
+    IsLine (joined first more)
 joined-line first [] none = no_end_at first (or_parts (has_mark first) false none).0
 joined-line first (word ∷ more) none =
     let (here, behind) = or_parts (has_mark first) (have_marks (word ∷ more)) none in
@@ -175,7 +178,8 @@ both_parts (x ∷ xs) = elim (x == 10) as (λ b. (if b then x ∷ [] else x ∷ 
     ++ (if b then xs else drop_through 10 xs) ≡ x ∷ xs) [ true ↦ refl | false ↦ ap (λ l. x ∷ l) (both_parts xs) ]
 
 -- what is read begins what was left
-pub first_read : (left new : Option (List ℕ)) (old line : StateTextBytes) (all : StateTextBytes) (is : StateLine) → old ≡ [] →
+pub first_read : (left new : Option (List ℕ)) (old line : StateTextBytes) (all : StateTextBytes) (is : StateLine) →
+    old ≡ [] →
     IfSome left (λ xs. line ≡ old ++ take_through 10 xs) → IfSome left (λ xs. new ≡ Some (drop_through 10 xs)) →
     left ≡ Some all → line ≡ line_text is → IsFirstLine is all new
 first_read left new old line all is none got gone left_is same =

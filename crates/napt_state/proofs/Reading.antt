@@ -23,7 +23,8 @@ unless_weaker BehindEnd f h = f h
 
 -- what a call returns that reads the next line
 abbrev pub Reads : Result StateLine StateReason → Option StateTextBytes → Option StateTextBytes → Type 0
-Reads read old new = (line : StateLine) (rest : StateTextBytes) → IsStateLine line → old ≡ Some (line_text line ++ rest) →
+Reads read old new = (line : StateLine) (rest : StateTextBytes) → IsStateLine line →
+    old ≡ Some (line_text line ++ rest) →
     StateUnlessUnread read ((read ≡ Ok line) × (new ≡ Some rest))
 
 pub no_ok : {A E : Type 0} (e : E) (x : A) → ◌≡◌ {A = Result A E} (Err e) (Ok x) → ⊥
@@ -35,17 +36,19 @@ same_ok x y is = subst (λ r. IfOk r (λ z. x ≡ z)) is refl
 -- WHAT IS LEFT
 
 -- of the lines of a text those behind some are left
-pub record Ahead (whole so_far : StateFileContents) (more : List StateLine) (left : Option StateTextBytes) : Type 0 where
-  pub clock : so_far.state.clock ≡ whole.state.clock
-  pub split : lines_between whole ++ end (counts_of whole) ∷ [] ≡ lines_between so_far ++ more
-  pub fits : Each IsStateLine more
-  pub text : left ≡ Some (flat_map line_text more)
+pub record Ahead (whole so_far : StateFileContents) (more : List StateLine) (left : Option StateTextBytes) : Type 0
+  where
+    pub clock : so_far.state.clock ≡ whole.state.clock
+    pub split : lines_between whole ++ end (counts_of whole) ∷ [] ≡ lines_between so_far ++ more
+    pub fits : Each IsStateLine more
+    pub text : left ≡ Some (flat_map line_text more)
 
 abbrev pub IsAhead : StateFileContents → StateFileContents → Option StateTextBytes → Type 0
 IsAhead whole so_far left = (more : List StateLine) × Ahead whole so_far more left
 
 -- behind a line that was read
-pub record AheadOf (whole so_far : StateFileContents) (line : StateLine) (more : List StateLine) (left : Option StateTextBytes) : Type 0 where
+pub record AheadOf (whole so_far : StateFileContents) (line : StateLine) (more : List StateLine)
+    (left : Option StateTextBytes) : Type 0 where
   pub clock : so_far.state.clock ≡ whole.state.clock
   pub split : lines_between whole ++ end (counts_of whole) ∷ [] ≡ lines_between so_far ++ line ∷ more
   pub fits : Each IsStateLine more
@@ -76,25 +79,27 @@ module _ (whole so_far : StateFileContents) (old new : Option StateTextBytes) wh
       unless_weaker reason (λ got. absurd (no_ok reason told got.0))
       (reads told (flat_map line_text more) ahead.fits.0 ahead.text)
 
-module _ (whole so_far : StateFileContents) (line : StateLine) (more : List StateLine) (left : Option StateTextBytes) where
-  pub can_follow : AheadOf whole so_far line more left → IsNoEnd line → CanFollow line so_far
-  can_follow a other = record { other = other; whole = whole; more = more; split = a.split }
+module _ (whole so_far : StateFileContents) (line : StateLine) (more : List StateLine) (left : Option StateTextBytes)
+  where
+    pub can_follow : AheadOf whole so_far line more left → IsNoEnd line → CanFollow line so_far
+    can_follow a other = record { other = other; whole = whole; more = more; split = a.split }
 
-  pub ahead_added : (grown : StateFileContents) → AheadOf whole so_far line more left → IsAdded line so_far grown →
-      IsAhead whole grown left
-  ahead_added grown a added = (
-    more,
-    record {
-      clock = added.clock ∙ a.clock;
-      split = a.split ∙ sym (append_assoc (lines_between so_far) (line ∷ []) more)
-          ∙ ap (λ (l : List StateLine). l ++ more) (sym added.lines);
-      fits = a.fits;
-      text = a.text;
-    },
-  )
+    pub ahead_added : (grown : StateFileContents) → AheadOf whole so_far line more left → IsAdded line so_far grown →
+        IsAhead whole grown left
+    ahead_added grown a added = (
+      more,
+      record {
+        clock = added.clock ∙ a.clock;
+        split = a.split ∙ sym (append_assoc (lines_between so_far) (line ∷ []) more)
+            ∙ ap (λ (l : List StateLine). l ++ more) (sym added.lines);
+        fits = a.fits;
+        text = a.text;
+      },
+    )
 
 -- the last line was read
-pub all_read : (whole so_far : StateFileContents) (counts : LineCounts) (more : List StateLine) (left : Option StateTextBytes) →
+pub all_read : (whole so_far : StateFileContents) (counts : LineCounts) (more : List StateLine)
+    (left : Option StateTextBytes) →
     AheadOf whole so_far (end counts) more left →
     (so_far ≡ whole) × (counts ≡ counts_of so_far) × (left ≡ Some [])
 all_read whole so_far counts more left a =
@@ -122,7 +127,8 @@ pub record Taken (text : StateTextBytes) (so_far : StateFileContents) (left : Op
   pub remains : left ≡ Some rest
   pub is : text ≡ line_text (clock so_far.state.clock) ++ (flat_map line_text (lines_between so_far) ++ rest)
 
-module _ (text : StateTextBytes) (so_far : StateFileContents) (line : StateLine) (old new : Option StateTextBytes) (taken : Taken text so_far old)
+module _ (text : StateTextBytes) (so_far : StateFileContents) (line : StateLine) (old new : Option StateTextBytes)
+    (taken : Taken text so_far old)
     (read : (all : StateTextBytes) → old ≡ Some all → IsFirstLine line all new) where
   read_behind : (rest : StateTextBytes) × (text ≡ line_text (clock so_far.state.clock)
       ++ (flat_map line_text (lines_between so_far ++ line ∷ []) ++ rest)) × (new ≡ Some rest)
@@ -134,7 +140,8 @@ module _ (text : StateTextBytes) (so_far : StateFileContents) (line : StateLine)
             (ap (λ (l : StateTextBytes). before ++ l) is
             ∙ sym (append_assoc before (line_text line) rest)
             ∙ ap (λ (l : StateTextBytes). (before ++ l) ++ rest) (sym (append-nil (line_text line)))
-            ∙ ap (λ (l : StateTextBytes). l ++ rest) (sym (flat_map-append line_text (lines_between so_far) (line ∷ [])))),
+            ∙ ap (λ (l : StateTextBytes). l ++ rest)
+            (sym (flat_map-append line_text (lines_between so_far) (line ∷ [])))),
         gone,
       )
 

@@ -136,7 +136,8 @@ refused : (more : List StateLine) → fold step Refused more ≡ Refused
 refused [] = refl
 refused (line ∷ more) = refused more
 
-pub none_follows : (line its : StateLine) (old : StateFileContents) (list : List Binding) (log : Option LogPosition) → line ≡ its →
+pub none_follows : (line its : StateLine) (old : StateFileContents) (list : List Binding) (log : Option LogPosition) →
+    line ≡ its →
     old.state.list ≡ list → old.log ≡ log → goes old.state.clock list log its ≡ Refused → ¬ CanFollow line old
 none_follows line its old list log same list_is log_is none can =
     let is = goes_on old can.whole (line ∷ can.more) can.split in
@@ -155,7 +156,8 @@ clock_out : (clock at : ℕ) (list : List Binding) (log : Option LogPosition) �
 clock_out clock at list None = refl
 clock_out clock at list (Some saved) = refl
 
-pub no_other_follows : (line : StateLine) (old : StateFileContents) → ((row : Row) (last : ℕ) → line ≡ lines.Binding row last → ⊥) →
+pub no_other_follows : (line : StateLine) (old : StateFileContents) →
+    ((row : Row) (last : ℕ) → line ≡ lines.Binding row last → ⊥) →
     ((one : Flow) → line ≡ flow one → ⊥) → ((made length : ℕ) → line ≡ lines.Log made length → ⊥) →
     ((one : LogEntry) → line ≡ entry one → ⊥) → ¬ CanFollow line old
 no_other_follows (lines.Clock at) old a b c d =
@@ -181,7 +183,8 @@ pub record IsLast (old whole : StateFileContents) (counts : LineCounts) (more : 
   pub same : counts ≡ counts_of whole
   pub none : more ≡ []
 
-over : (old whole : StateFileContents) (counts : LineCounts) (more : List StateLine) → fold step (Closed old counts) more
+over : (old whole : StateFileContents) (counts : LineCounts) (more : List StateLine) →
+    fold step (Closed old counts) more
     ≡ Closed (of_list old.state.clock whole.state.list whole.log) (counts_of whole) → IsLast old whole counts more
 over old whole counts [] is =
     let now : old ≡ of_list old.state.clock whole.state.list whole.log = cc in

@@ -49,14 +49,16 @@ loose_twice rules state =
     ∙ ap (filter is_loose) (purge_purge rules.timers now now (omega arith) state.list))
     ∙ filter_all is_loose (filter is_loose kept) (each_filter is_loose kept)
 
-under_same : (rules : Rules) (state : State) → with_redirects rules (record state { list = dynamic_bindings rules state })
+under_same : (rules : Rules) (state : State) → with_redirects rules
+    (record state { list = dynamic_bindings rules state })
     ≡ with_redirects rules state
 under_same rules state = ap (λ (list : List Binding). record state { list = opening rules ++ list })
     (loose_twice rules state)
 
 pub kept_loose : (rules : Rules) (old new : State) → new ≡ record old { list = dynamic_bindings rules old } →
     (dynamic_bindings rules new ≡ new.list) × (with_redirects rules new ≡ with_redirects rules old)
-kept_loose rules old new is = subst (λ (s : State). (dynamic_bindings rules s ≡ s.list) × (with_redirects rules s ≡ with_redirects rules old))
+kept_loose rules old new is = subst (λ (s : State). (dynamic_bindings rules s ≡ s.list) ×
+    (with_redirects rules s ≡ with_redirects rules old))
     (sym is) (loose_twice rules old, under_same rules old)
 
 -- FLOWS

@@ -57,7 +57,8 @@ text_parts s = ap (λ l. line_text (clock s.state.clock) ++ l)
     ∙ ap (λ l. flat_map (λ b. flat_map line_text (binding_lines b)) s.state.list
     ++ (flat_map line_text (log_lines s.log) ++ l)) (append-nil (line_text (end (counts_of s)))))
 
-pub written_saved : (s : StateFileContents) (counts : LineCounts) (n : ℕ) (a b c d e : Option StateTextBytes) → length s.state.list ≤ n →
+pub written_saved : (s : StateFileContents) (counts : LineCounts) (n : ℕ) (a b c d e : Option StateTextBytes) →
+    length s.state.list ≤ n →
     counts ≡ counts_of s →
     Appends a b (line_text (clock s.state.clock)
     ++ flat_map (λ b. flat_map line_text (binding_lines b)) (take n s.state.list)) →

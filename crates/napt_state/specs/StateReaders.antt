@@ -8,7 +8,11 @@ use Rattle.napt_binding.specs.Lists.{pair_eq}
 use Rattle.napt_state.specs.declared.endpoints.{EndpointKey.EndpointKey, Endpoints.Endpoints}
 
 abbrev pub state_external_key : Row → EndpointKey
-state_external_key row = record { address = row.external.address; number = row.external.number; protocol = row.protocol }
+state_external_key row = record {
+  address = row.external.address;
+  number = row.external.number;
+  protocol = row.protocol;
+}
 
 abbrev pub state_inside_key : Row → EndpointKey
 state_inside_key row = record { address = row.inside.address; number = row.inside.number; protocol = row.protocol }
@@ -19,7 +23,8 @@ state_key_eq a b = (a.address == b.address) && ((a.number == b.number) && sameb 
 
 -- whether an endpoint of a row is among these
 abbrev pub clash : Endpoints → Row → Bool
-clash all row = hash.contains state_key_eq all.external (state_external_key row) || hash.contains state_key_eq all.inside (state_inside_key row)
+clash all row = hash.contains state_key_eq all.external (state_external_key row)
+    || hash.contains state_key_eq all.inside (state_inside_key row)
 
 -- the endpoints are those of the bindings
 abbrev pub AreOf : List Binding → Endpoints → Type 0

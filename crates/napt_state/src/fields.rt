@@ -84,7 +84,8 @@ pub(crate) fn add_end(text: &mut String, end: Option<u128>) -> Result<(), AllocE
 /// Appends the words of marks, with a space before each. Fails only if memory runs out.
 pub(crate) fn add_marks(text: &mut String, marks: SessionMarks) -> Result<(), AllocError>
     ensures { OnOk result (string_bytes text.new ≡ string_bytes text.old
-        ++ (codes " " ++ texts.state_flag marks.syn_out ++ codes " " ++ texts.state_flag marks.syn_in
+        ++ (codes " " ++ texts.state_flag marks.syn_out ++ codes " "
+        ++ texts.state_flag marks.syn_in
         ++ codes " " ++ texts.state_flag marks.fin_out ++ codes " " ++ texts.state_flag marks.fin_in
         ++ codes " " ++ texts.state_flag marks.reset)) }
 {
@@ -195,10 +196,12 @@ pub(crate) fn row(line: &str, place: usize) -> Option<Row>
     requires { place < 90 }
     ensures { (row : Bound) → texts.IsRowLine row →
         slice_index_or (texts.words_in line.now) place [] ≡ texts.kind_text row.fixed →
-        slice_index_or (texts.words_in line.now) (place + 1) [] ≡ texts.state_protocol_name row.protocol →
+        slice_index_or (texts.words_in line.now) (place + 1) []
+        ≡ texts.state_protocol_name row.protocol →
         slice_index_or (texts.words_in line.now) (place + 2) [] ≡ address_text row.inside.address →
         slice_index_or (texts.words_in line.now) (place + 3) [] ≡ decimal row.inside.number →
-        slice_index_or (texts.words_in line.now) (place + 4) [] ≡ address_text row.external.address →
+        slice_index_or (texts.words_in line.now) (place + 4) []
+        ≡ address_text row.external.address →
         slice_index_or (texts.words_in line.now) (place + 5) [] ≡ decimal row.external.number →
         result ≡ Some row }
 {

@@ -98,7 +98,8 @@ pub fn read_state<R: BufRead + Drop>(
     reader: R,
 ) -> Result<StateFileContents, StateFault>
     ensures read { (saved : Left) → texts.IsSaved saved →
-        R.remaining reader ≡ Some (texts.saved_text saved) → UnlessFailed result (result ≡ Ok saved) }
+        R.remaining reader ≡ Some (texts.saved_text saved) →
+        UnlessFailed result (result ≡ Ok saved) }
     ensures exact { (text : List ℕ) → R.remaining reader ≡ Some text →
         IfOk result (λ saved. text ≡ texts.saved_text saved) }
     ensures few { IfOk result (λ saved. IfSome saved.log (λ log. IsFew log.log)) }

@@ -1,4 +1,4 @@
--- Two lists in which the same is found at each number are permutations of one another.
+-- Two lists in which the same element is found at each number are permutations of one another.
 use Rattle.std.proofs.Common.{◌≡◌, ℕ, Bool, true, false, not, ◌&&◌, ◌||◌, cond, List, [], ◌∷◌, map, filter, find, Some, None, refl, sym, ◌∙◌, ap, subst, eqb}
 use Rattle.std.{specs.{List.list_any, List.Sorted.IsPermutation, Option.option_map}, proofs.lemmas.{Bool.or_parts, Option.same_Some}}
 use Rattle.std.proofs.lemmas.List.Sorted.{IsPermutation-refl, IsPermutation-sym, IsPermutation-cons, IsPermutation-trans, IsPermutation-append_left, IsPermutation-append_comm}
@@ -53,7 +53,7 @@ module _ {X : Type 0} (t : X → Bool) where
       ap (λ v. cond (not v) (x ∷ filter (λ x. not (t x)) xs) (filter (λ x. not (t x)) xs)) parts.0
       ∙ ap (λ (l : List X). x ∷ l) (none_gone xs parts.1)
 
-  -- the one that is found goes to the front
+  -- The element that is found is moved to the front.
   taken_out : (xs : List X) (b : X) → Once t xs → find t xs ≡ Some b →
       IsPermutation xs (b ∷ filter (λ x. not (t x)) xs)
   taken_out [] b once e = cc
@@ -69,7 +69,7 @@ module _ {X : Type 0} (t : X → Bool) where
             (IsPermutation-append_comm (x ∷ []) (b ∷ [])))
       ] refl e
 
--- LISTS OF WHAT HAS A ROW, all at one address
+-- LISTS OF ELEMENTS WITH A ROW, all at one address
 
 module _ {X : Type 0} (address : ℕ) (row_of : X → Row) where
   abbrev test : Protocol → ℕ → X → Bool
@@ -78,7 +78,7 @@ module _ {X : Type 0} (address : ℕ) (row_of : X → Row) where
   abbrev pub At : X → Type 0
   At x = (row_of x).external.address ≡ address
 
-  -- at most one has a number
+  -- At most one element has a number of a protocol.
   abbrev pub AllOnce : List X → Type 0
   AllOnce xs = (q : Protocol) (n : ℕ) → Once (test q n) xs
 
@@ -88,7 +88,7 @@ module _ {X : Type 0} (address : ℕ) (row_of : X → Row) where
   its_own : (x : X) → At x → its x x ≡ true
   its_own x at = has_it address (row_of x).protocol (row_of x).external.number (row_of x) refl at refl
 
-  -- two of one number pass the same tests
+  -- Two elements with one number pass the same tests.
   same_tests : (x y : X) → At x → At y → its x y ≡ true → (q : Protocol) (n : ℕ) → test q n y ≡ test q n x
   same_tests x y at_x at_y h q n =
       let p = has_protocol address (row_of x).protocol (row_of x).external.number (row_of y) h in

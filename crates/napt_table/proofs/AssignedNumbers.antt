@@ -1,4 +1,4 @@
--- A packet that goes out, on what is held and on the list.
+-- An outgoing packet, on the stored bindings and on the list.
 use Rattle.std.proofs.Common.{◌≡◌, ◌≢◌, ℕ, ◌≤◌, true, false, cond, List, map, Option, Some, None, Result, Ok, Err, refl, sym, ◌∙◌, ap, subst, arith}
 use Rattle.std.{specs.{Prelude.{find, ok_or}, Option.option_map}, proofs.lemmas.Option.same_Some}
 use Rattle.napt_wire.specs.declared.{Protocol.Protocol, Cause.{Cause, TheVariants.{OverQuota, NoPort}}, Endpoint.Endpoint}
@@ -7,13 +7,13 @@ use Rattle.napt_rules.specs.declared.{AssignmentRules.AssignmentRules, OutboundP
 use Rattle.napt_rules.specs.Prelude.{Binding, change_first, is_live, with_live_flows, purge, hold_ago, live_and_held, choice, count_for, reaches_quota, has_number, is_of_source, binding_after_out, new_binding, OutboundEffect, out_made, granted_again, out_found, out_taken, row, AreBindingsApart}
 use Rattle.napt_table.specs.{declared.bindings.keys.ExternalNumberKey.ExternalNumberKey, Keys.{key_eq, external_key}, HeldLists.{seen_binding, ShowsHeld}}
 use Rattle.napt_table.specs.BindingIndexes.{BindingIndexModel, held_binding, held_at, count_all, HasInside, IsNumberOf, IsNamed, HasNoInside, HoldsSame, KeepsSeen, WentThrough}
-use Rattle.napt_table.specs.Bindings.{BindingsModel, AllShow, AllKeep, KeepsUnseen, BindingsInvariant, IsPurged, shown_made, NewBindingOk, RenewedBindingOk}
+use Rattle.napt_table.specs.Bindings.{BindingsModel, AllShow, AllKeep, KeepsUnseen, BindingsUnchanged, IsPurged, shown_made, NewBindingOk, RenewedBindingOk}
 use Rattle.napt_table.proofs.{Hosts.count_is_held, SeenBindings.{seen_is, seen_seen, found_seen}, Keys.{by_key, at_key, key_number, past_key}}
 use Rattle.napt_table.proofs.{Steps.{by_protocol, sent_others}, OutboundSteps.{found, parts, known_shows, not_found, made_shows}, HeldThroughTime.{live_apart, keeps_on, out_stays}}
 use Rattle.napt_laws.proofs.{Endpoints.{not_has, inside_it, inside_parts, has_it, once_inside, once_number}, Finds.{passes, find_same, find_passed_over}}
 use Rattle.napt_laws.proofs.{SeenElements.ago_before, StepsLive.{sent_seen, made_is_seen}}
 
--- the row of what lives is seen
+-- The row of a live binding is visible.
 pub seen_row : (timers : Timers) (now : ℕ) (o : Option Binding) →
     ((b : Binding) → o ≡ Some b → is_live timers now b ≡ true) →
     option_map row (seen_binding timers now o) ≡ option_map row o
@@ -26,13 +26,13 @@ some_row : (o : Option Binding) (r : Row) → option_map row o ≡ Some r →
 some_row None r e = cc
 some_row (Some b) r e = (b, refl, same_Some (row b) r e)
 
--- where a look-up finds none there is none
+-- If a look-up finds no number, no binding is that of the inside endpoint.
 pub absent_from : (all : BindingIndexModel) (protocol : Protocol) (inside : Endpoint) (found : Option ℕ) →
     IsNumberOf all protocol inside found → found ≡ None → HasNoInside all protocol inside
 absent_from all protocol inside found finds none n b h e =
     let z : None ≡ Some n = sym none ∙ (finds n).1 (b, h, e) in cc
 
--- ONE STEP AFTER THE OTHER
+-- TWO STEPS IN SUCCESSION
 
 pub same_then : (a b c : BindingIndexModel) → HoldsSame a b → HoldsSame b c → HoldsSame a c
 same_then a b c p q = record {
@@ -43,14 +43,15 @@ same_then a b c p q = record {
   held_same = λ k. q.held_same k ∙ p.held_same k;
 }
 
-pub stands_then : (a b c : BindingsModel) → BindingsInvariant a b → BindingsInvariant b c → BindingsInvariant a c
+pub stands_then : (a b c : BindingsModel) → BindingsUnchanged a b → BindingsUnchanged b c → BindingsUnchanged a c
 stands_then a b c p q = record {
   timers_is = q.timers_is ∙ p.timers_is;
   at_is = q.at_is ∙ p.at_is;
   same = same_then a.held b.held c.held p.same q.same;
 }
 
-pub keeps_then : (timers : Timers) (at : ℕ) (a b c : BindingIndexModel) → KeepsSeen timers at a b → KeepsSeen timers at b c →
+pub keeps_then : (timers : Timers) (at : ℕ) (a b c : BindingIndexModel) → KeepsSeen timers at a b →
+    KeepsSeen timers at b c →
     KeepsSeen timers at a c
 keeps_then timers at a b c p q = record {
   place = record {
@@ -62,7 +63,8 @@ keeps_then timers at a b c p q = record {
 
 -- A PACKET WHOSE BINDING IS FOUND
 
-module _ (timers : Timers) (t : AreTimers timers) (granting : AssignmentRules) (packet : OutboundPacket) (old new : BindingIndexModel)
+module _ (timers : Timers) (t : AreTimers timers) (granting : AssignmentRules) (packet : OutboundPacket)
+    (old new : BindingIndexModel)
     (named : IsNamed old) (number : ℕ) (went : WentThrough timers packet old new number) (list : List Binding)
     (apart : AreBindingsApart (map row list)) (keeps : AllKeep timers packet.now old.address old list) where
   abbrev live : List Binding
@@ -100,7 +102,8 @@ module _ (timers : Timers) (t : AreTimers timers) (granting : AssignmentRules) (
 
   left_is : purge timers packet.now (out_taken timers granting old.address packet list).list
       ≡ change_first (is_of_source old.address packet) (binding_after_out packet) live
-  left_is = ap (λ (o : OutboundEffect). purge timers packet.now o.list) out_is ∙ sent_seen timers t old.address packet list
+  left_is = ap (λ (o : OutboundEffect). purge timers packet.now o.list) out_is
+      ∙ sent_seen timers t old.address packet list
 
   went_shows : AllShow timers packet.now old.address new
       (change_first (is_of_source old.address packet) (binding_after_out packet) live)
@@ -115,7 +118,8 @@ module _ (timers : Timers) (t : AreTimers timers) (granting : AssignmentRules) (
 
   went_unseen : KeepsUnseen timers packet.now old new
   went_unseen k none at from = by_key (external_key packet.protocol number) k (λ n.
-      seen_binding timers packet.now (held_binding new n) ≡ None → seen_binding timers at (held_binding new n) ≡ seen_binding timers at (held_binding old n))
+      seen_binding timers packet.now (held_binding new n) ≡ None →
+      seen_binding timers at (held_binding new n) ≡ seen_binding timers at (held_binding old n))
       (λ h. let z : None ≡ Some (binding_after_out packet went.binding) = sym h ∙ went.left in cc)
       (λ d h. ap (seen_binding timers at) (went.one.others k d)) none
 
@@ -128,11 +132,13 @@ module _ (timers : Timers) (t : AreTimers timers) (granting : AssignmentRules) (
 
 -- A NEW BINDING
 
-pub made_all : (timers : Timers) (address : ℕ) (packet : OutboundPacket) (old new : BindingIndexModel) (number : ℕ) (binding : Binding)
+pub made_all : (timers : Timers) (address : ℕ) (packet : OutboundPacket) (old new : BindingIndexModel) (number : ℕ)
+    (binding : Binding)
     (list : List Binding) → AllShow timers packet.now address old list →
     ((k : ExternalNumberKey) → held_binding new k ≡ cond (key_eq (external_key packet.protocol number) k) (Some binding)
     (held_binding old k)) → seen_binding timers packet.now (held_at old packet.protocol number) ≡ None →
-    seen_binding timers packet.now (Some binding) ≡ Some (binding_after_out packet (new_binding address packet number)) →
+    seen_binding timers packet.now (Some binding) ≡ Some
+    (binding_after_out packet (new_binding address packet number)) →
     AllShow timers packet.now address new (shown_made list address packet (Ok number))
 made_all timers address packet old new number binding list shows holds free is q =
     let p : Protocol = packet.protocol in
@@ -140,7 +146,8 @@ made_all timers address packet old new number binding list shows holds free is q
     (shown_made list address packet (Ok number)))
     (made_shows timers address packet (held_at old p) list (shows p) number binding (held_at new p)
     (λ n. holds (external_key p n) ∙ ap (λ v. cond v (Some binding) (held_at old p n)) (key_number p number n)) free is)
-    (λ d n. find_passed_over (λ b. has_number address q n b.row) list (binding_after_out packet (new_binding address packet number))
+    (λ d n. find_passed_over (λ b. has_number address q n b.row) list
+    (binding_after_out packet (new_binding address packet number))
     (not_has address q n (binding_after_out packet (new_binding address packet number)).row d)
     ∙ (shows q n ∙ ap (seen_binding timers packet.now) (sym (holds (external_key q n)
     ∙ past_key (external_key p number) (Some binding) (held_at old q n) (external_key q n)
@@ -149,17 +156,20 @@ made_all timers address packet old new number binding list shows holds free is q
 pub made_unseen : (timers : Timers) (address : ℕ) (packet : OutboundPacket) (old new : BindingIndexModel) (number : ℕ)
     (binding : Binding) →
     ((k : ExternalNumberKey) → held_binding new k ≡ cond (key_eq (external_key packet.protocol number) k) (Some binding)
-    (held_binding old k)) → seen_binding timers packet.now (Some binding) ≡ Some (binding_after_out packet (new_binding address packet number)) →
+    (held_binding old k)) → seen_binding timers packet.now (Some binding)
+    ≡ Some (binding_after_out packet (new_binding address packet number)) →
     KeepsUnseen timers packet.now old new
 made_unseen timers address packet old new number binding holds is k none at from =
     let key : ExternalNumberKey = external_key packet.protocol number in
-    by_key key k (λ n. seen_binding timers packet.now (held_binding new n) ≡ None → seen_binding timers at (held_binding new n) ≡ seen_binding timers at
+    by_key key k (λ n. seen_binding timers packet.now (held_binding new n) ≡ None →
+    seen_binding timers at (held_binding new n) ≡ seen_binding timers at
     (held_binding old n))
     (λ h. let z : None ≡ Some (binding_after_out packet (new_binding address packet number)) =
-    sym h ∙ (ap (seen_binding timers packet.now) (holds key ∙ at_key key (Some binding) (held_binding old key)) ∙ is) in cc)
+    sym h ∙ (ap (seen_binding timers packet.now) (holds key ∙ at_key key (Some binding) (held_binding old key)) ∙ is)
+    in cc)
     (λ d h. ap (seen_binding timers at) (holds k ∙ past_key key (Some binding) (held_binding old k) k d)) none
 
--- what is shown of what is left
+-- What is visible of the list after the packet.
 shown_is : (timers : Timers) → AreTimers timers → (address : ℕ) (packet : OutboundPacket) (list : List Binding) →
     find (is_of_source address packet) (purge timers packet.now list) ≡ None → (answer : Result ℕ Cause) →
     purge timers packet.now (out_made list address packet answer).list
@@ -172,9 +182,10 @@ made_answer : (list : List Binding) (address : ℕ) (packet : OutboundPacket) (a
 made_answer list address packet (Err cause) = refl
 made_answer list address packet (Ok number) = refl
 
--- A PACKET WHOSE BINDING IS NOT FOUND: memory is taken, and what had ended the hold before goes
+-- A PACKET WHOSE BINDING IS NOT FOUND: memory is reserved, and bindings whose hold time is over are removed
 
-module _ (old mid gone : BindingsModel) (packet : OutboundPacket) (same : BindingsInvariant old mid) (purged : IsPurged packet.now mid gone)
+module _ (old mid gone : BindingsModel) (packet : OutboundPacket) (same : BindingsUnchanged old mid)
+    (purged : IsPurged packet.now mid gone)
     (none : (n : ℕ) (b : Binding) → seen_binding old.timers packet.now (held_at old.held packet.protocol n) ≡ Some b →
     b.row.inside ≢ packet.inside) (named : IsNamed old.held) (gone_named : IsNamed gone.held) where
   abbrev ago : ℕ
@@ -189,7 +200,8 @@ module _ (old mid gone : BindingsModel) (packet : OutboundPacket) (same : Bindin
   gone_granting : gone.held.granting ≡ old.held.granting
   gone_granting = purged.keeps.place.granting_is ∙ same.same.place.granting_is
 
-  gone_then : (k : ExternalNumberKey) → seen_binding old.timers ago (held_binding gone.held k) ≡ seen_binding old.timers ago (held_binding old.held k)
+  gone_then : (k : ExternalNumberKey) → seen_binding old.timers ago (held_binding gone.held k)
+      ≡ seen_binding old.timers ago (held_binding old.held k)
   gone_then k = subst (λ (t : Timers). seen_binding t (hold_ago t packet.now) (held_binding gone.held k)
       ≡ seen_binding t (hold_ago t packet.now) (held_binding mid.held k))
       same.timers_is (purged.keeps.seen_same k) ∙ ap (seen_binding old.timers ago) (same.same.held_same k)
@@ -199,14 +211,16 @@ module _ (old mid gone : BindingsModel) (packet : OutboundPacket) (same : Bindin
   gone_seen k at from = sym (seen_seen old.timers ago at from (held_binding gone.held k))
       ∙ (ap (seen_binding old.timers at) (gone_then k) ∙ seen_seen old.timers ago at from (held_binding old.held k))
 
-  gone_live : (k : ExternalNumberKey) (b : Binding) → held_binding gone.held k ≡ Some b → is_live old.timers ago b ≡ true
+  gone_live : (k : ExternalNumberKey) (b : Binding) → held_binding gone.held k ≡ Some b →
+      is_live old.timers ago b ≡ true
   gone_live k b h = subst (λ (t : Timers). is_live t (hold_ago t packet.now) b ≡ true) same.timers_is
       (purged.live k b h)
 
-  -- what is held for the source is not seen
+  -- A stored binding of the packet's source is not visible.
   pub gone_unseen : (n : ℕ) → HasInside gone.held packet.protocol packet.inside n →
       seen_binding gone.timers packet.now (held_at gone.held packet.protocol n) ≡ None
-  gone_unseen n (b, h, inside) = subst (λ (t : Timers). seen_binding t packet.now (held_at gone.held packet.protocol n) ≡ None)
+  gone_unseen n (b, h, inside) = subst (λ (t : Timers). seen_binding t packet.now
+      (held_at gone.held packet.protocol n) ≡ None)
       (sym gone_timers) (elim (seen_binding old.timers packet.now (held_at gone.held packet.protocol n)) as (λ o.
       seen_binding old.timers packet.now (held_at gone.held packet.protocol n) ≡ o → o ≡ None) [
         | None ↦ λ e. refl
@@ -228,7 +242,7 @@ module _ (old mid gone : BindingsModel) (packet : OutboundPacket) (same : Bindin
     gone_keeps : AllKeep old.timers packet.now address gone.held list
     gone_keeps = record {
       live = λ q n. keeps.live q n ∙ sym (gone_seen (external_key q n) packet.now (ago_before old.timers packet.now));
-      held_binding = λ q n at from. keeps.held q n at from ∙ sym (ap (option_map row) (gone_seen (external_key q n) at from));
+      held = λ q n at from. keeps.held q n at from ∙ sym (ap (option_map row) (gone_seen (external_key q n) at from));
     }
 
     gone_none : find (is_of_source address packet) (purge old.timers packet.now list) ≡ None
@@ -237,7 +251,7 @@ module _ (old mid gone : BindingsModel) (packet : OutboundPacket) (same : Bindin
         (λ n b h. named.protocol_is (external_key packet.protocol n) b h)
         (λ n b h. named.external_is (external_key packet.protocol n) b h) none
 
-    -- the list has the rows of what is held
+    -- The list has the rows of the stored bindings.
     gone_rows : (q : Protocol) (n : ℕ) → option_map row (find (λ b. has_number address q n b.row) list)
         ≡ option_map row (held_at gone.held q n)
     gone_rows q n =
@@ -245,7 +259,7 @@ module _ (old mid gone : BindingsModel) (packet : OutboundPacket) (same : Bindin
         ∙ (gone_keeps.held q n ago (omega arith) ∙ seen_row old.timers ago (held_at gone.held q n)
         (λ b h. gone_live (external_key q n) b h))
 
-    -- what is held for the source is in the list
+    -- A stored binding of the packet's source is in the list.
     held_found : (n : ℕ) → HasInside gone.held packet.protocol packet.inside n →
         (b : Binding) × (find (is_of_source address packet) list ≡ Some b) × (b.row.external.number ≡ n)
     held_found n (b, h, inside) =
@@ -263,7 +277,7 @@ module _ (old mid gone : BindingsModel) (packet : OutboundPacket) (same : Bindin
           ap (λ (x : Endpoint). x.number) external,
         )
 
-    -- where none is held none is in the list
+    -- If no binding of the source is stored, none is in the list.
     none_found : HasNoInside gone.held packet.protocol packet.inside → find (is_of_source address packet) list ≡ None
     none_found absent = elim (find (is_of_source address packet) list) as (λ o.
         find (is_of_source address packet) list ≡ o → o ≡ None) [
@@ -284,13 +298,16 @@ module _ (old mid gone : BindingsModel) (packet : OutboundPacket) (same : Bindin
     gone_reached : reaches_quota old.held.granting.quota (count_for address packet.inside.address list)
         ≡ reaches_quota gone.held.granting.quota (count_all gone.held packet.inside.address)
     gone_reached =
-        ap (reaches_quota old.held.granting.quota) (count_is_held address packet.inside.address (held_at gone.held) list apart
+        ap (reaches_quota old.held.granting.quota)
+        (count_is_held address packet.inside.address (held_at gone.held) list apart
         gone_rows (λ q n b h. gone_named.small (external_key q n) b h))
-        ∙ ap (λ (g : AssignmentRules). reaches_quota g.quota (count_all gone.held packet.inside.address)) (sym gone_granting)
+        ∙ ap (λ (g : AssignmentRules). reaches_quota g.quota (count_all gone.held packet.inside.address))
+        (sym gone_granting)
 
-    -- a binding is made, or none is
+    -- A binding is made, or the packet is refused.
     module _ (answer : Result ℕ Cause)
-        (granted : granted_again old.held.granting list address packet (find (is_of_source address packet) list) ≡ answer)
+        (granted : granted_again old.held.granting list address packet (find (is_of_source address packet) list)
+        ≡ answer)
       where
         made_is : out_taken old.timers old.held.granting address packet list ≡ out_made list address packet answer
         made_is = ap (out_found old.timers old.held.granting list address packet) gone_none
@@ -314,9 +331,10 @@ module _ (old mid gone : BindingsModel) (packet : OutboundPacket) (same : Bindin
 
     abbrev Out_is : BindingsModel → Result ℕ Cause → Type 0
     Out_is new answer = (let out : OutboundEffect = out_taken old.timers old.held.granting address packet list in
-        AreBindingsApart (map row out.list) → (answer ≡ out.number) × AllKeep old.timers packet.now address new.held out.list)
+        AreBindingsApart (map row out.list) → (answer ≡ out.number) ×
+        AllKeep old.timers packet.now address new.held out.list)
 
-    -- the quota is reached
+    -- The quota is reached.
     pub over_sends : HasNoInside gone.held packet.protocol packet.inside →
         reaches_quota gone.held.granting.quota (count_all gone.held packet.inside.address) ≡ true →
         Out_is gone (Err OverQuota)
@@ -330,7 +348,7 @@ module _ (old mid gone : BindingsModel) (packet : OutboundPacket) (same : Bindin
           made_keeps (Err OverQuota) granted gone.held gone_keeps.live (λ k h at from. refl) left,
         )
 
-    -- in the words of what is left, and in those of before
+    -- What holds with the rules after the removal holds with those before it.
     there : (P : Timers → AssignmentRules → ℕ → Type 0) → P gone.timers gone.held.granting gone.held.address →
         P old.timers old.held.granting address
     there P p = subst (λ (t : Timers). P t old.held.granting address) gone_timers
@@ -341,7 +359,7 @@ module _ (old mid gone : BindingsModel) (packet : OutboundPacket) (same : Bindin
     Made new answer t a = AllShow t packet.now a new.held (shown_made (purge t packet.now list) a packet answer)
         × KeepsUnseen t packet.now gone.held new.held
 
-    -- it is not
+    -- The quota is not reached, so a binding is made if a number is free.
     pub begun_sends : HasNoInside gone.held packet.protocol packet.inside →
         reaches_quota gone.held.granting.quota (count_all gone.held packet.inside.address) ≡ false →
         (new : BindingsModel) (answer : Result ℕ Cause) → NewBindingOk packet gone new answer → Out_is new answer
@@ -360,7 +378,7 @@ module _ (old mid gone : BindingsModel) (packet : OutboundPacket) (same : Bindin
         (gone_reached ∙ under) ∙ sym b.0) in
         (answered answer granted, made_keeps answer granted new.held b.1.0 b.1.1 left)
 
-    -- its number is held
+    -- The number is held for the source, so its binding is renewed.
     pub renewed_sends : (n : ℕ) → HasInside gone.held packet.protocol packet.inside n → (new : BindingsModel) →
         RenewedBindingOk packet gone new n → Out_is new (Ok n)
     renewed_sends n has new renews left =

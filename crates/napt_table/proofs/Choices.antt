@@ -1,10 +1,10 @@
--- The first free place from a number's own on, else before it, is that of its first free candidate.
+-- The first free place from a number's own on, else before it, is that of the first free candidate.
 use Rattle.std.proofs.Common.{◌≡◌, ℕ, zero, suc, ◌+◌, ◌-◌, ◌*◌, ◌<◌, ◌≤◌, Bool, true, false, not, cond, List, [], ◌∷◌, ◌++◌, map, Option, Some, None, refl, sym, ◌∙◌, ap, subst, arith}
 use Rattle.std.specs.{Prelude.find, List.range_with_len}
 use Rattle.napt_collections.specs.BitSets.{IsFirstAbsent}
 use Rattle.napt_table.specs.{declared.candidate_class.CandidateClass.CandidateClass, Classes.{member, from_place}, Places.number_place_in_map}
 
--- FIND AMONG THE NUMBERS FROM ONE ON
+-- SEARCHES OF A RANGE OF NUMBERS
 
 module _ (free : ℕ → Bool) (at : ℕ → ℕ) where
   pub find_counted : (first many j : ℕ) → j < many → free (at (first + j)) ≡ true →
@@ -50,7 +50,7 @@ module _ (p : ℕ → Bool) where
   find_rest (y ∷ xs) ys e = elim (p y) as (λ v. cond v (Some y) (find p xs) ≡ None →
       cond v (Some y) (find p (xs ++ ys)) ≡ find p ys) [ true ↦ λ h. cc | false ↦ λ h. find_rest xs ys h ] e
 
--- THE FIRST FREE ONE OF A CLASS, whose numbers stand at a run of places, from a place of it on
+-- THE FIRST FREE NUMBER OF A CLASS at adjacent places, from a place on
 
 module _ (used : ℕ → Bool) (place : ℕ → ℕ) (class : CandidateClass)
     (place_is : (q : ℕ) → q < class.many → place (class.least + class.apart * q) ≡ place class.least + q) (k : ℕ)
@@ -64,7 +64,7 @@ module _ (used : ℕ → Bool) (place : ℕ → ℕ) (class : CandidateClass)
   abbrev free : ℕ → Bool
   free n = not (used (place n))
 
-  -- the numbers from the place on, and those before it
+  -- The numbers of the class from the place on; then those before it.
   abbrev upper : List ℕ
   upper = map (member class) (range_with_len k (class.many - k))
 
@@ -96,14 +96,14 @@ module _ (used : ℕ → Bool) (place : ℕ → ℕ) (class : CandidateClass)
   none_near none =
       none_among k (class.many - k) first end (omega arith) refl (omega arith) none
 
-  -- it is at or after the number's own place
+  -- A free number is found from the place on.
   pub found_near : (x : ℕ) → IsFirstAbsent used first end (Some x) →
       find free (upper ++ lower) ≡ Some (member class (x - place class.least))
   found_near x h =
       find_front free upper lower (member class (x - place class.least))
       (found_among k (class.many - k) first end x (omega arith) refl (omega arith) h)
 
-  -- it is before that
+  -- A free number is found before the place, and none from it on.
   pub found_far : (x : ℕ) → IsFirstAbsent used first end None → IsFirstAbsent used (place class.least) first (Some x) →
       find free (upper ++ lower) ≡ Some (member class (x - place class.least))
   found_far x none h =
@@ -116,17 +116,19 @@ module _ (used : ℕ → Bool) (place : ℕ → ℕ) (class : CandidateClass)
       find_rest free upper lower (none_near none)
       ∙ none_among 0 k (place class.least) first (omega arith) (omega arith) refl before
 
--- a class of numbers that are two apart stands at a run of places
+-- A class of numbers with a step of 2 is at adjacent places of the bitmap.
 pub two_apart : (class : CandidateClass) → class.apart ≡ 2 → (q : ℕ) →
     number_place_in_map (class.least + class.apart * q) ≡ number_place_in_map class.least + q
 two_apart class apart q =
     let twice : class.apart * q ≡ 2 * q = ap (λ (n : ℕ). n * q) apart in
     ap (λ (n : ℕ). number_place_in_map (class.least + n)) twice ∙ omega arith
 
--- by a start that is the place of its least number
-module _ (used : ℕ → Bool) (class : CandidateClass) (apart : class.apart ≡ 2) (k : ℕ) (within : k ≤ class.many) (start : ℕ)
+-- The same, where the search starts at the place of the least number.
+module _ (used : ℕ → Bool) (class : CandidateClass) (apart : class.apart ≡ 2) (k : ℕ) (within : k ≤ class.many)
+    (start : ℕ)
     (starts : start ≡ number_place_in_map class.least) where
-  abbrev run_is : (q : ℕ) → q < class.many → number_place_in_map (class.least + class.apart * q) ≡ number_place_in_map class.least + q
+  abbrev run_is : (q : ℕ) → q < class.many → number_place_in_map (class.least + class.apart * q)
+      ≡ number_place_in_map class.least + q
   run_is = λ q lt. two_apart class apart q
 
   abbrev free_number : ℕ → Bool
@@ -154,12 +156,14 @@ module _ (used : ℕ → Bool) (class : CandidateClass) (apart : class.apart ≡
       Some (class.least + 2 * (x - start)) ≡ find free_number (from_place class k)
   far_choice none x h =
       number_is x
-      ∙ sym (found_far used number_place_in_map class run_is k within x (moved k class.many None none) (moved_first (Some x) h))
+      ∙ sym (found_far used number_place_in_map class run_is k within x (moved k class.many None none)
+      (moved_first (Some x) h))
 
   pub no_choice : IsFirstAbsent used (start + k) (start + class.many) None →
       IsFirstAbsent used start (start + k) None → None ≡ find free_number (from_place class k)
   no_choice none h =
-      sym (found_nowhere used number_place_in_map class run_is k within (moved k class.many None none) (moved_first None h))
+      sym (found_nowhere used number_place_in_map class run_is k within (moved k class.many None none)
+      (moved_first None h))
 
 -- A CLASS WITHOUT GAPS
 

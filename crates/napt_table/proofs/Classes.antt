@@ -8,9 +8,9 @@ use Rattle.napt_rules.specs.Prelude.{is_port_for, is_number_for, numbers_below, 
 use Rattle.napt_laws.proofs.Classes.{port_from_test, test_from_port}
 use Rattle.napt_table.{specs.{declared.candidate_class.CandidateClass.CandidateClass, Classes.{port_class, class_of, member, from_place, place_of_class}}, proofs.Ports.by_class}
 
--- WHAT A FILTER KEEPS OF A RANGE
+-- FILTERS OF A RANGE
 
--- of the n numbers from a on, those that pass are f i, f (i + 1) and so on, m of them
+-- Of the n numbers from a on, the m that pass the test are f i, f (i + 1) and so on.
 record Passing (test : ℕ → Bool) (f : ℕ → ℕ) (a n i m : ℕ) : Type 0 where
   sound : (j : ℕ) → i ≤ j → j < i + m → (a ≤ f j) × (f j < a + n) × (test (f j) ≡ true)
   whole : (x : ℕ) → a ≤ x → x < a + n → test x ≡ true → (j : ℕ) × (i ≤ j) × (j < i + m) × (x ≡ f j)
@@ -78,7 +78,7 @@ filter_both : (p q : ℕ → Bool) (xs : List ℕ) → filter q (filter p xs) �
 filter_both p q [] = refl
 filter_both p q (x ∷ xs) = grind (arith, filter_both p q xs)
 
--- A CLASS THAT HAS THE CANDIDATES OF A NUMBER, which would come at a place
+-- A CLASS WITH THE CANDIDATES OF A NUMBER, the first of which is at a place
 
 record IsClassOf (fits : ℕ → Bool) (number place : ℕ) (class : CandidateClass) : Type 0 where
   some : 0 < class.many
@@ -155,7 +155,7 @@ module _ (fits : ℕ → Bool) (number place : ℕ) (class : CandidateClass) (s 
         let (j, below, is) = s.whole x (omega (arith, to)) e in (j, omega arith, omega (arith, below), is);
   })
 
-  -- the same class, from another of its numbers on
+  -- The same class, from another of its numbers on.
   from_other : (k : ℕ) → k < class.many → IsClassOf fits (member class k) k class
   from_other k within = record {
     some = s.some;
@@ -173,7 +173,7 @@ module _ (fits : ℕ → Bool) (number place : ℕ) (class : CandidateClass) (s 
     before_it = λ j to. s.rises j k to;
   }
 
-  -- what stands at a place of the list that has all
+  -- The element at a place of the filtered range.
   at_place : (k d : ℕ) → k < class.many → slice_index_or (filter fits (numbers_below 65536)) k d ≡ member class k
   at_place k d within =
       ap (λ (l : List ℕ). slice_index_or l k d) whole_is
@@ -184,7 +184,7 @@ module _ (fits : ℕ → Bool) (number place : ℕ) (class : CandidateClass) (s 
 
 -- THE CLASSES
 
--- every second number from the least on, so many of them, on one side of 1024: those of its parity on that side
+-- Every other number from the least on, all on one side of 1024: the ports with its parity on that side.
 ports_of : (least many : ℕ) (low : Bool) (port : ℕ) → port < 65536 → 0 < many →
     nat_lt port 1024 ≡ low → port % 2 ≡ least % 2 → 0 < least → least + 2 * many ≤ 65537 →
     (port - least) / 2 ≤ many →
@@ -263,7 +263,7 @@ module _ (port : ℕ) (small : port < 65536) where
       by_class (λ class. IsClassOf (is_port_for true port) port ((port - class.least) / class.apart) class) port
       low_odd low_even high_odd high_even
 
-  -- a side of 1024 whole
+  -- All numbers on one side of 1024.
   free_side : (least many : ℕ) (low : Bool) → nat_lt port 1024 ≡ low → 0 < many → 0 < least → least + many ≤ 65536 →
       (port - least) / 1 ≤ many → ((n : ℕ) → least ≤ n → n < least + many → nat_lt n 1024 ≡ low) →
       ((n : ℕ) → 0 < n → n < 65536 → nat_lt n 1024 ≡ low → (least ≤ n) × (n < least + many)) →
@@ -373,7 +373,8 @@ module _ (keeps : Bool) (protocol : Protocol) (inside : Endpoint) (small : insid
       ap (λ n. upwards n numbers) first
       ∙ both_parts fits (member class place) place class (from_other fits inside.number own class is_own place within)
 
-pub candidates_by_class : (choosing : NumberAssignment) (protocol : Protocol) (inside : Endpoint) → inside.number < 65536 →
+pub candidates_by_class : (choosing : NumberAssignment) (protocol : Protocol) (inside : Endpoint) →
+    inside.number < 65536 →
     (class : CandidateClass) → class ≡ class_of choosing.keeps_parity protocol inside.number →
     (place : ℕ) → place ≡ place_of_class choosing.seed class protocol inside →
     from_place class place ≡ candidates_in_class choosing protocol inside

@@ -1,4 +1,4 @@
--- What is held stays found by both its ends, and counted, when a binding comes, goes or changes.
+-- The index stays consistent when a binding is stored, removed or changed: found by both keys, and counted.
 use Rattle.std.proofs.Common.{◌≡◌, ◌≢◌, ℕ, zero, suc, ◌+◌, ◌*◌, ◌<◌, ◌≤◌, ◌^◌, Bool, true, false, not, ◌&&◌, cond, List, [], ◌∷◌, Option, Some, None, refl, sym, ◌∙◌, ap, subst, arith, eqb}
 use Rattle.std.{specs.{Prelude.{find, slice_get, IfSome}, Option.{is_some, option_map}, Map.{lookup, values_of}}, proofs.lemmas.Bool.true≢false}
 use Rattle.std.proofs.lemmas.Option.{same_Some}
@@ -30,17 +30,20 @@ count_all_changed : (old new : BindingIndexModel) (host : ℕ) (key : ExternalNu
     ≡ count_all old host + cond {A = ℕ} (held_counts_for host (held_binding new key)) 1 0
 count_all_changed old new host key small others =
     sum_changed (λ q. count_held (held_at new q) host) (λ q. count_held (held_at old q) host) key.protocol
-    (cond {A = ℕ} (held_counts_for host (held_binding old key)) 1 0) (cond {A = ℕ} (held_counts_for host (held_binding new key)) 1 0)
+    (cond {A = ℕ} (held_counts_for host (held_binding old key)) 1 0)
+    (cond {A = ℕ} (held_counts_for host (held_binding new key)) 1 0)
     (λ q d. count_same (held_at old q) (held_at new q) host (λ n lt. ap (held_counts_for host)
     (others (external_key q n) (λ e. d (ap (λ (x : ExternalNumberKey). x.protocol) e)))))
     (count_changed (held_at old key.protocol) (held_at new key.protocol) host key.number small
     (λ n d. others (external_key key.protocol n) (λ e. d (ap (λ (x : ExternalNumberKey). x.number) e))))
 
-count_all_same : (old new : BindingIndexModel) (host : ℕ) → ((key : ExternalNumberKey) → held_binding new key ≡ held_binding old key) →
+count_all_same : (old new : BindingIndexModel) (host : ℕ) →
+    ((key : ExternalNumberKey) → held_binding new key ≡ held_binding old key) →
     count_all new host ≡ count_all old host
 count_all_same old new host same =
     let each : (q : Protocol) → count_held (held_at new q) host ≡ count_held (held_at old q) host =
-    λ q. count_same (held_at old q) (held_at new q) host (λ n lt. ap (held_counts_for host) (same (external_key q n))) in
+    λ q. count_same (held_at old q) (held_at new q) host (λ n lt. ap (held_counts_for host) (same (external_key q n)))
+    in
     λ i. (each Icmp i + each Tcp i) + each Udp i
 
 count_all_few : (all : BindingIndexModel) (host : ℕ) → count_all all host ≤ 3 * 2 ^ 16
@@ -52,7 +55,7 @@ not_counted_by : (o : Option AddressCounts) (host : ℕ) → is_some o ≡ false
 not_counted_by None host off = refl
 not_counted_by (Some counts) host off = cc
 
--- a count is that of some of the numbers
+-- A host's count is at most the number of all external numbers.
 pub hosts_few : (it : Inside) → IsHeld it → (host : ℕ) → count_in it.hosts host ≤ 3 * 2 ^ 16
 hosts_few it is host = elim (are_counted it.hosts) as (λ v. are_counted it.hosts ≡ v → count_in it.hosts host
     ≤ 3 * 2 ^ 16) [
@@ -78,19 +81,20 @@ number_found it is protocol inside number = (
   λ has. ap (number_of_inside it protocol) (sym has.2) ∙ is.inside_is (external_key protocol number) has.0 has.1,
 )
 
--- A STEP AT ONE NUMBER: what was held there makes way for what is left, and its inside end goes with it
+-- A STEP AT ONE NUMBER: the binding there, with its inside endpoint, is replaced
 
--- the one of which there is a number
+-- An optional binding that has a number.
 numbered : (o : Option Binding) (m n : ℕ) → option_map (λ b. m) o ≡ Some n → (b : Binding) × (o ≡ Some b) × (m ≡ n)
 numbered None m n h = cc
 numbered (Some b) m n h = (b, refl, same_Some m n h)
 
--- the binding is named by the key and the inside endpoint
+-- The binding has the protocol and number of the key, and the inside endpoint.
 abbrev pub IsAt : ℕ → ExternalNumberKey → Endpoint → Binding → Type 0
 IsAt address key inside b = (b.row.protocol ≡ key.protocol)
     × (b.row.external ≡ record { address = address; number = key.number }) × (b.row.inside ≡ inside)
 
-module _ (old new : Inside) (is : IsHeld old) (key : ExternalNumberKey) (small : key.number < 2 ^ 16) (inside : Endpoint)
+module _ (old new : Inside) (is : IsHeld old) (key : ExternalNumberKey) (small : key.number < 2 ^ 16)
+    (inside : Endpoint)
     (was left : Option Binding) (there : held_in old key ≡ was)
     (holds : (k : ExternalNumberKey) → held_in new k ≡ cond (key_eq key k) left (held_in old k))
     (insides : (q : Protocol) (e : Endpoint) → number_of_inside new q e
@@ -143,7 +147,8 @@ module _ (old new : Inside) (is : IsHeld old) (key : ExternalNumberKey) (small :
       ((k : ExternalNumberKey) → k.number < 2 ^ 16 → k ≢ key → is_in_use new.numbers k ≡ is_in_use old.numbers k) →
       are_counted new.hosts ≡ are_counted old.hosts →
       (are_counted old.hosts ≡ true → (host n : ℕ) → n + cond {A = ℕ} (held_counts_for host was) 1 0
-      ≡ count_in old.hosts host + cond {A = ℕ} (held_counts_for host left) 1 0 → count_in new.hosts host ≡ n) → IsHeld new
+      ≡ count_in old.hosts host + cond {A = ℕ} (held_counts_for host left) 1 0 → count_in new.hosts host ≡ n) →
+      IsHeld new
   step_held by_protocol used_here used_others counting counts = record {
     named = record {
       protocol_is = step_by (λ k b. b.row.protocol ≡ k.protocol) (λ b h. (fits b h).0)
@@ -163,7 +168,8 @@ module _ (old new : Inside) (is : IsHeld old) (key : ExternalNumberKey) (small :
         (λ d lt. used_others k lt d ∙ (is.used_is k lt ∙ sym (ap is_some (others k d))));
     counting = counting ∙ (is.counting ∙ ap (λ (g : AssignmentRules). is_some g.quota) (sym granting));
     counted = λ on host. counts (sym counting ∙ on) host (count_all (holdings_of new) host)
-        (ap (λ (o : Option Binding). count_all (holdings_of new) host + cond {A = ℕ} (held_counts_for host o) 1 0) (sym there)
+        (ap (λ (o : Option Binding). count_all (holdings_of new) host + cond {A = ℕ} (held_counts_for host o) 1 0)
+        (sym there)
         ∙ (count_all_changed (holdings_of old) (holdings_of new) host key small others
         ∙ λ i. (sym (is.counted (sym counting ∙ on) host)) i + cond {A = ℕ} (held_counts_for host (here i)) 1 0));
   }
@@ -192,7 +198,7 @@ same_held old new is address granting holds insides numbers counting counts = re
       ∙ sym (count_all_same (holdings_of old) (holdings_of new) host holds));
 }
 
--- NOTHING IS HELD
+-- NOTHING IS STORED
 
 pub none_held : (it : Inside) → it.by_number.entries ≡ [] → it.by_inside.entries ≡ [] → AreByProtocol it.numbers →
     ((key : ExternalNumberKey) → is_in_use it.numbers key ≡ false) → are_counted it.hosts ≡ is_some it.granting.quota →
@@ -225,8 +231,9 @@ find_agree_each p q (x ∷ xs) same =
     ap (λ v. cond v (Some x) (find p xs)) same.0
     ∙ ap (λ (o : Option ℕ). cond (q x) (Some x) o) (find_agree_each p q xs same.1)
 
--- a number is in use where a binding has it
-pub choice_held : (it : Inside) → IsHeld it → (choosing : NumberAssignment) (block : Option PortBlock) → IfSome block IsPortBlock →
+-- A number is in use if and only if a binding has it.
+pub choice_held : (it : Inside) → IsHeld it → (choosing : NumberAssignment) (block : Option PortBlock) →
+    IfSome block IsPortBlock →
     (protocol : Protocol) (inside : Endpoint) →
     find (λ n. not (is_in_use it.numbers (external_key protocol n))) (candidates choosing block protocol inside)
     ≡ find (λ n. not (is_some (held_at (holdings_of it) protocol n))) (candidates choosing block protocol inside)
@@ -236,12 +243,13 @@ choice_held it is choosing block keeps protocol inside =
     find_agree_each p q (candidates choosing block protocol inside) (each_small choosing block keeps (λ n. p n ≡ q n)
     protocol inside (λ n small. ap not (is.used_is (external_key protocol n) small)))
 
--- A BINDING CHANGES, and keeps its ends
+-- A BINDING CHANGES, and keeps its endpoints
 
 count_kept : (then now one other : ℕ) → one ≡ other → now + one ≡ then + other → then ≡ now
 count_kept then now one other alike moved = omega arith
 
-module _ (old new : Inside) (key : ExternalNumberKey) (is : IsHeld old) (b w : Binding) (there : held_in old key ≡ Some b)
+module _ (old new : Inside) (key : ExternalNumberKey) (is : IsHeld old) (b w : Binding)
+    (there : held_in old key ≡ Some b)
     (holds : (k : ExternalNumberKey) → held_in new k ≡ cond (key_eq key k) (Some w) (held_in old k))
     (address : new.address ≡ old.address) (granting : new.granting ≡ old.granting) where
   written_there : held_in new key ≡ Some w
@@ -250,12 +258,15 @@ module _ (old new : Inside) (key : ExternalNumberKey) (is : IsHeld old) (b w : B
   written_others : (k : ExternalNumberKey) → k ≢ key → held_in new k ≡ held_in old k
   written_others k d = holds k ∙ past_key key (Some w) (held_in old k) k d
 
-  -- what is found by an inside endpoint is found again
+  -- Each inside endpoint still has its number.
   found_again : (q : Protocol) (e : Endpoint) → number_of_inside old q e
-      ≡ cond (inside_eq (inside_key key.protocol b.row.inside) (inside_key q e)) (Some key.number) (number_of_inside old q e)
+      ≡ cond (inside_eq (inside_key key.protocol b.row.inside) (inside_key q e)) (Some key.number)
+      (number_of_inside old q e)
   found_again q e = by_inside key.protocol q b.row.inside e (λ q e. number_of_inside old q e
-      ≡ cond (inside_eq (inside_key key.protocol b.row.inside) (inside_key q e)) (Some key.number) (number_of_inside old q e))
-      (is.inside_is key b there ∙ sym (ap (λ v. cond v (Some key.number) (number_of_inside old key.protocol b.row.inside))
+      ≡ cond (inside_eq (inside_key key.protocol b.row.inside) (inside_key q e)) (Some key.number)
+      (number_of_inside old q e))
+      (is.inside_is key b there ∙ sym (ap (λ v. cond v (Some key.number)
+      (number_of_inside old key.protocol b.row.inside))
       (inside_same key.protocol key.protocol b.row.inside b.row.inside refl refl)))
       (λ t. sym (ap (λ v. cond v (Some key.number) (number_of_inside old q e)) t))
 
@@ -287,7 +298,7 @@ module _ (old new : Inside) (key : ExternalNumberKey) (is : IsHeld old) (b w : B
         (written_there ∙ (ap (λ (x : Binding). Some x) e ∙ sym there)) (written_others k);
   }
 
--- A BINDING CHANGES AT ITS PLACE
+-- A BINDING CHANGES AT ITS INDEX
 
 value_at : (es : List (ExternalNumberKey × Binding)) (i : ℕ) (key : ExternalNumberKey) (b : Binding) →
     slice_get es i ≡ Some (key, b) → slice_get (values_of es) i ≡ Some b
@@ -295,7 +306,8 @@ value_at [] i key b h = cc
 value_at (e ∷ es) zero key b h = ap (option_map (λ (x : ExternalNumberKey × Binding). x.1)) h
 value_at (e ∷ es) (suc i) key b h = value_at es i key b h
 
-module _ (it : Inside) (all : BindingIndexModel) (view : holdings_of it ≡ all) (key : ExternalNumberKey) (place : ℕ) (found : Binding)
+module _ (it : Inside) (all : BindingIndexModel) (view : holdings_of it ≡ all) (key : ExternalNumberKey) (place : ℕ)
+    (found : Binding)
     (there : Some found ≡ held_binding all key) (at : slice_get all.entries place ≡ Some (key, found)) where
   entry_at : slice_get it.by_number.entries place ≡ Some (key, found)
   entry_at = ap (λ (h : BindingIndexModel). slice_get h.entries place) view ∙ at
@@ -306,7 +318,7 @@ module _ (it : Inside) (all : BindingIndexModel) (view : holdings_of it ≡ all)
   pub found_there : held_in it key ≡ Some found
   found_there = ap (λ (h : BindingIndexModel). held_binding h key) view ∙ sym there
 
-  -- what is lent there is the binding that was found
+  -- The binding that is borrowed at the index is the one that was found.
   module _ (b : Binding) (lent : Some b ≡ slice_get (values_of it.by_number.entries) place) where
     lent_is : found ≡ b
     lent_is = same_Some found b (sym lent_at ∙ sym lent)
@@ -314,8 +326,9 @@ module _ (it : Inside) (all : BindingIndexModel) (view : holdings_of it ≡ all)
     pub lent_there : held_in it key ≡ Some b
     lent_there = found_there ∙ ap (λ (x : Binding). Some x) lent_is
 
-    -- and it is seen, if that one is live
-    pub lent_seen : (timers : Timers) (now : ℕ) → is_live timers now found ≡ true → seen_binding timers now (held_in it key)
+    -- It is visible if the one that was found is live.
+    pub lent_seen : (timers : Timers) (now : ℕ) → is_live timers now found ≡ true →
+        seen_binding timers now (held_in it key)
         ≡ Some (with_live_flows timers now b)
     lent_seen timers now live = ap (seen_binding timers now) lent_there
         ∙ seen_live timers now b _ (ap (is_live timers now) (sym lent_is) ∙ live) refl
@@ -347,7 +360,8 @@ module _ (it : Inside) (is : IsHeld it) (timers : Timers) (now : ℕ) (q : Proto
       number_of_inside it q inside ≡ Some n
   seen_number n b s e =
       let c = seen_is timers now (held_in it (external_key q n)) b s in
-      ap (number_of_inside it q) (sym (ap (λ (x : Binding). x.row.inside) c.3 ∙ e)) ∙ is.inside_is (external_key q n) c.0 c.1
+      ap (number_of_inside it q) (sym (ap (λ (x : Binding). x.row.inside) c.3 ∙ e))
+      ∙ is.inside_is (external_key q n) c.0 c.1
 
   pub none_seen : number_of_inside it q inside ≡ None → (n : ℕ) (b : Binding) →
       seen_binding timers now (held_in it (external_key q n)) ≡ Some b → b.row.inside ≢ inside
@@ -358,4 +372,5 @@ module _ (it : Inside) (is : IsHeld it) (timers : Timers) (now : ℕ) (q : Proto
       seen_binding timers now (held_in it (external_key q n)) ≡ Some b → b.row.inside ≢ inside
   dead_seen number found dead n b s e =
       let m : number ≡ n = same_Some number n (sym found ∙ seen_number n b s e) in
-      let z : None ≡ Some b = sym dead ∙ (ap (λ (k : ℕ). seen_binding timers now (held_in it (external_key q k))) m ∙ s) in cc
+      let z : None ≡ Some b = sym dead ∙ (ap (λ (k : ℕ). seen_binding timers now (held_in it (external_key q k))) m
+      ∙ s) in cc

@@ -1,4 +1,4 @@
--- How many bindings of each inside host are held, in the list and in what is held for it.
+-- Each inside host has as many bindings in the list as are stored for it.
 use Rattle.std.proofs.Common.{◌≡◌, ◌≢◌, ℕ, zero, suc, ◌+◌, ◌<◌, ◌≤◌, ◌^◌, Bool, true, false, not, ◌&&◌, cond, List, [], ◌∷◌, map, length, Option, Some, None, refl, sym, ◌∙◌, ap, arith, eqb, eqb-true}
 use Rattle.std.{specs.Prelude.{filter, find}, proofs.lemmas.Bool.{eq-eqb, true≢false}}
 use Rattle.napt_wire.specs.declared.Protocol.{Protocol, TheVariants.{Icmp, Tcp, Udp}}
@@ -8,7 +8,7 @@ use Rattle.napt_rules.specs.Prelude.{Binding, same_protocol, is_at, has_number, 
 use Rattle.napt_table.specs.{Hosts.{held_counts_for, count_below, count_held, CountIsHeld}}
 use Rattle.napt_laws.proofs.{Lists.find_nowhere, Finds.Once, Endpoints.{protocol_is, same_itself, has_it, number_of_it, not_has, once_number}}
 
--- one where the test passes
+-- 1 if the test passes, else 0.
 abbrev one : Bool → ℕ
 one v = cond {A = ℕ} v 1 0
 
@@ -19,7 +19,7 @@ one_at_most false = omega arith
 -- NUMBERS BELOW A BOUND
 
 module _ (s t : ℕ → Bool) where
-  -- tests that agree below the bound
+  -- Two tests that agree below the bound have the same count.
   below_same : (many : ℕ) → ((n : ℕ) → n < many → s n ≡ t n) → count_below s many ≡ count_below t many
   unfolding count_below
   below_same zero same = refl
@@ -28,7 +28,7 @@ module _ (s t : ℕ → Bool) where
       let rest : count_below s many ≡ count_below t many = below_same many (λ n less. same n (omega (arith, less))) in
       omega (arith, here, rest)
 
-  -- tests that agree but at one number
+  -- Two tests that agree except at one number.
   below_changed : (number many : ℕ) → number < many → ((n : ℕ) → n ≢ number → s n ≡ t n) →
       count_below s many + one (t number) ≡ count_below t many + one (s number)
   unfolding count_below
@@ -65,7 +65,7 @@ module _ (test : ℕ → Bool) where
   below_few zero = omega arith
   below_few (suc many) = omega (arith, one_at_most (test many), below_few many)
 
--- WHAT IS HELD FOR A HOST
+-- THE STORED BINDINGS OF A HOST
 
 pub count_same : (held held' : ℕ → Option Binding) (host : ℕ) →
     ((n : ℕ) → n < 2 ^ 16 → held_counts_for host (held' n) ≡ held_counts_for host (held n)) →
@@ -82,7 +82,8 @@ count_changed held held' host number less same =
     (λ n differs. ap (held_counts_for host) (same n differs))
 
 pub count_none : (held : ℕ → Option Binding) (host : ℕ) → ((n : ℕ) → held n ≡ None) → count_held held host ≡ 0
-count_none held host none = below_none (λ n. held_counts_for host (held n)) (2 ^ 16) (λ n. ap (held_counts_for host) (none n))
+count_none held host none = below_none (λ n. held_counts_for host (held n)) (2 ^ 16)
+    (λ n. ap (held_counts_for host) (none n))
 
 pub count_few : (held : ℕ → Option Binding) (host : ℕ) → count_held held host ≤ 2 ^ 16
 count_few held host = below_few (λ n. held_counts_for host (held n)) (2 ^ 16)
@@ -90,14 +91,14 @@ count_few held host = below_few (λ n. held_counts_for host (held n)) (2 ^ 16)
 -- THE LIST
 
 module _ (many address host : ℕ) where
-  -- whether what is found at a number of the protocol counts for the host
+  -- Whether the binding that is found at a number of the protocol counts for the host.
   abbrev found_for : List Binding → Protocol → ℕ → Bool
   found_for list q n = held_counts_for host (find (λ b. has_number address q n b.row) list)
 
   abbrev found : List Binding → Protocol → ℕ
   found list q = count_below (found_for list q) many
 
-  -- what is found has a number below the bound
+  -- Each binding that is found has a number below the bound.
   abbrev AreBelow : List Binding → Type 0
   AreBelow list = (q : Protocol) (n : ℕ) (b : Binding) → find (λ b. has_number address q n b.row) list ≡ Some b →
       n < many
@@ -110,7 +111,7 @@ module _ (many address host : ℕ) where
         | false ↦ λ h. below q n b (ap head h ∙ e)
       ] refl
 
-  -- a binding at the address is counted at its number, under its protocol alone
+  -- A binding at the address is counted at its own number and protocol alone.
   module _ (x : Binding) (xs : List Binding) (at : is_at address x.row ≡ true) where
     abbrev counted : Bool
     counted = eqb x.row.inside.address host && not x.row.fixed
@@ -141,7 +142,8 @@ module _ (many address host : ℕ) where
         once_number address q number (x ∷ xs) apart in
         let none : find (λ b. has_number address q number b.row) xs ≡ None = find_nowhere _ xs (once.0 has) in
         let before : one (found_for xs q number) ≡ 0 = ap (λ o. one (held_counts_for host o)) none in
-        let after : one (found_for (x ∷ xs) q number) ≡ one counted = ap (λ v. one (held_counts_for host (head v))) has in
+        let after : one (found_for (x ∷ xs) q number)
+        ≡ one counted = ap (λ v. one (held_counts_for host (head v))) has in
         let changed : found (x ∷ xs) q + one (found_for xs q number)
         ≡ found xs q + one (found_for (x ∷ xs) q number) =
         below_changed (found_for (x ∷ xs) q) (found_for xs q) number many (below q number x (ap head has))
@@ -169,7 +171,7 @@ module _ (many address host : ℕ) where
           | false ↦ omega arith
         ])
 
-  -- over the three protocols
+  -- The count over the three protocols.
   abbrev found_in_all : List Binding → ℕ
   found_in_all list = (found list Icmp + found list Tcp) + found list Udp
 
@@ -207,9 +209,9 @@ module _ (many address host : ℕ) where
       missed : (q : Protocol) (n : ℕ) → has_number address q n x.row ≡ false → found_for (x ∷ xs) q n ≡ found_for xs q n
       missed q n h = ap (λ v. held_counts_for host (cond v (Some x) (find (λ b. has_number address q n b.row) xs))) h
 
--- OF THE SAME ROWS
+-- LISTS WITH THE SAME ROWS
 
--- a row counts as its binding does
+-- A row counts for a host as its binding does.
 abbrev for_row : ℕ → Option Row → Bool
 for_row host None = false
 for_row host (Some r) = eqb r.inside.address host && not r.fixed
@@ -222,7 +224,7 @@ some_held : (h : Option Binding) (r : Row) → option_map row h ≡ Some r → (
 some_held None r e = cc
 some_held (Some c) r e = (c, refl)
 
--- for any bound of the numbers at which something is held
+-- The same for each bound on the numbers that have a stored binding.
 module _ (many address host : ℕ) (held : Protocol → ℕ → Option Binding) where
   abbrev held_in : Protocol → ℕ
   held_in q = count_below (λ n. held_counts_for host (held q n)) many

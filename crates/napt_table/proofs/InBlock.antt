@@ -1,5 +1,5 @@
--- The candidates of a number in a block are the numbers of one parity, then those of the other: each a class, from a
--- place of it on, then before it; or, where parity is free, all of them so.
+-- The candidates in a block are the numbers of one parity, then those of the other, each a class from a place of it on
+-- and then before it; or, where parity is free, all numbers of the block
 use Rattle.std.proofs.Common.{◌≡◌, ℕ, zero, suc, ◌+◌, ◌-◌, ◌*◌, ◌/◌, ◌%◌, ◌<◌, ◌≤◌, ◌^◌, Bool, true, false, List, ◌∷◌, ◌++◌, map, Option, Some, None, refl, sym, ◌∙◌, ap, arith}
 use Rattle.std.{specs.{Prelude.{find, IfSome}, List.range_with_len}, proofs.{lemmas.List.map-append, Math.Nat.{mod-eq_of_lt, add-mod_left}}}
 use Rattle.napt_config.specs.{Rules.IsPortBlock, declared.settings.PortBlock.PortBlock}
@@ -36,7 +36,7 @@ map_alike f g a b (suc m) same =
     ap f p ∙ (same (suc k) (omega (arith, lt)) ∙ sym (ap g q))) in
     ap (λ (n : ℕ). n ∷ map f (range_with_len (a + 1) m)) first ∙ ap (λ (l : List ℕ). g b ∷ l) rest
 
--- a range that wraps
+-- A range that wraps around is two ranges.
 map_wraps : (f g : ℕ → ℕ) (many j : ℕ) → j ≤ many → ((k : ℕ) → k < many - j → f (0 + k) ≡ g (j + k)) →
     ((k : ℕ) → k < j → f ((0 + (many - j)) + k) ≡ g (0 + k)) →
     map f (range_with_len 0 many) ≡ map g (range_with_len j (many - j)) ++ map g (range_with_len 0 j)
@@ -67,7 +67,7 @@ module _ (block : PortBlock) (is : IsPortBlock block) where
       ap (λ n. block.first + n % block.size) over
       ∙ (ap (λ n. block.first + n) (add-mod_left block.size (place % 2 + 2 * k) ∙ mod-eq_of_lt less) ∙ omega arith))
 
-  -- all of them
+  -- The whole block, where parity is free.
   pub each_is : (place : ℕ) → place ≤ block.size → each_one block place ≡ from_place (class_of_block block) place
   unfolding numbers_below
   each_is place on =
@@ -81,8 +81,9 @@ module _ (block : PortBlock) (is : IsPortBlock block) where
       ap (λ n. block.first + n % block.size) over
       ∙ (ap (λ n. block.first + n) (add-mod_left block.size k ∙ mod-eq_of_lt less) ∙ omega arith))
 
-  -- by a class and a place that are those
-  pub each_by : (choosing : NumberAssignment) → choosing.keeps_parity ≡ false → (protocol : Protocol) (inside : Endpoint)
+  -- The same, for a class and a place that equal those of the block.
+  pub each_by : (choosing : NumberAssignment) → choosing.keeps_parity ≡ false →
+      (protocol : Protocol) (inside : Endpoint)
       (class : CandidateClass) → class ≡ class_of_block block → (place : ℕ) →
       place ≡ place_in choosing.seed choosing.keeps_parity block.size protocol inside → place < block.size →
       from_place class place ≡ candidates_in_block choosing block protocol inside
@@ -104,11 +105,11 @@ module _ (block : PortBlock) (is : IsPortBlock block) where
         ap (λ (l : List ℕ). l ++ every_other block (place + 1)) (turn_is place (omega (arith, within)))
         ∙ ap (λ (l : List ℕ). alike ++ l) (turn_is (place + 1) (omega (arith, within)))
 
-    -- a number of its parity is free
+    -- A number of the place's parity is free.
     pub found_alike : (n : ℕ) → find free alike ≡ Some n → Some n ≡ find free (block_from true block place)
     found_alike n e = sym (ap (find free) both ∙ find_front free alike unlike n e)
 
-    -- none is
+    -- No number of the place's parity is free.
     pub found_unlike : find free alike ≡ None → find free unlike ≡ find free (block_from true block place)
     found_unlike e = sym (ap (find free) both ∙ find_rest free alike unlike e)
 

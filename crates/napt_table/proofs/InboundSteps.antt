@@ -1,4 +1,4 @@
--- A packet that comes in, on what is held and on the list.
+-- An incoming packet, on the stored bindings and on the list.
 use Rattle.std.proofs.Common.{◌≡◌, ◌≢◌, ℕ, ◌+◌, ◌*◌, ◌<◌, ◌≤◌, Bool, true, false, ◌||◌, cond, List, [], ◌∷◌, Option, Some, None, Result, Ok, Err, refl, sym, ◌∙◌, ap, subst, arith, eqb, eqb-true}
 use Rattle.std.{specs.{Prelude.find, Option.option_map, List.list_any}, proofs.lemmas.Bool.{eq-eqb, true≢false}}
 use Rattle.napt_wire.specs.declared.{Protocol.{Protocol, TheVariants.{Icmp, Tcp, Udp}}, Way.TheVariants.Incoming, Cause.Cause}
@@ -13,7 +13,7 @@ use Rattle.napt_table.proofs.{Queues.{due_later, same_due, changed_due}, Keys.by
 use Rattle.napt_binding.{specs.{Ends.least_timer, Inbounds.{inbound_answer, binding_after_inbound}, Slots.NoneUsedAfter}, proofs.LastUses.live_flows_used}
 use Rattle.napt_laws.proofs.{FreshBindings.{binding_of, IsFresh, received_fresh}, Endpoints.{changed_other, changed_here}}
 
--- WHAT IS SEEN IS FRESH
+-- A VISIBLE BINDING IS FRESH
 
 seen_fresh : (timers : Timers) (now : ℕ) (o : Option Binding) (b : Binding) → seen_binding timers now o ≡ Some b →
     IsFresh timers now b
@@ -27,7 +27,8 @@ seen_fresh timers now o b e =
     } in
     subst (IsFresh timers now) s.3 f
 
-pub fresh_seen : (timers : Timers) (now : ℕ) (b : Binding) → IsFresh timers now b → seen_binding timers now (Some b) ≡ Some b
+pub fresh_seen : (timers : Timers) (now : ℕ) (b : Binding) → IsFresh timers now b →
+    seen_binding timers now (Some b) ≡ Some b
 fresh_seen timers now b f =
     ap (λ v. cond v (Some (with_live_flows timers now b)) None) f.live
     ∙ ap (λ (fs : List Flow). let x : Binding = record b { flows = fs } in Some x)
@@ -39,12 +40,13 @@ left_fresh timers t inbound packet b f = elim (permits inbound b packet.remote) 
     IsFresh timers packet.now (cond v (binding_after_in inbound packet b) b))
     [ true ↦ received_fresh timers t packet.remote packet.flags packet.now inbound b f | false ↦ f ]
 
-pub left_row : (inbound : InboundRules) (packet : InboundPacket) (b : Binding) → row (binding_after_inbound inbound packet b) ≡ row b
+pub left_row : (inbound : InboundRules) (packet : InboundPacket) (b : Binding) →
+    row (binding_after_inbound inbound packet b) ≡ row b
 left_row inbound packet b = elim (permits inbound b packet.remote) as (λ v.
     row (cond v (binding_after_in inbound packet b) b) ≡ row b)
     [ true ↦ refl | false ↦ refl ]
 
--- IT STAYS DUE
+-- THE BINDING STAYS QUEUED
 
 any_changed : (p test : Flow → Bool) (f : Flow → Flow) → ((x : Flow) → p (f x) ≡ true) → (xs : List Flow) →
     list_any p xs ≡ true → list_any p (change_first test f xs) ≡ true
@@ -76,21 +78,24 @@ module _ (timers : Timers) (t : AreTimers timers) (remote : Endpoint) (flags : F
       (is_flow_of remote) (flow_after Tcp Incoming flags now) (used_lives timers t remote flags now u after lt Incoming)
       flows h
 
-  received_lives : (inbound : InboundRules) (b : Binding) → u < now + least_timer b.row.protocol timers * ns_per_second →
+  received_lives : (inbound : InboundRules) (b : Binding) →
+      u < now + least_timer b.row.protocol timers * ns_per_second →
       is_live timers u b ≡ true → is_live timers u (received_through inbound remote flags now b) ≡ true
   received_lives inbound b lt h = received_lives_by inbound.filter inbound.refresh b.row.protocol lt b.row.inside
       b.row.external b.row.fixed b.last b.flows h
 
-left_lives : (timers : Timers) → AreTimers timers → (inbound : InboundRules) (packet : InboundPacket) (u : ℕ) → packet.now ≤ u →
+left_lives : (timers : Timers) → AreTimers timers → (inbound : InboundRules) (packet : InboundPacket) (u : ℕ) →
+    packet.now ≤ u →
     (b : Binding) → u < packet.now + least_timer b.row.protocol timers * ns_per_second → is_live timers u b ≡ true →
     is_live timers u (binding_after_inbound inbound packet b) ≡ true
 left_lives timers t inbound packet u after b lt h = elim (permits inbound b packet.remote) as (λ v.
     is_live timers u (cond v (binding_after_in inbound packet b) b) ≡ true)
     [ true ↦ received_lives timers t packet.remote packet.flags packet.now u after inbound b lt h | false ↦ h ]
 
--- THE QUEUE AFTER A PACKET CAME IN TO A LIVE BINDING
+-- THE QUEUE AFTER A PACKET CAME IN THROUGH A LIVE BINDING
 
-module _ (timers : Timers) (t : AreTimers timers) (inbound : InboundRules) (packet : InboundPacket) (at : ℕ) (old new : BindingIndexModel)
+module _ (timers : Timers) (t : AreTimers timers) (inbound : InboundRules) (packet : InboundPacket) (at : ℕ)
+    (old new : BindingIndexModel)
     (entries : List (ℕ × ExternalNumberKey)) (due : AreDue timers at old entries) (later : at ≤ packet.now)
     (one : ChangesOne (external_key packet.protocol packet.number) old new) (b : Binding)
     (there : seen_binding timers packet.now (held_at old packet.protocol packet.number) ≡ Some b)
@@ -137,7 +142,8 @@ module _ (timers : Timers) (t : AreTimers timers) (inbound : InboundRules) (addr
 
     pub absent_shows : (new : ℕ → Option Binding) → ((n : ℕ) → new n ≡ held_ n) →
         ShowsHeld timers packet.now address packet.protocol new (shown_in inbound address packet list).list
-    absent_shows new same n = ap (λ (r : InboundEffect). find (λ b. has_number address packet.protocol n b.row) r.list) absent_is
+    absent_shows new same n = ap (λ (r : InboundEffect). find (λ b. has_number address packet.protocol n b.row)
+        r.list) absent_is
         ∙ (shows n ∙ ap (seen_binding timers packet.now) (sym (same n)))
 
   module _ (b : Binding) (some : seen_binding timers packet.now (held_ packet.number) ≡ Some b) where
@@ -165,7 +171,8 @@ module _ (timers : Timers) (t : AreTimers timers) (inbound : InboundRules) (addr
         new packet.number ≡ Some (cond v (change b) b) →
         find (at n) (shown_passed inbound list address packet b v).list ≡ seen_binding timers now (new n)) [
           | true ↦ λ f h. elim (eqb n packet.number) as (λ v. eqb n packet.number ≡ v →
-              find (at n) (change_first (is_of_destination address packet) change list) ≡ seen_binding timers now (new n)) [
+              find (at n) (change_first (is_of_destination address packet) change list)
+              ≡ seen_binding timers now (new n)) [
                 | true ↦ λ e.
                     let q : n ≡ packet.number = eqb-true n packet.number e in
                     subst (λ (m : ℕ). find (at m) (change_first (is_of_destination address packet) change list)
@@ -193,10 +200,12 @@ module _ (timers : Timers) (t : AreTimers timers) (inbound : InboundRules) (addr
 module _ (timers : Timers) (t : AreTimers timers) (inbound : InboundRules) (address : ℕ) (packet : InboundPacket)
     (old new : BindingIndexModel) (one : ChangesOne (external_key packet.protocol packet.number) old new)
     (result : Result Endpoint Cause)
-    (absent : seen_binding timers packet.now (held_at old packet.protocol packet.number) ≡ None → (result ≡ Err NoBinding)
+    (absent : seen_binding timers packet.now (held_at old packet.protocol packet.number) ≡ None →
+    (result ≡ Err NoBinding)
     × (held_at new packet.protocol packet.number ≡ held_at old packet.protocol packet.number))
     (found : (b : Binding) → seen_binding timers packet.now (held_at old packet.protocol packet.number) ≡ Some b →
-    (result ≡ inbound_answer inbound packet b) × (held_at new packet.protocol packet.number ≡ Some (binding_after_inbound inbound packet b)))
+    (result ≡ inbound_answer inbound packet b) × (held_at new packet.protocol packet.number
+    ≡ Some (binding_after_inbound inbound packet b)))
   where
     others : (n : ℕ) → n ≢ packet.number → held_at new packet.protocol n ≡ held_at old packet.protocol n
     others n d = one.others (external_key packet.protocol n) (λ e. d (ap (λ (k : ExternalNumberKey). k.number) e))
@@ -232,31 +241,36 @@ module _ (timers : Timers) (t : AreTimers timers) (inbound : InboundRules) (addr
           )
         ] refl
 
-    -- what is not seen is as before
+    -- What is not visible is unchanged.
     pub received_unseen : KeepsUnseen timers packet.now old new
     received_unseen k none at from = by_key (external_key packet.protocol packet.number) k (λ n.
-        seen_binding timers packet.now (held_binding new n) ≡ None → seen_binding timers at (held_binding new n) ≡ seen_binding timers at (held_binding old n))
+        seen_binding timers packet.now (held_binding new n) ≡ None →
+        seen_binding timers at (held_binding new n) ≡ seen_binding timers at (held_binding old n))
         (λ h. elim (seen_binding timers packet.now (held_at old packet.protocol packet.number)) as (λ o.
         seen_binding timers packet.now (held_at old packet.protocol packet.number) ≡ o →
         seen_binding timers at (held_at new packet.protocol packet.number)
         ≡ seen_binding timers at (held_at old packet.protocol packet.number)) [
           | None ↦ λ e. ap (seen_binding timers at) (absent e).1
           | Some b ↦ λ e.
-              let f : IsFresh timers packet.now (binding_after_inbound inbound packet b) = left_fresh timers t inbound packet b
+              let f : IsFresh timers packet.now (binding_after_inbound inbound packet b) =
+              left_fresh timers t inbound packet b
               (seen_fresh timers packet.now (held_at old packet.protocol packet.number) b e) in
-              let z : None ≡ Some (binding_after_inbound inbound packet b) = sym h ∙ (ap (seen_binding timers packet.now) (found b e).1
+              let z : None ≡ Some (binding_after_inbound inbound packet b) = sym h
+              ∙ (ap (seen_binding timers packet.now) (found b e).1
               ∙ fresh_seen timers packet.now (binding_after_inbound inbound packet b) f) in cc
         ] refl)
         (λ d h. ap (seen_binding timers at) (one.others k d)) none
 
-    -- what is due stays so
+    -- The queue stays valid.
     pub all_received_due : (at : ℕ) (entries : List (ℕ × ExternalNumberKey)) → at ≤ packet.now →
         AreDue timers at old entries → AreDue timers packet.now new entries
     all_received_due at entries later due =
         elim (seen_binding timers packet.now (held_at old packet.protocol packet.number)) as (λ o.
-        seen_binding timers packet.now (held_at old packet.protocol packet.number) ≡ o → AreDue timers packet.now new entries) [
+        seen_binding timers packet.now (held_at old packet.protocol packet.number) ≡ o →
+        AreDue timers packet.now new entries) [
           | None ↦ λ e. due_later timers at packet.now new entries later (same_due timers at old new entries
-              (λ k. by_key (external_key packet.protocol packet.number) k (λ n. held_binding new n ≡ held_binding old n) (absent e).1
+              (λ k. by_key (external_key packet.protocol packet.number) k
+              (λ n. held_binding new n ≡ held_binding old n) (absent e).1
               (one.others k)) due)
           | Some b ↦ λ e. received_due timers t inbound packet at old new entries due later one b e (found b e).1
         ] refl

@@ -1,4 +1,4 @@
--- The keys of what is held.
+-- The keys of the stored bindings.
 use Rattle.std.proofs.Common.{◌≡◌, ◌≢◌, ℕ, Bool, true, false, ◌&&◌, cond, refl, sym, ◌∙◌, ap, subst, eqb, eqb-true}
 use Rattle.std.{proofs.lemmas.Bool.{eq-eqb, and_from, and_parts, true≢false}, specs.Cmp.IsEquivalence}
 use denote.Enum.Bare.{sameb}
@@ -56,7 +56,7 @@ key_equiv = record {
   congr = λ a b c t. ap (λ (x : ExternalNumberKey). key_eq x c) (key_is a b t);
 }
 
--- what holds at the key, and at each other one
+-- A property of all keys is shown for one key and for each other one.
 pub by_key : (a b : ExternalNumberKey) (P : ExternalNumberKey → Type 0) → P a → (b ≢ a → P b) → P b
 by_key a b P here rest = elim (key_eq a b) as (λ v. key_eq a b ≡ v → P b) [
   | true ↦ λ t. subst P (key_is a b t) here
@@ -74,7 +74,7 @@ and_true : (v : Bool) → (v && true) ≡ v
 and_true true = refl
 and_true false = refl
 
--- under one protocol, by the number
+-- Keys of one protocol are equal if their numbers are.
 pub key_number : (p : Protocol) (m n : ℕ) → key_eq (external_key p m) (external_key p n) ≡ eqb m n
 key_number p m n = ap (λ v. eqb m n && v) (bare_itself p) ∙ and_true (eqb m n)
 
@@ -101,7 +101,7 @@ inside_same p q e f s t =
     ∙ ap (λ (x : Endpoint). inside_eq (inside_key p e) (inside_key q x)) t)
     ∙ inside_itself p e
 
--- what holds at the inside endpoint, and at each other one
+-- A property of all inside endpoints is shown for one of them and for each other one.
 pub by_inside : (p q : Protocol) (e f : Endpoint) (P : Protocol → Endpoint → Type 0) → P p e →
     (inside_eq (inside_key p e) (inside_key q f) ≡ false → P q f) → P q f
 by_inside p q e f P here rest = elim (inside_eq (inside_key p e) (inside_key q f)) as (λ v.

@@ -1,4 +1,4 @@
--- No flow of a binding was last used after a time, as packets go through it.
+-- No flow of a binding was last used after a time, also after packets went through the binding.
 use Rattle.std.{proofs.Common.{◌≡◌, ℕ, ◌≤◌, Bool, true, false, cond, List, [], ◌∷◌, ◌++◌, inl, inr, refl, sym, ◌∙◌, arith}, specs.Prelude.filter}
 use Rattle.std.{specs.List.list_any, proofs.lemmas.{Bool.{true≢false, cases_lt}, List.Elements.{All-cons, All-head, All-tail, All-push}}}
 use Rattle.napt_wire.specs.declared.{Endpoint.Endpoint, Flags.Flags, Protocol.{Protocol, TheVariants.{Icmp, Tcp, Udp}}, Way.TheVariants.{Outgoing, Incoming}}
@@ -22,7 +22,7 @@ module _ (now : ℕ) where
             (changed_used test f each flows (All-tail UpTo x flows h))
       ]
 
-  -- a packet uses one now
+  -- A packet uses one flow now.
   pub out_used : (protocol : Protocol) (remote : Endpoint) (flags : Flags) (flows : List Flow) →
       NoneUsedAfter flows now → NoneUsedAfter (change_first (is_flow_of remote) (flow_after protocol Outgoing flags now)
       (with_flow remote now flows)) now
@@ -44,7 +44,7 @@ module _ (now : ℕ) where
   sent_last remote flags b h = elim b.row.fixed as (λ v. cond v b.last now ≤ now) [ true ↦ h | false ↦ omega arith ]
 
   module _ (timers : Timers) where
-    -- what is dead was used before
+    -- A dead flow was last used before now.
     dead_used : AreTimers timers → (x : Flow) → is_live_flow timers now x ≡ false → UpTo x
     dead_used good x dead = elim (cases_lt now x.last) [
       | inl lt ↦ absurd (true≢false (sym (lived_flow timers now x.last (omega arith) x

@@ -1,8 +1,8 @@
--- The least free number, by the first free places.
+-- The least free number, by the first free places of even and of odd numbers.
 use Rattle.std.proofs.Common.{◌≡◌, ℕ, ◌<◌, Bool, Option, Some, None, sym, ◌∙◌, arith}
 use Rattle.napt_collections.specs.BitSets.{IsFirstAbsent}
 
--- by two tests that agree
+-- Two tests that agree below the end have the same first absent number.
 pub first_agrees : (p q : ℕ → Bool) (from end : ℕ) → ((n : ℕ) → n < end → p n ≡ q n) → (o : Option ℕ) →
     IsFirstAbsent p from end o → IsFirstAbsent q from end o
 first_agrees p q from end agree None h = λ j le lt. sym (agree j lt) ∙ h j le lt

@@ -1,4 +1,4 @@
--- What a table leaves is alike to its list.
+-- The bindings that a table returns for a saved state are alike to those of its list.
 use Rattle.std.proofs.Common.{◌≡◌, ℕ, ◌≤◌, Bool, true, false, ◌||◌, cond, All, List, [], ◌∷◌, map, filter, find, Option, Some, refl, sym, ◌∙◌, ap, subst, arith}
 use Rattle.std.{specs.{List.IsDistinct, List.Sorted.{IsPermutation, IsNonDecreasingBy}, Map.{lookup, keys_of, values_of}, Option.option_map}}
 use Rattle.std.proofs.lemmas.{Map.{lookup-none, Entries.{none_past_head}, Keys.IsDistinct-tail}, List.Elements.{All-head, All-tail, All-filter}}
@@ -14,10 +14,10 @@ use Rattle.napt_table.proofs.{TableSteps.{show_now}, Keys.{key_is, key_differs, 
 use Rattle.napt_laws.proofs.{Endpoints.{once_number, has_it, has_protocol, number_of_it}, Finds.{Once, none_passes}, Lists.each_weaker, SeenElements.ago_later}
 use Rattle.napt_laws.proofs.{AlikeLists.{alike_moved, alike_then, alike_taken}, Shuffles.each_moved, FreshBindings.{IsFresh, fresh_purged, purge_fresh}, Purges.each_purged}
 
--- WHAT IS HELD, one entry after another
+-- STORED BINDINGS, one entry after another
 
 module _ (address : ℕ) where
-  -- its number at the address, under its protocol
+  -- The binding of an entry is at the address, with the protocol and number of its key.
   abbrev IsEntry : ExternalNumberKey × Binding → Type 0
   IsEntry e = (e.1.row.protocol ≡ e.0.protocol) × (e.1.row.external ≡ record { address = address; number = e.0.number })
 
@@ -61,7 +61,8 @@ module _ (address : ℕ) where
       once_values es each.1 (IsDistinct-tail key_eq e.0 (keys_of es) distinct),
     )
 
-each_value : (P : Binding → Type 0) (es : List (ExternalNumberKey × Binding)) → Each (λ e. P e.1) es → Each P (values_of es)
+each_value : (P : Binding → Type 0) (es : List (ExternalNumberKey × Binding)) → Each (λ e. P e.1) es →
+    Each P (values_of es)
 each_value P [] h = tt
 each_value P (e ∷ es) h = (h.0, each_value P es h.1)
 
@@ -203,7 +204,7 @@ module _ (table : Inside) (is : KeepsItsList table) (now : ℕ) (later : table.b
           (subst (AreAlike timers now (live_and_held timers now (list_of table))) (sym made_is)
           (alike_taken timers now (list_of table) values held_alike))
           (alike_moved timers now made sorted moved);
-      live_and_held = purge_fresh timers (hold_ago timers now) sorted
+      taken = purge_fresh timers (hold_ago timers now) sorted
           (each_moved (IsFresh timers (hold_ago timers now)) made sorted moved
           (subst (Each (IsFresh timers (hold_ago timers now))) (sym made_is)
           (fresh_purged timers (hold_ago timers now) values)));

@@ -1,4 +1,4 @@
--- What is held, sorted, are the rows of the list.
+-- The rows of the stored bindings, sorted, are the rows of the list.
 use Rattle.std.proofs.Common.{◌≡◌, ℕ, ◌+◌, ◌-◌, ◌*◌, ◌<◌, ◌≤◌, Bool, true, false, not, ◌&&◌, cond, All, List, [], ◌∷◌, map, filter, Option, Some, None, refl, sym, ◌∙◌, ap, arith, eqb, eqb-true}
 use Rattle.std.specs.{Prelude.{find, nat_lt}, List.IsDistinct, Map.{lookup, keys_of, values_of}, Option.option_map}
 use Rattle.std.proofs.lemmas.{Bool.{and_from, and_parts, eq-eqb, Decides.nat_tests}, Map.{lookup-none, Entries.{lookup_head, lookup_tail, none_past_head}}}
@@ -16,12 +16,12 @@ use Rattle.napt_laws.proofs.Orders.{same_rank, same_rank_is, in_order_alike}
 -- FILTERS
 
 module _ {X : Type 0} where
-  -- an element or none, as a list
+  -- An optional element as a list of one element or none.
   abbrev pub few : Option X → List X
   few None = []
   few (Some x) = x ∷ []
 
-  -- where no element is big, tests that agree on the others pass the same
+  -- Where no element is big, tests that agree on the others pass the same elements.
   filter_small : (big s t : X → Bool) → ((x : X) → big x ≡ false → s x ≡ t x) → (xs : List X) → filter big xs ≡ [] →
       filter s xs ≡ filter t xs
   filter_small big s t agree [] none = refl
@@ -50,7 +50,7 @@ module _ {X : Type 0} where
         ]
       ] refl
 
--- ROWS OF ONE END
+-- ROWS WITH ONE EXTERNAL NUMBER
 
 abbrev pub is_row : Protocol → ℕ → Row → Bool
 is_row protocol number row = same_protocol protocol row.protocol && eqb row.external.number number
@@ -60,7 +60,7 @@ is_row_itself r =
     ap (λ v. v && eqb r.external.number r.external.number) (same_itself r.protocol)
     ∙ eq-eqb r.external.number r.external.number refl
 
--- beyond 16 bits
+-- The external number does not fit in 16 bits.
 abbrev is_big : Row → Bool
 is_big r = not (nat_lt r.external.number 65536)
 
@@ -71,7 +71,7 @@ none_big (r ∷ rows) small =
     let fits : is_big r ≡ false = grind (arith, nat_tests) in
     ap (λ v. cond v (r ∷ filter is_big rows) (filter is_big rows)) fits ∙ none_big rows (All-tail IsSmall r rows small)
 
--- ICMP at its number, TCP and UDP above it; what is beyond passes nowhere
+-- The ranks of ICMP are its numbers, those of TCP and UDP are above them; a larger number has no such rank.
 rank_icmp : (n m : ℕ) (q : Protocol) → n < 65536 → not (nat_lt m 65536) ≡ false → eqb n (protocol_rank q * 65536 + m)
     ≡ (same_protocol Icmp q && eqb m n)
 rank_icmp n m Icmp lt small = grind (arith, nat_tests)
@@ -97,7 +97,7 @@ rank_beyond n m Tcp le small = grind (arith, nat_tests)
 rank_beyond n m Udp le small = grind (arith, nat_tests)
 
 module _ (xs ys : List Row) (alike : (p : Protocol) (n : ℕ) → filter (is_row p n) xs ≡ filter (is_row p n) ys) where
-  -- rows alike at each end are alike in what is big
+  -- If `ys` has no big row then `xs` has none, as both have the same rows at each number.
   none_big_alike : filter is_big ys ≡ [] → filter is_big xs ≡ []
   none_big_alike none = elim (filter is_big xs) as (λ l. filter is_big xs ≡ l → l ≡ []) [
     | [] ↦ λ e. refl
@@ -111,7 +111,7 @@ module _ (xs ys : List Row) (alike : (p : Protocol) (n : ℕ) → filter (is_row
         cc
   ] refl
 
-  -- and at each rank, where no number is big
+  -- They have the same rows at each rank, where no number is big.
   module _ (none : filter is_big ys ≡ []) where
     at_rank : (test : Row → Bool) (p : Protocol) (n : ℕ) → ((r : Row) → is_big r ≡ false → test r ≡ is_row p n r) →
         filter test xs ≡ filter test ys
@@ -173,7 +173,7 @@ module _ (timers : Timers) (now address : ℕ) (p : Protocol) (n : ℕ) where
         | false ↦ λ e. list_rows list each.1 once.1
       ] refl
 
--- WHAT IS HELD
+-- THE STORED BINDINGS
 
 pub each_entry : (P : ExternalNumberKey × Binding → Type 0) (es : List (ExternalNumberKey × Binding)) →
     IsDistinct key_eq (keys_of es) →
@@ -190,7 +190,7 @@ each_entry P (e ∷ es) distinct holds = (
       ] refl),
 )
 
--- a binding of the protocol, with its number
+-- The binding of an entry has the protocol and number of its key.
 abbrev IsEntry : ExternalNumberKey × Binding → Type 0
 IsEntry e = (e.1.row.protocol ≡ e.0.protocol) × (e.1.row.external.number ≡ e.0.number)
 
@@ -260,7 +260,7 @@ module _ (table : Inside) (is : KeepsItsList table) (now : ℕ) (later : table.b
   abbrev pub made : List Row
   made = held_rows table.bindings.timers now table.bindings.held
 
-  -- what is told at a number of a protocol
+  -- The rows that are visible at a number of a protocol: one, or none.
   abbrev seen_at : Protocol → ℕ → List Row
   seen_at p n = few (option_map row (seen_binding table.bindings.timers now (held_at table.bindings.held p n)))
 
@@ -276,7 +276,7 @@ module _ (table : Inside) (is : KeepsItsList table) (now : ℕ) (later : table.b
       (once_number table.bindings.held.address p n (live table is now later) sound.apart)
       ∙ ap (λ (o : Option Binding). few (option_map row o)) (show_now table is now later p n)
 
-  -- sorted, they are the rows of the list
+  -- The sorted rows are those of the list.
   pub made_in_order : sorted_rows made ≡ rows table.bindings.timers now (list_of table)
   made_in_order =
       sym (in_order_same (map row (live table is now later)) made (λ p n. list_told p n ∙ sym (made_told p n))

@@ -1,4 +1,4 @@
--- A new table is one.
+-- A new table satisfies the invariant of tables.
 use Rattle.std.proofs.Common.{ℕ}
 use Rattle.napt_config.specs.Rules.{Rules, RulesInvariant, pair_of}
 use Rattle.napt_rules.specs.Prelude.{opening, hold_ago}

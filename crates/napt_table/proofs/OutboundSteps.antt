@@ -1,4 +1,4 @@
--- A packet that goes out, on what is held and on the list.
+-- An outgoing packet, on the stored bindings and on the list.
 use Rattle.std.proofs.Common.{◌≡◌, ◌≢◌, ℕ, ◌+◌, ◌*◌, ◌<◌, ◌≤◌, Bool, true, false, not, ◌&&◌, ◌||◌, cond, List, [], ◌∷◌, ◌++◌, map, Option, Some, None, refl, sym, ◌∙◌, ap, subst, arith, eqb, eqb-true, ◌-◌, min}
 use Rattle.std.{specs.{Prelude.find, Option.{option_map, is_some}, List.list_any}, proofs.lemmas.{List.Elements.All-nil, Bool.{eq-eqb, lt-ltb, or_parts, true≢false}}}
 use Rattle.napt_wire.specs.declared.{Protocol.{Protocol, TheVariants.{Icmp, Tcp, Udp}}, Way.TheVariants.Outgoing, Endpoint.Endpoint, Flags.Flags}
@@ -12,10 +12,10 @@ use Rattle.napt_binding.{specs.{Ends.least_timer, Slots.NoneUsedAfter}, proofs.{
 use Rattle.napt_laws.proofs.{FreshBindings.{binding_of, sent_fresh, no_flows}, Finds.{passes, find_same, change_same, find_pushed, find_passed_over}}
 use Rattle.napt_laws.proofs.Endpoints.{end_itself, number_of_it, once_number, once_inside, has_it, inside_it, inside_parts, changed_other, changed_here}
 
--- A PACKET KEEPS A BINDING FOR THE LEAST TIMER
+-- A PACKET REFRESHES A BINDING FOR THE LEAST TIMER
 
 module _ (timers : Timers) (t : AreTimers timers) (remote : Endpoint) (flags : Flags) (now : ℕ) where
-  -- what lives now and is sent through lives on
+  -- A live binding through which a packet is sent stays live.
   any_used : (p test : Flow → Bool) (f : Flow → Flow) → ((x : Flow) → p (f x) ≡ true) → (xs : List Flow) →
       list_any test xs ≡ true → list_any p (change_first test f xs) ≡ true
   any_used p test f all [] h = cc
@@ -49,7 +49,7 @@ module _ (timers : Timers) (t : AreTimers timers) (remote : Endpoint) (flags : F
           | false ↦ recent timers.transitory (omega arith)
         ]
 
-    -- a binding through which a packet went out
+    -- A binding through which a packet went out is live for the least timer.
     sent_lives_by : (protocol : Protocol) → u < now + least_timer protocol timers * ns_per_second →
         (inside external : Endpoint) (fixed : Bool) (last : ℕ) (flows : List Flow) →
         is_live timers u (sent_through remote flags now (binding_of protocol inside external fixed last flows)) ≡ true
@@ -74,7 +74,8 @@ module _ (timers : Timers) (t : AreTimers timers) (packet : OutboundPacket) (at 
 
   now_is : (d : Binding) × (held_at new packet.protocol number ≡ Some d) × (is_live timers packet.now d ≡ true)
       × (with_live_flows timers packet.now d ≡ binding_after_out packet went.binding)
-  now_is = seen_is timers packet.now (held_at new packet.protocol number) (binding_after_out packet went.binding) went.left
+  now_is = seen_is timers packet.now (held_at new packet.protocol number) (binding_after_out packet went.binding)
+      went.left
 
   now_row : row now_is.0 ≡ row was.0
   now_row = ap row now_is.3 ∙ (refl ∙ sym (ap row was.3))
@@ -129,7 +130,7 @@ module _ (timers : Timers) (address : ℕ) (packet : OutboundPacket) (held_ : �
     (protocols : (n : ℕ) (b : Binding) → held_ n ≡ Some b → b.row.protocol ≡ packet.protocol)
     (externals : (n : ℕ) (b : Binding) → held_ n ≡ Some b → b.row.external ≡ record { address = address; number = n })
   where
-    -- IT IS KNOWN
+    -- THE PACKET'S SOURCE HAS A LIVE BINDING
     module _ (number : ℕ) (b : Binding) (is : seen_binding timers packet.now (held_ number) ≡ Some b)
         (inside : b.row.inside ≡ packet.inside) where
       there : find (λ b. has_number address packet.protocol number b.row) list ≡ Some b
@@ -147,7 +148,8 @@ module _ (timers : Timers) (address : ℕ) (packet : OutboundPacket) (held_ : �
           (ap (λ (x : Endpoint). x.address) parts.1) (sym inside)
 
       pub found : find (is_of_source address packet) list ≡ Some b
-      found = find_same (λ b. has_number address packet.protocol number b.row) (is_of_source address packet) list b there
+      found = find_same (λ b. has_number address packet.protocol number b.row) (is_of_source address packet) list b
+          there
           by_inside
           (once_inside address packet.protocol packet.inside list apart)
 
@@ -182,8 +184,9 @@ module _ (timers : Timers) (address : ℕ) (packet : OutboundPacket) (held_ : �
                 packet.protocol n (λ p. d) ∙ (shows n ∙ ap (seen_binding timers packet.now) (sym (others n d)))
           ] refl
 
-    -- IT IS NEW
-    pub not_found : ((n : ℕ) (b : Binding) → seen_binding timers packet.now (held_ n) ≡ Some b → b.row.inside ≢ packet.inside) →
+    -- THE PACKET'S SOURCE HAS NONE
+    pub not_found : ((n : ℕ) (b : Binding) → seen_binding timers packet.now (held_ n) ≡ Some b →
+        b.row.inside ≢ packet.inside) →
         find (is_of_source address packet) list ≡ None
     not_found none = elim (find (is_of_source address packet) list) as (λ o.
         find (is_of_source address packet) list ≡ o → o ≡ None) [
@@ -192,16 +195,17 @@ module _ (timers : Timers) (address : ℕ) (packet : OutboundPacket) (held_ : �
               let p = inside_parts address packet.protocol packet.inside b.row
               (passes (is_of_source address packet) list b e) in
               let at : find (λ z. has_number address packet.protocol b.row.external.number z.row) list ≡ Some b =
-              find_same (is_of_source address packet) (λ z. has_number address packet.protocol b.row.external.number z.row)
+              find_same (is_of_source address packet)
+              (λ z. has_number address packet.protocol b.row.external.number z.row)
               list b e
               (has_it address packet.protocol b.row.external.number b.row p.protocol_is p.address_is refl)
               (once_number address packet.protocol b.row.external.number list apart) in
               absurd (none b.row.external.number b (sym (shows b.row.external.number) ∙ at) (sym p.inside_is))
         ] refl
 
--- A NEW ONE
+-- THE CHOICE OF A NUMBER
 
--- where the list has the rows of what is held, the same is free
+-- Where the list has the rows of the stored bindings, the same numbers are free.
 pub choice_is : (address : ℕ) (packet : OutboundPacket) (held_ : ℕ → Option Binding) (list : List Binding) →
     ((n : ℕ) → option_map row (find (λ b. has_number address packet.protocol n b.row) list) ≡ option_map row
     (held_ n)) →
@@ -217,9 +221,12 @@ choice_is address packet held_ list rows choosing =
 module _ (timers : Timers) (address : ℕ) (packet : OutboundPacket) (held_ : ℕ → Option Binding) (list : List Binding)
     (shows : ShowsHeld timers packet.now address packet.protocol held_ list) where
   pub made_shows : (number : ℕ) (binding : Binding) (last : ℕ → Option Binding) →
-      ((n : ℕ) → last n ≡ cond (eqb number n) (Some binding) (held_ n)) → seen_binding timers packet.now (held_ number) ≡ None →
-      seen_binding timers packet.now (Some binding) ≡ Some (binding_after_out packet (new_binding address packet number)) →
-      ShowsHeld timers packet.now address packet.protocol last (list ++ binding_after_out packet (new_binding address packet number) ∷ [])
+      ((n : ℕ) → last n ≡ cond (eqb number n) (Some binding) (held_ n)) →
+      seen_binding timers packet.now (held_ number) ≡ None →
+      seen_binding timers packet.now (Some binding)
+      ≡ Some (binding_after_out packet (new_binding address packet number)) →
+      ShowsHeld timers packet.now address packet.protocol last
+      (list ++ binding_after_out packet (new_binding address packet number) ∷ [])
   made_shows number binding last holds free is n =
       let y : Binding = binding_after_out packet (new_binding address packet number) in
       elim (eqb number n) as (λ v. eqb number n ≡ v →
@@ -243,19 +250,22 @@ module _ (timers : Timers) (address : ℕ) (packet : OutboundPacket) (held_ : �
               | false ↦ λ h. refl
             ] refl in
             find_passed_over (λ b. has_number address packet.protocol n b.row) list y not_it
-            ∙ (shows n ∙ ap (seen_binding timers packet.now) (sym (holds n ∙ ap (λ v. cond v (Some binding) (held_ n)) t)))
+            ∙ (shows n ∙ ap (seen_binding timers packet.now)
+            (sym (holds n ∙ ap (λ v. cond v (Some binding) (held_ n)) t)))
       ] refl
 
 -- THE NEW BINDING
 
-module _ (timers : Timers) (t : AreTimers timers) (address : ℕ) (packet : OutboundPacket) (number : ℕ) (flows : List Flow)
+module _ (timers : Timers) (t : AreTimers timers) (address : ℕ) (packet : OutboundPacket) (number : ℕ)
+    (flows : List Flow)
     (begun : live_flows timers packet.now packet.protocol flows ≡ change_first (is_flow_of packet.remote)
     (flow_after packet.protocol Outgoing packet.flags packet.now) (with_flow packet.remote packet.now [])) where
   abbrev made : Binding
   made = record (new_binding address packet number) { flows = flows }
 
   pub made_is : with_live_flows timers packet.now made ≡ binding_after_out packet (new_binding address packet number)
-  made_is = ap (λ (fs : List Flow). let b : Binding = record (new_binding address packet number) { flows = fs } in b) begun
+  made_is = ap (λ (fs : List Flow). let b : Binding = record (new_binding address packet number) { flows = fs } in b)
+      begun
 
   pub made_live : is_live timers packet.now made ≡ true
   made_live =
@@ -269,10 +279,12 @@ module _ (timers : Timers) (t : AreTimers timers) (address : ℕ) (packet : Outb
       (subst (λ (fs : List Flow). NoneUsedAfter fs packet.now) (sym begun)
       (out_used packet.now packet.protocol packet.remote packet.flags [] (All-nil (λ (f : Flow). f.last ≤ packet.now))))
 
-  pub made_seen : seen_binding timers packet.now (Some made) ≡ Some (binding_after_out packet (new_binding address packet number))
-  made_seen = seen_live timers packet.now made (binding_after_out packet (new_binding address packet number)) made_live made_is
+  pub made_seen : seen_binding timers packet.now (Some made)
+      ≡ Some (binding_after_out packet (new_binding address packet number))
+  made_seen = seen_live timers packet.now made (binding_after_out packet (new_binding address packet number))
+      made_live made_is
 
-  -- a binding of its row that begins anew
+  -- A stored binding with the row of the new one is renewed.
   module _ (old new : BindingIndexModel) (b : Binding) (row_is : b.row ≡ (new_binding address packet number).row)
       (here : held_at old packet.protocol number ≡ Some b)
       (one : ChangesOne (external_key packet.protocol number) old new)
@@ -283,10 +295,12 @@ module _ (timers : Timers) (t : AreTimers timers) (address : ℕ) (packet : Outb
     again_is : again ≡ made
     again_is = λ i. record { row = row_is i; last = packet.now; flows = flows }
 
-    pub again_seen : seen_binding timers packet.now (Some again) ≡ Some (binding_after_out packet (new_binding address packet number))
+    pub again_seen : seen_binding timers packet.now (Some again)
+        ≡ Some (binding_after_out packet (new_binding address packet number))
     again_seen = ap (λ (x : Binding). seen_binding timers packet.now (Some x)) again_is ∙ made_seen
 
-    pub again_holds : (k : ExternalNumberKey) → held_binding new k ≡ cond (key_eq (external_key packet.protocol number) k)
+    pub again_holds : (k : ExternalNumberKey) → held_binding new k
+        ≡ cond (key_eq (external_key packet.protocol number) k)
         (Some again)
         (held_binding old k)
     again_holds k =
@@ -306,8 +320,9 @@ module _ (timers : Timers) (t : AreTimers timers) (address : ℕ) (packet : Outb
         ∙ sent_lives timers t packet.remote packet.flags packet.now u after (new_binding address packet number)
         (subst (λ (r : Row). u < packet.now + least_timer r.protocol timers * ns_per_second) row_is lt))))
 
--- the row of a binding that is held for a source is that of one that begins
-pub row_again : (timers : Timers) (all : BindingIndexModel) → IsNamed all → (packet : OutboundPacket) (number : ℕ) (b : Binding) →
+-- The row of a stored binding of the packet's source is that of the new binding.
+pub row_again : (timers : Timers) (all : BindingIndexModel) → IsNamed all →
+    (packet : OutboundPacket) (number : ℕ) (b : Binding) →
     held_at all packet.protocol number ≡ Some b → b.row.inside ≡ packet.inside →
     seen_binding timers packet.now (Some b) ≡ None → b.row ≡ (new_binding all.address packet number).row
 row_again timers all named packet number b here inside unseen =

@@ -1,4 +1,4 @@
--- What a table takes up of a state, binding by binding.
+-- The bindings that a table restores from a saved state, one after another.
 use Rattle.std.proofs.Common.{◌≡◌, ℕ, ◌+◌, ◌<◌, ◌≤◌, Bool, true, false, not, cond, List, [], ◌∷◌, ◌++◌, length, get_or, take, drop, map, filter, Some, refl, sym, ◌∙◌, ap, subst, arith}
 use Rattle.std.proofs.lemmas.{Bool.{or_parts, eq-eqb}, Option.same_Some, List.{take_more, take_all, take-append-drop, append_assoc, map-append, Elements.{filter-append, All-nil, All-cons}}}
 use Rattle.napt_config.specs.{Rules.{Rules, RulesInvariant, pair_of}, declared.settings.Timers.Timers}
@@ -32,7 +32,8 @@ module _ (timers : Timers) (at address : ℕ) (b : Binding) where
     module _ (live : is_live timers ago b ≡ true) where
       pub one_is : one ≡ with_live_flows timers ago b ∷ []
       one_is =
-          ap (λ v. bindings_at address (filter (λ b. not b.row.fixed) (map (with_live_flows timers ago) (cond v (b ∷ []) []))))
+          ap (λ v. bindings_at address (filter (λ b. not b.row.fixed)
+          (map (with_live_flows timers ago) (cond v (b ∷ []) []))))
           live
           ∙ (ap (λ v. bindings_at address (cond (not v) (with_live_flows timers ago b ∷ []) [])) dynamic_bindings
           ∙ ap (λ v. cond v (with_live_flows timers ago b ∷ []) []) (eq-eqb b.row.external.address address here))
@@ -40,7 +41,7 @@ module _ (timers : Timers) (at address : ℕ) (b : Binding) where
       pub one_distinct : Each (λ x. AreFlowsOwn at x.flows) one → AreDistinct (with_live_flows timers ago b).flows
       one_distinct own = distinct_flows _ (subst (Each (λ x. AreFlowsOwn at x.flows)) one_is own).0.single
 
-    -- the one that is seen
+    -- The binding that is visible.
     module _ (x : Binding) (is : seen_binding timers ago (Some b) ≡ Some x) where
       b_lives : is_live timers ago b ≡ true
       b_lives = let s = seen_is timers ago (Some b) x is in
@@ -59,19 +60,22 @@ module _ (timers : Timers) (at address : ℕ) (b : Binding) where
         (subst (Each (λ x. x.last ≤ at)) (one_is b_lives) last).0,
       )
 
--- ALL OF THEM
+-- ALL BINDINGS OF THE STATE
 
-taken_up_append : (timers : Timers) (at address : ℕ) (xs ys : List Binding) → state_bindings_at timers at address (xs ++ ys)
+taken_up_append : (timers : Timers) (at address : ℕ) (xs ys : List Binding) →
+    state_bindings_at timers at address (xs ++ ys)
     ≡ state_bindings_at timers at address xs ++ state_bindings_at timers at address ys
 taken_up_append timers at address xs ys =
     let ago : ℕ = hold_ago timers at in
     let loose : Binding → Bool = λ b. not b.row.fixed in
     ap (λ l. bindings_at address (filter loose (map (with_live_flows timers ago) l)))
     (filter-append (is_live timers ago) xs ys)
-    ∙ (ap (λ l. bindings_at address (filter loose l)) (map-append (with_live_flows timers ago) (filter (is_live timers ago) xs)
+    ∙ (ap (λ l. bindings_at address (filter loose l))
+    (map-append (with_live_flows timers ago) (filter (is_live timers ago) xs)
     (filter (is_live timers ago) ys))
     ∙ (ap (bindings_at address) (filter-append loose (live_and_held timers at xs) (live_and_held timers at ys))
-    ∙ filter-append (λ b. is_at address b.row) (filter loose (live_and_held timers at xs)) (filter loose (live_and_held timers at ys))))
+    ∙ filter-append (λ b. is_at address b.row) (filter loose (live_and_held timers at xs))
+    (filter loose (live_and_held timers at ys))))
 
 each_parts : {X : Type 0} (P : X → Type 0) (xs ys : List X) → Each P (xs ++ ys) → Each P xs × Each P ys
 each_parts P [] ys h = (tt, h)
@@ -81,7 +85,7 @@ apart_front : (xs ys : List Row) → AreBindingsApart (xs ++ ys) → AreBindings
 apart_front [] ys h = tt
 apart_front (x ∷ xs) ys h = ((each_parts (AreRowsApart x) xs ys h.0).0, apart_front xs ys h.1)
 
--- a purge of what is taken up changes nothing
+-- A purge does not change the restored bindings.
 taken_up_twice : (timers : Timers) (at address : ℕ) (list : List Binding) →
     live_and_held timers at (state_bindings_at timers at address list) ≡ state_bindings_at timers at address list
 taken_up_twice timers at address list =
@@ -100,13 +104,15 @@ purge_append timers now xs ys =
     ∙ map-append (with_live_flows timers now) (filter (is_live timers now) xs) (filter (is_live timers now) ys)
 
 module _ (rules : Rules) (address : ℕ) (state : State) where
-  -- the redirects, and then the first bindings of the state
+  -- The redirects, and then the first k bindings of the state.
   abbrev pub begun_to : ℕ → List Binding
-  begun_to k = bindings_at address (opening rules) ++ state_bindings_at rules.timers state.clock address (take k state.list)
+  begun_to k = bindings_at address (opening rules)
+      ++ state_bindings_at rules.timers state.clock address (take k state.list)
 
   pub all_begun_to : (k : ℕ) → length state.list ≤ k → begun_to k ≡ (resumed_table rules address state).list
   all_begun_to k end =
-      ap (λ l. bindings_at address (opening rules) ++ state_bindings_at rules.timers state.clock address l) (take_all k state.list end)
+      ap (λ l. bindings_at address (opening rules) ++ state_bindings_at rules.timers state.clock address l)
+      (take_all k state.list end)
       ∙ sym (filter-append (λ b. is_at address b.row) (opening rules) (dynamic_bindings rules state))
 
   module _ (k : ℕ) (d : Binding) (below : k < length state.list) where
@@ -115,7 +121,8 @@ module _ (rules : Rules) (address : ℕ) (state : State) where
 
     pub begun_next : begun_to k ++ next ≡ begun_to (k + 1)
     begun_next =
-        append_assoc (bindings_at address (opening rules)) (state_bindings_at rules.timers state.clock address (take k state.list)) next
+        append_assoc (bindings_at address (opening rules))
+        (state_bindings_at rules.timers state.clock address (take k state.list)) next
         ∙ ap (λ l. bindings_at address (opening rules) ++ l)
         (sym (ap (state_bindings_at rules.timers state.clock address) (take_more state.list k d below)
         ∙ taken_up_append rules.timers state.clock address (take k state.list) (get_or state.list k d ∷ [])))
@@ -139,7 +146,8 @@ module _ (rules : Rules) (address : ℕ) (state : State) where
 
       next_own : Each (IsBindingOwn rules state.clock) next
       next_own =
-          let own : Each (IsBindingOwn rules state.clock) (state_bindings_at rules.timers state.clock address state.list) =
+          let own : Each (IsBindingOwn rules state.clock)
+          (state_bindings_at rules.timers state.clock address state.list) =
           each_less (IsBindingOwn rules state.clock) (λ b. is_at address b.row) (dynamic_bindings rules state)
           (all rules keeps state takes).owned in
           let last = each_parts (IsBindingOwn rules state.clock)
@@ -149,17 +157,20 @@ module _ (rules : Rules) (address : ℕ) (state : State) where
           (sym (ap (state_bindings_at rules.timers state.clock address) (take-append-drop (k + 1) state.list))
           ∙ taken_up_append rules.timers state.clock address (take (k + 1) state.list) (drop (k + 1) state.list))
           own) in
-          (each_parts (IsBindingOwn rules state.clock) (state_bindings_at rules.timers state.clock address (take k state.list)) next
+          (each_parts (IsBindingOwn rules state.clock)
+          (state_bindings_at rules.timers state.clock address (take k state.list)) next
           (subst (Each (IsBindingOwn rules state.clock))
           (ap (state_bindings_at rules.timers state.clock address) (take_more state.list k d below)
           ∙ taken_up_append rules.timers state.clock address (take k state.list) (get_or state.list k d ∷ []))
           last.0)).1
 
       pub next_last : Each (λ b. b.last ≤ state.clock) next
-      next_last = each_weaker (IsBindingOwn rules state.clock) (λ b. b.last ≤ state.clock) (λ b own. own.last) next next_own
+      next_last = each_weaker (IsBindingOwn rules state.clock) (λ b. b.last ≤ state.clock) (λ b own. own.last) next
+          next_own
 
       pub next_flows : Each (λ b. AreFlowsOwn state.clock b.flows) next
-      next_flows = each_weaker (IsBindingOwn rules state.clock) (λ b. AreFlowsOwn state.clock b.flows) (λ b own. own.flows) next
+      next_flows = each_weaker (IsBindingOwn rules state.clock) (λ b. AreFlowsOwn state.clock b.flows)
+          (λ b own. own.flows) next
           next_own
 
   pub resumed_is_table : RulesInvariant rules → TakesState rules state → IsTable (resumed_table rules address state)
@@ -170,7 +181,8 @@ module _ (rules : Rules) (address : ℕ) (state : State) where
       filter-append (λ b. is_at address b.row) (opening rules) (dynamic_bindings rules state) in
       record {
         timers = keeps.timers;
-        sound = sound_at (pair_of rules) address (with_redirects rules state).list (state_sound rules keeps state takes);
+        sound = sound_at (pair_of rules) address (with_redirects rules state).list
+            (state_sound rules keeps state takes);
         taken = ap (purge rules.timers ago) apart
             ∙ (purge_append rules.timers ago (bindings_at address (opening rules))
             (state_bindings_at rules.timers state.clock address state.list)

@@ -1,4 +1,4 @@
--- What is held, against the list, through time and steps.
+-- The stored bindings and the list, as time passes and packets come.
 use Rattle.std.{proofs.Common.{◌≡◌, ℕ, ◌≤◌, true, false, cond, List, map, Option, Some, None, refl, sym, ◌∙◌, ap}, specs.{Prelude.find, Option.is_some}}
 use Rattle.std.proofs.lemmas.{Bool.true≢false, Option.same_Some}
 use Rattle.napt_wire.specs.declared.Protocol.{Protocol}
@@ -7,7 +7,7 @@ use Rattle.napt_rules.{specs.Prelude.{Binding, has_number, is_live, with_live_fl
 use Rattle.napt_table.specs.HeldLists.{seen_binding, ShowsHeld}
 use Rattle.napt_laws.proofs.{Purges.flows_same, Finds.{Once, kept, find_kept}, Endpoints.once_number}
 
--- WHAT IS SEEN
+-- WHAT IS VISIBLE
 
 pub seen_is : (timers : Timers) (now : ℕ) (o : Option Binding) (b : Binding) → seen_binding timers now o ≡ Some b →
     (c : Binding) × (o ≡ Some c) × (is_live timers now c ≡ true) × (with_live_flows timers now c ≡ b)
@@ -24,11 +24,12 @@ pub seen_live : (timers : Timers) (now : ℕ) (c b : Binding) → is_live timers
 seen_live timers now c b l e = ap (λ v. cond v (Some (with_live_flows timers now c)) None) l
     ∙ ap (λ (x : Binding). Some x) e
 
-pub seen_dead : (timers : Timers) (now : ℕ) (c : Binding) → is_live timers now c ≡ false → seen_binding timers now (Some c)
+pub seen_dead : (timers : Timers) (now : ℕ) (c : Binding) → is_live timers now c ≡ false →
+    seen_binding timers now (Some c)
     ≡ None
 seen_dead timers now c l = ap (λ v. cond v (Some (with_live_flows timers now c)) None) l
 
--- what lives is seen, so as much is seen as is held
+-- A live binding is visible, so a number has a visible binding if and only if it has a stored one.
 pub live_is_seen : (timers : Timers) (now : ℕ) (o : Option Binding) →
     ((b : Binding) → o ≡ Some b → is_live timers now b ≡ true) → is_some (seen_binding timers now o) ≡ is_some o
 live_is_seen timers now None live = refl
@@ -56,8 +57,9 @@ pub find_purged : (timers : Timers) (now address : ℕ) (protocol : Protocol) (n
 find_purged timers now address protocol number list apart =
     find_seen timers now address protocol number list (once_number address protocol number list apart)
 
--- what is seen later of what was seen is what is seen later
-pub seen_seen : (timers : Timers) (n m : ℕ) → n ≤ m → (o : Option Binding) → seen_binding timers m (seen_binding timers n o)
+-- What is visible later of what is visible now is what is visible later.
+pub seen_seen : (timers : Timers) (n m : ℕ) → n ≤ m → (o : Option Binding) →
+    seen_binding timers m (seen_binding timers n o)
     ≡ seen_binding timers m o
 seen_seen timers n m le None = refl
 seen_seen timers n m le (Some b) = elim (is_live timers n b) as (λ v. is_live timers n b ≡ v →
@@ -75,15 +77,18 @@ seen_seen timers n m le (Some b) = elim (is_live timers n b) as (λ v. is_live t
     ] refl
 
 pub shows_later : (timers : Timers) (at now address : ℕ) (protocol : Protocol) (held : ℕ → Option Binding)
-    (list : List Binding) → AreBindingsApart (map row list) → at ≤ now → ShowsHeld timers at address protocol held list →
+    (list : List Binding) → AreBindingsApart (map row list) → at ≤ now →
+    ShowsHeld timers at address protocol held list →
     ShowsHeld timers now address protocol held (purge timers now list)
 shows_later timers at now address protocol held list apart le shows n =
-    find_purged timers now address protocol n list apart ∙ (ap (seen_binding timers now) (shows n) ∙ seen_seen timers at now le
+    find_purged timers now address protocol n list apart
+    ∙ (ap (seen_binding timers now) (shows n) ∙ seen_seen timers at now le
     (held n))
 
--- in a list that lives, what is found is seen
+-- In a list of live bindings, what is found is visible.
 pub found_seen : (timers : Timers) (now address : ℕ) (protocol : Protocol) (number : ℕ) (list : List Binding) →
-    AreBindingsApart (map row list) → purge timers now list ≡ list → find (λ b. has_number address protocol number b.row) list
+    AreBindingsApart (map row list) → purge timers now list ≡ list →
+    find (λ b. has_number address protocol number b.row) list
     ≡ seen_binding timers now (find (λ b. has_number address protocol number b.row) list)
 found_seen timers now address protocol number list apart live =
     ap (find (λ b. has_number address protocol number b.row)) (sym live)

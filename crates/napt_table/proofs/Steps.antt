@@ -1,4 +1,4 @@
--- The protocols that a step leaves as they are, and one event more.
+-- A step leaves the other protocols unchanged; and a list of events with one more.
 use Rattle.std.proofs.Common.{◌≡◌, ◌≢◌, ℕ, Bool, true, false, cond, List, [], ◌∷◌, ◌++◌, Option, Some, None, Result, Ok, Err, refl, sym, ◌∙◌, ap, subst, eqb, eqb-true}
 use Rattle.std.{specs.Prelude.{find, OnErr}, proofs.lemmas.Bool.{eq-eqb, true≢false}}
 use Rattle.napt_wire.specs.declared.{Protocol.Protocol, Cause.TheVariants.{NoBinding, Filtered}}
@@ -9,7 +9,7 @@ use Rattle.napt_laws.proofs.{Finds.find_other, Passes.in_passed, StepsLive.recei
 use Rattle.napt_laws.proofs.Endpoints.{protocol_is, same_itself, changed_other, inside_protocol, not_has}
 use Rattle.napt_table.specs.{declared.table_event.TableEvent.TableEvent, Events.{list_after_event, list_after_events}}
 
--- what a packet that comes in does to what is shown
+-- What an incoming packet does to the visible list.
 abbrev pub shown_passed : InboundRules → List Binding → ℕ → InboundPacket → Binding → Bool → InboundEffect
 shown_passed inbound list address packet b passes =
     cond passes
@@ -29,7 +29,7 @@ abbrev pub shown_in : InboundRules → ℕ → InboundPacket → List Binding �
 shown_in inbound address packet list =
     shown_found inbound list address packet (find (is_of_destination address packet) list)
 
--- it is what the packet does to the list, as it is shown
+-- What is visible after the packet is what the packet does to the visible list.
 pub in_is_shown : (timers : Timers) → AreTimers timers → (inbound : InboundRules) (address : ℕ) (packet : InboundPacket)
     (all : List Binding) → (let came : InboundEffect = in_taken timers inbound address packet all in
     let shown : InboundEffect = shown_in inbound address packet (purge timers packet.now all) in
@@ -49,7 +49,7 @@ in_is_shown timers t inbound address packet all =
           [ true ↦ (refl, received_seen timers t inbound address packet all) | false ↦ (refl, refl) ]
     ]
 
--- other protocols are as before
+-- The other protocols are unchanged.
 pub in_others : (inbound : InboundRules) (timers : Timers) (address : ℕ) (packet : InboundPacket) (list : List Binding)
     (q : Protocol) → q ≢ packet.protocol → (n : ℕ) →
     find (λ b. has_number address q n b.row) (shown_in inbound address packet list).list
@@ -68,15 +68,17 @@ in_others inbound timers address packet list q differs n =
           ]
     ]
 
-pub sent_others : (address : ℕ) (packet : OutboundPacket) (list : List Binding) (q : Protocol) → q ≢ packet.protocol → (n : ℕ) →
-    find (λ b. has_number address q n b.row) (change_first (is_of_source address packet) (binding_after_out packet) list)
+pub sent_others : (address : ℕ) (packet : OutboundPacket) (list : List Binding) (q : Protocol) → q ≢ packet.protocol →
+    (n : ℕ) →
+    find (λ b. has_number address q n b.row) (change_first (is_of_source address packet) (binding_after_out packet)
+    list)
     ≡ find (λ b. has_number address q n b.row) list
 sent_others address packet list q differs n =
     find_other (is_of_source address packet) (binding_after_out packet) (λ b. has_number address q n b.row)
     (λ x. refl) (λ x h. not_has address q n x.row (λ p. differs (p ∙ sym
     (inside_protocol address packet.protocol packet.inside x.row h)))) list
 
--- what holds of the protocol, and of each other one
+-- A property of all protocols is shown for one and for each other one.
 pub by_protocol : (protocol q : Protocol) (P : Protocol → Type 0) → P protocol → (q ≢ protocol → P q) → P q
 by_protocol protocol q P here rest = elim (same_protocol q protocol) as (λ v. same_protocol q protocol ≡ v → P q) [
   | true ↦ λ e. subst P (sym (protocol_is q protocol e)) here
@@ -94,11 +96,13 @@ same_everywhere old new number others here n = elim (eqb n number) as (λ v. eqb
   | false ↦ λ t. others n (λ q. true≢false (sym (eq-eqb n number q) ∙ t))
 ] refl
 
--- one event more
-pub played_more : (timers : Timers) (granting : AssignmentRules) (inbound : InboundRules) (address : ℕ) (events : List (ℕ × TableEvent))
+-- The list after one more event.
+pub played_more : (timers : Timers) (granting : AssignmentRules) (inbound : InboundRules) (address : ℕ)
+    (events : List (ℕ × TableEvent))
     (event : ℕ × TableEvent) (list : List Binding) →
     list_after_events timers granting inbound address (events ++ event ∷ []) list
-    ≡ list_after_event timers granting inbound address event.1 (list_after_events timers granting inbound address events list)
+    ≡ list_after_event timers granting inbound address event.1
+    (list_after_events timers granting inbound address events list)
 played_more timers granting inbound address [] event list = refl
 played_more timers granting inbound address (e ∷ events) event list = played_more timers granting inbound address
     events event

@@ -1,4 +1,4 @@
--- A table as it begins: each binding of its list is held.
+-- A table at its start: each binding of its list is stored.
 use Rattle.std.proofs.Common.{◌≡◌, ◌≢◌, ℕ, zero, suc, ◌+◌, ◌<◌, ◌≤◌, Bool, true, false, ◌||◌, cond, List, [], ◌∷◌, ◌++◌, length, get_or, take, map, filter, Option, Some, None, refl, sym, ◌∙◌, ap, subst, arith, eqb}
 use Rattle.std.{specs.{Prelude.find, List.list_any, Option.option_map}, proofs.lemmas.Bool.{eq-eqb, or_parts, true≢false, Decides.nat_tests}}
 use Rattle.std.proofs.lemmas.List.{map_more, append-nil, take_all, Elements.filter-append}
@@ -29,7 +29,7 @@ single_front pair (suc k) (r ∷ redirects) single = (
   single_front pair k redirects single.1,
 )
 
--- the bindings of the first redirects, those of the address
+-- The bindings at the address that the first k redirects give.
 abbrev pub begun : Rules → ℕ → ℕ → List Binding
 begun rules address k = bindings_at address (map (redirect_binding (pair_of rules)) (take k rules.redirects))
 
@@ -47,21 +47,22 @@ module _ (rules : Rules) (address k : ℕ) where
 
     begun_more : begun rules address (k + 1) ≡ begun rules address k ++ cond (is_at address next.row) (next ∷ []) []
     begun_more =
-        ap (filter (λ b. is_at address b.row)) (map_more (redirect_binding (pair_of rules)) rules.redirects k other below)
+        ap (filter (λ b. is_at address b.row)) (map_more (redirect_binding (pair_of rules)) rules.redirects k other
+        below)
         ∙ (filter-append (λ b. is_at address b.row) (map (redirect_binding (pair_of rules)) (take k rules.redirects))
         (redirect_binding (pair_of rules) (get_or rules.redirects k other) ∷ [])
         ∙ ap (λ (r : Redirect). begun rules address k ++ filter (λ b. is_at address b.row)
         (redirect_binding (pair_of rules) r ∷ []))
         (sym is))
 
-    -- a redirect of another address
+    -- A redirect of another address adds no binding.
     pub begun_same : pair_of rules redirect.address ≢ address → begun rules address (k + 1) ≡ begun rules address k
     begun_same apart =
         let lacks : eqb (pair_of rules redirect.address) address ≡ false = grind (arith, nat_tests) in
         begun_more ∙ (ap (λ v. begun rules address k ++ cond v (next ∷ []) []) lacks
         ∙ append-nil (begun rules address k))
 
-    -- one of this address
+    -- A redirect of this address adds its binding.
     pub begun_pushed : pair_of rules redirect.address ≡ address →
         begun rules address (k + 1) ≡ begun rules address k ++ redirect_binding (λ host. address) redirect ∷ []
     begun_pushed here =
@@ -70,14 +71,14 @@ module _ (rules : Rules) (address k : ℕ) where
         (eq-eqb (pair_of rules redirect.address) address here)
         ∙ ap (λ (a : ℕ). begun rules address k ++ redirect_binding (λ host. a) redirect ∷ []) here)
 
--- A NEW ONE
+-- A NEW BINDING
 
 module _ {X : Type 0} (t : X → Bool) (y : X) (passes : t y ≡ true) where
   any_last : (xs : List X) → list_any t (xs ++ y ∷ []) ≡ true
   any_last [] = ap (λ v. v || false) passes
   any_last (x ∷ xs) = let rest : list_any t (xs ++ y ∷ []) ≡ true = any_last xs in grind (arith, rest)
 
-  -- no earlier one passes, where one at most does
+  -- No earlier element passes the test, if at most one of all does.
   pub none_earlier : (xs : List X) → Once t (xs ++ y ∷ []) → find t xs ≡ None
   none_earlier [] once = refl
   none_earlier (x ∷ xs) once = elim (t x) as (λ v. t x ≡ v → cond v (Some x) (find t xs) ≡ None) [
@@ -109,8 +110,9 @@ module _ (address : ℕ) (list : List Binding) (fresh : Binding) (at : fresh.row
         (inside_it address fresh.row.protocol fresh.row.inside fresh.row refl at refl) list
         (once_inside address fresh.row.protocol fresh.row.inside (list ++ fresh ∷ []) apart)
 
-    module _ (old : BindingIndexModel) (named : IsNamed old) (its : old.address ≡ address) (are : AreHeld address old list) where
-      -- neither end is taken
+    module _ (old : BindingIndexModel) (named : IsNamed old) (its : old.address ≡ address)
+        (are : AreHeld address old list) where
+      -- Neither its number nor its inside endpoint is taken.
       pub free : held_binding old (key_of fresh) ≡ None
       free = are fresh.row.protocol fresh.row.external.number ∙ free_number
 
@@ -128,9 +130,10 @@ module _ (address : ℕ) (list : List Binding) (fresh : Binding) (at : fresh.row
           (λ b. is_of_inside address fresh.row.protocol fresh.row.inside b.row) list b there passes)
           ∙ none_passes (λ b. is_of_inside address fresh.row.protocol fresh.row.inside b.row) list absent_inside)
 
-      -- it is held as the others are
+      -- It is stored as the others are.
       pub held_more : (new : BindingIndexModel) →
-          ((k : ExternalNumberKey) → held_binding new k ≡ cond (key_eq (key_of fresh) k) (Some fresh) (held_binding old k)) →
+          ((k : ExternalNumberKey) → held_binding new k
+          ≡ cond (key_eq (key_of fresh) k) (Some fresh) (held_binding old k)) →
           AreHeld address new (list ++ fresh ∷ [])
       held_more new holds q n =
           by_key (key_of fresh) (external_key q n) (λ k. held_binding new k
@@ -143,28 +146,32 @@ module _ (address : ℕ) (list : List Binding) (fresh : Binding) (at : fresh.row
           ∙ (past_key (key_of fresh) (Some fresh) (held_binding old (external_key q n)) (external_key q n) d
           ∙ (are q n ∙ sym (find_passed_over (λ b. has_number address q n b.row) list fresh (lacks q n d)))))
 
--- nothing is held, and the list is empty
-pub none_held : (address : ℕ) (all : BindingIndexModel) → ((key : ExternalNumberKey) → held_binding all key ≡ None) → AreHeld address all []
+-- No binding is stored, and the list is empty.
+pub none_held : (address : ℕ) (all : BindingIndexModel) → ((key : ExternalNumberKey) → held_binding all key ≡ None) →
+    AreHeld address all []
 none_held address all none q n = none (external_key q n)
 
 -- THE TABLE
 
--- what is held is kept, where it is what the list has
-pub begun_keep : (timers : Timers) (at address : ℕ) (all : BindingIndexModel) (list : List Binding) → AreBindingsApart (map row list) →
+-- The stored bindings agree with the list if they are those of the list.
+pub begun_keep : (timers : Timers) (at address : ℕ) (all : BindingIndexModel) (list : List Binding) →
+    AreBindingsApart (map row list) →
     AreHeld address all list → AllKeep timers at address all list
 begun_keep timers at address all list apart are = record {
   live = λ q n. find_purged timers at address q n list apart ∙ ap (seen_binding timers at) (sym (are q n));
-  held_binding = λ q n t from. ap (λ (o : Option Binding). option_map row (seen_binding timers t o)) (sym (are q n));
+  held = λ q n t from. ap (λ (o : Option Binding). option_map row (seen_binding timers t o)) (sym (are q n));
 }
 
--- each is there
+-- All redirects are stored.
 pub all_begun : (rules : Rules) (address k : ℕ) → length rules.redirects ≤ k → begun rules address k
     ≡ bindings_at address (opening rules)
-all_begun rules address k end = ap (λ (rs : List Redirect). bindings_at address (map (redirect_binding (pair_of rules)) rs))
+all_begun rules address k end = ap (λ (rs : List Redirect). bindings_at address
+    (map (redirect_binding (pair_of rules)) rs))
     (take_all k rules.redirects end)
 
 pub begun_keeps_its_list : (table : Inside) (list : List Binding) → list_of table ≡ list →
-    IsTable (record (table_model table) { list = list }) → AreHeld table.bindings.held.address table.bindings.held list →
+    IsTable (record (table_model table) { list = list }) →
+    AreHeld table.bindings.held.address table.bindings.held list →
     KeepsItsList table
 begun_keeps_its_list table list is state are = record {
   state = subst IsTable (λ i. record (table_model table) { list = sym is i }) state;

@@ -1,4 +1,4 @@
--- What is held of the bindings of one external address.
+-- The stored bindings of one external address, as contracts see them.
 use Rattle.std.specs.{Prelude.{◌≡◌, ◌≢◌, ℕ, ◌+◌, ◌<◌, ◌≤◌, ◌^◌, ◌↔◌, List, Option, Some, None}, Map.lookup}
 use Rattle.napt_wire.specs.declared.{Protocol.{Protocol, TheVariants.{Icmp, Tcp, Udp}}, Endpoint.Endpoint}
 use Rattle.napt_config.specs.declared.settings.Timers.{Timers}
@@ -9,87 +9,92 @@ use Rattle.napt_table.specs.{declared.bindings.keys.ExternalNumberKey.ExternalNu
 pub record BindingIndexModel : Type 0 where
   pub address : ℕ
   pub granting : AssignmentRules
-  -- in no order
+  -- The bindings by the keys of their numbers, in no order.
   pub entries : List (ExternalNumberKey × Binding)
-  -- how many more fit without a growth
+  -- How many more bindings fit without an allocation.
   pub room : ℕ
 
--- the binding with the number
+-- The stored binding with this key, if there is one.
 abbrev pub held_binding : BindingIndexModel → ExternalNumberKey → Option Binding
 held_binding all key = lookup (key_eq key) all.entries
 
 abbrev pub held_at : BindingIndexModel → Protocol → ℕ → Option Binding
 held_at all protocol number = held_binding all (external_key protocol number)
 
--- how many bindings the host has, over all protocols
+-- How many stored bindings the host has, over all protocols.
 abbrev pub count_all : BindingIndexModel → ℕ → ℕ
 count_all all host =
     (count_held (held_at all Icmp) host + count_held (held_at all Tcp) host) + count_held (held_at all Udp) host
 
--- each binding is at the address, under its own protocol and number, which has 16 bits
+-- Each binding has the external address, and the protocol and number of its key; the number has 16 bits.
 pub record IsNamed (all : BindingIndexModel) : Type 0 where
-  pub protocol_is : (key : ExternalNumberKey) (b : Binding) → held_binding all key ≡ Some b → b.row.protocol ≡ key.protocol
+  pub protocol_is : (key : ExternalNumberKey) (b : Binding) → held_binding all key ≡ Some b →
+      b.row.protocol ≡ key.protocol
   pub external_is : (key : ExternalNumberKey) (b : Binding) → held_binding all key ≡ Some b → b.row.external ≡ record {
     address = all.address;
     number = key.number;
   }
   pub small : (key : ExternalNumberKey) (b : Binding) → held_binding all key ≡ Some b → key.number < 2 ^ 16
 
--- neither a flow of the binding nor itself was last used after the time
+-- Neither the binding nor one of its flows was last used after the time.
 abbrev pub IsUsedBy : ℕ → Binding → Type 0
 IsUsedBy at b = NoneUsedAfter b.flows at × (b.last ≤ at)
 
 abbrev pub AreUsedUpTo : ℕ → BindingIndexModel → Type 0
 AreUsedUpTo at all = (key : ExternalNumberKey) (b : Binding) → held_binding all key ≡ Some b → IsUsedBy at b
 
--- the binding with the number is that of the inside endpoint
+-- The binding with the number is that of the inside endpoint.
 abbrev pub HasInside : BindingIndexModel → Protocol → Endpoint → ℕ → Type 0
 HasInside all protocol inside number = (b : Binding) × (held_at all protocol number ≡ Some b) × (b.row.inside ≡ inside)
 
--- what a look-up of the inside endpoint finds
+-- A look-up of the inside endpoint finds a number if and only if the binding with it is that endpoint's.
 abbrev pub IsNumberOf : BindingIndexModel → Protocol → Endpoint → Option ℕ → Type 0
 IsNumberOf all protocol inside found = (number : ℕ) → (found ≡ Some number) ↔ HasInside all protocol inside number
 
--- no binding is that of the inside endpoint
+-- No stored binding is that of the inside endpoint.
 abbrev pub HasNoInside : BindingIndexModel → Protocol → Endpoint → Type 0
-HasNoInside all protocol inside = (number : ℕ) (b : Binding) → held_at all protocol number ≡ Some b → b.row.inside ≢ inside
+HasNoInside all protocol inside = (number : ℕ) (b : Binding) → held_at all protocol number ≡ Some b →
+    b.row.inside ≢ inside
 
--- STEPS
+-- STEPS, from the old index to the new
 
 pub record IsSamePlace (old new : BindingIndexModel) : Type 0 where
   pub address_is : new.address ≡ old.address
   pub granting_is : new.granting ≡ old.granting
 
--- what is held is as before; there may be more room
+-- The stored bindings are the same; there may be more room.
 pub record HoldsSame (old new : BindingIndexModel) : Type 0 where
   pub place : IsSamePlace old new
   pub held_same : (key : ExternalNumberKey) → held_binding new key ≡ held_binding old key
 
--- no binding has changed but that with the number
+-- No stored binding has changed except the one with the key.
 pub record ChangesOne (key : ExternalNumberKey) (old new : BindingIndexModel) : Type 0 where
   pub place : IsSamePlace old new
   pub others : (other : ExternalNumberKey) → other ≢ key → held_binding new other ≡ held_binding old other
 
--- what is seen at the time is as before
+-- What is visible of the stored bindings at the time is the same.
 pub record KeepsSeen (timers : Timers) (at : ℕ) (old new : BindingIndexModel) : Type 0 where
   pub place : IsSamePlace old new
-  pub seen_same : (key : ExternalNumberKey) → seen_binding timers at (held_binding new key) ≡ seen_binding timers at (held_binding old key)
+  pub seen_same : (key : ExternalNumberKey) → seen_binding timers at (held_binding new key)
+      ≡ seen_binding timers at (held_binding old key)
 
--- a packet went out through the live binding of its inside endpoint, that with the number, and no other changed
-pub record WentThrough (timers : Timers) (packet : OutboundPacket) (old new : BindingIndexModel) (number : ℕ) : Type 0 where
-  pub binding : Binding
-  pub found : seen_binding timers packet.now (held_at old packet.protocol number) ≡ Some binding
-  pub inside_is : binding.row.inside ≡ packet.inside
-  pub one : ChangesOne (external_key packet.protocol number) old new
-  pub left : seen_binding timers packet.now (held_at new packet.protocol number) ≡ Some (binding_after_out packet binding)
+-- A packet went out through its inside endpoint's live binding, which has the number; no other binding changed.
+pub record WentThrough (timers : Timers) (packet : OutboundPacket) (old new : BindingIndexModel) (number : ℕ) : Type 0
+  where
+    pub binding : Binding
+    pub found : seen_binding timers packet.now (held_at old packet.protocol number) ≡ Some binding
+    pub inside_is : binding.row.inside ≡ packet.inside
+    pub one : ChangesOne (external_key packet.protocol number) old new
+    pub left : seen_binding timers packet.now (held_at new packet.protocol number)
+        ≡ Some (binding_after_out packet binding)
 
--- no live binding is that of the packet's inside endpoint, and nothing has changed
+-- No live binding is that of the packet's inside endpoint, and no stored binding changed.
 pub record HasNone (timers : Timers) (packet : OutboundPacket) (old new : BindingIndexModel) : Type 0 where
   pub same : HoldsSame old new
   pub none : (number : ℕ) (b : Binding) → seen_binding timers packet.now (held_at old packet.protocol number) ≡ Some b →
       b.row.inside ≢ packet.inside
 
--- a packet went out through the live binding of its inside endpoint, where there is one
+-- A packet went out through its inside endpoint's live binding if it has one, whose number is the answer.
 abbrev pub SendKnownPost : Timers → OutboundPacket → BindingIndexModel → BindingIndexModel → Option ℕ → Type 0
 SendKnownPost timers packet old new (Some number) = WentThrough timers packet old new number
 SendKnownPost timers packet old new None = HasNone timers packet old new

@@ -1,9 +1,9 @@
--- Counts by inside host.
+-- The number of bindings of each inside host.
 use Rattle.std.specs.{Prelude.{ℕ, Bool, Option, Some, None}, Option.is_some}
 use Rattle.napt_binding.specs.{declared.address_counts.AddressCounts.AddressCounts, Counts.{count_at, room_of}}
 use Rattle.napt_table.specs.declared.host_counts.HostCounts.{HostCounts}
 
--- whether bindings are counted by host
+-- Whether bindings are counted by host.
 abbrev pub are_counted : HostCounts → Bool
 are_counted hosts = is_some hosts.counts
 
@@ -11,11 +11,11 @@ abbrev pub count_by : Option AddressCounts → ℕ → ℕ
 count_by None host = 0
 count_by (Some counts) host = count_at counts host
 
--- how many the host has; none where nothing is counted
+-- The number of bindings of the host, or 0 if nothing is counted.
 abbrev pub count_in : HostCounts → ℕ → ℕ
 count_in hosts host = count_by hosts.counts host
 
--- how many more hosts fit without a growth; where none is counted, one at any time
+-- How many more hosts fit without an allocation; where nothing is counted, always 1.
 abbrev pub place_by : Option AddressCounts → ℕ
 place_by None = 1
 place_by (Some counts) = room_of counts

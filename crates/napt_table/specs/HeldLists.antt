@@ -1,22 +1,22 @@
--- What a table holds, against its list.
+-- The stored bindings of a table, compared with the list of its contracts.
 --
--- What is held may be dead: it is not seen then. The list has exactly what is seen of what is held.
+-- A stored binding may have ended; then it is not visible. The list has exactly what is visible of the stored bindings.
 use Rattle.std.specs.{Prelude.{◌≡◌, ℕ, ◌≤◌, cond, List, map, find, Option, Some, None}, Option.option_map}
 use Rattle.napt_wire.specs.declared.{Protocol.Protocol}
 use Rattle.napt_config.specs.declared.settings.Timers.{Timers}
 use Rattle.napt_rules.specs.Prelude.{Binding, has_number, is_live, with_live_flows, purge, row, AreBindingsApart}
 
--- what is seen at a time: a live binding without its dead flows
+-- What is visible of a stored binding at a time: a live one without its dead flows, else none.
 abbrev pub seen_binding : Timers → ℕ → Option Binding → Option Binding
 seen_binding timers now None = None
 seen_binding timers now (Some b) = cond (is_live timers now b) (Some (with_live_flows timers now b)) None
 
--- the list has at each number of the protocol what is seen of what is held there
+-- At each number of the protocol the list has what is visible of the stored binding.
 abbrev pub ShowsHeld : Timers → ℕ → ℕ → Protocol → (ℕ → Option Binding) → List Binding → Type 0
 ShowsHeld timers at address protocol held list = (n : ℕ) → find (λ b. has_number address protocol n b.row) list
     ≡ seen_binding timers at (held n)
 
--- from a time on, a binding of one row lives in the list and of what is held, at each number of the protocol
+-- From a time on, a live binding of the list and the live stored one have the same row, at each number of the protocol.
 abbrev pub LivesInBoth : Timers → ℕ → ℕ → Protocol → (ℕ → Option Binding) → List Binding → Type 0
 LivesInBoth timers from address protocol held list = (n t : ℕ) → from ≤ t →
     option_map row (seen_binding timers t (find (λ b. has_number address protocol n b.row) list))
@@ -24,7 +24,7 @@ LivesInBoth timers from address protocol held list = (n t : ℕ) → from ≤ t 
 
 -- LAWS
 
--- what is held goes on showing the list when time passes
+-- The stored bindings still agree with the list when time passes and the list is purged.
 abbrev pub HeldIsPurgedLater : Type 0
 HeldIsPurgedLater = (timers : Timers) (at now address : ℕ) (protocol : Protocol) (held : ℕ → Option Binding)
     (list : List Binding) → AreBindingsApart (map row list) → at ≤ now →

@@ -1,4 +1,4 @@
--- The numbers in use, under each protocol.
+-- The external numbers in use, one set for each protocol.
 use Rattle.std.specs.Prelude.{◌≡◌, Bool}
 use Rattle.napt_wire.specs.declared.Protocol.{Protocol, TheVariants.{Icmp, Tcp, Udp}}
 use Rattle.napt_table.specs.{Places.{UsedPlaces, is_used}, declared.bindings.{keys.ExternalNumberKey.ExternalNumberKey, numbers_in_use.NumbersInUse.NumbersInUse}}

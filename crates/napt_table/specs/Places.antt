@@ -1,14 +1,14 @@
--- Where a number stands among the bits of its protocol: each class of ports, and the numbers of one parity of a block,
--- are a run of places.
+-- Where a number is in the bitmap of its protocol: the numbers of one parity, of a class of ports or of a port block,
+-- are at adjacent places.
 use Rattle.std.specs.Prelude.{ℕ, ◌+◌, ◌*◌, ◌/◌, ◌%◌, Bool, List}
 use Rattle.napt_collections.specs.BitSets.{has}
 use Rattle.napt_wire.specs.declared.Protocol.{Protocol}
 
--- the even numbers, then the odd ones
+-- The place of a number: the even numbers come first, then the odd ones.
 abbrev pub number_place_in_map : ℕ → ℕ
 number_place_in_map number = (number % 2) * 32768 + number / 2
 
--- what the set of a protocol's numbers shows
+-- What contracts see of a set of numbers: its protocol, and the places that are set.
 pub record UsedPlaces : Type 0 where
   pub protocol : Protocol
   pub places : List ℕ

@@ -4,8 +4,9 @@ use Rattle.napt_config.specs.declared.settings.Timers.{Timers}
 use Rattle.napt_rules.specs.{declared.{AssignmentRules.AssignmentRules, InboundRules.InboundRules}, Prelude.{Binding, count_for}}
 use Rattle.napt_table.specs.{declared.table_event.TableEvent.TableEvent, Events.list_after_events}
 
--- so whatever happened to a table, no host has more than the quota, or than it began with
+-- After any events no host has more bindings than the quota, or than it had at the start.
 abbrev pub PlayedKeepsQuota : Type 0
 PlayedKeepsQuota = (timers : Timers) (granting : AssignmentRules) (quota : ℕ) → granting.quota ≡ Some quota →
     (inbound : InboundRules) (address : ℕ) (events : List (ℕ × TableEvent)) (begun : List Binding) (at host : ℕ) →
-    count_for at host (list_after_events timers granting inbound address events begun) ≤ max quota (count_for at host begun)
+    count_for at host (list_after_events timers granting inbound address events begun)
+    ≤ max quota (count_for at host begun)

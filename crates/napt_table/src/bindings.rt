@@ -1,8 +1,8 @@
-//! The bindings of one external address, under all protocols.
+//! The stored bindings of one external address, of all protocols.
 //!
-//! A binding that has ended is still held: no look-up finds it, and it is removed before the next new binding gets a
-//! number, once the hold is over. Its queue entry has a time until which it is sure to live, kept lazily: a packet that keeps the binding alive
-//! does not move the entry, and when its time has come the binding is checked again.
+//! A binding that has ended stays stored while it is held: no look-up finds it, and it is removed before the next new
+//! binding is assigned a number once its hold time is over. Its queue entry has a time until which it is known to be
+//! live. The entry is not moved when a packet refreshes the binding; when it becomes due, the binding is checked again.
 
 ghost use Rattle.std.specs.{Prelude.{◌≡◌, ℕ, ◌+◌, ◌*◌, ◌^◌, ◌≤◌, ◌<◌, All, true, false, Some, None, OnOk, IfOk}, Option.{option_map, is_some}};
 ghost use Rattle.napt_rules.specs.Prelude.{Binding, ns_per_second, is_live, hold_ago};
@@ -25,15 +25,15 @@ mod keys;
 mod numbers_in_use;
 mod sending;
 
-/// The bindings of one external address; contracts see what is held, the timers, the time of the last packet, and the
-/// queue.
+/// The bindings of one external address. Contracts see the stored bindings, the timers, the time of
+/// the last packet, and the queue.
 #[derive(Drop)]
 pub(crate) struct Bindings {
     timers: IdleTimers,
-    /// The time of the last packet, in ns; before the first that at which it begins.
+    /// The time of the last packet, in ns; before the first packet, that at which it began.
     at: u64,
     held: BindingIndex,
-    /// One entry for each binding that is not fixed, with a time until which it is sure to live.
+    /// One entry for each binding that is not fixed, with a time until which it is surely live.
     due: Due<ExternalNumberKey>,
 }
 
@@ -52,7 +52,7 @@ impl Model for Bindings {
     ghost invariant = { λ bindings. AreDue bindings.timers bindings.at bindings.held bindings.due.entries };
 }
 
-/// For a binding without a queue entry: removes one that had ended the hold before `at`, queues another.
+/// Removes a binding that is not queued if its hold time is over at `at`, else queues it.
 fn requeue_or_remove(
     held: &mut BindingIndex,
     due: &mut Due<ExternalNumberKey>,
@@ -66,7 +66,7 @@ fn requeue_or_remove(
     ensures keeps { KeepsSeen timers (hold_ago timers at) held.old held.new }
     ensures come_up { entries_due (hold_ago timers at) due.new.entries
         ≤ entries_due (hold_ago timers at) due.old.entries }
-    // What is queued comes up no sooner than its binding may have ended.
+    // A queued entry is not due before its binding may have ended.
     ensures far { (b : Binding) (t : ℕ) → held_at_key held.old key ≡ Some b → b.row.fixed ≡ false →
         t < 2 ^ 64 → t < hold_ago timers at + least_timer b.row.protocol timers * ns_per_second →
         is_live timers t b ≡ true → entries_due t due.new.entries ≤ entries_due t due.old.entries }
@@ -94,7 +94,7 @@ impl Bindings {
     ghost use Rattle.napt_table.specs.BindingIndexes.{held_binding, held_at, IsSamePlace, IsNamed};
     ghost use Rattle.napt_table.specs.Bindings.{BindingsHaveRoom, IsPurged, IsLiveNumberOf, ReceivePost};
 
-    /// Nothing is held at a time, in ns. It takes memory for the numbers in use.
+    /// Creates an empty set of bindings, at a time in ns. Fails if memory is refused.
     pub(crate) fn new(
         alloc: Global,
         address: u32,
@@ -106,7 +106,8 @@ impl Bindings {
         ensures at { IfOk result (λ bindings. bindings.at ≡ at) }
         ensures address { IfOk result (λ bindings. bindings.held.address ≡ address) }
         ensures granting { IfOk result (λ bindings. bindings.held.granting ≡ granting) }
-        ensures none { IfOk result (λ bindings. (key : Key) → held_binding bindings.held key ≡ None) }
+        ensures none { IfOk result (λ bindings. (key : Key) →
+            held_binding bindings.held key ≡ None) }
     {
         Ok(Bindings {
             timers,
@@ -116,14 +117,14 @@ impl Bindings {
         })
     }
 
-    /// Law: each binding is at the address, under its own protocol and number. It does nothing when it runs.
+    /// Law: each binding has its key's protocol and number, and the address. Does nothing when run.
     pub(crate) fn keep_names(&self)
         ensures { IsNamed self.now.held }
     {
         self.held.keep_names();
     }
 
-    /// The time of the last packet, in ns.
+    /// Returns the time of the last packet, in ns.
     pub(crate) fn at(&self) -> u64
         ensures { result ≡ self.now.at }
     {
@@ -136,19 +137,19 @@ impl Bindings {
         self.timers
     }
 
-    /// The external address.
+    /// Returns the external address, in host order.
     pub(crate) fn address(&self) -> u32
         ensures { result ≡ self.now.held.address }
     {
         self.held.address()
     }
 
-    /// How many bindings it holds.
+    /// Returns the number of stored bindings.
     pub(crate) fn size(&self) -> u64 {
         self.held.size()
     }
 
-    /// The inside endpoint of the live binding with the number.
+    /// Returns the inside endpoint of the live binding with the number.
     pub(crate) fn inside_of(&self, now: u64, protocol: Protocol, number: u16) -> Option<Endpoint>
         ensures { result ≡ option_map (λ b. b.row.inside)
             (seen_binding self.now.timers now (held_at self.now.held protocol number)) }
@@ -159,7 +160,7 @@ impl Bindings {
         }
     }
 
-    /// The number of the live binding of the inside endpoint.
+    /// Returns the external number of the inside endpoint's live binding.
     pub(crate) fn number_of(&self, now: u64, protocol: Protocol, inside: Endpoint) -> Option<u16>
         ensures { IsLiveNumberOf now self.now protocol inside result }
     {
@@ -170,7 +171,7 @@ impl Bindings {
         }
     }
 
-    /// The live binding with the number, with its end.
+    /// Returns the live binding with the number, and its expiry time.
     pub(crate) fn timed(&self, now: u64, protocol: Protocol, number: u16) -> Option<TimedRow>
         ensures { result ≡ option_map (timed_row self.now.timers)
             (seen_binding self.now.timers now (held_at self.now.held protocol number)) }
@@ -185,8 +186,8 @@ impl Bindings {
         }
     }
 
-    /// Takes in a packet: the inside endpoint of the live binding with its number, if it lets the remote in; else
-    /// `NoBinding` or `Filtered`. It takes no memory.
+    /// Receives a packet: returns the inside endpoint of the live binding with its number if the
+    /// filter admits the remote, else `NoBinding` or `Filtered`. Allocates no memory.
     pub(crate) fn receive(
         &mut self,
         inbound: InboundRules,
@@ -206,7 +207,7 @@ impl Bindings {
         held.receive(timers, inbound, packet)
     }
 
-    /// Requeues an entry that came up, with its later end, or removes its binding; whether there was one.
+    /// Queues the binding of the first due entry again or removes it; returns whether one was due.
     fn purge_first(&mut self) -> bool
         ensures timers { self.new.timers ≡ self.old.timers }
         ensures at { self.new.at ≡ self.old.at }
@@ -234,14 +235,14 @@ impl Bindings {
         true
     }
 
-    /// Removes what had ended the hold before.
+    /// Removes the bindings whose hold time is over.
     fn purge(&mut self)
         ensures { IsPurged self.old.at self.old self.new }
     {
         while self.purge_first() {}
     }
 
-    /// Removes what had ended the hold before `now`, which becomes the time.
+    /// Sets the time to `now` and removes the bindings whose hold time is then over.
     fn purge_at(&mut self, now: u64)
         requires later { self.old.at ≤ now }
         ensures { IsPurged now self.old self.new }
@@ -257,8 +258,8 @@ impl Bindings {
     ghost use Rattle.napt_table.specs.BindingIndexes.{held_at};
     ghost use Rattle.napt_table.specs.Bindings.{IsPurged};
 
-    /// The least number from 1 on that no binding has, live or held, at `now`, which becomes the time. What had ended the
-    /// hold before is removed first, each binding once, and a search of numbers in use then looks at a few words.
+    /// Returns the least number from 1 on that no binding has, live or held, at `now`, which becomes the time. Bindings
+    /// whose hold time is over are removed first, each once, so a search of the numbers in use reads a few words.
     pub(crate) fn spare(&mut self, now: u64, protocol: Protocol) -> Option<u16>
         requires later { self.old.at ≤ now }
         ensures purged { IsPurged now self.old self.new }
@@ -278,7 +279,7 @@ impl Bindings {
     ghost use Rattle.napt_binding.specs.Slots.{AreDistinct};
     ghost use Rattle.napt_table.specs.{BindingIndexes.AreUsedUpTo, Keys.key_eq, HeldRows.{held_rows, AreRead}};
 
-    /// The rows of the bindings that are live at `now` (ns), in no order.
+    /// Returns the rows of the bindings that are live at `now` (ns), in no order.
     pub(crate) fn rows(&self, alloc: Global, now: u64) -> Result<Vec<Row>, AllocError>
         ensures rows { IfOk result (λ made. made.items
             ≡ held_rows self.now.timers now self.now.held) }
@@ -287,7 +288,7 @@ impl Bindings {
         self.held.rows(alloc, self.timers, now)
     }
 
-    /// The bindings that are live or held at `now` (ns), as a state has them, in no order.
+    /// Returns the bindings live or held at `now` (ns), as a saved state has them, in no order.
     pub(crate) fn final_bindings(
         &self,
         alloc: Global,
@@ -304,7 +305,7 @@ impl Bindings {
     }
 }
 
-/// What is held still shows the list as time passes.
+/// Law: as time passes, the stored bindings that are live remain those of the purged list.
 pub(crate) fn held_is_purged_later()
     ensures { HeldIsPurgedLater }
 {}

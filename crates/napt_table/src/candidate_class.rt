@@ -1,5 +1,5 @@
-//! The classes of external numbers (RFC 4787, REQ-3 (a) and REQ-4; RFC 7857, section 8; RFC 5508, section 3.1; RFC 7422,
-//! section 2).
+//! The classes of external numbers (RFC 4787, REQ-3 (a) and REQ-4; RFC 7857, section 8; RFC 5508,
+//! section 3.1; RFC 7422, section 2).
 
 ghost use Rattle.std.specs.Prelude.{◌≡◌, ◌+◌, ◌-◌, ◌*◌, ◌/◌, ◌^◌, ◌<◌, ◌≤◌};
 ghost use Rattle.napt_config.specs.Rules.{IsPortBlock};
@@ -8,7 +8,7 @@ ghost use Rattle.napt_table.specs.Classes.{class_of, class_in_block, class_of_bl
 use napt_config::PortBlock;
 use napt_wire::Protocol;
 
-/// A class of external numbers: the least one, how many, and how far apart.
+/// A class of external numbers: the least one, how many there are, and the step between two.
 #[derive(Clone, Copy)]
 pub struct CandidateClass {
     pub least: u32,
@@ -16,7 +16,7 @@ pub struct CandidateClass {
     pub apart: u32,
 }
 
-/// The class that a number is mapped in: a port keeps its side of 1024 and, if that is kept, its parity.
+/// Returns a number's class: a port keeps its side of 1024 and, with `keeps_parity`, its parity.
 pub(crate) fn class_of(keeps_parity: bool, protocol: Protocol, number: u16) -> CandidateClass
     ensures value { result ≡ class_of keeps_parity protocol number }
     ensures small { number < 2 ^ 16 }
@@ -36,7 +36,7 @@ pub(crate) fn class_of(keeps_parity: bool, protocol: Protocol, number: u16) -> C
     CandidateClass { least, many, apart }
 }
 
-/// The numbers of a block of a parity, 0 or 1.
+/// Returns the numbers of a port block that have a parity, 0 or 1.
 pub(crate) fn class_in_block(block: PortBlock, parity: u16) -> CandidateClass
     requires block { IsPortBlock block }
     requires parity { parity < 2 }
@@ -49,7 +49,7 @@ pub(crate) fn class_in_block(block: PortBlock, parity: u16) -> CandidateClass
     }
 }
 
-/// All numbers of a block.
+/// Returns all numbers of a port block.
 pub(crate) fn class_of_block(block: PortBlock) -> CandidateClass
     ensures { result ≡ class_of_block block }
 {

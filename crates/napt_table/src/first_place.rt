@@ -1,4 +1,4 @@
-//! Where the search of a free number begins: at the number itself, or at the place of a hash (RFC 6056, section 3.3.3).
+//! Where the search for a free number begins: at the number, or at a hash (RFC 6056, section 3.3.3).
 
 ghost use Rattle.std.specs.Prelude.{◌≡◌, ◌-◌, ◌/◌, ◌%◌, ◌<◌, ◌≤◌};
 ghost use Rattle.napt_rules.specs.Prelude.{mixed, protocol_byte, place_in};
@@ -9,7 +9,7 @@ use napt_config::{NumberAssignment, Seed};
 use napt_wire::{Endpoint, Protocol};
 use std::hash::{DefaultHasher, Hasher};
 
-/// The protocol's number in the header of an IPv4 packet.
+/// Returns the protocol's number in an IPv4 header.
 fn protocol_byte(protocol: Protocol) -> u8
     ensures { result ≡ protocol_byte protocol }
 {
@@ -20,7 +20,7 @@ fn protocol_byte(protocol: Protocol) -> u8
     }
 }
 
-/// A hash of the seed, the protocol and the inside endpoint.
+/// Returns SipHash-1-3 of the seed, the protocol and the inside endpoint, in network order.
 fn mixed(seed: Seed, protocol: Protocol, inside: Endpoint) -> u64
     ensures { result ≡ mixed seed protocol inside }
 {
@@ -32,7 +32,7 @@ fn mixed(seed: Seed, protocol: Protocol, inside: Endpoint) -> u64
     hasher.finish()
 }
 
-/// The place in a class of the number that is tried first.
+/// Returns the place, from 0, of the first candidate in a class.
 pub(crate) fn place_in_class(
     seed: Option<Seed>,
     class: CandidateClass,
@@ -51,7 +51,7 @@ pub(crate) fn place_in_class(
     }
 }
 
-/// The place in a block of a size of the number that is tried first.
+/// Returns the place, from 0, of the first candidate in a port block of this size.
 pub(crate) fn place_in_block(
     choosing: NumberAssignment,
     size: u16,

@@ -1,4 +1,4 @@
-//! How many bindings each inside host has over all protocols (RFC 6888, REQ-4).
+//! How many bindings each inside host has, over all protocols (RFC 6888, REQ-4).
 
 ghost use Rattle.std.specs.Prelude.{◌≡◌, ℕ, ◌+◌, ◌-◌, ◌^◌, ◌<◌, ◌≤◌, true, cond, Some, OnOk};
 ghost use Rattle.napt_table.specs.Hosts.{held_counts_for};
@@ -6,7 +6,7 @@ ghost use Rattle.napt_table.specs.Hosts.{held_counts_for};
 use napt_binding::{AddressCounts, TableBinding};
 use std::alloc::{AllocError, Global};
 
-/// How many bindings each inside host has, without redirects. Nothing is counted without a quota.
+/// The number of bindings of each inside host, but redirects. Without a quota none is counted.
 #[derive(Drop)]
 pub(crate) struct HostCounts {
     counts: Option<AddressCounts>,
@@ -15,7 +15,7 @@ pub(crate) struct HostCounts {
 impl HostCounts {
     ghost use Rattle.napt_table.specs.Counts.{are_counted, count_in, host_place};
 
-    /// No host has any. It takes no memory.
+    /// Creates counts of 0, or none at all if `counted` is false. Allocates no memory.
     pub(crate) fn new(alloc: Global, counted: bool) -> HostCounts
         ensures counted { are_counted result ≡ counted }
         ensures none { (host : ℕ) → count_in result host ≡ 0 }
@@ -28,7 +28,7 @@ impl HostCounts {
         HostCounts { counts }
     }
 
-    /// Makes room for one more host.
+    /// Reserves memory for one more host. Fails if it is refused.
     pub(crate) fn reserve(&mut self) -> Result<(), AllocError>
         ensures counted { are_counted self.new ≡ are_counted self.old }
         ensures counts { (host : ℕ) → count_in self.new host ≡ count_in self.old host }
@@ -40,7 +40,7 @@ impl HostCounts {
         }
     }
 
-    /// How many the host has; 0 if nothing is counted.
+    /// Returns the number of bindings of the host, or 0 if nothing is counted.
     pub(crate) fn count(&self, host: u32) -> usize
         ensures { result ≡ count_in self.now host }
     {
@@ -50,13 +50,14 @@ impl HostCounts {
         }
     }
 
-    /// Counts the binding, for whose host there is room. A redirect does not count.
+    /// Counts a binding, for whose host there is room. A redirect does not count.
     pub(crate) fn increment(&mut self, binding: &TableBinding)
         requires room { 0 < host_place self.old }
         requires fits { count_in self.old binding.now.row.inside.address + 1 < 2 ^ 64 }
         ensures counted { are_counted self.new ≡ are_counted self.old }
         ensures counts { are_counted self.old ≡ true →
-            (host : ℕ) → count_in self.new host ≡ count_in self.old host + cond {A = ℕ} (held_counts_for host (Some binding.now)) 1 0 }
+            (host : ℕ) → count_in self.new host ≡ count_in self.old host
+            + cond {A = ℕ} (held_counts_for host (Some binding.now)) 1 0 }
     {
         match &mut self.counts {
             Some(counts) if !binding.row.is_fixed() => counts.increment(
@@ -66,11 +67,12 @@ impl HostCounts {
         }
     }
 
-    /// Counts it no longer.
+    /// Removes a binding from the count of its host. A redirect does not count.
     pub(crate) fn decrement(&mut self, binding: &TableBinding)
         ensures counted { are_counted self.new ≡ are_counted self.old }
         ensures counts { (host : ℕ) →
-            count_in self.new host ≡ count_in self.old host - cond {A = ℕ} (held_counts_for host (Some binding.now)) 1 0 }
+            count_in self.new host ≡ count_in self.old host - cond {A = ℕ}
+            (held_counts_for host (Some binding.now)) 1 0 }
         ensures room { host_place self.old ≤ host_place self.new }
     {
         match &mut self.counts {

@@ -1,6 +1,6 @@
-//! The bindings of one external address: which inside endpoint has which external number, and for how long.
+//! The bindings of one external address: which inside endpoint has which number, and for how long.
 //!
-//! The rules are those of RFC 3022, RFC 4787, RFC 5382 and RFC 5508; `specs/` states them, each with its sections.
+//! The rules are those of RFC 3022, RFC 4787, RFC 5382 and RFC 5508, as `specs/` states them.
 #![tactic(auto)]
 
 ghost use Rattle.std.specs.Prelude.{◌≡◌, ℕ, List};
@@ -27,20 +27,20 @@ pub use napt_rules::{InboundPacket, OutboundPacket, Row};
 pub use numbers::Numbers;
 pub use table::Table;
 
-/// A live binding, and when it ends if no packet goes through it.
+/// A live binding, with the time at which it expires if no packet refreshes it.
 #[derive(Clone, Copy, Debug, PartialEq, Eq)]
 pub struct TimedRow {
     pub row: Row,
-    /// The first time, in ns, at which it is no longer live; none for a redirect, which never ends.
+    /// The first time, in ns, at which it is not live; `None` for a redirect, which never expires.
     pub end: Option<u128>,
 }
 
-/// Whatever happened to a table, no inside host has more bindings than its quota, or than it began with (RFC 6888, REQ-4).
+/// Law: no host ever has more bindings than the quota, or than at the start (RFC 6888, REQ-4).
 pub fn tables_keep_the_quota()
     ensures { PlayedKeepsQuota }
 {}
 
-/// No two bindings of a table ever share an endpoint, and no UDP or TCP number is ever 0.
+/// Law: no two bindings of a table share an endpoint, and no UDP or TCP port in it is 0.
 pub fn tables_share_nothing()
     ensures apart { TablesShareNothing }
     ensures numbered { TablesAreNumbered }

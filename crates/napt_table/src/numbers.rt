@@ -1,5 +1,5 @@
-//! Which external numbers of a protocol are in use, and the choice of a free one (RFC 4787, REQ-3 and REQ-4; RFC 7857,
-//! sections 8 and 9; RFC 5508, section 3.1; RFC 7422, section 2).
+//! The external numbers of a protocol that are in use, and the choice of a free one (RFC 4787,
+//! REQ-3 and REQ-4; RFC 7857, sections 8 and 9; RFC 5508, section 3.1; RFC 7422, section 2).
 
 ghost use Rattle.std.specs.Prelude.{◌≡◌, ℕ, ◌+◌, ◌-◌, ◌*◌, ◌/◌, ◌^◌, ◌<◌, ◌≤◌, ◌==◌, true, false, not, ◌&&◌, ◌||◌, find, IfOk, IfSome, Bool};
 ghost use Rattle.napt_config.specs.Rules.{IsPortBlock};
@@ -15,11 +15,11 @@ use napt_wire::{Endpoint, Protocol};
 use std::alloc::{AllocError, Global};
 use std::marker::Model;
 
-/// The external numbers of one protocol that are in use: UDP and TCP ports, ICMP identifiers. Contracts see the
-/// protocol, and which they are.
+/// The external numbers of one protocol that are in use: UDP or TCP ports, or ICMP identifiers.
+/// Contracts see the protocol and the set of numbers.
 ///
-/// The even numbers are one run of bits and the odd ones another, and so are those of a class of ports or of a block: a
-/// choice looks at a few words, however many numbers are in use.
+/// The set is a bitmap with the even numbers first and then the odd ones, so that those of one parity
+/// of a class or of a block are adjacent: a choice reads a few words, however many numbers are in use.
 #[derive(Drop)]
 pub struct Numbers {
     protocol: Protocol,
@@ -34,14 +34,14 @@ impl Model for Numbers {
     ghost view = { λ numbers. record { protocol = numbers.protocol; places = numbers.places } };
 }
 
-/// The place of a number among the bits: even numbers first, then odd ones.
+/// Returns the place of a number in the bitmap: even numbers come first, then odd ones.
 fn place_of(number: u16) -> u16
     ensures { result ≡ number_place_in_map number }
 {
     (number % 2) * 32_768 + number / 2
 }
 
-/// The least number from `from` on and below `end` that is free, by the first free places of even numbers and of odd ones.
+/// Returns the least free number in `from..end`, by the first free even and odd places.
 fn least_of(from: u32, end: u32, even: Option<u32>, odd: Option<u32>) -> Option<u16>
     requires end { end ≤ 65536 }
     requires even { IfSome even (λ place. place < 32768) }
@@ -60,8 +60,8 @@ fn least_of(from: u32, end: u32, even: Option<u32>, odd: Option<u32>) -> Option<
 }
 
 impl Numbers {
-    /// No number of the protocol is in use. It takes about 8 KiB, and no other call takes any; `AllocError` if they are
-    /// refused.
+    /// Creates a set in which no number is in use. It takes about 8 KiB, and no other method
+    /// allocates; fails if memory is refused.
     pub fn new(alloc: Global, protocol: Protocol) -> Result<Numbers, AllocError>
         ensures protocol { IfOk result (λ numbers. numbers.protocol ≡ protocol) }
         ensures none { IfOk result (λ numbers. (n : ℕ) → is_used numbers n ≡ false) }
@@ -72,16 +72,16 @@ impl Numbers {
         })
     }
 
-    /// The protocol whose numbers these are.
+    /// Returns the protocol of the numbers.
     pub fn protocol(&self) -> Protocol
         ensures { result ≡ self.now.protocol }
     {
         self.protocol
     }
 
-    /// The external number for an inside endpoint, of a host with this block or none: the first of its candidates that is
-    /// free; `None` if all are in use. Without a block that is the number itself, or if numbers are random that at the place
-    /// of a hash, else the next free one of its class, wrapping around (RFC 4787, REQ-3 and REQ-4).
+    /// Returns the external number for an inside endpoint, of a host with this block or without one: the first
+    /// candidate that is free, or `None` if none is. Without a block that is the number itself, or with a seed the one
+    /// at the place of a hash, else the next free one of its class, wrapping around (RFC 4787, REQ-3 and REQ-4).
     pub fn choose(
         &self,
         choosing: NumberAssignment,
@@ -98,7 +98,7 @@ impl Numbers {
         }
     }
 
-    /// The first free number of the class of an endpoint's number, from the one that is tried first on.
+    /// Returns the first free number of an endpoint's class, from the first candidate on.
     fn choose_in_class(&self, choosing: NumberAssignment, inside: Endpoint) -> Option<u16>
         ensures { result ≡ find (λ n. not (is_used self.now n))
             (candidates_in_class choosing self.now.protocol inside) }
@@ -108,7 +108,7 @@ impl Numbers {
         self.first_of(class, place)
     }
 
-    /// The first free number of a block, from the one that is tried first on.
+    /// Returns the first free number of a port block, from the first candidate on.
     fn choose_in_block(
         &self,
         choosing: NumberAssignment,
@@ -127,7 +127,7 @@ impl Numbers {
         }
     }
 
-    /// The first free number of a block, from a place on: of the place's parity, else of the other.
+    /// Returns a block's first free number from a place on: of the place's parity, else of the other.
     fn first_by_parity(&self, block: PortBlock, place: u16) -> Option<u16>
         requires block { IsPortBlock block }
         requires within { place < block.size }
@@ -140,7 +140,7 @@ impl Numbers {
         }
     }
 
-    /// The first free number of a class, from a place of it on, then before that.
+    /// Returns the first free number of a class, from a place on and then before it.
     fn first_of(&self, class: CandidateClass, place: u32) -> Option<u16>
         requires searched { IsSearched class }
         requires some { 0 < class.many }
@@ -154,7 +154,7 @@ impl Numbers {
         }
     }
 
-    /// The same of a class of every other number.
+    /// Does what `first_of` does for a class of every other number.
     fn first_of_parity(&self, class: CandidateClass, place: u32) -> Option<u16>
         requires apart { class.apart ≡ 2 }
         requires some { 0 < class.many }
@@ -171,7 +171,7 @@ impl Numbers {
         Some((class.least + 2 * (found - start)) as u16)
     }
 
-    /// The same of a class without gaps.
+    /// Does what `first_of` does for a class without gaps.
     fn first_of_all(&self, class: CandidateClass, place: u32) -> Option<u16>
         requires apart { class.apart ≡ 1 }
         requires fits { class.least + class.many ≤ 65536 }
@@ -185,7 +185,7 @@ impl Numbers {
         }
     }
 
-    /// The least number from one on and below an end that is free; `None` if there is none.
+    /// Returns the least free number in `from..end`, or `None` if each is in use.
     fn first_from(&self, from: u32, end: u32) -> Option<u16>
         requires from { from ≤ 65536 }
         requires end { end ≤ 65536 }
@@ -197,7 +197,7 @@ impl Numbers {
         least_of(from, end, even, odd)
     }
 
-    /// The least number from 1 on that is free; `None` if there is none.
+    /// Returns the least free number from 1 on, or `None` if each is in use.
     pub fn least_free(&self) -> Option<u16>
         ensures { IsFirstAbsent (is_used self.now) 1 (2 ^ 16) result }
     {

@@ -14,11 +14,11 @@ use napt_wire::{Endpoint, Protocol};
 use std::alloc::{AllocError, Global};
 use std::marker::Model;
 
-/// A table to which nothing has happened yet; contracts see it as a table.
+/// A table before its first packet; contracts see it as a table.
 #[derive(Drop)]
 pub(crate) struct TableBuilder {
     pub(crate) inbound: InboundRules,
-    /// Its bindings in order. It takes no memory: only proofs read it.
+    /// The bindings in order. They take no memory: only proofs read them.
     pub(crate) list: Log<u64, TableBinding>,
     pub(crate) bindings: Bindings,
 }
@@ -35,7 +35,7 @@ impl Model for TableBuilder {
     ghost invariant = { λ it. AreHeld it.bindings.held.address it.bindings.held (list_of it) };
 }
 
-/// How the configuration has numbers granted.
+/// Returns the configuration's rules for assigning numbers.
 fn assignment_rules(config: &Config) -> AssignmentRules
     ensures granting { result ≡ rules.assignment_rules config.now }
     ensures kept { RulesInvariant config.now }
@@ -46,14 +46,14 @@ fn assignment_rules(config: &Config) -> AssignmentRules
     }
 }
 
-/// The protocol of a redirect.
+/// Returns the protocol of a redirect.
 fn protocol_of(tcp: bool) -> Protocol
     ensures { result ≡ redirect_protocol tcp }
 {
     if tcp { Protocol::Tcp } else { Protocol::Udp }
 }
 
-/// The binding of a redirect at the address.
+/// Returns the binding of a redirect at the address.
 fn redirected(alloc: Global, redirect: &Redirect, address: u32) -> TableBinding
     ensures { result ≡ redirect_binding (λ host. address) redirect.now }
 {
@@ -80,7 +80,7 @@ impl TableBuilder {
     ghost use Rattle.napt_table.specs.BindingIndexes.{IsUsedBy};
     ghost use Rattle.napt_table.specs.Beginnings.{state_bindings_at};
 
-    /// Nothing is held, at a time in ns.
+    /// Creates a builder without bindings, at a time in ns. Fails if memory is refused.
     fn new(
         alloc: Global,
         address: u32,
@@ -100,7 +100,7 @@ impl TableBuilder {
         })
     }
 
-    /// Adds a binding of the address that lives or is held, behind the others, with which it shares no endpoint.
+    /// Appends a binding of this address that is live or held and shares no endpoint with others.
     fn add(&mut self, binding: TableBinding) -> Result<(), AllocError>
         requires live { is_live self.old.timers (hold_ago self.old.timers self.old.at) binding
             ≡ true }
@@ -118,7 +118,7 @@ impl TableBuilder {
         Ok(())
     }
 
-    /// Adds a binding of a state, if it is one of the address, no redirect, and lives or is held.
+    /// Appends a binding of a state if it is at this address, is no redirect, and is live or held.
     fn restore(&mut self, alloc: Global, binding: &StateBinding) -> Result<(), AllocError>
         requires apart { AreBindingsApart (map row (self.old.list
             ++ state_bindings_at self.old.timers self.old.at self.old.address (binding.now ∷ []))) }
@@ -143,14 +143,15 @@ impl TableBuilder {
         }
     }
 
-    /// The redirects of the configuration at the address, at a time in ns.
+    /// Creates a builder with the configuration's redirects at the address, at a time in ns.
     pub(crate) fn redirects(
         alloc: Global,
         address: u32,
         config: &Config,
         at: u64,
     ) -> Result<TableBuilder, AllocError>
-        ensures shown { IfOk result (λ it. it ≡ record (initial_table config.now address) { at = at }) }
+        ensures shown { IfOk result (λ it. it
+            ≡ record (initial_table config.now address) { at = at }) }
         ensures rules { OnOk result (RulesInvariant config.now) }
     {
         let mut beginning = TableBuilder::new(alloc, address, config, at)?;
@@ -162,8 +163,8 @@ impl TableBuilder {
         Ok(beginning)
     }
 
-    /// The redirects of the configuration at the address, and then the other bindings of the state there that live or are
-    /// held at its clock.
+    /// Creates a builder with the configuration's redirects at the address, and then the state's
+    /// other bindings there that are live or held at its clock.
     pub(crate) fn resumed(
         alloc: Global,
         address: u32,

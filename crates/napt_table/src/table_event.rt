@@ -1,14 +1,14 @@
-//! What happens to a table, for proofs alone.
+//! The events of a table, which proofs alone read.
 
 use napt_rules::{InboundPacket, OutboundPacket};
 
-/// A packet, or a time.
+/// An event that may change the bindings of a table.
 #[derive(Clone, Copy)]
 pub(crate) enum TableEvent {
-    /// A packet goes out.
+    /// A packet was sent out.
     Sent(OutboundPacket),
-    /// A packet comes in.
+    /// A packet was received.
     Received(InboundPacket),
-    /// What has ended by a time, in ns, is removed.
+    /// The bindings whose hold time was over at a time, in ns, were removed.
     Purged(u64),
 }

@@ -7,16 +7,20 @@ use Rattle.napt_config.specs.Rules.{Rules, RulesInvariant, block_of}
 use Rattle.napt_table.specs.Tables.{TableModel, initial_table, resumed_table}
 
 pub record TranslatorModel : Type 0 where
-  -- the place of its external address in the pool, from 0
+  -- The place of its external address in the pool, from 0.
   pub index : ℕ
   pub rules : Rules
   pub table : TableModel
 
--- at a place of a configuration's pool, before any leg
+-- The translator at a place of a configuration's pool, before any leg.
 abbrev pub initial_translator : ℕ → Rules → TranslatorModel
-initial_translator index rules = record { index = index; rules = rules; table = initial_table rules (slice_index rules.pool index) }
+initial_translator index rules = record {
+  index = index;
+  rules = rules;
+  table = initial_table rules (slice_index rules.pool index);
+}
 
--- where a run goes on from a state
+-- The translator at a place of the pool that goes on from a saved state.
 abbrev pub resumed_translator : ℕ → Rules → State → TranslatorModel
 resumed_translator index rules state = record {
   index = index;
@@ -24,7 +28,7 @@ resumed_translator index rules state = record {
   table = resumed_table rules (slice_index rules.pool index) state;
 }
 
--- the table is that of the configuration, at the address of its place
+-- The table has the timers and rules of the configuration, and the address at the translator's place in the pool.
 pub record IsTranslator (state : TranslatorModel) : Type 0 where
   pub place : state.index < length state.rules.pool
   pub rules : RulesInvariant state.rules
@@ -39,20 +43,22 @@ local_state table = record { list = table.list; at = table.at }
 abbrev pub with_local_state : TranslatorModel → LocalState → TranslatorModel
 with_local_state state kept = record state { table = record state.table { list = kept.list; at = kept.at } }
 
--- what a leg leaves
+-- The translator after a leg.
 abbrev pub translator_after : Leg → TranslatorModel → TranslatorModel
-translator_after leg state = with_local_state state (local_after state.rules state.table.address leg (local_state state.table))
+translator_after leg state = with_local_state state
+    (local_after state.rules state.table.address leg (local_state state.table))
 
--- a packet's step out at a time, and in
+-- What the step of an outgoing packet gives at the translator's address, at a time; then the same of an incoming one.
 abbrev pub outbound_at : TranslatorModel → ℕ → Protocol → Flags → List ℕ → OutboundEffect
-outbound_at state now protocol flags packet = step_out state.rules.timers (assignment_rules state.rules) state.table.address
+outbound_at state now protocol flags packet = step_out state.rules.timers (assignment_rules state.rules)
+    state.table.address
     (outbound_packet state.rules protocol flags now packet) state.table.list
 
 abbrev pub inbound_at : TranslatorModel → ℕ → Protocol → Flags → List ℕ → InboundEffect
 inbound_at state now protocol flags packet = step_in state.rules.timers (inbound_rules state.rules) state.table.address
     (inbound_packet protocol flags now packet) state.table.list
 
--- a packet went out under the block of its host: its answer, and what it leaves
+-- A packet went out under the port block of its host: the table's answer, and the translator after it.
 pub record TranslateOut (packet : OutboundPacket) (old new : TranslatorModel) (answer : Result ℕ Cause) : Type 0 where
   pub answered : answer ≡ (step_out old.rules.timers (assignment_rules old.rules) old.table.address
       (record packet { block = block_of old.rules packet.inside.address }) old.table.list).number

@@ -1,4 +1,4 @@
--- What replaced words leave as it was, and what they do to the sum of the words of a part.
+-- What writing words leaves unchanged, and what it does to the sum of the words of a range of bytes.
 use Rattle.std.proofs.lemmas.{Grind.{common_steps, same_number_lists}, Bool.Decides.nat_tests}
 use Rattle.std.proofs.Common.{◌≡◌, ℕ, zero, suc, ◌+◌, ◌-◌, ◌*◌, ◌/◌, ◌%◌, ◌<◌, ◌≤◌, List, [], ◌∷◌, ◌++◌, length, min, take, drop, set, sum, slice_index, arith, refl, sym, ◌∙◌, ap, length-drop, length-take, length-take-le, length-set, get_or-set_same, get_or-set_other, get_or-drop, get_or-take, take_at}
 use Rattle.std.proofs.{Math.Seq.take-set-lt, lemmas.List.drop-set-add}
@@ -12,26 +12,27 @@ length-changed [] bytes = refl
 length-changed (c ∷ changes) bytes = length-changed changes (with_word_at c.place c.new bytes)
     ∙ length-put_word c.place c.new bytes
 
-pub changed-append : (xs ys : List Change) (bytes : List ℕ) → with_changes (xs ++ ys) bytes ≡ with_changes ys (with_changes xs bytes)
+pub changed-append : (xs ys : List Change) (bytes : List ℕ) →
+    with_changes (xs ++ ys) bytes ≡ with_changes ys (with_changes xs bytes)
 changed-append [] ys bytes = refl
 changed-append (c ∷ xs) ys bytes = changed-append xs ys (with_word_at c.place c.new bytes)
 
--- the word at a place has no byte of a range
+-- The word at `place` shares no byte with the range of n bytes that begins at `at`.
 abbrev pub IsClear : ℕ → ℕ → ℕ → Type 0
 IsClear at n place = at < place + 2 → place < at + n → ⊥
 
--- none of the words has
+-- None of the words shares a byte with the range.
 abbrev pub AreClear : ℕ → ℕ → List Change → Type 0
 AreClear at n [] = Unit {0}
 AreClear at n (c ∷ changes) = IsClear at n c.place × AreClear at n changes
 
--- all of the words stand between two places
+-- All of the words lie between two offsets.
 abbrev pub AreWithin : ℕ → ℕ → List Change → Type 0
 AreWithin low high [] = Unit {0}
 AreWithin low high (c ∷ changes) = (low ≤ c.place) × (c.place + 2 ≤ high) × AreWithin low high changes
 
--- so do these, an even number of bytes behind the lower one, no two share a byte, and each is of the word that stands
--- there. For a list that is written out `omega arith` proves all of that
+-- The words also lie at even distances from `low`, no two share a byte, and each old word is the one in the bytes. For
+-- a list that is written out, `omega arith` proves all of this.
 abbrev pub AreEdits : ℕ → ℕ → List ℕ → List Change → Type 0
 AreEdits low high bytes [] = Unit {0}
 AreEdits low high bytes (c ∷ changes) =
@@ -66,7 +67,7 @@ edits-higher low high above bytes [] h edits = tt
 edits-higher low high above bytes (c ∷ changes) h edits =
     (edits.0, omega arith, edits.2, edits.3, edits.4, edits-higher low high above bytes changes h edits.5)
 
--- edits, and more of them before
+-- Edits in front of other edits are edits together.
 pub edits-append : (below above low high : ℕ) (bytes : List ℕ) (xs ys : List Change) → below ≤ low → above ≤ low →
     above ≤ high → (low - below) % 2 ≡ 0 → AreEdits low high bytes xs → AreEdits below above bytes ys →
     AreEdits below high bytes (xs ++ ys)
@@ -84,9 +85,9 @@ edits-append below above low high bytes (c ∷ xs) ys l a h even p q = (
   edits-append below above low high bytes xs ys l a h even p.5 q,
 )
 
--- THE WORDS OUTSIDE, AND THOSE WRITTEN
+-- THE BYTES OUTSIDE THE WORDS, AND THE WORDS WRITTEN
 
--- a byte that is not of the word stays
+-- A byte outside the word is unchanged.
 pub slice_index-put_word_other : (place word i : ℕ) (bytes : List ℕ) → IsClear i 1 place →
     slice_index (with_word_at place word bytes) i ≡ slice_index bytes i
 slice_index-put_word_other place word i bytes clear =
@@ -97,7 +98,7 @@ pub word_at-put_word_other : (place word i : ℕ) (bytes : List ℕ) → IsClear
     word_at i (with_word_at place word bytes) ≡ word_at i bytes
 word_at-put_word_other place word i bytes clear = grind (arith, common_steps, nat_tests, slice_index-put_word_other)
 
--- what was written is read
+-- The word that was written is read back.
 pub word_at-put_word : (place word : ℕ) (bytes : List ℕ) → place + 2 ≤ length bytes →
     word_at place (with_word_at place word bytes) ≡ word
 word_at-put_word place word bytes h =
@@ -122,7 +123,7 @@ pub slice_index-changed : (low high i : ℕ) (changes : List Change) (bytes : Li
 slice_index-changed low high i changes bytes within out =
     byte-stays i changes bytes (clear-within low high i 1 changes within out)
 
--- each word that was written stands there
+-- The bytes have the new word of each change.
 abbrev pub Stands : List Change → List ℕ → Type 0
 Stands [] bytes = Unit {0}
 Stands (c ∷ changes) bytes = (word_at c.place bytes ≡ c.new) × Stands changes bytes
@@ -145,7 +146,7 @@ pub stands-join : (xs ys : List Change) (bytes : List ℕ) → Stands xs bytes �
 stands-join [] ys bytes p q = q
 stands-join (c ∷ xs) ys bytes p q = (p.0, stands-join xs ys bytes p.1 q)
 
--- From a place on, what was written stands there, and each other byte stays.
+-- From offset `low` on the bytes have the new words, and every other byte is unchanged.
 pub record IsWritten (low : ℕ) (changes : List Change) (bytes after : List ℕ) : Type 0 where
   pub stands : Stands changes after
   pub stays : (i : ℕ) → low ≤ i → AreClear i 1 changes → slice_index after i ≡ slice_index bytes i
@@ -170,13 +171,13 @@ long-same low i changes bytes after w h clear =
           (clear-part i 4 (i + 2) 2 changes (omega arith) (omega arith) clear),
     ) refl
 
--- so it is of the first of them, where the others stand before
+-- The same holds for the first changes alone, if the others lie before `start`.
 pub written-front : (low start below above : ℕ) (xs ys : List Change) (bytes after : List ℕ) → low ≤ start →
     above ≤ start → AreWithin below above ys → IsWritten low (xs ++ ys) bytes after → IsWritten start xs bytes after
 written-front low start below above xs ys bytes after l h within w =
     grind (arith, common_steps, nat_tests, stands-append, clear-append, clear-within)
 
--- a part of the bytes
+-- The range of n bytes that begins at `at`.
 abbrev pub part : ℕ → ℕ → List ℕ → List ℕ
 part at n bytes = take n (drop at bytes)
 
@@ -184,12 +185,13 @@ pub slice_index-part : (at n i : ℕ) (bytes : List ℕ) → i < n → slice_ind
     ≡ slice_index bytes (at + i)
 slice_index-part at n i bytes h = get_or-take n (drop at bytes) i 0 h ∙ get_or-drop at bytes i 0
 
--- a part that has none of the words stays
+-- A range that shares no byte with the words is unchanged.
 pub part-changed_other : (at n low high : ℕ) (changes : List Change) (bytes : List ℕ) → AreWithin low high changes →
     (low < at + n → at < high → ⊥) → part at n (with_changes changes bytes) ≡ part at n bytes
 part-changed_other at n low high changes bytes within out =
     let long = length-changed changes bytes in
-    same_number_lists (part at n (with_changes changes bytes)) (part at n bytes) (simp (length-take, length-drop, long) refl)
+    same_number_lists (part at n (with_changes changes bytes)) (part at n bytes)
+    (simp (length-take, length-drop, long) refl)
     (λ k h.
     let below : k < min n (length (drop at (with_changes changes bytes))) = simp length-take at h in
     slice_index-part at n k (with_changes changes bytes) (omega (arith, below))
@@ -197,7 +199,7 @@ part-changed_other at n low high changes bytes within out =
     out (omega (arith, below)) (omega arith)))
     ∙ sym (slice_index-part at n k bytes (omega (arith, below))))
 
--- a word of a part is replaced
+-- Writing a word of a suffix of the bytes is the same as writing it in all bytes.
 drop-put_word : (at j word : ℕ) (bytes : List ℕ) → drop at (with_word_at (at + j) word bytes)
     ≡ with_word_at j word (drop at bytes)
 drop-put_word at j word bytes =
@@ -215,7 +217,7 @@ part-put_word at n j word bytes fits =
     (take-set-lt n (set (drop at bytes) j (word / 256)) (j + 1) (word % 256) (omega arith)
     ∙ ap (λ (xs : List ℕ). set xs (j + 1) (word % 256)) (take-set-lt n (drop at bytes) j (word / 256) (omega arith)))
 
--- the sum of the words where one of them is replaced
+-- The sum of the words after one of them is replaced.
 put_word_further : (a b j word : ℕ) (rest : List ℕ) → with_word_at (suc (suc j)) word (a ∷ b ∷ rest) ≡ a ∷ b
     ∷ with_word_at j word rest
 put_word_further a b j word rest =
@@ -250,7 +252,7 @@ word_at-part at n i bytes h =
     let next : at + (i + 1) ≡ at + i + 1 = omega arith in
     rw (slice_index-part at n i bytes (omega arith), slice_index-part at n (i + 1) bytes (omega arith), next) refl
 
--- edits stay edits where bytes behind them are replaced, or others of them
+-- Edits are still edits after words that lie after them, or the first ones of them, are written.
 pub edits-changed : (low high below above : ℕ) (outer changes : List Change) (bytes : List ℕ) →
     AreWithin low high outer → above ≤ low → AreEdits below above bytes changes →
     AreEdits below above (with_changes outer bytes) changes
@@ -279,7 +281,7 @@ edits-put_word low high c (d ∷ changes) bytes clear edits =
           edits.5,
     )
 
--- the sum of a part's words where some of them are replaced
+-- The sum of the words of a range after some of them are replaced.
 pub sum-part-changed : (at n : ℕ) (changes : List Change) (bytes : List ℕ) → at + n ≤ length bytes →
     AreEdits at (at + n) bytes changes →
     sum (words (part at n (with_changes changes bytes))) + sum (old_words changes) ≡ sum (words (part at n bytes))
@@ -300,13 +302,14 @@ sum-part-changed at n (c ∷ changes) bytes there edits =
     sum-words-put_word k c.new (part at n bytes) (omega (arith, long, fits)) in
     let whole : sum (words (part at n after)) ≡ sum (words (with_word_at (2 * k) c.new (part at n bytes))) =
     ap (λ (xs : List ℕ). sum (words xs)) one in
-    let rest : sum (words (part at n (with_changes changes after))) + sum (old_words changes) ≡ sum (words (part at n after))
+    let rest : sum (words (part at n (with_changes changes after))) + sum (old_words changes)
+    ≡ sum (words (part at n after))
     + sum (new_words changes) =
     sum-part-changed at n changes after (omega (arith, there, length-put_word c.place c.new bytes))
     (edits-put_word at (at + n) c changes bytes edits.4 edits.5) in
     omega (arith, rest, whole, single, stood, sum-cons c.old (old_words changes), sum-cons c.new (new_words changes))
 
--- what a vector holds whose bytes were written to
+-- The contents of a vector after its bytes were written to.
 pub vec-changed : (items written : List ℕ) (len : ℕ) (changes : List Change) → length items ≡ len →
     written ≡ with_changes changes items →
     take len (written ++ drop (length written) items) ≡ with_changes changes items

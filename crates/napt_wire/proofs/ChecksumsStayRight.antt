@@ -1,4 +1,4 @@
--- A transport checksum is right after a rewrite exactly where it was right before.
+-- The transport checksum is right after a rewrite exactly if it was right before.
 use Rattle.std.proofs.lemmas.Grind.{common_steps}
 use Rattle.std.proofs.Common.{◌≡◌, ℕ, ◌+◌, ◌/◌, ◌%◌, ◌≤◌, ◌==◌, ◌||◌, Bool, true, false, List, [], ◌∷◌, ◌++◌, length, Some, None, sum, arith, refl, ◌∙◌, ap, nat_le, nat_lt, if◌then◌else◌, option_map}
 use Rattle.std.proofs.lemmas.Bool.{or_parts, Decides.nat_tests}
@@ -9,7 +9,7 @@ use Rattle.napt_wire.proofs.WithInner.{PassesError, error_kept, inner_header, in
 use Rattle.napt_wire.specs.Prelude.{Side, Way, word_at, words, canon, canon_udp, is_right, address, protocol_number, transport_start, form_at, number_place, number_at, inner_datagram_start, pseudo_words, message_length, checksummed_words, transport_right, word_change, with_changes, end_words, end_changes, reverted_changes, inner_end, HasHeaders, Endpoint, Change, TransportForm, DatagramEnd, Source, Destination}
 use Rattle.napt_wire.specs.declared.transport_form.TransportForm.TheVariants.{Udp, Tcp, Request, Reply, Error}
 
--- a check that is there as before, and right as before
+-- A checksum that is present exactly if it was before, with a right sum if it had one, is right exactly if it was.
 same_right : (gone gone' : Bool) (old new : List ℕ) → gone' ≡ gone →
     (gone ≡ false → sum new % 65535 ≡ sum old % 65535) →
     option_map is_right (if gone' then None else Some new) ≡ option_map is_right (if gone then None else Some old)
@@ -19,7 +19,7 @@ same_right false gone' old new e h = rw (e, h refl) refl
 same_length : (at : ℕ) (old new : List ℕ) → KeepsHeader at old new → message_length at new ≡ message_length at old
 same_length at old new keeps = grind (arith, common_steps, nat_tests, first_byte)
 
--- the residue of what a checksum covers, where an end's words and the checksum are replaced
+-- The residue of the covered words after the words of an end and the checksum are replaced.
 is_zero : (n : ℕ) → (n == 0) ≡ true → n ≡ 0
 is_zero n h = grind (arith, nat_tests)
 
@@ -38,7 +38,7 @@ echo_residue : (part new_part check old number : ℕ) → new_part + (0 + old + 
 unfolding canon
 echo_residue part new_part check old number h = omega arith
 
--- a port or an identifier, and a checksum behind or before it, in the part that the checksum covers
+-- A UDP checksum is 0 after an update exactly if it was 0 before.
 zero_kept : (check : ℕ) (b z : Bool) (n : ℕ) → (check == 0) ≡ b → (n == 0) ≡ z →
     ((if b then 0 else (if z then 65535 else n)) == 0) ≡ b
 zero_kept check true z n h e = refl
@@ -52,7 +52,7 @@ canon_udp_zero check old new = zero_kept check (check == 0) (canon check old new
 at_least : (a b : ℕ) → nat_lt a b ≡ false → b ≤ a
 at_least a b h = grind (arith, nat_tests)
 
--- an end's words and the checksum are replaced: UDP, TCP and echo
+-- The words of an end and the checksum are replaced: UDP, TCP and echo.
 udp_total : (part new_part pseudo new_pseudo check port number before after : ℕ) → (check == 0) ≡ false →
     new_part + (0 + port + check) ≡ part + (0 + number + canon_udp check (before / 65536 ∷ before % 65536 ∷ port ∷ [])
     (after / 65536 ∷ after % 65536 ∷ number ∷ [])) →
@@ -88,13 +88,14 @@ is_there a b h = grind (arith, nat_tests)
 whole_tcp : (start place size number check : ℕ) (bytes : List ℕ) → start + 18 ≤ length bytes →
     part start size (with_changes (word_change bytes (start + place) number
     ∷ (if nat_le (start + 18) (length bytes) then word_change bytes (start + 16) check ∷ [] else [])) bytes)
-    ≡ part start size (with_changes (word_change bytes (start + place) number ∷ word_change bytes (start + 16) check ∷ []) bytes)
+    ≡ part start size (with_changes (word_change bytes (start + place) number ∷ word_change bytes (start + 16) check
+    ∷ []) bytes)
 whole_tcp start place size number check bytes there =
     ap (λ (l : List Change). part start size (with_changes (word_change bytes (start + place) number ∷ l) bytes))
     (if_true (nat_le (start + 18) (length bytes)) (word_change bytes (start + 16) check ∷ [])
     (is_there (start + 18) (length bytes) there))
 
--- the pseudo-header where an address is replaced
+-- The sum of the pseudo-header after an address is replaced.
 pseudo_sum : (at : ℕ) (end : DatagramEnd) (new size : ℕ) (bytes after : List ℕ) → address at end after ≡ new →
     address at (other end) after ≡ address at (other end) bytes → protocol_number at after ≡ protocol_number at bytes →
     sum (pseudo_words at size after) + (address at end bytes / 65536 + address at end bytes % 65536)
@@ -102,9 +103,10 @@ pseudo_sum : (at : ℕ) (end : DatagramEnd) (new size : ℕ) (bytes after : List
 pseudo_sum at Source new size bytes after read same protocol = rw (read, same, protocol) (omega arith)
 pseudo_sum at Destination new size bytes after read same protocol = rw (read, same, protocol) (omega arith)
 
--- UDP and TCP, where an end is replaced: the sums of the pseudo-header and of the message change together. A place is
--- that of one of the ports.
-module _ (at place : ℕ) (end : DatagramEnd) (new : Endpoint) (bytes after : List ℕ) (small : place ≤ 2) (even : place % 2 ≡ 0)
+-- UDP and TCP: after an end is replaced, the sums of the pseudo-header and of the message change together. `place` is
+-- the offset of one of the ports.
+module _ (at place : ℕ) (end : DatagramEnd) (new : Endpoint) (bytes after : List ℕ) (small : place ≤ 2)
+    (even : place % 2 ≡ 0)
     (keeps : KeepsHeader at bytes after) (read : address at end after ≡ new.address)
     (same : address at (other end) after ≡ address at (other end) bytes) where
   abbrev begin : ℕ
@@ -166,7 +168,8 @@ module _ (at place : ℕ) (end : DatagramEnd) (new : Endpoint) (bytes after : Li
 
 echo_right : (begin size number : ℕ) (bytes after : List ℕ) →
     (let old : ℕ = word_at (begin + 4) bytes in
-    part begin size after ≡ part begin size (with_changes (word_change bytes (begin + 4) number ∷ word_change bytes (begin + 2)
+    part begin size after ≡ part begin size (with_changes
+    (word_change bytes (begin + 4) number ∷ word_change bytes (begin + 2)
     (canon (word_at (begin + 2) bytes) (old ∷ []) (number ∷ [])) ∷ []) bytes)) →
     option_map is_right (if nat_lt size 6 || nat_lt (length bytes) (begin + size) then None
     else Some (words (part begin size after)))
@@ -179,11 +182,12 @@ echo_right begin size number bytes after parts =
     let both = or_parts (nat_lt size 6) (nat_lt (length bytes) (begin + size)) there in
     let enough : 6 ≤ size = at_least size 6 both.0 in
     echo_residue _ _ (word_at (begin + 2) bytes) (word_at (begin + 4) bytes) number
-    (rw parts (sum-part-changed begin size (word_change bytes (begin + 4) number ∷ word_change bytes (begin + 2) _ ∷ []) bytes
+    (rw parts (sum-part-changed begin size (word_change bytes (begin + 4) number ∷ word_change bytes (begin + 2) _
+    ∷ []) bytes
     (at_least (length bytes) (begin + size) both.1) (omega arith))))
 
--- A datagram whose end was replaced, by the form of its transport header: the end as it was, and what was written of it
--- in the transport header.
+-- A datagram whose end was replaced, by the form of its transport header: the end before, and the words of the
+-- transport header that were written.
 abbrev end_was : TransportForm → DatagramEnd → ℕ → List ℕ → Endpoint
 end_was form end at bytes = record {
   address = address at end bytes;
@@ -219,7 +223,7 @@ right_of_form Reply Destination at new bytes after keeps read same w parts =
     grind (arith, common_steps, nat_tests, same_start, same_length, echo_right)
 right_of_form Error end at new bytes after keeps read same w parts = refl
 
--- the transport checksum of a datagram whose end was replaced, and maybe more before it
+-- The transport checksum of a datagram whose end was replaced, perhaps with other words before it.
 right_kept : (at : ℕ) (end : DatagramEnd) (new : Endpoint) (bytes after : List ℕ) → HasHeaders at bytes →
     KeepsHeader at bytes after → form_at at after ≡ form_at at bytes →
     IsWritten at (end_changes at end new bytes) bytes after →
@@ -246,7 +250,7 @@ end_right at end new bytes room form_is =
     right_kept at end new bytes _ room (end_keeps_header at end new bytes room) form_is
     (end-written at end new bytes room) (λ size. end_part at size end new bytes room)
 
--- the transport checksum of a quoted datagram whose end is replaced
+-- The transport checksum of a quoted datagram whose end is replaced.
 pub error_right : (side : Side) (way : Way) (new : Endpoint) (bytes : List ℕ) → PassesError side bytes →
     Carries (form_at (inner_datagram_start bytes) bytes) new.number →
     transport_right (inner_datagram_start bytes) (with_changes (reverted_changes way new bytes) bytes)

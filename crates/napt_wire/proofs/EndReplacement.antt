@@ -1,4 +1,4 @@
--- What the replacement of an end leaves as it was.
+-- What the replacement of an end leaves unchanged.
 use Rattle.std.proofs.lemmas.Grind.{common_steps}
 use Rattle.std.proofs.Common.{◌≡◌, ℕ, ◌+◌, ◌*◌, ◌/◌, ◌%◌, ◌≤◌, Bool, true, false, List, [], ◌∷◌, ◌++◌, length, sum, arith, refl, nat_le, if◌then◌else◌}
 use Rattle.std.proofs.lemmas.{Bool.Decides.nat_tests, List.Elements.{All-cons, All-head, All-tail}}
@@ -11,7 +11,7 @@ there-of_within low [] bytes a = λ k d h. absurd (omega arith)
 there-of_within low (c ∷ xs) bytes a = All-cons (λ (d : Change). d.place + 2 ≤ length bytes) c xs a.1
     (there-of_within low xs bytes a.2)
 
--- an address and the IP checksum
+-- The changes of an address and of the header checksum are edits of the IPv4 header.
 pub address-edits : (at : ℕ) (end : DatagramEnd) (new : ℕ) (bytes : List ℕ) →
     AreEdits at (at + 20) bytes (address_changes at end new bytes)
 address-edits at Source new bytes = omega arith
@@ -22,7 +22,7 @@ pub address-within : (at : ℕ) (end : DatagramEnd) (new : ℕ) (bytes : List �
 address-within at Source new bytes = omega arith
 address-within at Destination new bytes = omega arith
 
--- the header's sum stays a multiple of 65535, or none
+-- The sum of the header is unchanged modulo 65535 after an address and the header checksum are replaced.
 address_residue : (sum_new sum_old check high low new : ℕ) →
     sum_new + (0 + check + high + low) ≡ sum_old
     + (0 + canon check (address_words (65536 * high + low)) (address_words new) + new / 65536 + new % 65536) →
@@ -43,7 +43,7 @@ address-residue at n Destination new old bytes h there edits =
     (sum-part-changed at n (address_changes at Destination new old) bytes there
     (edits-higher at (at + 20) (at + n) bytes (address_changes at Destination new old) (omega arith) edits))
 
--- a number and its checksum, which a short quoted TCP header does not have
+-- The changes of a number and of its checksum are edits, also if a short quoted TCP header has no checksum.
 tcp_edits : (b : Bool) (start high k number check : ℕ) (bytes : List ℕ) → (b ≡ true → start + 18 ≤ high) →
     start + 8 ≤ high → k ≤ 2 → k % 2 ≡ 0 →
     AreEdits start high bytes (word_change bytes (start + k) number
@@ -67,7 +67,7 @@ number-there form end start old new bytes h =
     within-edits start (length bytes) start (length bytes) bytes _ (omega arith) (omega arith)
     (number-edits form end start old new bytes h)
 
--- an end of the datagram at a place, and an end of the one that an error quotes with what goes with it
+-- The changes of an end of the datagram at `at` are edits.
 pub end-edits : (at : ℕ) (end : DatagramEnd) (new : Endpoint) (bytes : List ℕ) → HasHeaders at bytes →
     AreEdits at (length bytes) bytes (end_changes at end new bytes)
 unfolding end_changes
@@ -81,7 +81,7 @@ pub end-written : (at : ℕ) (end : DatagramEnd) (new : Endpoint) (bytes : List 
 end-written at end new bytes room =
     written-edits at (length bytes) (end_changes at end new bytes) bytes (end-edits at end new bytes room) (omega arith)
 
--- an address that was written is read
+-- The address that was written is read back.
 halves : (n a b : ℕ) → a ≡ n / 65536 → b ≡ n % 65536 → 65536 * a + b ≡ n
 halves n a b ha hb = omega arith
 
@@ -94,13 +94,15 @@ abbrev pub other : DatagramEnd → DatagramEnd
 other Source = Destination
 other Destination = Source
 
--- the header of a datagram whose end is replaced, but for the IP checksum and the address
-pub end-clear : (at i n : ℕ) (end : DatagramEnd) (new : Endpoint) (bytes : List ℕ) → HasHeaders at bytes → i + n ≤ at + 20 →
+-- The changes leave the IPv4 header alone, except the header checksum and the address.
+pub end-clear : (at i n : ℕ) (end : DatagramEnd) (new : Endpoint) (bytes : List ℕ) → HasHeaders at bytes →
+    i + n ≤ at + 20 →
     AreClear i n (address_changes at end new.address bytes) → AreClear i n (end_changes at end new bytes)
 unfolding end_changes
 end-clear at i n end new bytes room before clear =
     clear-append i n _ (address_changes at end new.address bytes)
-    (clear-within (transport_start at bytes) (length bytes) i n _ (number-there (form_at at bytes) end (transport_start at bytes)
+    (clear-within (transport_start at bytes) (length bytes) i n _
+    (number-there (form_at at bytes) end (transport_start at bytes)
     (end_at at end bytes) new bytes room.transport_start) (omega (arith, room.header))) clear
 
 pub other_clear : (at : ℕ) (end : DatagramEnd) (new : ℕ) (bytes : List ℕ) →
@@ -108,7 +110,7 @@ pub other_clear : (at : ℕ) (end : DatagramEnd) (new : ℕ) (bytes : List ℕ) 
 other_clear at Source new bytes = omega arith
 other_clear at Destination new bytes = omega arith
 
--- the address of the end was written
+-- The address of the end is the one that was written.
 pub end_address : (at : ℕ) (end : DatagramEnd) (new : Endpoint) (bytes after : List ℕ) →
     Stands (end_changes at end new bytes) after → address at end after ≡ new.address
 unfolding end_changes
@@ -116,7 +118,7 @@ end_address at end new bytes after stands =
     address_stands at end new.address bytes after
     (stands-append _ (address_changes at end new.address bytes) after stands).1
 
--- the other address stays
+-- The address of the other end is unchanged.
 pub address_same : (at : ℕ) (end : DatagramEnd) (new : Endpoint) (bytes after : List ℕ) → HasHeaders at bytes →
     IsWritten at (end_changes at end new bytes) bytes after →
     address at (other end) after ≡ address at (other end) bytes
@@ -127,17 +129,19 @@ address_same at Destination new bytes after room w =
     long-same at (at + 12) (end_changes at Destination new bytes) bytes after w (omega arith)
     (end-clear at (at + 12) 4 Destination new bytes room (omega arith) (other_clear at Destination new.address bytes))
 
--- the numbers of an end that was replaced
+-- The number and the checksum of the end are the ones that were written.
 pub numbers-written : (at : ℕ) (end : DatagramEnd) (new : Endpoint) (bytes after : List ℕ) → HasHeaders at bytes →
     IsWritten at (end_changes at end new bytes) bytes after →
-    IsWritten (transport_start at bytes) (numbers (form_at at bytes) end (transport_start at bytes) (end_at at end bytes) new bytes)
+    IsWritten (transport_start at bytes) (numbers (form_at at bytes) end (transport_start at bytes)
+    (end_at at end bytes) new bytes)
     bytes after
 unfolding end_changes
 numbers-written at end new bytes after room w =
-    written-front at (transport_start at bytes) (at + 10) (at + 20) _ (address_changes at end new.address bytes) bytes after
+    written-front at (transport_start at bytes) (at + 10) (at + 20) _ (address_changes at end new.address bytes) bytes
+    after
     (omega (arith, room.header)) room.header (address-within at end new.address bytes) w
 
--- a TCP checksum that is there or is not
+-- A TCP checksum, if it is present.
 abbrev pub if_there : Bool → Change → List Change
 if_there b c = if b then c ∷ [] else []
 
@@ -146,7 +150,7 @@ pub there_clear : (b : Bool) (i n : ℕ) (c d : Change) → IsClear i n c.place 
 there_clear true i n c d p q = (p, (q, tt))
 there_clear false i n c d p q = (p, tt)
 
--- every word that is replaced is there
+-- Every word that is replaced lies within the bytes.
 pub end-there : (at : ℕ) (end : DatagramEnd) (new : Endpoint) (bytes : List ℕ) → HasHeaders at bytes →
     AreWordsThere (end_changes at end new bytes) bytes
 end-there at end new bytes room =
@@ -166,5 +170,6 @@ there-rest [] ys bytes h = h
 there-rest (c ∷ xs) ys bytes h = there-rest xs ys bytes (All-tail (λ (d : Change). d.place + 2 ≤ length bytes) c
     (xs ++ ys) h)
 
-pub there-changed : (xs ys : List Change) (bytes : List ℕ) → AreWordsThere ys bytes → AreWordsThere ys (with_changes xs bytes)
+pub there-changed : (xs ys : List Change) (bytes : List ℕ) → AreWordsThere ys bytes →
+    AreWordsThere ys (with_changes xs bytes)
 there-changed xs ys bytes h = λ k d l. rw length-changed (h k d l)

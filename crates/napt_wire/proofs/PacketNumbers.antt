@@ -1,4 +1,4 @@
--- What a packet that reads has: numbers that its kind can carry, and no more bytes than its length field can say.
+-- A packet has numbers that its kind can carry, and no more bytes than its length field can express.
 use Rattle.std.proofs.{Common.{◌≡◌, ℕ, ◌^◌, ◌<◌, ◌≤◌, false, List, length, take, Ok, arith, refl, sym, ap, subst, slice_index}, lemmas.Bool.Decides.nat_tests}
 use Rattle.std.proofs.lemmas.Grind.{common_steps}
 use Rattle.napt_wire.specs.Prelude.{total_length, transport_start, form_at, source, kind, kind_of, number_at, number_place, is_error, CanCarry, reading, message_checks, has_zero_port, IsPacket, Side, TransportForm, Source}
@@ -7,14 +7,15 @@ use Rattle.napt_wire.proofs.ReadingChecks.{AllPass, passes_of_read}
 module _ (side : Side) (bytes : List ℕ) where
   no_zero_port : (form : TransportForm) → has_zero_port (form_at 0 bytes) (transport_start 0 bytes) bytes ≡ false →
       form ≡ form_at 0 bytes → has_zero_port form (transport_start 0 bytes) bytes ≡ false
-  no_zero_port form h e = subst (λ (f : TransportForm). has_zero_port f (transport_start 0 bytes) bytes ≡ false) (sym e) h
+  no_zero_port form h e = subst (λ (f : TransportForm). has_zero_port f (transport_start 0 bytes) bytes ≡ false)
+      (sym e) h
 
   carried_by : (form : TransportForm) → AllPass (message_checks form side bytes) → form ≡ form_at 0 bytes →
       is_error (kind_of form bytes) ≡ false →
       CanCarry (kind_of form bytes) (number_at (transport_start 0 bytes) (number_place form Source) bytes)
   carried_by form h k g = grind (arith, common_steps, nat_tests, no_zero_port)
 
-  -- UDP and TCP packets have no source port 0
+  -- UDP and TCP packets do not have source port 0.
   pub source-carried : reading side bytes ≡ Ok bytes → is_error (kind bytes) ≡ false →
       CanCarry (kind bytes) (source bytes).number
   unfolding kind source

@@ -1,15 +1,15 @@
--- What a packet that reads is, check by check.
+-- What the checks of reading show about a packet.
 use Rattle.std.proofs.Common.{◌≡◌, ℕ, ◌<◌, ◌≤◌, Bool, true, false, List, [], ◌∷◌, ◌++◌, length, take, drop, Option, Some, None, Ok, arith, refl, sym, ◌∙◌, slice_index, length-drop, length-take-le}
 use Rattle.std.{specs.Option.option_or, proofs.{lemmas.{Bool.Decides.nat_tests, Grind.common_steps}, Math.Seq.take-length}}
 use Rattle.napt_wire.specs.Prelude.{version, header_length, total_length, transport_start, form_at, refusal, reading, read_unless, datagram, length_checks, header_checks, body_checks, has_bad_transport, IsPacket, HasHeaders, Cause, Side, TransportForm}
 
--- the first part refuses, or the second judges
+-- The checks of two lists give the first list's cause, or else the second's.
 refusal-append : (xs ys : List (Bool × Cause)) → refusal (xs ++ ys) ≡ option_or (refusal xs) (refusal ys)
 refusal-append [] ys = refl
 refusal-append ((true, c) ∷ xs) ys = refl
 refusal-append ((false, c) ∷ xs) ys = refusal-append xs ys
 
--- each of these checks passed
+-- Each of these checks passed.
 abbrev pub AllPass : List (Bool × Cause) → Type 0
 AllPass [] = Unit {0}
 AllPass (check ∷ checks) = (check.0 ≡ false) × AllPass checks
@@ -23,7 +23,7 @@ pub none_refuses : (checks : List (Bool × Cause)) → AllPass checks → refusa
 none_refuses [] h = refl
 none_refuses ((b, cause) ∷ checks) h = rw h.0 (none_refuses checks h.1)
 
--- what reading answers, by its three parts
+-- The result of reading, by the causes of its three lists of checks.
 pub reading_by : (side : Side) (bytes : List ℕ) (lengths headers bodies : Option Cause) →
     refusal (length_checks bytes) ≡ lengths → refusal (header_checks (datagram bytes)) ≡ headers →
     refusal (body_checks side (datagram bytes)) ≡ bodies →
@@ -39,7 +39,7 @@ none_refused None None (Some cause) bytes packet h = cc
 none_refused None (Some cause) bodies bytes packet h = cc
 none_refused (Some cause) headers bodies bytes packet h = cc
 
--- the lengths of an IPv4 header that passed
+-- The lengths in an IPv4 header that passed its checks.
 pub record HasLengths (bytes : List ℕ) : Type 0 where
   pub long : 20 ≤ length bytes
   pub version_is : version 0 bytes ≡ 4
@@ -53,23 +53,23 @@ lengths_of bytes h = grind (arith, common_steps, nat_tests, all_pass)
 pub lengths_pass : (bytes : List ℕ) → HasLengths bytes → refusal (length_checks bytes) ≡ None
 lengths_pass bytes has = grind (arith, common_steps, nat_tests, none_refuses)
 
--- the front of some bytes reads as they do
+-- A byte of a prefix is the byte of the whole.
 pub slice_index_take : (bytes : List ℕ) (n i : ℕ) → i < n → slice_index (take n bytes) i ≡ slice_index bytes i
 slice_index_take bytes n i h = grind (arith, common_steps)
 
--- the lengths are those of the first four bytes
+-- The lengths depend only on the first four bytes.
 pub lengths_from : (new old : List ℕ) → slice_index new 0 ≡ slice_index old 0 → slice_index new 2 ≡ slice_index old 2 →
     slice_index new 3 ≡ slice_index old 3 →
     total_length 0 old ≤ length new → HasLengths old → HasLengths new
 lengths_from new old b0 b2 b3 fits has = grind (arith, common_steps, nat_tests)
 
--- a datagram is its own datagram
+-- Cutting off what follows the total length twice is the same as once.
 pub datagram_again : (bytes packet : List ℕ) → packet ≡ datagram bytes → HasLengths bytes → HasLengths packet
     × (datagram packet ≡ packet)
 datagram_again bytes packet e has =
     grind (arith, common_steps, nat_tests, slice_index_take, length-take-le, lengths_from, take-length)
 
--- all checks of a packet passed
+-- All checks of a packet passed.
 pub record Passes (side : Side) (bytes : List ℕ) : Type 0 where
   pub whole : datagram bytes ≡ bytes
   pub lengths : HasLengths bytes
@@ -90,13 +90,14 @@ passes_of_read side bytes packet h =
 pub reads_of_passes : (side : Side) (bytes : List ℕ) → Passes side bytes → reading side bytes ≡ Ok bytes
 reads_of_passes side bytes p = grind (arith, common_steps, nat_tests, reading_by, lengths_pass, none_refuses)
 
--- what a packet reads as reads as itself
+-- The packet that some bytes read as reads as itself.
 pub reads_again : (side : Side) (bytes packet : List ℕ) → reading side bytes ≡ Ok packet → reading side packet
     ≡ Ok packet
 reads_again side bytes packet h = reads_of_passes side packet (passes_of_read side bytes packet h)
 
--- a transport header that can be has eight bytes
-pub long_transport : (form : TransportForm) (payload : List ℕ) → has_bad_transport form payload ≡ false → 8 ≤ length payload
+-- A valid transport header has at least eight bytes.
+pub long_transport : (form : TransportForm) (payload : List ℕ) → has_bad_transport form payload ≡ false →
+    8 ≤ length payload
 long_transport form payload h = grind (arith, common_steps, nat_tests)
 
 pub room_of : (side : Side) (bytes : List ℕ) → Passes side bytes → HasHeaders 0 bytes

@@ -1,4 +1,4 @@
--- An end that is replaced twice: the last one counts. One that is replaced by itself stays.
+-- After two replacements of an end only the last one counts, and replacing an end by itself changes nothing.
 use Rattle.std.proofs.lemmas.Grind.{common_steps}
 use Rattle.std.proofs.Common.{◌≡◌, ℕ, ◌+◌, ◌/◌, ◌%◌, ◌<◌, List, [], ◌∷◌, ◌++◌, set, map, arith, refl, sym, ◌∙◌, ap, subst, ◌*◌, ◌==◌, Bool, true, false, length, sum, if◌then◌else◌, zero, suc, slice_index, Ok, All}
 use Rattle.std.proofs.lemmas.{List.{set-set, set_comm, map-append, set-get_or, Elements.{All-head, All-tail}}, Bool.Decides.nat_tests}
@@ -12,12 +12,12 @@ use Rattle.napt_wire.proofs.ReplacedEnds.{HasNumber, comes_to, quotes}
 
 -- WORDS
 
--- one word twice
+-- Writing a word twice is the same as writing the last value.
 pub put_put : (place first last : ℕ) (bytes : List ℕ) → with_word_at place last (with_word_at place first bytes)
     ≡ with_word_at place last bytes
 put_put place first last bytes = grind (arith, common_steps, nat_tests, set_comm, set-set)
 
--- two words apart, in either order
+-- Two words that share no byte can be written in either order.
 one_byte : (place byte at word : ℕ) (bytes : List ℕ) → (place < at + 2 → at < place + 1 → ⊥) →
     set (with_word_at at word bytes) place byte ≡ with_word_at at word (set bytes place byte)
 one_byte place byte at word bytes clear =
@@ -40,7 +40,7 @@ put_changed c (d ∷ changes) bytes clear =
 abbrev pub places : List Change → List ℕ
 places changes = map (λ (c : Change). c.place) changes
 
--- the same words at the same places
+-- Changes with the same offsets and new words give the same bytes.
 changed_same : (xs ys : List Change) (bytes : List ℕ) → places xs ≡ places ys → new_words xs ≡ new_words ys →
     with_changes xs bytes ≡ with_changes ys bytes
 changed_same [] [] bytes p n = refl
@@ -49,7 +49,7 @@ changed_same (x ∷ xs) [] bytes p n = cc
 changed_same (x ∷ xs) (y ∷ ys) bytes p n =
     grind (arith, common_steps, nat_tests, changed_same xs ys (with_word_at x.place x.new bytes) (cc) (cc))
 
--- the last ones stay
+-- Changes at the same offsets as earlier ones overwrite them.
 overwritten : (low high : ℕ) (old : List ℕ) (xs ys : List Change) (bytes : List ℕ) → places xs ≡ places ys →
     AreEdits low high old xs → with_changes ys (with_changes xs bytes) ≡ with_changes ys bytes
 overwritten low high old [] [] bytes same edits = refl
@@ -66,10 +66,11 @@ overwritten low high old (x ∷ xs) (y ∷ ys) bytes same edits =
           bytes) (cc) edits.5,
     )
 
--- Some changes, those that are made after them, and those that would have been made without them: all at the same
--- places, and the second and the third write the same
+-- `again` are changes made after `first`, and `last` those made without them: all have the same offsets, and `again`
+-- and `last` write the same words.
 abbrev pub Again : List Change → List Change → List Change → Type 0
-Again first again last = (places first ≡ places last) × (places again ≡ places last) × (new_words again ≡ new_words last)
+Again first again last = (places first ≡ places last) × (places again ≡ places last) ×
+    (new_words again ≡ new_words last)
 
 pub again-twice : (low high : ℕ) (first again last : List Change) (bytes : List ℕ) → Again first again last →
     AreEdits low high bytes first → with_changes again (with_changes first bytes) ≡ with_changes last bytes
@@ -84,7 +85,7 @@ pub again-append : (xs ys zs us vs ws : List Change) → Again xs ys zs → Agai
     Again (xs ++ us) (ys ++ vs) (zs ++ ws)
 again-append xs ys zs us vs ws a b = grind (arith, common_steps, nat_tests, maps)
 
--- what stood at places is what stands there
+-- The old words of edits are those at their offsets.
 pub olds-stand : (low high : ℕ) (bytes : List ℕ) (changes : List Change) → AreEdits low high bytes changes →
     old_words changes ≡ map (λ (p : ℕ). word_at p bytes) (places changes)
 olds-stand low high bytes [] edits = refl
@@ -123,13 +124,13 @@ udp_twice c old between last = udp_by c old between last (canon c old between) r
 
 -- AN END
 
--- the words of an address where another one was written: the same as if it had not been
+-- Replacing an address that was replaced before writes the same words as if it had not been.
 pub address_again : (at : ℕ) (end : DatagramEnd) (first last : ℕ) (old after : List ℕ) →
     Stands (address_changes at end first old) after →
     Again (address_changes at end first old) (address_changes at end last after) (address_changes at end last old)
 address_again at end first last old after h = grind (arith, common_steps, nat_tests, address_stands, canon_twice)
 
--- an end as an address and the number that is there
+-- An end with this address, and with the number that is in the bytes.
 abbrev pub read_end : TransportForm → DatagramEnd → ℕ → ℕ → List ℕ → Endpoint
 read_end form end start address bytes =
     record { address = address; number = number_at start (number_place form end) bytes }
@@ -147,16 +148,18 @@ tcp_again a true place check first last v w x bytes after e h =
     rw e (refl, refl, ap (λ (n : ℕ). last ∷ n ∷ []) (h refl))
 tcp_again a false place check first last v w x bytes after e h = rw e (refl, refl, refl)
 
-numbers_again : (form : TransportForm) (end : DatagramEnd) (start address : ℕ) (old first last : Endpoint) (bytes after : List ℕ) →
+numbers_again : (form : TransportForm) (end : DatagramEnd) (start address : ℕ) (old first last : Endpoint)
+    (bytes after : List ℕ) →
     length after ≡ length bytes → address ≡ first.address → Stands (numbers form end start old first bytes) after →
     Again (numbers form end start old first bytes) (numbers form end start (read_end form end start address after) last
     after) (numbers form end start old last bytes)
 numbers_again form end start address old first last bytes after h k g =
     grind (arith, common_steps, nat_tests, udp_twice, tcp_again, there_stands, canon_twice)
 
--- the words of an end that was replaced once, with more changed before it: the same as if it had not been
+-- Replacing an end that was replaced before writes the same words as if it had not been, also after other changes.
 pub end_again : (at : ℕ) (end : DatagramEnd) (first last : Endpoint) (bytes after : List ℕ) →
-    form_at at after ≡ form_at at bytes → transport_start at after ≡ transport_start at bytes → length after ≡ length bytes →
+    form_at at after ≡ form_at at bytes → transport_start at after ≡ transport_start at bytes →
+    length after ≡ length bytes →
     Stands (end_changes at end first bytes) after →
     Again (end_changes at end first bytes) (end_changes at end last after) (end_changes at end last bytes)
 unfolding end_changes
@@ -214,7 +217,7 @@ module _ (bytes : List ℕ) (small : (i : ℕ) → slice_index bytes i < 256) wh
       ∙ ap (set bytes (place + 1)) low
       ∙ set-get_or bytes (place + 1) 0
 
-  -- where each word that is written stands there already
+  -- If the bytes already have each word that is written, nothing changes.
   changed_none : (changes : List Change) → Stands changes bytes → with_changes changes bytes ≡ bytes
   changed_none [] stands = refl
   changed_none (c ∷ changes) stands =
@@ -229,7 +232,7 @@ module _ (bytes : List ℕ) (small : (i : ℕ) → slice_index bytes i < 256) wh
   if_own true c h = (h, tt)
   if_own false c h = tt
 
-  -- the number of an end, whatever its address
+  -- The bytes already have the number of an end and its checksum, whatever its address.
   numbers_own : (form : TransportForm) (end : DatagramEnd) (start : ℕ) (own : Endpoint) →
       own.number ≡ number_at start (number_place form end) bytes → IsQuotedCanonical (protocol_of form) start bytes →
       HasNumber form end → Stands (numbers form end start own own bytes) bytes
@@ -237,14 +240,17 @@ module _ (bytes : List ℕ) (small : (i : ℕ) → slice_index bytes i < 256) wh
       grind (arith, common_steps, nat_tests, udp_same, word_small, if_own, canon_same)
 
   end_own : (at : ℕ) (end : DatagramEnd) → word_at (at + 10) bytes < 65535 →
-      IsQuotedCanonical (protocol_of (form_at at bytes)) (transport_start at bytes) bytes → HasNumber (form_at at bytes) end →
+      IsQuotedCanonical (protocol_of (form_at at bytes)) (transport_start at bytes) bytes →
+      HasNumber (form_at at bytes) end →
       Stands (end_changes at end (end_at at end bytes) bytes) bytes
   unfolding end_changes
   end_own at end header canonical has =
       grind (arith, common_steps, nat_tests, stands-join, numbers, numbers_own, address_own)
 
-  own_source : PassesError Outside bytes → word_at 10 bytes < 65535 → word_at (transport_start 0 bytes + 2) bytes < 65535 →
-      word_at (inner_datagram_start bytes + 10) bytes < 65535 → IsQuotedCanonical (protocol_of (form_at (inner_datagram_start bytes) bytes))
+  own_source : PassesError Outside bytes → word_at 10 bytes < 65535 →
+      word_at (transport_start 0 bytes + 2) bytes < 65535 →
+      word_at (inner_datagram_start bytes + 10) bytes < 65535 →
+      IsQuotedCanonical (protocol_of (form_at (inner_datagram_start bytes) bytes))
       (transport_start (inner_datagram_start bytes) bytes) bytes →
       with_changes (reverted_changes Incoming (end_at (inner_datagram_start bytes) Source bytes) bytes) bytes ≡ bytes
   unfolding reverted_changes
@@ -270,7 +276,8 @@ small_at [] h i = omega arith
 small_at (x ∷ xs) h zero = All-head (λ (b : ℕ). b < 256) x xs h
 small_at (x ∷ xs) h (suc i) = small_at xs (All-tail (λ (b : ℕ). b < 256) x xs h) i
 
-canonical_at : (form : TransportForm) (bytes : List ℕ) → IsCanonicalAt (kind_of form bytes) bytes → HasNumber form Destination →
+canonical_at : (form : TransportForm) (bytes : List ℕ) → IsCanonicalAt (kind_of form bytes) bytes →
+    HasNumber form Destination →
     IsQuotedCanonical (protocol_of form) (transport_start 0 bytes) bytes
 canonical_at form bytes h k = grind (arith, common_steps, nat_tests)
 
@@ -303,7 +310,7 @@ own_sources_change_nothing packet all reads canonical = by_form (form_at 0 packe
 
 -- AN ERROR WHOSE QUOTED END IS REPLACED TWICE
 
--- the changes of an error, given where its ICMP checksum stands and where the quoted datagram begins
+-- The change of the ICMP checksum at `place`, which covers the changes of the quoted datagram.
 abbrev pub check_of : ℕ → List Change → List ℕ → Change
 check_of place quoted bytes =
     word_change bytes place (canon (word_at place bytes) (old_words quoted) (new_words quoted))
@@ -361,7 +368,7 @@ module _ (side : Side) (way : Way) (first last : Endpoint) (bytes : List ℕ) (p
   quoted_again = end_again at end first last bytes after keeps.inner_form keeps.inner_start
       (length-changed (quoted ++ c ∷ outer) bytes) inside
 
-  -- the ICMP checksum
+  -- The change of the ICMP checksum.
   again_olds : old_words again ≡ new_words quoted
   again_olds = olds-stand at (length after) after again (end-edits at end last after keeps.inner_room)
       ∙ ap (map (λ (q : ℕ). word_at q after)) (quoted_again.1 ∙ sym quoted_again.0) ∙ news-stand quoted after inside
@@ -375,7 +382,11 @@ module _ (side : Side) (way : Way) (first last : Endpoint) (bytes : List ℕ) (p
   check_new =
       let check = outside.0 in
       let same_news = quoted_again.2 in
-      cc (canon_twice (word_at (start + 2) bytes) (old_words quoted) (new_words quoted) (new_words only), again_olds, only_olds)
+      cc (
+        canon_twice (word_at (start + 2) bytes) (old_words quoted) (new_words quoted) (new_words only),
+        again_olds,
+        only_olds,
+      )
 
   all_again : Again (all_of at (start + 2) way first bytes) (all_of at (start + 2) way last after)
       (all_of at (start + 2) way last bytes)

@@ -1,4 +1,4 @@
--- What a packet is after an end of it was replaced.
+-- What a packet is after one of its ends was replaced.
 use Rattle.std.proofs.{lemmas.{Grind.common_steps, Bool.Decides.nat_tests}, Common.{◌<◌, ◌≡◌, ℕ, ◌+◌, false, not, List, arith, refl, sym, ◌∙◌, ap, true, Ok}}
 use Rattle.napt_wire.proofs.Changes.{IsWritten, word-same}
 use Rattle.napt_wire.proofs.EndReplacement.{address_same, end-written, end_address, numbers, numbers-written, other, other_clear, there_clear, end-clear}
@@ -8,7 +8,7 @@ use Rattle.napt_wire.proofs.WithInner.{PassesError, KeepsError, passes_error, er
 use Rattle.napt_wire.specs.Prelude.{byte_at, word_at, address, transport_start, form_at, number_place, number_at, end_at, inner_datagram_start, inner_of, inner, protocol_of, source, destination, kind, kind_of, local_of, local_end, CanQuote, CanCarry, is_error, has_zero_port, is_translated_message, is_quotable, reading, with_changes, end_changes, reverted_changes, with_destination, reverted, with_source, HasHeaders, DestinationsAreGiven, kind_with_inner_source, IsErrorGiven, SourcesAreGiven, LocalEndsCarryNumbers, ErrorOf, Side, Outside, Incoming, Outgoing, Endpoint, TransportForm, DatagramEnd, Source, Destination}
 use Rattle.napt_wire.specs.declared.transport_form.TransportForm.TheVariants.{Udp, Tcp, Request, Reply, Error}
 
--- the end has a number
+-- The end of this form has a number.
 abbrev pub HasNumber : TransportForm → DatagramEnd → Type 0
 HasNumber Udp end = Unit {0}
 HasNumber Tcp end = Unit {0}
@@ -18,14 +18,14 @@ HasNumber Reply Source = ⊥
 HasNumber Reply Destination = Unit {0}
 HasNumber Error end = ⊥
 
--- the number that was written, and the other end's, which stays
+-- The number that was written is read back, and that of the other end is unchanged.
 numbers_read : (form : TransportForm) (end : DatagramEnd) (start : ℕ) (old new : Endpoint) (bytes after : List ℕ) →
     IsWritten start (numbers form end start old new bytes) bytes after →
     (HasNumber form end → number_at start (number_place form end) after ≡ new.number)
     × (number_at start (number_place form (other end)) after ≡ number_at start (number_place form (other end)) bytes)
 numbers_read form end start old new bytes after h = grind (arith, common_steps, nat_tests, word-same, there_clear)
 
--- both ends of the datagram at a place, whose end was replaced, and maybe more before it
+-- Both ends of the datagram at `at` after one of them was replaced, perhaps with other words before it.
 module _ (at : ℕ) (end : DatagramEnd) (new : Endpoint) (bytes after : List ℕ) (room : HasHeaders at bytes)
     (form_is : form_at at after ≡ form_at at bytes) (start_is : transport_start at after ≡ transport_start at bytes)
     (w : IsWritten at (end_changes at end new bytes) bytes after) where
@@ -38,7 +38,7 @@ module _ (at : ℕ) (end : DatagramEnd) (new : Endpoint) (bytes after : List ℕ
   in_numbers : IsWritten start (numbers form end start (end_at at end bytes) new bytes) bytes after
   in_numbers = numbers-written at end new bytes after room w
 
-  -- an end, given the form and where the transport header begins
+  -- An end by its address and number, where the form and the start of the transport header are known.
   end_as : (e : DatagramEnd) (x : Endpoint) → address at e after ≡ x.address →
       number_at start (number_place form e) after ≡ x.number → end_at at e after ≡ x
   end_as e x a n = grind (arith, common_steps, nat_tests)
@@ -53,8 +53,9 @@ module _ (at : ℕ) (end : DatagramEnd) (new : Endpoint) (bytes after : List ℕ
 
 -- A PACKET
 
--- a packet from outside that is no error has a number at its destination
-pub comes_to : (form : TransportForm) (type : ℕ) → IsPlain form → not (is_translated_message Outside form type) ≡ false →
+-- A packet from outside that is not an error has a number at its destination.
+pub comes_to : (form : TransportForm) (type : ℕ) → IsPlain form →
+    not (is_translated_message Outside form type) ≡ false →
     HasNumber form Destination
 comes_to form type h k = grind (arith, common_steps, nat_tests)
 
@@ -132,7 +133,8 @@ module _ (new : Endpoint) (bytes : List ℕ) (p : PassesError Outside bytes)
       let a : address 0 Source got ≡ address 0 Source bytes = long-stays 12 (reverted_changes Incoming new bytes) bytes
       (error-clear Outside Incoming new bytes p 12 4 (omega arith) (other_clear 0 Destination new.address bytes)) in
       let n : number_at (transport_start 0 got) (number_place (form_at 0 got) Source) got
-      ≡ number_at (transport_start 0 bytes) (number_place (form_at 0 bytes) Source) bytes = rw (form_got, p.form_is) refl in
+      ≡ number_at (transport_start 0 bytes) (number_place (form_at 0 bytes) Source) bytes =
+      rw (form_got, p.form_is) refl in
       λ i. record { address = a i; number = n i }
 
   pub is_given : IsErrorGiven bytes got new
@@ -176,7 +178,7 @@ unfolding kind local_end
 local_ends_carry_numbers packet reads = local_carries (form_at 0 packet) packet
     (passes_of_read Outside packet packet reads) refl
 
--- WHERE IT GOES
+-- THE DESTINATION
 
 pub with_source-destination : (side : Side) (packet : List ℕ) → reading side packet ≡ Ok packet → (source : Endpoint) →
     (destination (with_source source packet)).address ≡ (destination packet).address

@@ -1,4 +1,4 @@
--- An ICMP error whose quoted datagram gets an end back is an ICMP error.
+-- An ICMP error is still an ICMP error after the inside end that it quotes is restored.
 use Rattle.std.proofs.lemmas.Grind.{common_steps}
 use Rattle.std.proofs.Common.{◌≡◌, ℕ, ◌+◌, ◌-◌, ◌%◌, ◌≤◌, ◌==◌, ◌||◌, Bool, true, false, not, List, [], ◌∷◌, ◌++◌, length, drop, Ok, sum, slice_index, arith, refl, sym, ◌∙◌, ap, subst, nat_lt, length-drop, map}
 use Rattle.std.proofs.{lemmas.{Bool.{or_parts, Decides.nat_tests}, List.map-append}, Math.Seq.take-length}
@@ -11,7 +11,7 @@ use Rattle.napt_wire.specs.Prelude.{word_at, double_word_at, words, canon, addre
 use Rattle.napt_wire.specs.declared.transport_form.TransportForm.TheVariants.{Error}
 use Rattle.napt_wire.specs.declared.packet.Body.TheVariants as bodies
 
--- the datagram at a place may be quoted
+-- The datagram at `at` may be quoted by an error.
 pub record GoodInner (side : Side) (at : ℕ) (bytes : List ℕ) : Type 0 where
   pub passes : has_bad_inner side at bytes ≡ false
   pub long : nat_lt (header_length at bytes) 20 ≡ false
@@ -30,7 +30,7 @@ pub long-stays : (place : ℕ) (changes : List Change) (bytes : List ℕ) → Ar
     double_word_at place (with_changes changes bytes) ≡ double_word_at place bytes
 long-stays place changes bytes clear = grind (arith, common_steps, nat_tests, word-stays, clear-part)
 
--- the ICMP checksum stays right
+-- The ICMP checksum stays right.
 icmp_residue : (sum_new sum_old check : ℕ) (old new : List ℕ) → sum_new + (sum old + check) ≡ sum_old
     + (sum new + canon check old new) → sum_new % 65535 ≡ sum_old % 65535
 unfolding canon
@@ -40,13 +40,14 @@ sum-map-append : (f : Change → ℕ) (xs : List Change) (c : Change) → sum (m
 sum-map-append f xs c = ap sum (map-append f xs (c ∷ [])) ∙ sum-append (map f xs) (f c ∷ [])
     ∙ ap (λ (n : ℕ). sum (map f xs) + n) (sum-cons (f c) [] ∙ omega arith)
 
--- what the checks say of an error
+-- What the checks show about an error.
 pub record PassesError (side : Side) (bytes : List ℕ) : Type 0 where
   pub passes : Passes side bytes
   pub form_is : form_at 0 bytes ≡ Error
   pub right : sum (words (drop (transport_start 0 bytes) bytes)) % 65535 ≡ 0
   pub inner_good : GoodInner side (inner_datagram_start bytes) bytes
-  pub ports : has_zero_port (form_at (inner_datagram_start bytes) bytes) (transport_start (inner_datagram_start bytes) bytes) bytes ≡ false
+  pub ports : has_zero_port (form_at (inner_datagram_start bytes) bytes)
+      (transport_start (inner_datagram_start bytes) bytes) bytes ≡ false
 
 pub passes_error : (side : Side) (bytes : List ℕ) → Passes side bytes → form_at 0 bytes ≡ Error → PassesError side bytes
 passes_error side bytes p form_is = grind (arith, common_steps, nat_tests, residue_zero, good_inner)
@@ -57,7 +58,7 @@ same_number a b h = grind (arith, nat_tests)
 number_same : (a b : ℕ) → a ≡ b → not (a == b) ≡ false
 number_same a b h = grind (arith, nat_tests)
 
--- what an error keeps
+-- What is unchanged in an error.
 pub record KeepsError (side : Side) (old new : List ℕ) : Type 0 where
   pub passes : Passes side new
   pub same_form : form_at 0 new ≡ form_at 0 old
@@ -71,7 +72,7 @@ whole_part begin n bytes h =
     let size : n ≡ length (drop begin bytes) = omega (arith, length-drop begin bytes) in
     rw size (take-length (drop begin bytes))
 
--- an error whose quoted datagram gets an end back
+-- An error after an end of the datagram that it quotes is replaced.
 module _ (side : Side) (way : Way) (new : Endpoint) (bytes : List ℕ) (p : PassesError side bytes) where
   abbrev at : ℕ
   at = inner_datagram_start bytes
@@ -97,7 +98,7 @@ module _ (side : Side) (way : Way) (new : Endpoint) (bytes : List ℕ) (p : Pass
   within : HasHeaders at bytes
   within = inner_room side at bytes p.inner_good
 
-  -- all words that are replaced: those of the quoted datagram, the ICMP checksum, and those of the error's own header
+  -- All words that are replaced: those of the quoted datagram, the ICMP checksum, and those of the error's own header.
   outer-edits : AreEdits 0 (message + 4) bytes (check ∷ outer)
   outer-edits = (
     omega arith,
@@ -124,7 +125,7 @@ module _ (side : Side) (way : Way) (new : Endpoint) (bytes : List ℕ) (p : Pass
   error-edits = edits-append 0 (message + 4) at (length bytes) bytes quoted (check ∷ outer) (omega arith) (omega arith)
       (omega (arith, room.transport_start)) (omega arith) (end-edits at (inner_end way) new bytes within) outer-edits
 
-  -- what stands before the ICMP checksum, but for the IP checksum and the address
+  -- The changes leave alone what comes before the ICMP checksum, except the header checksum and the address.
   pub error-clear : (i n : ℕ) → (20 ≤ message → i + n ≤ message + 2) → AreClear i n outer →
       AreClear i n (reverted_changes way new bytes)
   unfolding reverted_changes
@@ -135,7 +136,7 @@ module _ (side : Side) (way : Way) (new : Endpoint) (bytes : List ℕ) (p : Pass
       (omega arith) (omega arith) (end-edits at (inner_end way) new bytes within)) (omega arith))
       ((λ h k. absurd (omega arith)), clear)
 
-  -- the quoted datagram, and the error's own address
+  -- The words of the quoted datagram and the error's own address are the ones that were written.
   pub quoted-written : IsWritten at quoted bytes after
   unfolding reverted_changes
   quoted-written = written-front 0 at 0 (message + 4) quoted (check ∷ outer) bytes after (omega arith) (omega arith)
@@ -153,14 +154,15 @@ module _ (side : Side) (way : Way) (new : Endpoint) (bytes : List ℕ) (p : Pass
   unfolding reverted_changes
   quoted-part begin size behind =
       ap (part begin size) (changed-append quoted (check ∷ outer) bytes)
-      ∙ part-changed_other begin size 0 (message + 4) (check ∷ outer) (with_changes quoted bytes) outer-within (omega arith)
+      ∙ part-changed_other begin size 0 (message + 4) (check ∷ outer) (with_changes quoted bytes) outer-within
+      (omega arith)
 
   outer_last : after ≡ with_changes outer (with_changes (quoted ++ check ∷ []) bytes)
   unfolding reverted_changes
   outer_last = changed-append quoted (check ∷ outer) bytes
       ∙ sym (ap (with_changes outer) (changed-append quoted (check ∷ []) bytes))
 
-  -- the error's own header, and the one that it quotes
+  -- The error's own header and the quoted one are unchanged so.
   own_header : KeepsHeader 0 bytes after
   own_header = rw outer_last (header_keeps 0 (outer_end way) new.address (quoted ++ check ∷ []) bytes room
       (within-edits message (length bytes) message (length bytes) bytes (quoted ++ check ∷ []) (omega arith)
@@ -180,7 +182,7 @@ module _ (side : Side) (way : Way) (new : Endpoint) (bytes : List ℕ) (p : Pass
   inner_start : transport_start at after ≡ transport_start at bytes
   inner_start = same_start at bytes after inner_header
 
-  -- the ICMP checksum stays right
+  -- The ICMP checksum stays right.
   message_right : sum (words (drop message after)) % 65535 ≡ 0
   message_right =
       let n : ℕ = length bytes - message in
@@ -251,7 +253,7 @@ module _ (side : Side) (way : Way) (new : Endpoint) (bytes : List ℕ) (p : Pass
         };
       }
 
--- the quoted datagram's source stays the error's destination
+-- The source of the quoted datagram is still the destination of the error.
 ours_kept : (side : Side) (way : Way) (new : Endpoint) (bytes : List ℕ) (p : PassesError side bytes) →
     (let after : List ℕ = with_changes (reverted_changes way new bytes) bytes in
     address (inner_datagram_start bytes) Source after ≡ address 0 Destination after)
@@ -259,7 +261,8 @@ ours_kept side Incoming new bytes p =
     end_address (inner_datagram_start bytes) Source new bytes _ (quoted-written side Incoming new bytes p).stands
     ∙ sym (outer_address side Incoming new bytes p)
 ours_kept side Outgoing new bytes p =
-    address_same (inner_datagram_start bytes) Destination new bytes _ (inner_room side (inner_datagram_start bytes) bytes p.inner_good)
+    address_same (inner_datagram_start bytes) Destination new bytes _
+    (inner_room side (inner_datagram_start bytes) bytes p.inner_good)
     (quoted-written side Outgoing new bytes p)
     ∙ same_number (address (inner_datagram_start bytes) Source bytes) (address 0 Destination bytes) p.inner_good.ours
     ∙ sym (long-stays 16 (reverted_changes Outgoing new bytes) bytes (error-clear side Outgoing new bytes p 16 4
@@ -270,7 +273,7 @@ pub error_kept : (side : Side) (way : Way) (new : Endpoint) (bytes : List ℕ) �
     KeepsError side bytes (with_changes (reverted_changes way new bytes) bytes)
 error_kept side way new bytes p = kept_with side way new bytes p (ours_kept side way new bytes p)
 
--- every word that is replaced is there
+-- Every word that is replaced lies within the bytes.
 pub error_there : (side : Side) (way : Way) (new : Endpoint) (bytes : List ℕ) → PassesError side bytes →
     AreWordsThere (reverted_changes way new bytes) bytes
 error_there side way new bytes p =
@@ -278,7 +281,7 @@ error_there side way new bytes p =
     (within-edits 0 (length bytes) 0 (length bytes) bytes (reverted_changes way new bytes) (omega arith) (omega arith)
     (error-edits side way new bytes p))
 
--- what the caller says of an error, and of its number
+-- The form of a packet that the caller knows to be an error, and the number that it can carry.
 error_form : (form : TransportForm) (bytes : List ℕ) → is_error (kind_of form bytes) ≡ true → form ≡ Error
 error_form form bytes h = grind (arith, common_steps, nat_tests)
 
@@ -295,7 +298,7 @@ pub carries_inner : (bytes : List ℕ) (number : ℕ) → form_at 0 bytes ≡ Er
 unfolding kind inner
 carries_inner bytes number e h = rw e at h
 
--- the body of an error says where what it quotes stands
+-- The body of an error has the form and the offset of the transport header that it quotes.
 body_error : (form : TransportForm) (bytes : List ℕ) (quoted : Quoted) → body_of form bytes ≡ bodies.Error quoted →
     (form ≡ Error) × (quoted ≡ quoted_of bytes)
 body_error form bytes quoted h = grind (arith, common_steps, nat_tests)
@@ -306,13 +309,14 @@ quoted_form bytes start body quoted found h = body_error (form_at 0 bytes) bytes
 
 pub not_error : (bytes : List ℕ) (start : ℕ) (body : Body) → BodyIsFound bytes start body → form_at 0 bytes ≡ Error →
     ((quoted : Quoted) → body ≡ bodies.Error quoted → ⊥) → ⊥
-not_error bytes start body found e h = h (quoted_of bytes) (found.body_is ∙ ap (λ (f : TransportForm). body_of f bytes) e)
+not_error bytes start body found e h = h (quoted_of bytes)
+    (found.body_is ∙ ap (λ (f : TransportForm). body_of f bytes) e)
 
 pub error_found : (side : Side) (start : ℕ) (body : Body) (old new : List ℕ) →
     BodyIsFound old start body → form_at 0 old ≡ Error → KeepsError side old new → BodyIsFound new start body
 error_found side start body old new found form_is keeps = grind (arith, common_steps, nat_tests)
 
--- all of that for a packet that the caller knows to be an error
+-- The same for a packet that the caller knows to be an error.
 pub error_kept_of : (side : Side) (way : Way) (new : Endpoint) (bytes : List ℕ) → is_error (kind bytes) ≡ true →
     CanCarry (kind bytes) new.number → reading side bytes ≡ Ok bytes →
     KeepsError side bytes (with_changes (reverted_changes way new bytes) bytes)

@@ -1,13 +1,13 @@
--- What a `Header` says of the bytes.
+-- What a `Header` says about the bytes of a packet.
 use Rattle.std.specs.Prelude.{◌≡◌, ℕ, ◌+◌, ◌≤◌, List, length}
 use Rattle.napt_wire.specs.{Fields.{transport_start, form_at}, declared.header.Header.Header}
 
--- the datagram at a place has a whole IPv4 header and the first eight bytes of a transport header
+-- The datagram that begins at `at` has a whole IPv4 header and the first eight bytes of a transport header.
 pub record HasHeaders (at : ℕ) (bytes : List ℕ) : Type 0 where
   pub header : at + 20 ≤ transport_start at bytes
   pub transport_start : transport_start at bytes + 8 ≤ length bytes
 
--- the headers of the datagram at a place: they are there, and their places and form are what the bytes say
+-- The header describes the datagram that begins at `at`: the headers are there, at these offsets and of this form.
 pub record IsHeader (at : ℕ) (header : Header) (bytes : List ℕ) : Type 0 where
   pub room : HasHeaders at bytes
   pub at_is : header.at ≡ at

@@ -1,21 +1,21 @@
--- What a packet keeps of its bytes.
+-- What a `Packet` remembers about its bytes.
 use Rattle.std.specs.Prelude.{◌≡◌, ℕ, List, Ok}
 use Rattle.napt_wire.specs.{Fields.{transport_start, form_at, flags, inner_datagram_start}, Reading.reading, declared.{Side.Side, transport_form.TransportForm.TransportForm}}
 use Rattle.napt_wire.specs.declared.{transport_form.TransportForm.TheVariants.{Udp, Tcp, Request, Reply, Error}, packet.{Body.Body, Quoted.Quoted}}
 use Rattle.napt_wire.specs.declared.packet.Body.TheVariants as bodies
 
--- the bytes read as this packet, on arrival from one of the sides
+-- The bytes are a packet: they read as themselves on arrival from one of the two sides.
 abbrev pub IsPacket : List ℕ → Type 0
 IsPacket bytes = (side : Side) × (reading side bytes ≡ Ok bytes)
 
--- what is kept of the datagram that an ICMP error quotes
+-- The form and the offset of the transport header that an ICMP error quotes.
 abbrev pub quoted_of : List ℕ → Quoted
 quoted_of bytes = record {
   form = form_at (inner_datagram_start bytes) bytes;
   start = transport_start (inner_datagram_start bytes) bytes;
 }
 
--- the body of a packet whose transport header is of a form
+-- The body of a packet whose transport header has this form.
 abbrev pub body_of : TransportForm → List ℕ → Body
 body_of Udp bytes = bodies.Udp
 body_of Tcp bytes = bodies.Tcp (flags bytes)
@@ -23,7 +23,7 @@ body_of Request bytes = bodies.Request
 body_of Reply bytes = bodies.Reply
 body_of Error bytes = bodies.Error (quoted_of bytes)
 
--- the form of a body's transport header
+-- The form of the transport header of a body.
 abbrev pub form_of : Body → TransportForm
 form_of bodies.Udp = Udp
 form_of (bodies.Tcp flags) = Tcp
@@ -31,12 +31,12 @@ form_of bodies.Request = Request
 form_of bodies.Reply = Reply
 form_of (bodies.Error quoted) = Error
 
--- what is kept of a datagram is what its bytes say: where its transport header begins, and its body
+-- The stored offset of the transport header and the stored body are those of the datagram in the bytes.
 pub record BodyIsFound (bytes : List ℕ) (start : ℕ) (body : Body) : Type 0 where
   pub start_is : start ≡ transport_start 0 bytes
   pub body_is : body ≡ body_of (form_at 0 bytes) bytes
 
--- the bytes read as a packet, and what is kept of them is what they say
+-- The invariant of a `Packet`: its bytes are a packet, and the stored offset and body agree with them.
 pub record PacketInvariant (bytes : List ℕ) (start : ℕ) (body : Body) : Type 0 where
   pub reads : IsPacket bytes
   pub found : BodyIsFound bytes start body

@@ -1,4 +1,4 @@
--- The words of this crate, for one import.
+-- The definitions of this crate, for one import.
 pub use Rattle.napt_wire.specs.{Bytes.{word_at, words, double_word_at, with_word_at, byte_at}, Checksum.is_right, declared.Way.Way}
 pub use Rattle.napt_wire.specs.Fields.{address, protocol_number, transport_start, number_place, number_at, inner_datagram_start, total_length, kind_of, is_error, CanCarry, header_length, version, address_place, end_at, inner_of, protocol_of, local_of, CanQuote, icmp_form}
 pub use Rattle.napt_wire.specs.{Header.HasHeaders, Packet.{IsPacket, BodyIsFound, body_of, quoted_of, form_of}}
@@ -12,5 +12,11 @@ pub use Rattle.napt_wire.specs.declared.{Way.TheVariants.{Outgoing, Incoming}, p
 pub use Rattle.napt_wire.specs.declared.{transport_form.DatagramEnd.TheVariants.{Source, Destination}, header_rewrite.Change.Change}
 unfoldable pub use Rattle.napt_wire.specs.{Checksum.{canon, canon_udp}, Reading.{reading, has_bad_inner}}
 unfoldable pub use Rattle.napt_wire.specs.Fields.{source, destination, kind, form_at, inner, local_end, flags}
-unfoldable pub use Rattle.napt_wire.specs.Rewriting.{end_changes, reverted_changes, with_destination, reverted, with_source}
+unfoldable pub use Rattle.napt_wire.specs.Rewriting.{
+  end_changes,
+  reverted_changes,
+  with_destination,
+  reverted,
+  with_source,
+}
 unfoldable pub use Rattle.napt_wire.specs.TransportChecksum.{transport_right}

@@ -1,4 +1,4 @@
-//! Where a datagram's headers are, and its ends.
+//! Where the headers of a datagram are, and what its ends are.
 
 ghost use Rattle.std.specs.Prelude.{◌≡◌, ◌+◌, ◌≤◌, ◌<◌, ◌^◌, IfSome, option_map};
 ghost use Rattle.napt_wire.specs.{Fields.{address_place, end_at, inner_of, number_place}, Header.IsHeader};
@@ -7,19 +7,19 @@ use crate::bytes::{read_long, read_word};
 use crate::transport_form::{DatagramEnd, TransportForm};
 use crate::{Endpoint, Inner};
 
-/// The headers of a datagram in the bytes of a packet: the packet's own, or those that an ICMP error quotes.
+/// The headers of a datagram in a packet's bytes: the packet's own, or those an ICMP error quotes.
 #[derive(Clone, Copy)]
 pub(crate) struct Header {
-    /// Where the IPv4 header begins.
+    /// The offset of the IPv4 header.
     pub(crate) at: usize,
-    /// Where the transport header begins.
+    /// The offset of the transport header.
     pub(crate) start: usize,
     /// The form of the transport header.
     pub(crate) form: TransportForm,
 }
 
 impl Header {
-    /// Where an end has its address.
+    /// Returns the offset of the address of an end.
     pub(crate) fn address_place(self, end: DatagramEnd) -> usize
         requires { self.at + 20 < 2 ^ 64 }
         ensures { result ≡ self.at + address_place end }
@@ -27,7 +27,7 @@ impl Header {
         self.at + end.address_place()
     }
 
-    /// Where an end has its number, if it has one.
+    /// Returns the offset of the number of an end, if it has one.
     pub(crate) fn number_place(self, end: DatagramEnd) -> Option<usize>
         requires { self.start + 8 < 2 ^ 64 }
         ensures place { result ≡ option_map (λ offset. self.start + offset)
@@ -40,7 +40,7 @@ impl Header {
         }
     }
 
-    /// An end of the datagram.
+    /// Returns the endpoint at one end of the datagram.
     #[inline(always)]
     pub(crate) fn end(self, bytes: &[u8], end: DatagramEnd) -> Endpoint
         requires { IsHeader self.at self bytes.now }
@@ -54,7 +54,7 @@ impl Header {
         Endpoint { address, number }
     }
 
-    /// The protocol and the ends of the datagram.
+    /// Returns the protocol and both ends of the datagram.
     pub(crate) fn ends(self, bytes: &[u8]) -> Inner
         requires { IsHeader self.at self bytes.now }
         ensures { result ≡ inner_of self.at bytes.now }

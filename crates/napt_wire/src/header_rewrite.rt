@@ -1,4 +1,4 @@
-//! The bytes that change with one end of a datagram.
+//! The words that change when one end of a datagram is replaced.
 
 ghost use Rattle.std.specs.Prelude.{◌≡◌, ◌+◌, ◌/◌, ◌%◌, ◌<◌, ◌≤◌, [], ◌∷◌, length, option_to_list};
 ghost use Rattle.napt_wire.specs.{Bytes.with_word_at, Fields.inner_datagram_start, Header.IsHeader, HeaderRewrite.{address_changes_of, changes_of, error_changes_of, AreWordsThere}};
@@ -11,7 +11,7 @@ use crate::header::Header;
 use crate::transport_form::{DatagramEnd, TransportForm};
 use crate::{Endpoint, Way};
 
-/// A 16-bit word that is replaced: its place, its old and its new value.
+/// The replacement of a 16-bit word: its offset, its old value and its new value.
 #[derive(Clone, Copy)]
 pub(crate) struct Change {
     pub(crate) place: usize,
@@ -20,7 +20,7 @@ pub(crate) struct Change {
 }
 
 impl Change {
-    /// The change of the word at a place.
+    /// Returns the change that replaces the word at an offset by `new`.
     pub(crate) fn from_words(bytes: &[u8], place: usize, new: u16) -> Change
         requires { place + 2 ≤ length bytes.now }
         ensures { result ≡ word_change bytes.now place new }
@@ -32,14 +32,14 @@ impl Change {
         }
     }
 
-    /// Updates a checksum that covers the word.
+    /// Returns `check` after this change, where it is a checksum that covers the word.
     fn fix(self, check: u16) -> u16
         ensures { result ≡ canon check (self.old ∷ []) (self.new ∷ []) }
     {
         fix_check(check, self.old, self.new)
     }
 
-    /// Replaces the word.
+    /// Writes the new word.
     pub(crate) fn write(self, bytes: &mut [u8])
         requires { self.place + 2 ≤ length bytes.old }
         ensures { bytes.new ≡ with_word_at self.place self.new bytes.old }
@@ -67,7 +67,7 @@ pub(crate) struct AddressRewrite {
 }
 
 impl AddressRewrite {
-    /// Replaces the words.
+    /// Writes the new words.
     pub(crate) fn write(&self, bytes: &mut [u8])
         requires { AreWordsThere (address_changes_of self.now) bytes.old }
         ensures { bytes.new ≡ with_changes (address_changes_of self.now) bytes.old }
@@ -77,7 +77,7 @@ impl AddressRewrite {
         self.low.write(bytes);
     }
 
-    /// Updates a checksum that covers all the replaced words.
+    /// Returns `check` after these changes, where it is a checksum that covers all the words.
     fn fix(&self, check: u16) -> u16
         ensures { result ≡ canon check (old_words (address_changes_of self.now))
             (new_words (address_changes_of self.now)) }
@@ -89,7 +89,7 @@ impl AddressRewrite {
 }
 
 impl Header {
-    /// What changes when an end of the datagram becomes `new`.
+    /// Returns the words to replace when an end of the datagram becomes `new`.
     #[inline(always)]
     pub(crate) fn rewrite_end(self, bytes: &[u8], end: DatagramEnd, new: Endpoint) -> Rewrite
         requires { IsHeader self.at self bytes.now }
@@ -110,7 +110,7 @@ impl Header {
         }
     }
 
-    /// What changes in the IPv4 header when the address of an end becomes `new`.
+    /// Returns the words to replace in the IPv4 header when the address of an end becomes `new`.
     fn rewrite_address(self, bytes: &[u8], end: DatagramEnd, new: u32) -> AddressRewrite
         requires { IsHeader self.at self bytes.now }
         ensures { address_changes_of result ≡ address_changes self.at end new bytes.now }
@@ -125,7 +125,7 @@ impl Header {
         }
     }
 
-    /// How the transport checksum changes when an end that was `old` becomes `new`, if it is there.
+    /// Returns the change of the transport checksum, if it is present and covers what is replaced.
     fn rewrite_check(self, bytes: &[u8], old: Endpoint, new: Endpoint) -> Option<Change>
         requires { IsHeader self.at self bytes.now }
         ensures { option_to_list result
@@ -154,7 +154,7 @@ impl Header {
 }
 
 impl Rewrite {
-    /// Replaces the words.
+    /// Writes the new words.
     pub(crate) fn write(&self, bytes: &mut [u8])
         requires { AreWordsThere (changes_of self.now) bytes.old }
         ensures { bytes.new ≡ with_changes (changes_of self.now) bytes.old }
@@ -168,9 +168,10 @@ impl Rewrite {
         self.address.write(bytes);
     }
 
-    /// Updates a checksum that covers all the replaced words.
+    /// Returns `check` after these changes, where it is a checksum that covers all the words.
     pub(crate) fn fix(&self, check: u16) -> u16
-        ensures { result ≡ canon check (old_words (changes_of self.now)) (new_words (changes_of self.now)) }
+        ensures { result ≡ canon check (old_words (changes_of self.now))
+            (new_words (changes_of self.now)) }
     {
         let fixed = self.address.fix(check);
         let fixed = fix_option(fixed, self.number);
@@ -178,10 +179,11 @@ impl Rewrite {
     }
 }
 
-/// Updates a checksum that covers the word replaced, if any.
+/// Returns `check` after the change, if any, where it is a checksum that covers the word.
 fn fix_option(check: u16, change: Option<Change>) -> u16
     requires { check < 65535 }
-    ensures { result ≡ canon check (old_words (option_to_list change)) (new_words (option_to_list change)) }
+    ensures { result ≡ canon check (old_words (option_to_list change))
+        (new_words (option_to_list change)) }
 {
     match change {
         Some(change) => change.fix(check),
@@ -195,13 +197,13 @@ pub(crate) struct ErrorRewrite {
     quoted: Rewrite,
     /// The ICMP checksum, which covers the words of the quoted datagram.
     check: Change,
-    /// The error's own address.
+    /// The words to replace in the error's own IPv4 header.
     address: AddressRewrite,
 }
 
 impl ErrorRewrite {
-    /// What changes in an error that goes this way, with this header, when the inside end of the datagram that it
-    /// quotes, whose header is `inner`, becomes `end`.
+    /// Returns the words to replace in an error in this direction, whose header is `error`, when
+    /// the inside end of the datagram that it quotes, whose header is `inner`, becomes `end`.
     pub(crate) fn from_packet(
         bytes: &[u8],
         error: Header,
@@ -222,7 +224,7 @@ impl ErrorRewrite {
         }
     }
 
-    /// Replaces the words.
+    /// Writes the new words.
     pub(crate) fn write(&self, bytes: &mut [u8])
         requires { AreWordsThere (error_changes_of self.now) bytes.old }
         ensures { bytes.new ≡ with_changes (error_changes_of self.now) bytes.old }
@@ -233,7 +235,7 @@ impl ErrorRewrite {
     }
 }
 
-/// The inside end of the datagram quoted by an error that goes this way.
+/// Returns the end on the inside of the datagram that an error in this direction quotes.
 fn inner_end(way: Way) -> DatagramEnd
     ensures { result ≡ inner_end way }
 {
@@ -243,7 +245,7 @@ fn inner_end(way: Way) -> DatagramEnd
     }
 }
 
-/// The end of the error itself that is translated with it.
+/// Returns the end of the error itself that is translated with it.
 fn outer_end(way: Way) -> DatagramEnd
     ensures { result ≡ outer_end way }
 {

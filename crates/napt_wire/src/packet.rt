@@ -1,4 +1,4 @@
-//! A packet that was read.
+//! Packets that passed the checks of reading.
 
 ghost use Rattle.std.specs.Prelude.{◌≡◌, List, ℕ, false, true, Ok, Err, IfOk, IfErr, ◌<◌, ◌^◌, length};
 ghost use Rattle.napt_wire.specs.{Fields.{source, destination, end_at, inner_datagram_start, kind, local_end, remote_end, is_error, CanCarry}, Reading.reading};
@@ -12,7 +12,7 @@ use crate::transport_form::{DatagramEnd, TransportForm};
 use crate::{Cause, Endpoint, Flags, Kind, Side, Way};
 use std::marker::Model;
 
-/// What a packet carries, as reading found it.
+/// The body of a packet, by the form of its transport header.
 #[derive(Clone, Copy)]
 pub(crate) enum Body {
     Udp,
@@ -22,19 +22,19 @@ pub(crate) enum Body {
     Error(Quoted),
 }
 
-/// The transport header of the datagram that an ICMP error quotes: its form, and where in the error it begins.
+/// The form and the offset in the error of the transport header that an ICMP error quotes.
 #[derive(Clone, Copy)]
 pub(crate) struct Quoted {
     pub(crate) form: TransportForm,
     pub(crate) start: u16,
 }
 
-/// An IPv4 datagram that was read, which owns its bytes. Contracts see those bytes, and they always read as a
-/// packet.
+/// An IPv4 datagram that passed the checks, with its bytes. Contracts see the bytes, which always
+/// read as a packet.
 #[derive(Drop)]
 pub struct Packet {
     bytes: Vec<u8>,
-    /// Where the transport header begins: 60 at most.
+    /// The offset of the transport header, at most 60.
     start: u8,
     body: Body,
 }
@@ -51,9 +51,9 @@ impl Model for Packet {
 }
 
 impl Packet {
-    /// Reads the bytes that arrived on a side as a packet, by the checks of RFC 791, 768, 9293, 792 and 5508 in
-    /// order, except those on UDP, TCP and echo checksums. Bytes past the total length are cut off. If a check
-    /// fails, returns its cause and the bytes unchanged.
+    /// Reads bytes that arrived on a side, by the checks of RFC 791, 768, 9293, 792 and 5508 in
+    /// order, except those on UDP, TCP and echo checksums. Bytes after the total length are cut
+    /// off. If a check fails, returns its cause and the bytes unchanged.
     #[inline(always)]
     pub fn read(side: Side, mut bytes: Vec<u8>) -> Result<Packet, (Cause, Vec<u8>)>
         ensures ok { IfOk result (λ packet. reading side bytes.items ≡ Ok packet) }
@@ -73,7 +73,7 @@ impl Packet {
         }
     }
 
-    /// The bytes of the packet.
+    /// Returns the bytes of the packet.
     pub fn bytes(&self) -> &[u8]
         ensures value { result.now ≡ self.now }
         ensures reads { IsPacket self.now }
@@ -81,7 +81,7 @@ impl Packet {
         &self.bytes
     }
 
-    /// The bytes of the packet, without a copy.
+    /// Returns the bytes of the packet, without a copy.
     pub fn into_bytes(self) -> Vec<u8>
         ensures value { result.items ≡ self }
         ensures reads { IsPacket self }
@@ -91,7 +91,7 @@ impl Packet {
         bytes
     }
 
-    /// Where the packet comes from. An echo reply and an ICMP error have the number 0.
+    /// Returns the source. Its number is 0 in an echo reply and an ICMP error.
     #[tactic(auto, unfolding(crate::specs::Fields::source))]
     pub fn source(&self) -> Endpoint
         ensures value { result ≡ source self.now }
@@ -101,7 +101,7 @@ impl Packet {
         self.end(DatagramEnd::Source)
     }
 
-    /// Where the packet goes. An echo request and an ICMP error have the number 0.
+    /// Returns the destination. Its number is 0 in an echo request and an ICMP error.
     #[tactic(auto, unfolding(crate::specs::Fields::destination))]
     pub fn destination(&self) -> Endpoint
         ensures { result ≡ destination self.now }
@@ -109,7 +109,7 @@ impl Packet {
         self.end(DatagramEnd::Destination)
     }
 
-    /// What the packet is.
+    /// Returns the kind of the packet. An ICMP error has the datagram that it quotes.
     #[tactic(auto, unfolding(crate::specs::Fields::kind))]
     #[inline(always)]
     pub fn kind(&self) -> Kind
@@ -123,8 +123,8 @@ impl Packet {
         }
     }
 
-    /// The inside end of a packet that goes this way: its source on the way out, its destination on the way in.
-    /// For an ICMP error it is the quoted datagram's destination on the way out, and its source on the way in.
+    /// Returns the end on the inside: the source if outgoing, the destination if incoming. For an
+    /// ICMP error it is the quoted datagram's destination if outgoing, and its source if incoming.
     #[tactic(auto, unfolding(crate::specs::Fields::local_end))]
     pub fn local_end(&self, way: Way) -> Endpoint
         ensures { result ≡ local_end way self.now }
@@ -137,7 +137,7 @@ impl Packet {
         }
     }
 
-    /// The other end.
+    /// Returns the end on the outside, which is the other end.
     #[tactic(auto, unfolding(crate::specs::Fields::remote_end, crate::specs::Fields::local_end))]
     pub fn remote_end(&self, way: Way) -> Endpoint
         ensures { result ≡ remote_end way self.now }
@@ -148,8 +148,8 @@ impl Packet {
         }
     }
 
-    /// Replaces the source, and each checksum that covers it (RFC 3022 sections 4.1 and 4.2). In an echo reply
-    /// only the address changes. Takes constant time.
+    /// Replaces the source and updates each checksum that covers it (RFC 3022 sections 4.1 and
+    /// 4.2). In an echo reply only the address changes. Takes constant time.
     #[tactic(auto, unfolding(crate::specs::Rewriting::with_source))]
     #[inline(always)]
     pub fn set_source(&mut self, source: Endpoint)
@@ -158,14 +158,14 @@ impl Packet {
         ensures value { self.new ≡ with_source source self.old }
         ensures reads { (side : Side) → reading side self.old ≡ Ok self.old → reading side self.new
             ≡ Ok self.new }
-        // A transport checksum that is there with all that it covers is right exactly if it was before.
+        // A transport checksum present with all that it covers is right exactly if it was before.
         ensures right { transport_right 0 self.new ≡ transport_right 0 self.old }
     {
         self.set_end(DatagramEnd::Source, source);
     }
 
-    /// Replaces the destination, and each checksum that covers it (RFC 3022 sections 4.1 and 4.2). In an echo
-    /// request only the address changes. Takes constant time.
+    /// Replaces the destination and updates each checksum that covers it (RFC 3022 sections 4.1 and
+    /// 4.2). In an echo request only the address changes. Takes constant time.
     #[tactic(auto, unfolding(crate::specs::Rewriting::with_destination))]
     #[inline(always)]
     pub fn set_destination(&mut self, destination: Endpoint)
@@ -174,24 +174,24 @@ impl Packet {
         ensures value { self.new ≡ with_destination destination self.old }
         ensures reads { (side : Side) → reading side self.old ≡ Ok self.old → reading side self.new
             ≡ Ok self.new }
-        // A transport checksum that is there with all that it covers is right exactly if it was before.
+        // A transport checksum present with all that it covers is right exactly if it was before.
         ensures right { transport_right 0 self.new ≡ transport_right 0 self.old }
     {
         self.set_end(DatagramEnd::Destination, destination);
     }
 
-    /// Restores an end of the datagram that an ICMP error quotes. On the way in, its source becomes `end`, and
-    /// the error itself goes to the address of `end`; on the way out, its destination becomes `end`, and the
-    /// error comes from the address of `end`. Each checksum that covers a replaced word is updated, if it is
-    /// present (RFC 3022 section 4.3, RFC 5508 section 4). Takes constant time.
+    /// Restores the inside end of the datagram that an ICMP error quotes to `end`, and the error's
+    /// own address to that of `end`: the quoted source and the error's destination if incoming, the
+    /// quoted destination and the error's source if outgoing. Updates each checksum present that
+    /// covers a replaced word (RFC 3022 section 4.3, RFC 5508 section 4). Takes constant time.
     pub fn revert_inner(&mut self, way: Way, end: Endpoint)
         requires error { is_error (kind self.old) ≡ true }
         requires number { CanCarry (kind self.old) end.number }
         ensures value { self.new ≡ reverted way end self.old }
         ensures reads { (side : Side) → reading side self.old ≡ Ok self.old → reading side self.new
             ≡ Ok self.new }
-        // The same holds for the quoted datagram's; its IP checksum, the error's own and the ICMP checksum stay
-        // right, since the packet reads.
+        // The same holds for the quoted datagram. The checksums of both IPv4 headers and of the
+        // ICMP message stay right, because the packet reads.
         ensures right { transport_right (inner_datagram_start self.old) self.new
             ≡ transport_right (inner_datagram_start self.old) self.old }
     {
@@ -203,7 +203,7 @@ impl Packet {
         rewrite.write(&mut self.bytes);
     }
 
-    /// The packet's own header.
+    /// Returns the packet's own headers.
     fn header(&self) -> Header
         ensures { IsHeader 0 result self.now }
     {
@@ -214,7 +214,7 @@ impl Packet {
         }
     }
 
-    /// The header of the datagram that an ICMP error quotes, from what was kept of it.
+    /// Returns the headers of the datagram that an ICMP error quotes.
     fn quoted_header(&self, quoted: Quoted) -> Header
         requires error { is_error (kind self.now) ≡ true }
         requires quoted { quoted ≡ quoted_of self.now }
@@ -227,7 +227,7 @@ impl Packet {
         }
     }
 
-    /// An end of the packet.
+    /// Returns the endpoint at one end of the packet.
     #[inline(always)]
     fn end(&self, end: DatagramEnd) -> Endpoint
         ensures value { result ≡ end_at 0 end self.now }
@@ -236,7 +236,7 @@ impl Packet {
         self.header().end(&self.bytes, end)
     }
 
-    /// Replaces an end, and each checksum that covers it.
+    /// Replaces an end and updates each checksum that covers it.
     #[inline(always)]
     fn set_end(&mut self, end: DatagramEnd, new: Endpoint)
         requires plain { is_error (kind self.old) ≡ false }
@@ -252,7 +252,7 @@ impl Packet {
 }
 
 impl Body {
-    /// What the transport header is.
+    /// Returns the form of the transport header.
     fn form(self) -> TransportForm
         ensures { result ≡ form_of self }
     {

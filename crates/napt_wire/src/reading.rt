@@ -14,17 +14,17 @@ use crate::packet::{Body, Quoted};
 use crate::transport_form::TransportForm;
 use crate::{Cause, Flags, Side};
 
-/// What reading found in the bytes.
+/// The parts of a datagram that passed the checks.
 #[derive(Clone, Copy)]
 pub(crate) struct Found {
-    /// The length of the datagram.
+    /// The total length of the datagram, in bytes.
     pub(crate) length: usize,
-    /// Where its transport header begins.
+    /// The offset of its transport header.
     pub(crate) start: u8,
     pub(crate) body: Body,
 }
 
-/// The packet at the front of the bytes, or the cause of the first check that fails.
+/// Returns the parts of the datagram at the front, or the cause of the first check that fails.
 pub(crate) fn read_datagram(side: Side, bytes: &[u8]) -> Result<Found, Cause>
     ensures ok { IfOk result (λ found. reading side bytes.now ≡ Ok (take found.length bytes.now)) }
     ensures length { IfOk result (λ found. found.length ≡ total_length 0 bytes.now) }
@@ -43,7 +43,7 @@ pub(crate) fn read_datagram(side: Side, bytes: &[u8]) -> Result<Found, Cause>
     })
 }
 
-/// The total length, if the header's lengths are possible (RFC 791 section 3.1).
+/// Returns the total length if the lengths in the header are valid (RFC 791 section 3.1).
 fn read_length(bytes: &[u8]) -> Result<usize, Cause>
     ensures checks { result_err result ≡ refusal (length_checks bytes.now) }
     ensures length { IfOk result (λ length. length ≡ total_length 0 bytes.now) }
@@ -68,7 +68,7 @@ fn read_length(bytes: &[u8]) -> Result<usize, Cause>
     Ok(total)
 }
 
-/// The length of the header at a place, in bytes.
+/// Returns the length of the header at `at`, in bytes.
 fn read_header_length(bytes: &[u8], at: usize) -> u8
     requires { at + 1 ≤ length bytes.now }
     ensures value { result ≡ header_length at bytes.now }
@@ -77,8 +77,8 @@ fn read_header_length(bytes: &[u8], at: usize) -> u8
     4 * (bytes[at] & 0x0f)
 }
 
-/// Where a datagram's transport header begins, if its IPv4 header's checksum is right, it is no
-/// fragment, and its protocol is translated.
+/// Returns the offset of the transport header, if the checksum of the IPv4 header is right, the
+/// datagram is not a fragment, and its protocol is translated.
 fn read_header(bytes: &[u8]) -> Result<u8, Cause>
     requires long { 20 ≤ header_length 0 bytes.now }
     requires there { header_length 0 bytes.now ≤ length bytes.now }
@@ -98,7 +98,7 @@ fn read_header(bytes: &[u8]) -> Result<u8, Cause>
     Ok(start)
 }
 
-/// Whether a datagram is a fragment: more follow, or its offset is not 0.
+/// Returns whether a datagram is a fragment: MF is set, or the fragment offset is not 0.
 fn is_fragment(bytes: &[u8]) -> bool
     requires { 20 ≤ length bytes.now }
     ensures { result ≡ (has_more_fragments 0 bytes.now || not (fragment_offset 0 bytes.now == 0)) }
@@ -107,14 +107,14 @@ fn is_fragment(bytes: &[u8]) -> bool
     word & 0x2000 != 0 || word & 0x1fff != 0
 }
 
-/// Whether a protocol is ICMP, TCP or UDP.
+/// Returns whether a protocol number is that of ICMP, TCP or UDP.
 fn is_known(protocol: u8) -> bool
     ensures { result ≡ is_known_protocol protocol }
 {
     protocol == 1 || protocol == 6 || protocol == 17
 }
 
-/// What a datagram with its transport header at `start` carries.
+/// Returns the body of a datagram whose transport header begins at `start`, if it is valid.
 #[tactic(auto, unfolding(crate::specs::Fields::flags))]
 fn read_body(side: Side, bytes: &[u8], start: usize) -> Result<Body, Cause>
     requires long { 20 ≤ start }
@@ -149,7 +149,7 @@ fn read_body(side: Side, bytes: &[u8], start: usize) -> Result<Body, Cause>
     }
 }
 
-/// Whether a transport header is too short, or its length field is impossible.
+/// Returns whether a transport header is too short or has an invalid length field.
 fn has_bad_transport(form: TransportForm, payload: &[u8]) -> bool
     requires { 8 ≤ length payload.now }
     ensures { result ≡ has_bad_transport form payload.now }
@@ -170,7 +170,7 @@ fn has_bad_transport(form: TransportForm, payload: &[u8]) -> bool
     }
 }
 
-/// Whether a message of this form and ICMP type from a side is translated.
+/// Returns whether a message of this form and ICMP type is translated if it comes from `side`.
 fn is_translated(side: Side, form: TransportForm, icmp_type: u8) -> bool
     ensures { result ≡ is_translated_message side form icmp_type }
 {
@@ -182,7 +182,7 @@ fn is_translated(side: Side, form: TransportForm, icmp_type: u8) -> bool
     }
 }
 
-/// Whether the transport header at `start` has a port that is 0.
+/// Returns whether the transport header at `start` has a port that is 0.
 fn has_zero_port(bytes: &[u8], start: usize, form: TransportForm) -> bool
     requires { start + 8 ≤ length bytes.now }
     ensures { result ≡ has_zero_port form start bytes.now }
@@ -194,7 +194,7 @@ fn has_zero_port(bytes: &[u8], start: usize, form: TransportForm) -> bool
     }
 }
 
-/// The control bits of a TCP header (RFC 9293 section 3.1).
+/// Returns the control bits of a TCP header (RFC 9293 section 3.1).
 fn read_flags(bits: u8) -> Flags
     ensures { result ≡ flags_of bits }
 {
@@ -206,7 +206,7 @@ fn read_flags(bits: u8) -> Flags
     }
 }
 
-/// What an ICMP error with its message at `start` quotes.
+/// Checks an ICMP error whose message begins at `start`, and returns what it quotes.
 fn read_quoted(side: Side, bytes: &[u8], start: usize) -> Result<Quoted, Cause>
     requires long { 20 ≤ start }
     requires there { start + 8 ≤ length bytes.now }
@@ -231,8 +231,8 @@ fn read_quoted(side: Side, bytes: &[u8], start: usize) -> Result<Quoted, Cause>
     })
 }
 
-/// The header of the datagram at `at`, if that can have been translated the other way (RFC 5508
-/// section 4).
+/// Returns the headers of the quoted datagram at `at`, if that can have been translated in the
+/// other direction (RFC 5508 section 4).
 #[tactic(auto, unfolding(crate::specs::Reading::has_bad_inner))]
 fn read_inner(side: Side, bytes: &[u8], at: usize) -> Option<Header>
     requires there { at ≤ length bytes.now }
@@ -259,7 +259,7 @@ fn read_inner(side: Side, bytes: &[u8], at: usize) -> Option<Header>
     Some(Header { at, start, form })
 }
 
-/// Whether an error from a side may quote a datagram of this form.
+/// Returns whether an error from `side` may quote a datagram of this form.
 fn is_quoted(side: Side, form: TransportForm) -> bool
     ensures { result ≡ is_quotable side form }
 {

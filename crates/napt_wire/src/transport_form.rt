@@ -5,7 +5,7 @@ ghost use Rattle.napt_wire.specs.Fields.{address_place, form_at, icmp_form, numb
 
 use crate::Protocol;
 
-/// The form of a datagram's transport header.
+/// The form of the transport header of a datagram.
 #[derive(Clone, Copy)]
 pub(crate) enum TransportForm {
     Udp,
@@ -14,12 +14,12 @@ pub(crate) enum TransportForm {
     Request,
     /// An ICMP echo reply.
     Reply,
-    /// Any other ICMP message: in a packet that was read, an ICMP error.
+    /// Any other ICMP message. In a packet that passed the checks it is an ICMP error.
     Error,
 }
 
 impl TransportForm {
-    /// The form of the datagram at `at`, whose transport header begins at `start`.
+    /// Returns the form of the datagram at `at`, whose transport header begins at `start`.
     #[tactic(auto, unfolding(crate::specs::Fields::form_at))]
     pub(crate) fn from_protocol(bytes: &[u8], at: usize, start: usize) -> TransportForm
         requires header { at + 20 ≤ start }
@@ -34,7 +34,7 @@ impl TransportForm {
         }
     }
 
-    /// The form of an ICMP message, by its type (RFC 792).
+    /// Returns the form of an ICMP message with this type (RFC 792).
     fn from_icmp_type(icmp_type: u8) -> TransportForm
         ensures { result ≡ icmp_form icmp_type }
     {
@@ -45,7 +45,7 @@ impl TransportForm {
         }
     }
 
-    /// The offset of an end's number in the transport header, if any.
+    /// Returns the offset of the number of an end in the transport header, if it has one.
     pub(crate) fn number_place(self, end: DatagramEnd) -> Option<usize>
         ensures { result ≡ number_place self end }
     {
@@ -58,7 +58,7 @@ impl TransportForm {
         }
     }
 
-    /// The protocol of this form.
+    /// Returns the protocol of this form.
     pub(crate) fn protocol(self) -> Protocol
         ensures { result ≡ protocol_of self }
     {
@@ -78,7 +78,7 @@ pub(crate) enum DatagramEnd {
 }
 
 impl DatagramEnd {
-    /// The offset of the address in an IPv4 header.
+    /// Returns the offset of the address of this end in an IPv4 header.
     pub(crate) fn address_place(self) -> usize
         ensures { result ≡ address_place self }
     {

@@ -17,8 +17,8 @@ use napt_program::{
     ProgramHost, Stop, stop_of_run,
 };
 use napt_run::{
-    Fault, LogOriginStart, LogRunFault, LoggedRunSummary, RunOrigin, RunSummary, State,
-    resume_streams, resume_streams_with_log,
+    Fault, LogRunFault, LogStart, LoggedRunSummary, RunSummary, Start, State, resume_streams,
+    resume_streams_with_log,
 };
 use napt_state::LogPosition;
 use std::alloc::Global;
@@ -130,7 +130,7 @@ impl<'a> StreamRun<'a> {
         let answer = resume_streams(
             rt,
             rt.alloc(),
-            RunOrigin {
+            Start {
                 config: self.config,
                 state: self.state,
             },
@@ -179,7 +179,7 @@ impl<'a> StreamRun<'a> {
     }
 
     /// What the run goes on from, and its log, which has text or is new.
-    fn starts(&self, is_new: bool) -> (RunOrigin<'a>, LogOriginStart<'a>)
+    fn starts(&self, is_new: bool) -> (Start<'a>, LogStart<'a>)
         ensures config { result.0.config ≡ self.now.config }
         ensures state { result.0.state ≡ self.now.state }
         ensures kept { result.1.kept ≡ self.now.kept }
@@ -187,11 +187,11 @@ impl<'a> StreamRun<'a> {
         ensures goes_on { result.1.goes_on ≡ is_some self.now.options.now.files.save }
         ensures each { result.1.each ≡ self.now.options.now.log_each }
     {
-        let start = RunOrigin {
+        let start = Start {
             config: self.config,
             state: self.state,
         };
-        let log_start = LogOriginStart {
+        let log_start = LogStart {
             kept: self.kept,
             is_new,
             goes_on: self.options.files.save.is_some(),

@@ -18,7 +18,8 @@ use std::sync::Arc;
 /// The workers of all external addresses before any leg, in the order of the pool.
 fn workers(alloc: Global, config: &Config) -> Result<Vec<Worker<NoTrace>>, AllocError>
     ensures kept { RulesInvariant config.now }
-    ensures made { IfOk result (λ made. made.items ≡ started_translators config.now (length config.now.pool)) }
+    ensures made { IfOk result (λ made. made.items
+        ≡ started_translators config.now (length config.now.pool)) }
     ensures many { IfOk result (λ made. vec_len made ≡ length config.now.pool) }
 {
     let many = config.pool().len() as u32;

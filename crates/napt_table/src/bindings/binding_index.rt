@@ -1,5 +1,5 @@
-//! What is held of the bindings of one external address: those that live, and those that have ended and are not removed
-//! yet.
+//! The stored bindings of one external address: those that are live, and those that have ended and
+//! are not yet removed.
 
 ghost use Rattle.std.specs.Prelude.{◌≡◌, ◌<◌, ◌^◌, not, Some, None, Ok, Err, OnOk, OnErr, IfOk, IfSome, All, cond, find, slice_get};
 ghost use Rattle.std.specs.Option.{option_copied, option_map, is_some};
@@ -20,21 +20,21 @@ use std::alloc::{AllocError, Global};
 use std::collections::HashMap;
 use std::marker::Model;
 
-/// The bindings that are held, found by either end. Contracts see them by the key of their external number, with their
-/// address, how numbers are granted, and how many more fit.
+/// The stored bindings, found by external number or by inside endpoint. Contracts see them by the
+/// key of their number, with the address, the rules for assigning numbers, and how many more fit.
 #[derive(Drop)]
 pub(crate) struct BindingIndex {
-    /// The external address.
+    /// The external address, in host order.
     address: u32,
     granting: AssignmentRules,
     by_number: IndexMap<ExternalNumberKey, TableBinding>,
-    /// Where in `by_number` a number's binding may be.
+    /// Hints of where a number's binding is in `by_number`.
     places: BindingPlaces,
-    /// The external number for an inside endpoint.
+    /// The external number of each inside endpoint that has a binding.
     by_inside: HashMap<InsideKey, u16>,
-    /// Those in use by a binding.
+    /// The external numbers of the stored bindings.
     numbers: NumbersInUse,
-    /// Under a quota, how many bindings each inside host has.
+    /// How many bindings each inside host has, counted only under a quota.
     hosts: HostCounts,
 }
 
@@ -57,7 +57,7 @@ impl BindingIndex {
     ghost use Rattle.napt_table.specs.declared.bindings.keys.ExternalNumberKey.{ExternalNumberKey as Key};
     ghost use Rattle.napt_table.specs.BindingIndexes.{held_binding, held_at, count_all, IsNumberOf, IsNamed, HasNoInside, IsSamePlace, HoldsSame};
 
-    /// Nothing is held. It takes memory for the numbers in use.
+    /// Creates an index without bindings. Fails if the memory for the numbers in use is refused.
     pub(crate) fn new(
         alloc: Global,
         address: u32,
@@ -78,33 +78,33 @@ impl BindingIndex {
         })
     }
 
-    /// Law: each binding is at the address, under its own protocol and number. It does nothing when it runs.
+    /// Law: each binding has its key's protocol and number, and the address. Does nothing when run.
     pub(crate) fn keep_names(&self)
         ensures { IsNamed self.now }
     {
         let _ = &self.address;
     }
 
-    /// The external address.
+    /// Returns the external address, in host order.
     pub(crate) fn address(&self) -> u32
         ensures { result ≡ self.now.address }
     {
         self.address
     }
 
-    /// How many bindings it holds.
+    /// Returns the number of stored bindings.
     pub(crate) fn size(&self) -> u64 {
         self.by_number.len() as u64
     }
 
-    /// The binding with the number.
+    /// Returns the binding with this protocol and number.
     pub(crate) fn get(&self, key: ExternalNumberKey) -> Option<&TableBinding>
         ensures { option_copied result ≡ held_binding self.now key }
     {
         self.by_number.get(&key)
     }
 
-    /// The binding with the number, and its place: the one that was noted, if the binding there has the number.
+    /// Returns the binding with this key and its index: by the hint, else by a look-up.
     #[inline(always)]
     pub(crate) fn find(&self, key: ExternalNumberKey) -> Option<(usize, &TableBinding)>
         ensures value { option_map (λ found. found.1.now) result ≡ held_binding self.now key }
@@ -121,7 +121,7 @@ impl BindingIndex {
         }
     }
 
-    /// The number of the inside endpoint's binding.
+    /// Returns the external number of the inside endpoint's binding.
     pub(crate) fn number_of(&self, protocol: Protocol, inside: Endpoint) -> Option<u16>
         ensures { IsNumberOf self.now protocol inside result }
     {
@@ -131,8 +131,8 @@ impl BindingIndex {
         }
     }
 
-    /// The first candidate for an inside endpoint, of a host with this block or none, that no binding has; `None` if each
-    /// has one.
+    /// Returns the first candidate for an inside endpoint, of a host with this block or without
+    /// one, that no stored binding has, or `None` if each is taken.
     pub(crate) fn choose(
         &self,
         block: Option<PortBlock>,
@@ -147,14 +147,14 @@ impl BindingIndex {
             .choose(self.granting.choosing, block, protocol, inside)
     }
 
-    /// The least number of the protocol from 1 on that no binding has; `None` if each has one.
+    /// Returns the least number of the protocol from 1 on that no binding has, if there is one.
     pub(crate) fn least_free(&self, protocol: Protocol) -> Option<u16>
         ensures { IsFirstAbsent (λ n. is_some (held_at self.now protocol n)) 1 (2 ^ 16) result }
     {
         self.numbers.least_free(protocol)
     }
 
-    /// Whether the host has all the bindings that the quota allows.
+    /// Returns whether the host has all the bindings that the quota allows.
     pub(crate) fn reaches(&self, host: u32) -> bool
         ensures { result ≡ reaches_quota self.now.granting.quota (count_all self.now host) }
     {
@@ -165,7 +165,7 @@ impl BindingIndex {
         usize::from(quota) <= count
     }
 
-    /// Makes room for one more binding of the protocol.
+    /// Reserves memory for one more binding of the protocol. Fails if it is refused.
     pub(crate) fn reserve(&mut self, protocol: Protocol) -> Result<(), AllocError>
         ensures same { HoldsSame self.old self.new }
         ensures room { OnOk result (0 < self.new.room) }
@@ -179,7 +179,7 @@ impl BindingIndex {
         Ok(())
     }
 
-    /// Adds a binding, for which there is room and whose ends are free.
+    /// Stores a binding, for which there is room and whose endpoints are free.
     pub(crate) fn insert(&mut self, binding: TableBinding)
         requires room { 0 < self.old.room }
         requires at { binding.row.external.address ≡ self.old.address }
@@ -208,7 +208,7 @@ impl BindingIndex {
         numbers.insert(key);
     }
 
-    /// Removes the binding with the number.
+    /// Removes the binding with this protocol and number, if there is one.
     pub(crate) fn remove(&mut self, key: ExternalNumberKey)
         ensures place { IsSamePlace self.old self.new }
         ensures held { (other : Key) → held_binding self.new other ≡ cond (key_eq key other) None
@@ -235,8 +235,8 @@ impl BindingIndex {
     ghost use Rattle.napt_table.specs.Keys.{external_key};
     ghost use Rattle.napt_table.specs.BindingIndexes.{held_binding, held_at, AreUsedUpTo, HoldsSame, ChangesOne, SendKnownPost};
 
-    /// Sends a packet out through the live binding of its inside endpoint, if there is one; returns its number. If
-    /// memory is refused nothing that is held changes.
+    /// Sends a packet out through its inside endpoint's live binding, if there is one, and returns
+    /// its number. Fails if memory is refused; the stored bindings are then unchanged.
     pub(crate) fn send(
         &mut self,
         alloc: Global,
@@ -265,7 +265,7 @@ impl BindingIndex {
         Ok(Some(number))
     }
 
-    /// Begins the binding with the number anew, with these flows. Its ends stay.
+    /// Replaces the last use and the flows of the binding with this key. Its endpoints stay.
     pub(crate) fn renew(&mut self, key: ExternalNumberKey, last: u64, flows: Flows)
         ensures one { ChangesOne key self.old self.new }
         ensures left { (b : Binding) → held_binding self.old key ≡ Some b →
@@ -281,8 +281,8 @@ impl BindingIndex {
         binding.flows = flows;
     }
 
-    /// Takes in a packet: the inside endpoint of the live binding with its number, if it lets the remote in; else
-    /// `NoBinding` or `Filtered`. It takes no memory.
+    /// Receives a packet: returns the inside endpoint of the live binding with its number if the
+    /// filter admits the remote, else `NoBinding` or `Filtered`. Allocates no memory.
     pub(crate) fn receive(
         &mut self,
         timers: IdleTimers,
@@ -291,14 +291,17 @@ impl BindingIndex {
     ) -> Result<Endpoint, Cause>
         requires { AreUsedUpTo packet.now self.old }
         ensures one { ChangesOne (external_key packet.protocol packet.number) self.old self.new }
-        ensures absent { seen_binding timers packet.now (held_at self.old packet.protocol packet.number)
+        ensures absent { seen_binding timers packet.now
+            (held_at self.old packet.protocol packet.number)
             ≡ None →
             (result ≡ Err NoBinding) × (held_at self.new packet.protocol packet.number
             ≡ held_at self.old packet.protocol packet.number) }
         ensures found { (b : Binding) →
-            seen_binding timers packet.now (held_at self.old packet.protocol packet.number) ≡ Some b →
+            seen_binding timers packet.now (held_at self.old packet.protocol packet.number)
+            ≡ Some b →
             (result ≡ inbound_answer inbound packet b)
-            × (held_at self.new packet.protocol packet.number ≡ Some (binding_after_inbound inbound packet b)) }
+            × (held_at self.new packet.protocol packet.number
+            ≡ Some (binding_after_inbound inbound packet b)) }
     {
         let key = ExternalNumberKey {
             number: packet.number,
@@ -323,7 +326,7 @@ impl BindingIndex {
     ghost use Rattle.napt_binding.specs.Slots.{AreDistinct};
     ghost use Rattle.napt_table.specs.{Keys.key_eq, HeldRows.{held_rows, AreRead}};
 
-    /// The rows of the bindings that are live at `now` (ns), in no order.
+    /// Returns the rows of the bindings that are live at `now` (ns), in no order.
     pub(crate) fn rows(
         &self,
         alloc: Global,
@@ -343,7 +346,7 @@ impl BindingIndex {
         Ok(made)
     }
 
-    /// The bindings that are live at `ago` (ns), as a state has them, in no order.
+    /// Returns the bindings that are live at `ago` (ns), as a saved state has them, in no order.
     pub(crate) fn final_bindings(
         &self,
         alloc: Global,

@@ -1,4 +1,4 @@
-//! Where the binding of each external number was noted to be.
+//! Hints of where the binding of each external number is stored.
 
 use crate::bindings::keys::ExternalNumberKey;
 use crate::rows::protocol_rank;
@@ -10,27 +10,27 @@ use std::alloc::{AllocError, Global};
 /// How many external numbers a protocol has.
 const NUMBERS: usize = 65_536;
 
-/// Where the binding of each external number was last noted to be among those that are held, by protocol. Whoever asks
-/// looks whether it is still there, so that contracts need not speak of it. Places from 65,536 on are not noted.
+/// The index where the binding of each external number was last stored, by protocol. It is a hint which
+/// the caller checks, so contracts do not mention it. An index from 65,536 on is not recorded.
 #[derive(Drop)]
 pub(crate) struct BindingPlaces {
     noted: [Vec<u16>; 3],
 }
 
 impl BindingPlaces {
-    /// None is noted. It takes no memory.
+    /// Creates an empty set of hints, which takes no memory.
     pub(crate) fn new(alloc: Global) -> BindingPlaces {
         BindingPlaces {
             noted: [Vec::new(alloc), Vec::new(alloc), Vec::new(alloc)],
         }
     }
 
-    /// Makes room for the places of the protocol, 128 KiB, unless there is some.
+    /// Reserves the 128 KiB of a protocol's hints, if it has none. Fails if memory is refused.
     pub(crate) fn reserve(&mut self, protocol: Protocol) -> Result<(), AllocError> {
         self.noted[protocol_rank(protocol) as usize].resize(NUMBERS, 0)
     }
 
-    /// The place that was noted for the number, or any.
+    /// Returns the index that was recorded for the number, or any index if there is none.
     #[inline(always)]
     pub(crate) fn noted(&self, key: ExternalNumberKey) -> usize {
         match self.noted[protocol_rank(key.protocol) as usize].get(usize::from(key.number)) {
@@ -39,7 +39,7 @@ impl BindingPlaces {
         }
     }
 
-    /// Notes the place of the binding that is there, if one is.
+    /// Records the index of the binding that is stored there, if there is one.
     pub(crate) fn note(&mut self, held: &IndexMap<ExternalNumberKey, TableBinding>, place: usize) {
         let (Some((key, _)), Ok(place)) = (held.get_index(place), u16::try_from(place)) else {
             return;

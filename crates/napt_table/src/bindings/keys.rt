@@ -1,4 +1,4 @@
-//! By what the bindings of one external address are found.
+//! The keys by which the bindings of one external address are found.
 
 ghost use Rattle.std.specs.Prelude.{◌≡◌, ◌<◌, ◌^◌};
 ghost use Rattle.napt_table.specs.Keys.{key_of, inside_key};
@@ -6,14 +6,14 @@ ghost use Rattle.napt_table.specs.Keys.{key_of, inside_key};
 use napt_binding::TableBinding;
 use napt_wire::{Endpoint, Protocol};
 
-/// An external number under its protocol.
+/// A protocol and an external number.
 #[derive(Clone, Copy, PartialEq, Eq, PartialOrd, Ord, Hash)]
 pub(crate) struct ExternalNumberKey {
     pub(crate) number: u16,
     pub(crate) protocol: Protocol,
 }
 
-/// An inside endpoint under its protocol.
+/// A protocol and an inside endpoint.
 #[derive(Clone, Copy, PartialEq, Eq, Hash)]
 pub(crate) struct InsideKey {
     address: u32,
@@ -21,7 +21,7 @@ pub(crate) struct InsideKey {
     protocol: Protocol,
 }
 
-/// The key of the inside endpoint.
+/// Returns the key of an inside endpoint.
 pub(crate) fn inside_key(protocol: Protocol, inside: Endpoint) -> InsideKey
     ensures { result ≡ inside_key protocol inside }
 {
@@ -32,7 +32,7 @@ pub(crate) fn inside_key(protocol: Protocol, inside: Endpoint) -> InsideKey
     }
 }
 
-/// The key of the binding's external number.
+/// Returns the key of a binding's external number.
 pub(crate) fn key_of(binding: &TableBinding) -> ExternalNumberKey
     ensures value { result ≡ key_of binding.now }
     ensures small { result.number < 2 ^ 16 }

@@ -1,4 +1,4 @@
-//! Which external numbers of an address are in use, under each protocol.
+//! The external numbers of an address that are in use, by protocol.
 
 ghost use Rattle.std.specs.Prelude.{◌≡◌, ◌^◌, ◌<◌, false, not, ◌&&◌, ◌||◌, find, IfOk, IfSome};
 ghost use Rattle.napt_config.specs.Rules.{IsPortBlock};
@@ -9,7 +9,7 @@ use napt_config::{NumberAssignment, PortBlock};
 use napt_wire::{Endpoint, Protocol};
 use std::alloc::{AllocError, Global};
 
-/// The numbers in use, by protocol.
+/// The numbers in use, one set for each protocol.
 #[derive(Drop)]
 pub(crate) struct NumbersInUse {
     icmp: Numbers,
@@ -24,7 +24,7 @@ impl NumbersInUse {
     ghost use Rattle.napt_table.specs.declared.bindings.keys.ExternalNumberKey.{ExternalNumberKey as Key};
     ghost use Rattle.napt_table.specs.NumbersInUse.{is_in_use, AreByProtocol};
 
-    /// None is in use. It takes about 25 KiB, and no other call takes any; `AllocError` if they are refused.
+    /// Creates empty sets, of about 25 KiB; nothing else allocates. Fails if memory is refused.
     pub(crate) fn new(alloc: Global) -> Result<NumbersInUse, AllocError>
         ensures by_protocol { IfOk result AreByProtocol }
         ensures none { IfOk result (λ numbers. (key : Key) → is_in_use numbers key ≡ false) }
@@ -36,8 +36,8 @@ impl NumbersInUse {
         })
     }
 
-    /// The external number for an inside endpoint, of a host with this block or none: the first of its candidates that is
-    /// not in use; `None` if all are.
+    /// Returns the first candidate for an inside endpoint, of a host with this block or without
+    /// one, that is free, or `None` if none is.
     pub(crate) fn choose(
         &self,
         choosing: NumberAssignment,
@@ -57,7 +57,7 @@ impl NumbersInUse {
         }
     }
 
-    /// The least number of the protocol from 1 on that is not in use; `None` if all are.
+    /// Returns the least number of the protocol from 1 on that is free, or `None` if each is in use.
     pub(crate) fn least_free(&self, protocol: Protocol) -> Option<u16>
         requires { AreByProtocol self.now }
         ensures { IsFirstAbsent (λ n. is_in_use self.now (external_key protocol n))

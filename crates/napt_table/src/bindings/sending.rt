@@ -1,4 +1,4 @@
-//! Bindings that begin, and packets that go out through them.
+//! New bindings, and packets that go out through bindings.
 
 ghost use Rattle.std.specs.{Prelude.{◌≡◌, ◌≤◌, true, false, Some, None, Ok, OnOk, OnErr, IfOk, IfSome, cond}, Option.is_some};
 ghost use Rattle.napt_config.specs.Rules.{IsPortBlock};
@@ -15,11 +15,11 @@ impl Bindings {
     ghost use Rattle.napt_table.specs.Keys.{key_eq, key_of};
     ghost use Rattle.napt_table.specs.declared.bindings.keys.ExternalNumberKey.{ExternalNumberKey as Key};
     ghost use Rattle.napt_table.specs.BindingIndexes.{held_binding, IsSamePlace, HasNoInside, IsUsedBy};
-    ghost use Rattle.napt_table.specs.Bindings.{BindingsHaveRoom, BindingsInvariant};
+    ghost use Rattle.napt_table.specs.Bindings.{BindingsHaveRoom, BindingsUnchanged};
 
-    /// Makes room for one more binding of the protocol.
+    /// Reserves memory for one more binding of the protocol. Fails if it is refused.
     fn make_room(&mut self, protocol: Protocol) -> Result<(), AllocError>
-        ensures same { BindingsInvariant self.old self.new }
+        ensures same { BindingsUnchanged self.old self.new }
         ensures room { OnOk result (BindingsHaveRoom self.new) }
     {
         let held = &mut self.held;
@@ -28,7 +28,7 @@ impl Bindings {
         due.reserve()
     }
 
-    /// Adds a binding that lives at a time not before the hold, for which there is room and whose ends are free.
+    /// Stores and queues a binding that is live at `from`. There is room, and its endpoints are free.
     fn insert(&mut self, binding: TableBinding, from: u64)
         requires room { BindingsHaveRoom self.old }
         requires from { from ≤ self.old.at }
@@ -41,7 +41,8 @@ impl Bindings {
         ensures timers { self.new.timers ≡ self.old.timers }
         ensures at { self.new.at ≡ self.old.at }
         ensures place { IsSamePlace self.old.held self.new.held }
-        ensures held { (key : Key) → held_binding self.new.held key ≡ cond (key_eq (key_of binding) key)
+        ensures held { (key : Key) → held_binding self.new.held key
+            ≡ cond (key_eq (key_of binding) key)
             (Some binding) (held_binding self.old.held key) }
     {
         let key = key_of(&binding);
@@ -61,10 +62,10 @@ impl Bindings {
     ghost use Rattle.napt_table.specs.Keys.{key_eq, key_of};
     ghost use Rattle.napt_table.specs.declared.bindings.keys.ExternalNumberKey.{ExternalNumberKey as Key};
     ghost use Rattle.napt_table.specs.BindingIndexes.{held_binding, held_at, HasInside, IsSamePlace, HasNoInside, HoldsSame, IsUsedBy, SendKnownPost};
-    ghost use Rattle.napt_table.specs.Bindings.{BindingsHaveRoom, BindingsInvariant, NewBindingOk, RenewedBindingOk, SendPost, SendsKnown};
+    ghost use Rattle.napt_table.specs.Bindings.{BindingsHaveRoom, BindingsUnchanged, NewBindingOk, RenewedBindingOk, SendPost, SendsKnown};
 
-    /// Adds a binding that lives or is held, and whose ends are free. A redirect never expires, so it has no queue entry.
-    /// If memory is refused nothing that is held changes.
+    /// Stores a binding that is live or held and whose endpoints are free. A redirect never expires, so
+    /// it is not queued. Fails if memory is refused; the stored bindings are then unchanged.
     pub(crate) fn add(&mut self, binding: TableBinding) -> Result<(), AllocError>
         requires live { is_live self.old.timers (hold_ago self.old.timers self.old.at) binding
             ≡ true }
@@ -90,8 +91,8 @@ impl Bindings {
         Ok(())
     }
 
-    /// Sends a packet out through the live binding of its inside endpoint, if there is one; returns its number, and its
-    /// time becomes that of the packet. If memory is refused nothing that is held changes.
+    /// Sends a packet out through its inside endpoint's live binding, if there is one; returns its
+    /// number and takes the packet's time. Fails if memory is refused; no binding then changes.
     #[inline(always)]
     fn send_held(
         &mut self,
@@ -102,8 +103,9 @@ impl Bindings {
         ensures timers { self.new.timers ≡ self.old.timers }
         ensures at { IfOk result (λ found.
             self.new.at ≡ cond (is_some found) packet.now self.old.at) }
-        ensures went { IfOk result (SendKnownPost self.old.timers packet self.old.held self.new.held) }
-        ensures refused { OnErr result (BindingsInvariant self.old self.new) }
+        ensures went { IfOk result (SendKnownPost self.old.timers packet self.old.held
+            self.new.held) }
+        ensures refused { OnErr result (BindingsUnchanged self.old self.new) }
     {
         let timers = self.timers;
         timers.are_within_limits();
@@ -115,8 +117,8 @@ impl Bindings {
         Ok(Some(number))
     }
 
-    /// Sends a packet out through the live binding of its inside endpoint, if there is one; returns its number. Else, or
-    /// if memory is refused, nothing that is held changes.
+    /// Sends a packet out through its inside endpoint's live binding, if there is one; returns its
+    /// number. If there is none, or memory is refused, no binding changes.
     pub(crate) fn send_known(
         &mut self,
         alloc: Global,
@@ -126,28 +128,29 @@ impl Bindings {
         ensures timers { self.new.timers ≡ self.old.timers }
         ensures known { IfOk result (λ found. IfSome found (λ number.
             SendsKnown packet self.old self.new number)) }
-        ensures unknown { result ≡ Ok None → BindingsInvariant self.old self.new }
-        ensures refused { OnErr result (BindingsInvariant self.old self.new) }
+        ensures unknown { result ≡ Ok None → BindingsUnchanged self.old self.new }
+        ensures refused { OnErr result (BindingsUnchanged self.old self.new) }
     {
         self.timers.are_within_limits();
         self.keep_names();
         self.send_held(alloc, packet)
     }
 
-    /// Takes the memory for a new binding for the outgoing packet, and begins its flows. What is held does not change.
+    /// Reserves memory for a new binding of the packet; returns its first flows. No binding changes.
     fn prepare(&mut self, alloc: Global, packet: OutboundPacket) -> Result<Flows, AllocError>
-        ensures same { BindingsInvariant self.old self.new }
+        ensures same { BindingsUnchanged self.old self.new }
         ensures room { OnOk result (BindingsHaveRoom self.new) }
         ensures flows { IfOk result (λ flows.
             live_flows self.old.timers packet.now packet.protocol flows ≡
-            change_first (is_flow_of packet.remote) (flow_after packet.protocol WayOut packet.flags packet.now)
+            change_first (is_flow_of packet.remote)
+            (flow_after packet.protocol WayOut packet.flags packet.now)
             (with_flow packet.remote packet.now [])) }
     {
         self.make_room(packet.protocol)?;
         Flows::from_packet(alloc, self.timers, packet)
     }
 
-    /// Makes a binding with these flows for the outgoing packet; returns its number, or `NoPort`. It takes no memory.
+    /// Makes the packet's binding with these flows; returns its number, or `NoPort`. Allocates nothing.
     fn insert_new(&mut self, packet: OutboundPacket, flows: Flows) -> Result<u16, Cause>
         requires room { BindingsHaveRoom self.old }
         requires at { self.old.at ≡ packet.now }
@@ -156,7 +159,8 @@ impl Bindings {
         requires absent { HasNoInside self.old.held packet.protocol packet.inside }
         requires block { IfSome packet.block IsPortBlock }
         requires flows { live_flows self.old.timers packet.now packet.protocol flows ≡
-            change_first (is_flow_of packet.remote) (flow_after packet.protocol WayOut packet.flags packet.now)
+            change_first (is_flow_of packet.remote)
+            (flow_after packet.protocol WayOut packet.flags packet.now)
             (with_flow packet.remote packet.now []) }
         ensures timers { self.new.timers ≡ self.old.timers }
         ensures at { self.new.at ≡ self.old.at }
@@ -187,14 +191,15 @@ impl Bindings {
         Ok(number)
     }
 
-    /// Begins the binding that is held for the outgoing packet anew, with these flows: it has the number.
+    /// Makes the packet's held binding live again, with these flows and the number that it has.
     fn renew(&mut self, packet: OutboundPacket, number: u16, flows: Flows)
         requires at { self.old.at ≡ packet.now }
         requires its { HasInside self.old.held packet.protocol packet.inside number }
         requires unseen { seen_binding self.old.timers packet.now
             (held_at self.old.held packet.protocol number) ≡ None }
         requires flows { live_flows self.old.timers packet.now packet.protocol flows ≡
-            change_first (is_flow_of packet.remote) (flow_after packet.protocol WayOut packet.flags packet.now)
+            change_first (is_flow_of packet.remote)
+            (flow_after packet.protocol WayOut packet.flags packet.now)
             (with_flow packet.remote packet.now []) }
         ensures timers { self.new.timers ≡ self.old.timers }
         ensures at { self.new.at ≡ self.old.at }
@@ -208,8 +213,8 @@ impl Bindings {
         held.renew(ExternalNumberKey { number, protocol }, packet.now, flows);
     }
 
-    /// Sends a packet out: returns the number of its binding, or of a new one if it has none, which is that of its held
-    /// one; else `OverQuota` or `NoPort`. If memory is refused nothing that is held changes.
+    /// Sends a packet out and returns its number: that of its live binding, else of its held one, else
+    /// of a new one, or `OverQuota` or `NoPort`. Fails if memory is refused; no binding then changes.
     #[inline(never)]
     pub(crate) fn send(
         &mut self,
@@ -222,7 +227,7 @@ impl Bindings {
         ensures place { IsSamePlace self.old.held self.new.held }
         ensures at { OnOk result (self.new.at ≡ packet.now) }
         ensures sends { IfOk result (SendPost packet self.old self.new) }
-        ensures refused { OnErr result (BindingsInvariant self.old self.new) }
+        ensures refused { OnErr result (BindingsUnchanged self.old self.new) }
     {
         self.timers.are_within_limits();
         self.keep_names();

@@ -5,4 +5,5 @@ use Rattle.napt_account.proofs.live_rows.redirects.Given as goal
 
 abbrev pub invariant-loop-redirect : goal.invariant-loop-redirect
 invariant-loop-redirect l = l.made.items
-    ≡ map (λ r. timed_row l.config.timers (redirect_binding (pair_of l.config) r)) (take l.redirect-index l.config.redirects)
+    ≡ map (λ r. timed_row l.config.timers (redirect_binding (pair_of l.config) r))
+    (take l.redirect-index l.config.redirects)

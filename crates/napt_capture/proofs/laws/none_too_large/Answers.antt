@@ -1,3 +1,4 @@
+-- none_too_large: a short file is read whole, and no file ends with `TooLarge` if it is streamed.
 use Rattle.napt_capture.proofs.{FileContents.never_large, WholeReading.read_short}
 use Rattle.napt_capture.proofs.laws.none_too_large.Goals as goal
 

@@ -1,3 +1,4 @@
+-- reads_back: the records of a written text are those written, also if it is read whole.
 use Rattle.napt_capture.proofs.ReadsBack.{captured_text, read_text}
 use Rattle.napt_capture.proofs.laws.reads_back.Goals as goal
 

@@ -1,4 +1,4 @@
--- What was filled so far is what was consumed, and no read failed.
+-- fill: the first `filled` bytes of the buffer are those consumed, and no read failed.
 use Rattle.std.{proofs.Common.{◌≡◌, ◌-◌, ◌≤◌, length, take}, specs.Io.KnownBytes.Consumes}
 use Rattle.napt_capture.proofs.reading.fill.Given as goal
 

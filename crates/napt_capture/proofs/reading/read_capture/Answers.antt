@@ -1,4 +1,4 @@
--- Each exit answers what was read.
+-- read_capture: at each exit the result is that of reading the file.
 use Rattle.std.proofs.{lemmas.{Grind.common_steps, Bool.Decides.nat_tests, Result.err_from_is_err_and}, Common.{arith, length-append}}
 use Rattle.napt_capture.proofs.WholeReading.{asked_joined, for_records, header_refused, reads_end, reads_fault, reads_on, refuses, starts}
 use Rattle.napt_capture.proofs.reading.read_capture.Goals as goal

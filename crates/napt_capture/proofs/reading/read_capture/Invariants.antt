@@ -1,4 +1,4 @@
--- What was read so far is the front of the file, with these records, and no read failed.
+-- read_capture: the bytes read so far are those of the file header and of these records, and no read failed.
 use Rattle.std.proofs.Common.{◌≡◌, ◌+◌, ◌-◌, ◌*◌, ◌≤◌, All, length}
 use Rattle.napt_capture.{specs.Prelude.{MOST_ASKED, bytes_asked_for_records, LeavesBytes, IsWritable}, proofs.WholeReading.Progress}
 use Rattle.napt_capture.proofs.reading.read_capture.Given as goal

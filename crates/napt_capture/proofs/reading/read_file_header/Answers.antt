@@ -1,4 +1,4 @@
--- What was filled is the header.
+-- read_file_header: the bytes that filled the buffer are the header, or the whole file if it is shorter.
 use Rattle.std.proofs.Common.{arith}
 use Rattle.napt_capture.proofs.{FillSteps.{Gives-map, Says-fact, filled_by}, Header.{file_short, file_whole}}
 use Rattle.napt_capture.proofs.reading.read_file_header.Goals as goal

@@ -1,4 +1,4 @@
--- What was filled is the header, and then the bytes.
+-- read_record: the bytes of the first fill are the header, and those of the second one are the captured bytes.
 use Rattle.std.proofs.{lemmas.{Grind.common_steps, Bool.Decides.nat_tests, Result.err_from_is_err_and, List.with_items_is}, Common.{Err, arith}}
 use Rattle.napt_capture.{specs.Prelude.NextRead, proofs.FillSteps.{Gives-both, Gives-map, Says-fact, filled_by}}
 use Rattle.napt_capture.proofs.Header.{header_read, next_all, next_bad, next_early, next_large, next_none, next_part}

@@ -1,4 +1,4 @@
--- After each step the text so far is written, or a front of it.
+-- write_capture: after each step the text so far is written, or a prefix of it.
 use Rattle.std.{proofs.{Common.{arith, ◌+◌, sym, rules}, lemmas.{Grind.common_steps, Bool.Decides.nat_tests, Result.err_from_is_err_and}}, specs.List.flat_map}
 use Rattle.napt_capture.specs.Text.{file_header, record_text, text}
 use Rattle.napt_capture.proofs.PutSteps.{flushed_ok, flushed_err, PutsFront-append, PutsFront-longer, PutsFront-fault, PutsFront-same, text_of_first, text_of_first-more, text_of_first-all, text_of_first-room, text-split}

@@ -1,4 +1,4 @@
--- The header of the file and the records so far are written, and no write failed.
+-- write_capture: the file header and the records so far are written, and no write failed.
 use Rattle.std.proofs.Common.{◌≡◌}
 use Rattle.napt_capture.{specs.Writing.PutOk, proofs.PutSteps.text_of_first}
 use Rattle.napt_capture.proofs.writing.write_capture.Given as goal

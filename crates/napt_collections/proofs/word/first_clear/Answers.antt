@@ -1,3 +1,4 @@
+-- first_clear: the trailing ones after the lower bits are set end at the first clear bit.
 use Rattle.std.proofs.{lemmas.{Grind.common_steps, Bool.Decides.nat_tests}, Common.arith}
 use Rattle.napt_collections.proofs.Words.{all_set, first_is, filled_small}
 use Rattle.napt_collections.proofs.word.first_clear.Goals as goal

@@ -1,3 +1,4 @@
+-- first_clear_of: no bit from `from` on is clear in the words before word i.
 use Rattle.std.proofs.Common.{◌≡◌, ℕ, ◌+◌, ◌*◌, ◌<◌, ◌≤◌, true}
 use Rattle.napt_collections.specs.BitSets.{has}
 use Rattle.napt_collections.proofs.word.first_clear_of.Given as goal

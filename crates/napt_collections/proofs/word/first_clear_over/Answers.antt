@@ -1,3 +1,4 @@
+-- first_clear_over: the next word that is not full has the first clear bit, if there is one.
 use Rattle.std.proofs.Common.{arith}
 use Rattle.napt_collections.proofs.Rows.{over_none, over_some}
 use Rattle.napt_collections.proofs.word.first_clear_over.Goals as goal

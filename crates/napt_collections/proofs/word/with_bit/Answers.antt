@@ -1,3 +1,4 @@
+-- with_bit: bit k is set, and the others are unchanged.
 use Rattle.std.{proofs.{Common.{w64, ap}, lemmas.Nat.Bits.{bit_at_set_same, bit_at_set_other}}, specs.Prelude.{◌==◌, ℕ}}
 use Rattle.napt_collections.proofs.word.with_bit.Goals as goal
 

@@ -1,3 +1,4 @@
+-- without_bit: bit k is clear, and the others are unchanged.
 use Rattle.std.{proofs.{Common.{w64, ap}, lemmas.Nat.Bits.{bit_at_clear_same, bit_at_clear_other}}, specs.Prelude.{◌==◌, ℕ}}
 use Rattle.napt_collections.proofs.word.without_bit.Goals as goal
 

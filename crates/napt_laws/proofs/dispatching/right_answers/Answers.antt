@@ -1,3 +1,4 @@
+-- `right_answers`: right answers are those of the run, grow with it, and give its outcomes.
 use Rattle.napt_laws.proofs.DispatchLaws as lemmas
 use Rattle.napt_laws.proofs.dispatching.right_answers.Goals as goal
 

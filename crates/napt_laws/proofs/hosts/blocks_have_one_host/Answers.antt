@@ -1,3 +1,4 @@
+-- `blocks_have_one_host`: the number of a block gives its host, and no other host has it.
 use Rattle.napt_laws.proofs.Holders.{blocks_tell, hosts_have, blocks_apart}
 use Rattle.napt_laws.proofs.hosts.blocks_have_one_host.Goals as goal
 

@@ -1,3 +1,4 @@
+-- `legs_are_local`: the legs of an address on its own bindings have the answers and the bindings of the run.
 use Rattle.napt_laws.proofs.LegsAlone.{legs_answer_alone, legs_leave_their_own}
 use Rattle.napt_laws.proofs.legs.legs_are_local.Goals as goal
 

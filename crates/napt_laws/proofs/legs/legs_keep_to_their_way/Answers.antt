@@ -1,3 +1,4 @@
+-- `legs_keep_to_their_way`: errors change no binding, and a leg ends at its side.
 use Rattle.napt_laws.proofs.LegLaws.{errors_change_nothing, legs_end_at_their_side, in_stays_in}
 use Rattle.napt_laws.proofs.legs.legs_keep_to_their_way.Goals as goal
 

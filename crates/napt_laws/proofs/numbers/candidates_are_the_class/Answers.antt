@@ -1,3 +1,4 @@
+-- `candidates_are_the_class`: the candidates are the class, or the block, each once, with the right one first.
 use Rattle.napt_laws.proofs.Classes.{candidates_begin, candidates_are_those, candidates_differ}
 use Rattle.napt_laws.proofs.Blocks.{block_begins, block_is_those, block_differs, block_keeps_parity}
 use Rattle.napt_laws.proofs.numbers.candidates_are_the_class.Goals as goal

@@ -1,3 +1,4 @@
+-- `runs_are_sound`: after any inputs the list is sound, and no two bindings share an endpoint.
 use Rattle.napt_rules.specs.Prelude.{RunsAreSound}
 use Rattle.napt_laws.proofs.RunsSound.{runs_sound, runs_apart}
 use Rattle.napt_laws.proofs.runs.runs_are_sound.Goals as goal

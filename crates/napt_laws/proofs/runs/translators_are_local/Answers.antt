@@ -1,3 +1,4 @@
+-- `translators_are_local`: a translator of one address has the answers and the bindings of the run there.
 use Rattle.napt_laws.proofs.RunsLocal.{translators_answer_from, translators_keep_from, translators_hold_from}
 use Rattle.napt_laws.proofs.runs.translators_are_local.Goals as goal
 

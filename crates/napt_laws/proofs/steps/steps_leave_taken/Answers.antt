@@ -1,3 +1,4 @@
+-- `steps_leave_taken`: each binding after a step is live or held.
 use Rattle.napt_laws.proofs.StepsLive.{out_leaves_taken, in_leaves_taken}
 use Rattle.napt_laws.proofs.steps.steps_leave_taken.Goals as goal
 

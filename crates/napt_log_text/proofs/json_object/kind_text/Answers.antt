@@ -51,7 +51,8 @@ request bytes shown type is same shows eight =
     (sym (same_byte bytes shown type same shows) ∙ eight)
 
 reply : (bytes shown : List ℕ) (type : ℕ) → kind bytes ≡ kinds.Echo → shown ≡ bytes →
-    type ≡ byte_at (transport_start 0 shown) shown → ¬ (type ≡ 8) → form_name (form_at 0 bytes) ≡ codes "icmp-echo-reply"
+    type ≡ byte_at (transport_start 0 shown) shown → ¬ (type ≡ 8) →
+    form_name (form_at 0 bytes) ≡ codes "icmp-echo-reply"
 reply bytes shown type is same shows differs =
     second_if (byte_at (transport_start 0 bytes) bytes) _ _ _ (echo_at bytes is)
     (λ eight. differs (same_byte bytes shown type same shows ∙ eight))

@@ -1,3 +1,4 @@
+-- next_reply: an answer at hand or the next reply of the ring is handed out, in each case of the reply.
 use Rattle.std.{proofs.Common.{refl, ap, ◌∙◌, [], ◌∷◌, ◌++◌, append-nil}, specs.{Prelude.Some, Vec.Iter.into_iter_items}}
 use Rattle.rtrb.specs.Ring.{received}
 use Rattle.napt_pool.{specs.{Histories.{answers_of, each_reply, replies_handed_out}, declared.message.Reply.TheVariants.{Done, Failed, Many}}, proofs.JoinedWorkers.drained}
@@ -28,7 +29,8 @@ returns-in-Ok-Many-clause-heard g c =
     let left = drained c.next.new.self c.in_default.ensures.cases.1 in
     came_heard (received c.args.answers.now) (received c.pop.new.self) (into_iter_items c.args.at_hand.now)
     (into_iter_items c.next.new.self) (Many c.in-Ok-Many.answered) c.requires.hand (c.in_default.ensures.items ∙ left)
-    popped.0 left ∙ ap (λ r. replies_handed_out c.args.answers.now (into_iter_items c.args.at_hand.now) ++ r) (append-nil _)
+    popped.0 left ∙ ap (λ r. replies_handed_out c.args.answers.now (into_iter_items c.args.at_hand.now) ++ r)
+    (append-nil _)
 
 pub returns-in-Ok-Failed-clause-stopped : goal.returns-in-Ok-Failed-clause-stopped
 returns-in-Ok-Failed-clause-stopped g c =

@@ -1,3 +1,4 @@
+-- send_close: Close is not an item, so the accepted items stay the same.
 use Rattle.napt_pool.proofs.HistoryGrowth.{items_of-close}
 use Rattle.napt_pool.proofs.answers.send_close.Goals as goal
 

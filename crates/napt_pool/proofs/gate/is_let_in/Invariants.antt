@@ -1,3 +1,4 @@
+-- is_let_in: a gate that is always open is not asked a second time.
 use Rattle.std.proofs.Common.{◌≡◌, true}
 use Rattle.napt_pool.proofs.gate.is_let_in.Given as goal
 

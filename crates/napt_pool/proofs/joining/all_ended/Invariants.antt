@@ -1,3 +1,4 @@
+-- all_ended: the workers seen so far ended well, and `number` is their count.
 use Rattle.std.{proofs.Common.{◌≡◌, ◌+◌, ◌≤◌, ◌++◌, map, vec_items, vec_len}, specs.{Prelude.{vec_capacity, Ok}, Vec.Iter.{into_iter_items, into_iter_len}}}
 use Rattle.napt_pool.proofs.joining.all_ended.Given as goal
 

@@ -1,3 +1,4 @@
+-- join_all: `IsEnd` holds for one more worker.
 use Rattle.std.{proofs.Common.{rules, ◌≡◌, ◌++◌, ◌∷◌, [], vec_items}, specs.Vec.Iter.into_iter_items}
 use Rattle.napt_pool.proofs.JoinedWorkers.{AreEnds-push, split-step}
 use Rattle.napt_pool.proofs.joining.join_all.Goals as goal

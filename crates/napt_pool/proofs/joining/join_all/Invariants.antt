@@ -1,3 +1,4 @@
+-- join_all: `IsEnd` holds for each worker joined so far.
 use Rattle.std.{proofs.Common.{◌≡◌, ◌+◌, ◌≤◌, ◌++◌, vec_items, vec_len}, specs.{Prelude.vec_capacity, Vec.Iter.{into_iter_items, into_iter_len}}}
 use Rattle.napt_pool.specs.Workers.{AreEnds}
 use Rattle.napt_pool.proofs.joining.join_all.Given as goal

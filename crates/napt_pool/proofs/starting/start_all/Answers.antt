@@ -1,3 +1,4 @@
+-- start_all: one more worker is started for its machine, and at the end there is one for each.
 use Rattle.std.proofs.Common.{rules, arith, ◌≡◌, ◌++◌, ◌∷◌, [], map, vec_items, vec_len, ◌+◌, below_more, ap, sym, append-nil, ◌∙◌, length}
 use Rattle.std.{proofs.lemmas.List.{get_or_append_left, get_or_push}, specs.{Prelude.{slice_index_or, replicate}, Vec.Iter.into_iter_items}}
 use Rattle.napt_pool.{specs.Workers.{machine_of, accepted_of, taken_of, heard_of}, proofs.JoinedWorkers.{all-push, map-split-step, drained}}

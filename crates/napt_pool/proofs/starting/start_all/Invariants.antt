@@ -1,3 +1,4 @@
+-- start_all: there is one new worker for each of the first machines.
 use Rattle.std.{proofs.Common.{◌≡◌, ℕ, ◌+◌, ◌≤◌, ◌<◌, ◌++◌, [], map, vec_items, vec_len, slice_index_or}, specs.Prelude.{vec_capacity, replicate}}
 use Rattle.std.specs.Vec.Iter.{into_iter_items, into_iter_len}
 use Rattle.napt_pool.specs.Workers.{machine_of, accepted_of, taken_of, heard_of}

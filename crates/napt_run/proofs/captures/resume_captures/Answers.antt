@@ -17,7 +17,8 @@ known g c =
     c.in_ok-outside.ensures.ok c.in_ok-outputs.ensures.too_many.1
 
 -- what an output gets that received a share of its text
-got : (g : Over) (c : In_ok-outputs g) (which : Which) (share : OutputShare) {told : List ℕ} (old new : Option (List ℕ)) →
+got : (g : Over) (c : In_ok-outputs g) (which : Which) (share : OutputShare) {told : List ℕ}
+    (old new : Option (List ℕ)) →
     told ≡ text_of which c.in_ok-outputs.outputs → OutputReceives share told old new →
     GetsFrom (origin_of c.args.start) which share (g.R.Source.remaining c.args.inside.now)
     (g.Q.Source.remaining c.args.outside.now) old new

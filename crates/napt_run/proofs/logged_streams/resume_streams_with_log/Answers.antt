@@ -79,7 +79,8 @@ returns-clause-kept g c log told is =
     let kept = c.stream_logged-told.new.log.left in
     let same = kept_is c.args.start c.args.log_start c.in_ok-taken.taken c.in_ok-taken.ensures log told is
     c.over-running.result c.over-running.ensures.log in
-    rw c.with_report.ensures (kept_if (LogIsKept (origin_of c.args.start) log inside outside) c.stream_logged-told.result
+    rw c.with_report.ensures (kept_if (LogIsKept (origin_of c.args.start) log inside outside)
+    c.stream_logged-told.result
     c.reported-written.result left (subst (λ l. OnOk c.stream_logged-told.result
     (LogIsKept (origin_of c.args.start) log inside outside l)) (sym c.take_left-left.ensures.left)
     (subst (λ l. OnOk c.stream_logged-told.result (LogIsKept (origin_of c.args.start) l inside outside kept)) same

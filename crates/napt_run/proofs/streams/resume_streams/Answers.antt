@@ -1,5 +1,5 @@
 use Rattle.std.proofs.Common.{◌≡◌, ap, false, subst, sym}
-use Rattle.napt_records.specs.{Faults.tells_shut_gate, declared.Which.TheVariants.{Inside, Outside}}
+use Rattle.napt_records.specs.{Faults.is_shut_gate_fault, declared.Which.TheVariants.{Inside, Outside}}
 use Rattle.napt_run.{specs.{Runs.ResultSays, Streams.{DeviceGetsFrom, Explains, HasRead, IsOfRun, stream_ended}}, proofs.streams.resume_streams.{Given.Over, Goals.After-passed_if}}
 use Rattle.napt_run.proofs.Endings.{Ends, closed, ended_passed, ends_and, err_ended, explains_ends, few_ends, gate_ends, inside_by, left_if, outside_by, reads_by, report_by}
 use Rattle.napt_run.specs.Origins.{origin_of}
@@ -66,11 +66,12 @@ returns-clause-fault g c =
 
 pub returns-clause-too_many : goal.returns-clause-too_many
 returns-clause-too_many g c is =
-    few_ends g.G.Gate.is_open c.unlogged-told.result (stream_ended c.passed_if.result) (ends g c) (says g c).stop (ap stream_ended is)
+    few_ends g.G.Gate.is_open c.unlogged-told.result (stream_ended c.passed_if.result) (ends g c) (says g c).stop
+    (ap stream_ended is)
 
 pub returns-clause-gate : goal.returns-clause-gate
 returns-clause-gate g c is =
-    err_ended c.passed_if.result (λ fault. tells_shut_gate fault ≡ false)
+    err_ended c.passed_if.result (λ fault. is_shut_gate_fault fault ≡ false)
     (gate_ends g.G.Gate.is_open c.unlogged-told.result (stream_ended c.passed_if.result) (ends g c) (says g c).stop is)
 
 pub returns-clause-readings : goal.returns-clause-readings

@@ -13,7 +13,8 @@ returns c =
     let same : now ≡ hold_ago timers clock = c.hold_ago-now.ensures
     ∙ ap (λ (t : Timers). hold_ago t clock) c.from_config.ensures in
     let config = c.args.config.now in
-    subst (λ (s : State). with_list c.retain_mut.new.self.items ≡ record { clock = s.clock; list = dynamic_bindings config s })
+    subst (λ (s : State). with_list c.retain_mut.new.self.items
+    ≡ record { clock = s.clock; list = dynamic_bindings config s })
     c.state.view_is (ap with_list (retained _ (λ b. not b.row.fixed && is_live timers now b)
     (with_live_flows timers now) _ (λ x b t y k. search rules) _ refl list c.retain_mut.new.self.items
     c.retain_mut.ensures.filtered

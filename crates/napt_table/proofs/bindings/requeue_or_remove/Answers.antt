@@ -1,3 +1,4 @@
+-- `requeue_or_remove`: a binding that is queued again has an entry that is valid and not yet due.
 use Rattle.std.proofs.{Common.{◌≡◌, ◌<◌, ◌+◌, ◌*◌, true, refl, sym, ◌∙◌, subst, arith}, lemmas.Option.same_Some}
 use Rattle.napt_rules.specs.Prelude.{Binding, ns_per_second, is_live, hold_ago}
 use Rattle.napt_binding.specs.Ends.{least_timer}
@@ -24,6 +25,7 @@ returns-then-is_live-clause-far c = λ b t there loose small near live.
     none_more t c.until.result c.args.key c.args.due.now.entries c.push.new.self.entries c.push.ensures.entries
     (c.until.ensures.far (sym c.is_fixed.ensures ∙ c.if-is_fixed.false) t small
     (rw c.hold_ago-ago.ensures
-    (subst (λ (x : Binding). t < hold_ago c.args.timers c.args.at + least_timer x.row.protocol c.args.timers * ns_per_second)
+    (subst (λ (x : Binding). t < hold_ago c.args.timers c.args.at
+    + least_timer x.row.protocol c.args.timers * ns_per_second)
     same near))
     (subst (λ (x : Binding). is_live c.args.timers t x ≡ true) same live))

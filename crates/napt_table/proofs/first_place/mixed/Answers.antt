@@ -1,9 +1,10 @@
+-- `mixed`: the hash of the four parts, written in turn, is that of all their bytes.
 use Rattle.std.{proofs.{Common.{◌≡◌, ℕ, List, [], ◌∷◌, ◌++◌, sym, ◌∙◌, ap}, lemmas.List.Sums.fold-append}, specs.Int.{w16, w32, to_be_bytes}}
 use Rattle.std.specs.{Hash.DefaultHasher.{initial, write_byte, write, finish}, declared.hash.DefaultHasher.DefaultHasher}
 use Rattle.napt_rules.specs.Prelude.{mixed, protocol_byte}
 use Rattle.napt_table.proofs.first_place.mixed.Goals as goal
 
--- bytes are written one after another
+-- Bytes that are written in two parts have the hash of both parts in one.
 both : (s : DefaultHasher) (xs ys : List ℕ) → write (write s xs) ys ≡ write s (xs ++ ys)
 unfolding write
 both s xs ys = sym (fold-append write_byte s xs ys)

@@ -1,3 +1,4 @@
+-- fix_address: two updates for one word each are the update for an address.
 use Rattle.std.proofs.Common.{◌∙◌, ◌/◌, ◌%◌, [], ◌∷◌}
 use Rattle.napt_wire.proofs.Checksums.{canon_low, canon_swap}
 use Rattle.napt_wire.proofs.checksum.fix_address.Goals as goal

@@ -1,3 +1,4 @@
+-- fix_check: the folded sum of RFC 1624 is congruent to the sum modulo 65535, and the result is the least such number.
 use Rattle.std.proofs.{lemmas.{Grind.common_steps, Bool.Decides.nat_tests, Nat.and_mask}, Common.{arith, bit_and}}
 use Rattle.napt_wire.specs.Checksum.{canon}
 use Rattle.napt_wire.proofs.checksum.fix_check.Goals as goal

@@ -1,3 +1,4 @@
+-- fix_end: the updates for the address and for the number are the update for an end.
 use Rattle.std.proofs.Common.{arith}
 use Rattle.napt_wire.specs.Checksum.{canon}
 use Rattle.napt_wire.proofs.checksum.fix_end.Goals as goal

@@ -1,3 +1,4 @@
+-- fix_end_udp: a checksum of 0 stays 0, and any other is updated for an end and is not 0.
 use Rattle.std.proofs.{Common.{arith, ◌≡◌, ◌==◌, false, refl}, lemmas.{Grind.common_steps, Bool.Decides.nat_tests}}
 use Rattle.napt_wire.specs.Prelude.{canon, canon_udp, end_words}
 use Rattle.napt_wire.proofs.checksum.fix_end_udp.Goals as goal

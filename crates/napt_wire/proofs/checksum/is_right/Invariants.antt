@@ -1,8 +1,9 @@
+-- is_right: what the loop has added and what is left are the whole sum, modulo 65535.
 use Rattle.std.proofs.Common.{◌≡◌, ◌≤◌, length, sum, ◌+◌, ◌*◌, ◌%◌, ◌^◌}
 use Rattle.napt_wire.specs.Bytes.{words}
 use Rattle.napt_wire.proofs.checksum.is_right.Given as goal
 
--- what is left has the rest of the sum, and each word of it still fits
+-- The sum so far and the words of the rest are congruent to the whole sum, and the rest fits into 64 bits.
 abbrev pub invariant-loop-rest : goal.invariant-loop-rest
 invariant-loop-rest l = record {
   value : (l.sum + sum (words l.rest)) % 65535 ≡ sum (words l.fn.bytes) % 65535;

@@ -1,3 +1,4 @@
+-- fix_option: without a change the checksum stays the same.
 use Rattle.std.proofs.Common.{arith}
 use Rattle.napt_wire.specs.Checksum.{canon}
 use Rattle.napt_wire.proofs.header_rewrite.fix_option.Goals as goal

@@ -1,3 +1,4 @@
+-- packets_carry_numbers: the packet that was read reads as itself, so its source number can be carried.
 use Rattle.napt_wire.proofs.{PacketNumbers.source-carried, ReadingChecks.reads_again}
 use Rattle.napt_wire.proofs.laws.packets_carry_numbers.Goals as goal
 

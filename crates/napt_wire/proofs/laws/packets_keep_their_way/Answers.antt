@@ -1,3 +1,4 @@
+-- packets_keep_their_way: replacing the inside end leaves the destination address unchanged.
 use Rattle.napt_wire.proofs.ReplacedEnds.{reverted-destination, with_source-destination}
 use Rattle.napt_wire.proofs.laws.packets_keep_their_way.Goals as goal
 

@@ -1,3 +1,4 @@
+-- read_datagram: the first step that fails gives the cause of the definition, and otherwise all checks pass.
 use Rattle.std.proofs.{Common.{arith, None, Some, refl, sym}, lemmas.{Grind.common_steps, Bool.Decides.nat_tests, Result.err_from_is_err_and}}
 use Rattle.napt_wire.proofs.ReadingChecks.{reading_by}
 use Rattle.napt_wire.proofs.reading.read_datagram.Goals as goal

@@ -6,7 +6,8 @@ use Rattle.napt_account.proofs.open_entries.OpenEntries.pass.Goals as goal
 pub returns-in-Out-clause-shows : goal.returns-in-Out-clause-shows
 returns-in-Out-clause-shows c = λ most entries shows leaves.
     let is : c.args.passage ≡ Out c.timed.result = c.in-Out.is ∙ sym (ap Out c.timed.ensures) in
-    subst (λ (p : Passage). OnOk c.go_out.result (OpenEntriesShow c.args.now (most + 1) (book_after c.args.now p entries)
+    subst (λ (p : Passage). OnOk c.go_out.result (OpenEntriesShow c.args.now (most + 1)
+    (book_after c.args.now p entries)
     c.go_out.new.self)) (sym is)
     (c.go_out.ensures.shows most entries shows (subst (LeavesOpen c.args.now) is leaves))
 
@@ -19,7 +20,8 @@ returns-in-Out-clause-uses c = λ most entries shows.
 pub returns-in_ok-used-in-In-clause-shows : goal.returns-in_ok-used-in-In-clause-shows
 returns-in_ok-used-in-In-clause-shows c = λ most entries shows leaves.
     let is : c.args.passage ≡ In c.timed-in-In.result = c.in-In.is ∙ sym (ap In c.timed-in-In.ensures) in
-    subst (λ (p : Passage). OpenEntriesShow c.args.now (most + 1) (book_after c.args.now p entries) c.count.new.self) (sym is)
+    subst (λ (p : Passage). OpenEntriesShow c.args.now (most + 1) (book_after c.args.now p entries) c.count.new.self)
+    (sym is)
     (c.in_ok-used-in-In.ensures.shows most entries shows (subst (LeavesOpen c.args.now) is leaves))
 
 pub returns-in_ok-used-in-In-clause-uses : goal.returns-in_ok-used-in-In-clause-uses

@@ -9,7 +9,8 @@ use Rattle.napt_account.proofs.tracked_log.TrackedLog.resume.Goals as goal
 abbrev IsFew : LogEntry → Type 0
 IsFew l = (l.entry.sent ≤ 2 ^ 61) × (l.entry.received ≤ 2 ^ 61)
 
-new_few : (timers : Timers) (now n : ℕ) (bs : List Binding) → Each IsFew (numbered_from n (map (first_entry timers now) bs))
+new_few : (timers : Timers) (now n : ℕ) (bs : List Binding) →
+    Each IsFew (numbered_from n (map (first_entry timers now) bs))
 new_few timers now n [] = tt
 new_few timers now n (b ∷ bs) = ((omega arith, omega arith), new_few timers now (n + 1) bs)
 

@@ -17,7 +17,8 @@ invariant_of-result c = λ going.
     c.in_ok-run.run' c.in_ok-resumed.resumed.log) (sym none)
     (subst (λ (l : List (ℕ × State)). IsLogged (begun_in c.in_ok-resumed.resumed.log.rules l) [] c.in_ok-run.run'
     c.in_ok-resumed.resumed.log) (sym kept)
-    (subst (λ (log : KnownTraces). IsLogged (with_redirects log.rules state) [] c.in_ok-run.run' log) (sym is.begun) (record {
+    (subst (λ (log : KnownTraces). IsLogged (with_redirects log.rules state) [] c.in_ok-run.run' log) (sym is.begun)
+    (record {
       keeps = c.resume.ensures.kept;
       stands = c.in_ok-run.ensures.begun;
       clock = refl;

@@ -32,7 +32,8 @@ returns-in_err-told c =
     let input : Arrival = c.args.input.now in
     let trace : Trace = c.in_ok-stepped.stepped.trace in
     let is = c.self.invariant c.if-self.false in
-    let stands = subst (λ (r : Rules). SequentialRunInvariant r state before it.run) (sym c.config-config.ensures) is.stands in
+    let stands = subst (λ (r : Rules). SequentialRunInvariant r state before it.run) (sym c.config-config.ensures)
+    is.stands in
     let tells = subst (λ (r : Rules). StepPost r state before input c.in_ok-stepped.stepped)
     c.config-config.ensures (c.in_ok-stepped.ensures.tells state before stands) in
     let few : length before + 1 < 2 ^ 32 = elim (cases_lt (length before + 1) (2 ^ 32)) [
@@ -61,7 +62,8 @@ returns-clause-tells c = λ going.
     let input : Arrival = c.args.input.now in
     let trace : Trace = c.in_ok-stepped.stepped.trace in
     let is = c.self.invariant (ap (λ (v : KnownState). v.is_stopped) c.self.view_is ∙ going) in
-    let stands = subst (λ (r : Rules). SequentialRunInvariant r state before it.run) (sym c.config-config.ensures) is.stands in
+    let stands = subst (λ (r : Rules). SequentialRunInvariant r state before it.run) (sym c.config-config.ensures)
+    is.stands in
     let tells = subst (λ (r : Rules). StepPost r state before input c.in_ok-stepped.stepped)
     c.config-config.ensures (c.in_ok-stepped.ensures.tells state before stands) in
     let told = c.in_ok-told.ensures in
@@ -105,7 +107,8 @@ invariant_of-self-2 c = λ going.
     let is = c.self.invariant c.if-self.false in
     let r : Rules = c.config-config.result.now in
     let state : State = begun_in it.log.rules it.begun.items in
-    let stands = subst (λ (r : Rules). SequentialRunInvariant r state before it.run) (sym c.config-config.ensures) is.stands in
+    let stands = subst (λ (r : Rules). SequentialRunInvariant r state before it.run) (sym c.config-config.ensures)
+    is.stands in
     let tells = subst (λ (r : Rules). StepPost r state before input c.in_ok-stepped.stepped)
     c.config-config.ensures (c.in_ok-stepped.ensures.tells state before stands) in
     subst (λ (xs : List Arrival). IsLogged (begun_in c.enter.new.self.rules it.begun.items) xs c.step.new.self
@@ -113,7 +116,8 @@ invariant_of-self-2 c = λ going.
     (subst (λ (log : KnownTraces). IsLogged (begun_in log.rules it.begun.items) (before ++ input ∷ []) c.step.new.self
     log) (sym (c.in_ok-told.ensures.goes is.goes_on)) (record {
       keeps = is.keeps;
-      stands = subst (λ (r : Rules). SequentialRunInvariant r state (before ++ input ∷ []) c.step.new.self) c.config-config.ensures
+      stands = subst (λ (r : Rules). SequentialRunInvariant r state (before ++ input ∷ []) c.step.new.self)
+          c.config-config.ensures
           (c.in_ok-stepped.ensures.stands state before stands);
       clock = is.clock;
       tell = is.tell;

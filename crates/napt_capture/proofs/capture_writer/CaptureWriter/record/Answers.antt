@@ -1,4 +1,4 @@
--- The header of a record, and then its bytes.
+-- record: the header is written and then the bytes, or a prefix of both.
 use Rattle.std.proofs.lemmas.Result.{err_from_is_err_and}
 use Rattle.napt_capture.{specs.Text.record_text, proofs.PutSteps.{Puts-append, PutsFront-longer}}
 use Rattle.napt_capture.proofs.capture_writer.CaptureWriter.record.Goals as goal

@@ -1,4 +1,4 @@
--- What the first write took, and then the rest.
+-- write_record: the bytes of the first write are written, and then the rest.
 use Rattle.std.proofs.{Common.{arith}, lemmas.{Grind.common_steps, Bool.Decides.nat_tests, List.take_rest}}
 use Rattle.napt_capture.proofs.PutSteps.{puts_more, takes_first}
 use Rattle.napt_capture.proofs.capture_writer.CaptureWriter.write_record.Goals as goal

@@ -1,4 +1,4 @@
--- What a write takes stands behind what is done.
+-- write_rest: each write appends to what was written before.
 use Rattle.std.{proofs.{Common.{◌≡◌, ◌+◌, ◌-◌, length, take, drop, subst}, lemmas.List.take_rest}, specs.Io.{WritesAtMost, KnownBytes.WriteAppends}}
 use Rattle.napt_capture.{specs.Device.failed_writes, proofs.PutSteps.takes_more}
 use Rattle.napt_capture.proofs.capture_writer.CaptureWriter.write_rest.Goals as goal

@@ -1,4 +1,4 @@
--- The bytes that are done were written, and no write failed.
+-- write_rest: the first `done` bytes were written, and no write failed.
 use Rattle.std.{proofs.Common.{◌≡◌, ◌-◌, ◌≤◌, length, take}, specs.Io.KnownBytes.Appends}
 use Rattle.napt_capture.proofs.capture_writer.CaptureWriter.write_rest.Given as goal
 

@@ -1,4 +1,4 @@
--- A header is the text of no records.
+-- new: the file header is the text of no records, so it has none and reads whole.
 use Rattle.std.proofs.{lemmas.{Grind.common_steps, Bool.Decides.nat_tests, List.Elements.All-nil}, Common.{◌≡◌, List, [], subst, false, Ok, arith, append-nil}}
 use Rattle.napt_capture.{specs.Prelude.{CaptureReading, capture_of_bytes, RecordModel, IsWritable, file_header, text}, proofs.ReadsBack.{captured_text, length-file_header, read_text}}
 use Rattle.napt_capture.proofs.empty_devices.EmptySource.new.Goals as goal

@@ -1,4 +1,4 @@
--- What the read gave stands behind what was read before.
+-- read_more: the bytes of the read follow those read before.
 use Rattle.std.proofs.{lemmas.{Grind.common_steps}, Common.{slice_range, arith, length-take-le}}
 use Rattle.std.proofs.lemmas.List.{with_items_is}
 use Rattle.napt_capture.proofs.Buffer.{slice_range-read}

@@ -1,4 +1,4 @@
--- What stands in what was read ahead is next in the text.
+-- next: what comes next in the bytes read ahead comes next in the text.
 use Rattle.napt_capture.proofs.NextRecord.{tells_known}
 use Rattle.napt_capture.proofs.record_reader.RecordReader.next.Goals as goal
 

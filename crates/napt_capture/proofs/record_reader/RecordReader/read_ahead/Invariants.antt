@@ -1,4 +1,4 @@
--- Nothing of the text is handed on, and where it is known what is next, nothing is read.
+-- read_ahead: nothing of the text is returned, and nothing is read if it is known what comes next.
 use Rattle.std.proofs.Common.{◌≡◌, ◌-◌, length}
 use Rattle.napt_capture.specs.RecordReaders.{RecordsAskSource, HandsOutNothing}
 use Rattle.napt_capture.proofs.record_reader.RecordReader.read_ahead.Given as goal

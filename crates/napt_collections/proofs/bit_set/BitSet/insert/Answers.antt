@@ -1,3 +1,4 @@
+-- insert: the marks of full words are right after the number is added.
 use Rattle.std.proofs.Common.{ℕ, ◌∙◌, ap, arith}
 use Rattle.napt_collections.{specs.BitSets.has_bit, proofs.Rows.marked}
 use Rattle.napt_collections.proofs.bit_set.BitSet.insert.Goals as goal

@@ -1,3 +1,4 @@
+-- new: the set has no number, and no word is full.
 use Rattle.std.proofs.{Common.arith, lemmas.{Grind.common_steps, Bool.Decides.nat_tests}}
 use Rattle.napt_collections.proofs.Rows.{empty_marked, empty_has_none}
 use Rattle.napt_collections.proofs.bit_set.BitSet.new.Goals as goal

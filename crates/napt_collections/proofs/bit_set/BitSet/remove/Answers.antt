@@ -1,3 +1,4 @@
+-- remove: the marks of full words are right after the number is removed.
 use Rattle.std.proofs.Common.{ℕ, ◌∙◌, sym, ap, arith}
 use Rattle.napt_collections.{specs.BitSets.has_bit, proofs.{Rows.marked, Words.open_word}}
 use Rattle.napt_collections.proofs.bit_set.BitSet.remove.Goals as goal

@@ -1,3 +1,4 @@
+-- peek: the entry at the top has the least time.
 use Rattle.napt_collections.proofs.Least.{least_of}
 use Rattle.napt_collections.proofs.due.Due.peek.Goals as goal
 

@@ -1,3 +1,4 @@
+-- push: the entries are those before and the new one.
 use Rattle.std.proofs.lemmas.List.Sorted.{IsPermutation-map}
 use Rattle.napt_collections.proofs.due.Due.push.Goals as goal
 

@@ -1,3 +1,4 @@
+-- close: the results for all workers follow from how each of them ended.
 use Rattle.std.proofs.Common.{arith, vec_items}
 use Rattle.napt_pool.proofs.JoinedWorkers.{machines_if_ok, taken_at, least_if_err, answers_if_ok, settled_at, fault_if_err, gate_if_err, told_is, received_on_ok}
 use Rattle.napt_pool.proofs.pool.Pool.close.Goals as goal

@@ -1,3 +1,4 @@
+-- offer: the item is accepted by worker w, and the values of the other workers are unchanged.
 use Rattle.std.proofs.{lemmas.{Bool.Decides.nat_tests, Grind.common_steps}, Common.{arith, ◌≡◌}}
 use Rattle.napt_pool.{specs.{Faults.item_back, Workers.{machine_of, accepted_of, taken_of, heard_of}}, proofs.Lists.{map-kept, grown_on_ok, kept_if_err}}
 use Rattle.napt_pool.proofs.pool.Pool.offer.Goals as goal

@@ -1,3 +1,4 @@
+-- take: the answer is that of worker w, and the values of the other workers are unchanged.
 use Rattle.std.proofs.{lemmas.{Bool.Decides.nat_tests, Grind.common_steps}, Common.{arith, ◌<◌, length}}
 use Rattle.napt_pool.specs.{declared.message.Reply.TheVariants.Done, Workers.{machine_of, accepted_of, taken_of, heard_of}}
 use Rattle.napt_pool.proofs.Lists.{map-kept, map-grown, grown_if_some}

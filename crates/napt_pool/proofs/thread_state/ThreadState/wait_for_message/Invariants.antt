@@ -1,3 +1,4 @@
+-- wait_for_message: nothing is received or sent while the worker waits.
 use Rattle.std.proofs.Common.{◌≡◌}
 use Rattle.rtrb.specs.Ring.{received, SameConsumer}
 use Rattle.napt_pool.proofs.thread_state.ThreadState.wait_for_message.Given as goal

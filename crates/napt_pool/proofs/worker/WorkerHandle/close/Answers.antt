@@ -1,3 +1,4 @@
+-- close: Close is the last message, and the accepted items stay the same.
 use Rattle.std.proofs.Common.{arith, ap, length}
 use Rattle.napt_pool.proofs.HistoryGrowth.{closed-last}
 use Rattle.napt_pool.proofs.worker.WorkerHandle.close.Goals as goal

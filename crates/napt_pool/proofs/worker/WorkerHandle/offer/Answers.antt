@@ -1,3 +1,4 @@
+-- offer: one more item is accepted, and one more is counted as untaken.
 use Rattle.std.proofs.Common.{arith}
 use Rattle.napt_pool.proofs.HistoryGrowth.{pushed_last, items_of-work, work-only, count-work}
 use Rattle.napt_pool.proofs.worker.WorkerHandle.offer.Goals as goal

@@ -1,3 +1,4 @@
+-- offer_all: the items of the batch are accepted, and counted as untaken.
 use Rattle.std.proofs.Common.{rules, arith, ◌≡◌, length}
 use Rattle.napt_pool.proofs.HistoryGrowth.{pushed_last, items_of-many, many-only, count-many}
 use Rattle.napt_pool.proofs.worker.WorkerHandle.offer_all.Goals as goal

@@ -4,7 +4,8 @@ use Rattle.napt_run.proofs.output_sinks.Leaving.write.Goals as goal
 pub returns-in-ToOutside : goal.returns-in-ToOutside
 returns-in-ToOutside g c =
     rw (c.in-ToOutside.is, ← c.bytes_of.ensures.value, c.named.ensures) (leaves_outside c.args.time
-    c.bytes_of.result.now c.args.self.now c.write_record.new.self c.count.new.self c.write_record.result c.write_record.ensures.ok
+    c.bytes_of.result.now c.args.self.now c.write_record.new.self c.count.new.self c.write_record.result
+    c.write_record.ensures.ok
     c.write_record.ensures.err (rw (c.in-ToOutside.is, ← c.bytes_of.ensures.value) at c.count.ensures))
 
 pub returns-in-ToInside : goal.returns-in-ToInside

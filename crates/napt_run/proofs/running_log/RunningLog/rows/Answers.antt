@@ -16,7 +16,8 @@ returns-then-is_quiet g c from before at =
       each = refl;
       goes_on = refl;
       rows = c.in_ok-text.ensures from before at ∙ (sym (append-nil (opening_before from before c.args.trace.now))
-          ∙ ap (λ (l : TimeText). opening_before from before c.args.trace.now ++ l) (sym (ap (told_rows from.origin.rules)
+          ∙ ap (λ (l : TimeText). opening_before from before c.args.trace.now ++ l)
+          (sym (ap (told_rows from.origin.rules)
           (ap (λ (l : KnownTraces). told_with l.begun l.traces c.args.trace) (sym at.log)
           ∙ (sym (told.tells going) ∙ c.is_quiet.ensures c.if-is_quiet.true)))));
     }

@@ -1,3 +1,4 @@
+-- `insert`: the queue stays valid for the stored bindings.
 use Rattle.std.proofs.Common.{◌≡◌, ◌≤◌, arith, Some, None, cond, sym, subst}
 use Rattle.napt_table.specs.{declared.bindings.keys.ExternalNumberKey.ExternalNumberKey, Bindings.BindingsModel, BindingIndexes.{held_binding, IsUsedBy}, Keys.{key_eq, key_of}}
 use Rattle.napt_table.proofs.Queues.{inserted_due}
@@ -13,7 +14,8 @@ invariant_of-self c =
     inserted_due s.timers s.at s.held s.due.entries c.self.invariant c.key_of-key.result b c.insert.new.self
     (subst (λ (k : ExternalNumberKey). held_binding s.held k ≡ None) is
     (subst (λ (x : BindingsModel). held_binding x.held (key_of b) ≡ None) (sym c.self.view_is) c.requires.free))
-    (subst (λ (x : ExternalNumberKey). (k : ExternalNumberKey) → held_binding c.insert.new.self k ≡ cond (key_eq x k) (Some b)
+    (subst (λ (x : ExternalNumberKey). (k : ExternalNumberKey) →
+    held_binding c.insert.new.self k ≡ cond (key_eq x k) (Some b)
     (held_binding s.held k)) is c.insert.ensures.held)
     c.until-end.result c.put.new.self.entries c.requires.loose c.put.ensures.entries
     (omega (arith, c.until-end.ensures.near, from))

@@ -1,3 +1,4 @@
+-- `insert_new`: the number is the first free candidate, and the stored bindings agree with the list that has it.
 use Rattle.std.{proofs.Common.{◌≡◌, ◌∙◌, ℕ, List, [], map, find, None, Some, Ok, cond, refl, sym, ap, subst, arith, not, true, false}, specs.{Prelude.ok_or, Option.{is_some, option_map}}}
 use Rattle.std.proofs.lemmas.Bool.{not-true}
 use Rattle.napt_wire.specs.declared.{Way.TheVariants.Outgoing, Cause.TheVariants.NoPort}
@@ -10,7 +11,8 @@ use Rattle.napt_table.proofs.bindings.Bindings.insert_new.Goals as goal
 
 rows_of : (s : BindingsModel) (p : OutboundPacket) (list : List Binding) → AreBindingsApart (map row list) →
     live_and_held s.timers p.now list ≡ list → AllKeep s.timers p.now s.held.address s.held list →
-    ((k : ExternalNumberKey) (b : Binding) → held_binding s.held k ≡ Some b → is_live s.timers (hold_ago s.timers p.now) b ≡ true) →
+    ((k : ExternalNumberKey) (b : Binding) → held_binding s.held k ≡ Some b →
+    is_live s.timers (hold_ago s.timers p.now) b ≡ true) →
     (n : ℕ) → option_map row (find (λ b. has_number s.held.address p.protocol n b.row) list)
     ≡ option_map row (held_at s.held p.protocol n)
 rows_of s p list apart is_taken keeps live n =
@@ -88,7 +90,8 @@ returns-clause-begins c =
     let binding : Binding = of_row its in
     let new = c.insert.new.self in
     let state : BindingsModel = record { timers = s.timers; at = s.at; held = s.held; due = s.due } in
-    let holds : (k : ExternalNumberKey) → held_binding new.held k ≡ cond (key_eq (external_key p.protocol number) k) (Some binding)
+    let holds : (k : ExternalNumberKey) → held_binding new.held k
+    ≡ cond (key_eq (external_key p.protocol number) k) (Some binding)
     (held_binding s.held k) = subst (λ (x : BindingsModel). (k : ExternalNumberKey) → held_binding new.held k
     ≡ cond (key_eq (external_key p.protocol number) k) (Some binding) (held_binding x.held k)) (sym c.self.view_is)
     (subst (λ (r : Row). (k : ExternalNumberKey) → held_binding new.held k
@@ -97,7 +100,8 @@ returns-clause-begins c =
     let begun = subst (λ (x : BindingsModel). live_flows x.timers p.now p.protocol c.args.flows
     ≡ change_first (is_flow_of p.remote) (flow_after p.protocol Outgoing p.flags p.now) (with_flow p.remote p.now []))
     (sym c.self.view_is) c.requires.flows in
-    let is : seen_binding s.timers p.now (Some binding) ≡ Some (binding_after_out p (new_binding s.held.address p number)) =
+    let is : seen_binding s.timers p.now (Some binding)
+    ≡ Some (binding_after_out p (new_binding s.held.address p number)) =
     made_seen s.timers c.keep_limits.ensures c.address.result p number c.args.flows begun
     ∙ ap (λ (a : ℕ). Some (binding_after_out p (new_binding a p number))) c.address.ensures in
     let live = subst (λ (x : BindingsModel). (k : ExternalNumberKey) (b : Binding) → held_binding x.held k ≡ Some b →

@@ -1,3 +1,4 @@
+-- `new`: the empty queue is valid for an index without bindings.
 use Rattle.napt_table.proofs.Queues.{empty_due}
 use Rattle.napt_table.proofs.bindings.Bindings.new.Goals as goal
 

@@ -1,3 +1,4 @@
+-- `number_of`: a look-up of an inside endpoint finds the number of its live binding.
 use Rattle.std.{proofs.Common.{sym, ap, ◌∙◌}, specs.Option.option_copied}
 use Rattle.napt_table.{specs.HeldLists.seen_binding, proofs.{SeenBindings.seen_dead, LiveNumbers.{live_none, live_dead, live_found}}}
 use Rattle.napt_table.proofs.bindings.Bindings.number_of.Goals as goal

@@ -1,3 +1,4 @@
+-- `purge`: each binding whose hold time is over was removed.
 use Rattle.std.proofs.Common.{◌≡◌, ℕ, ◌≤◌, true, All, subst, sym, ◌∙◌}
 use Rattle.napt_config.specs.declared.settings.Timers.{Timers}
 use Rattle.napt_rules.specs.Prelude.{is_live, hold_ago}
@@ -21,7 +22,9 @@ returns c =
       live = λ key b h. subst (λ (t : Timers). is_live t (hold_ago t old.at) b ≡ true) (k.timers ∙ i.timers)
           (subst (λ (a : ℕ). is_live new.timers (hold_ago new.timers a) b ≡ true) (k.at ∙ i.at)
           (all_live new.timers new.at new.held new.due.entries k.due
-          (subst (λ (t : Timers). All (λ (e : ℕ × ExternalNumberKey). hold_ago t new.at ≤ e.0) new.due.entries) (sym k.timers)
-          (subst (λ (a : ℕ). All (λ (e : ℕ × ExternalNumberKey). hold_ago mid.timers a ≤ e.0) new.due.entries) (sym k.at)
+          (subst (λ (t : Timers). All (λ (e : ℕ × ExternalNumberKey). hold_ago t new.at ≤ e.0) new.due.entries)
+          (sym k.timers)
+          (subst (λ (a : ℕ). All (λ (e : ℕ × ExternalNumberKey). hold_ago mid.timers a ≤ e.0) new.due.entries)
+          (sym k.at)
           (k.none c.loop-test.false))) key b h));
     }

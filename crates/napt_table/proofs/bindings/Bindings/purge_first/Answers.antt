@@ -1,3 +1,4 @@
+-- `purge_first`: the binding of the entry that was removed has no other, and fewer entries are due.
 use Rattle.std.proofs.{Common.{ℕ, ◌≤◌, arith}, lemmas.List.Elements.All-contains}
 use Rattle.napt_rules.specs.Prelude.{hold_ago}
 use Rattle.napt_table.{specs.declared.bindings.keys.ExternalNumberKey.ExternalNumberKey, proofs.Queues.{popped_due, one_less}}

@@ -1,7 +1,8 @@
+-- `send`: the answer and the stored bindings are those of the definition, in each case of a packet's source.
 use Rattle.std.{proofs.Common.{◌≡◌, ℕ, true, false, cond, Option, sym, subst, ◌∙◌}, specs.Option.is_some}
 use Rattle.napt_config.specs.Rules.{AreTimers}
 use Rattle.napt_rules.specs.Prelude.{reaches_quota}
-use Rattle.napt_table.specs.{BindingIndexes.{count_all, HasNoInside, IsNumberOf, HasInside, WentThrough, HasNone, SendKnownPost}, Bindings.{BindingsModel, BindingsInvariant}}
+use Rattle.napt_table.specs.{BindingIndexes.{count_all, HasNoInside, IsNumberOf, HasInside, WentThrough, HasNone, SendKnownPost}, Bindings.{BindingsModel, BindingsUnchanged}}
 use Rattle.napt_table.proofs.AssignedNumbers.{stands_then, went_answer, went_keeps, absent_from, gone_unseen, over_sends, begun_sends, renewed_sends}
 use Rattle.napt_table.proofs.bindings.Bindings.send.Goals as goal
 
@@ -40,7 +41,7 @@ renew-requires-clause-unseen c =
     subst (SendKnownPost old.timers p old.held c.send_held.new.self.held) c.in_default.is c.in_ok-number.ensures.went in
     let at : c.send_held.new.self.at ≡ old.at = subst (λ (o : Option ℕ). c.send_held.new.self.at
     ≡ cond (is_some o) p.now old.at) c.in_default.is c.in_ok-number.ensures.at in
-    let first : BindingsInvariant old c.send_held.new.self =
+    let first : BindingsUnchanged old c.send_held.new.self =
     record { timers_is = c.send_held.ensures.timers; at_is = at; same = none.same } in
     let same = stands_then old c.send_held.new.self mid first c.prepare.ensures.same in
     let n = c.in-Some-number_of.number in
@@ -59,7 +60,7 @@ returns-in-Some-number_of-clause-sends c list apart is_taken keeps left =
     subst (SendKnownPost old.timers p old.held c.send_held.new.self.held) c.in_default.is c.in_ok-number.ensures.went in
     let at : c.send_held.new.self.at ≡ old.at = subst (λ (o : Option ℕ). c.send_held.new.self.at
     ≡ cond (is_some o) p.now old.at) c.in_default.is c.in_ok-number.ensures.at in
-    let first : BindingsInvariant old c.send_held.new.self =
+    let first : BindingsUnchanged old c.send_held.new.self =
     record { timers_is = c.send_held.ensures.timers; at_is = at; same = none.same } in
     let same = stands_then old c.send_held.new.self mid first c.prepare.ensures.same in
     let t : AreTimers old.timers = subst (λ (x : BindingsModel). AreTimers x.timers) c.self.view_is
@@ -90,7 +91,7 @@ returns-then-reaches-clause-sends c list apart is_taken keeps left =
     subst (SendKnownPost old.timers p old.held c.send_held.new.self.held) c.in_default.is c.in_ok-number.ensures.went in
     let at : c.send_held.new.self.at ≡ old.at = subst (λ (o : Option ℕ). c.send_held.new.self.at
     ≡ cond (is_some o) p.now old.at) c.in_default.is c.in_ok-number.ensures.at in
-    let first : BindingsInvariant old c.send_held.new.self =
+    let first : BindingsUnchanged old c.send_held.new.self =
     record { timers_is = c.send_held.ensures.timers; at_is = at; same = none.same } in
     let same = stands_then old c.send_held.new.self mid first c.prepare.ensures.same in
     let t : AreTimers old.timers = subst (λ (x : BindingsModel). AreTimers x.timers) c.self.view_is
@@ -115,7 +116,7 @@ returns-clause-sends c list apart is_taken keeps left =
     subst (SendKnownPost old.timers p old.held c.send_held.new.self.held) c.in_default.is c.in_ok-number.ensures.went in
     let at : c.send_held.new.self.at ≡ old.at = subst (λ (o : Option ℕ). c.send_held.new.self.at
     ≡ cond (is_some o) p.now old.at) c.in_default.is c.in_ok-number.ensures.at in
-    let first : BindingsInvariant old c.send_held.new.self =
+    let first : BindingsUnchanged old c.send_held.new.self =
     record { timers_is = c.send_held.ensures.timers; at_is = at; same = none.same } in
     let same = stands_then old c.send_held.new.self mid first c.prepare.ensures.same in
     let t : AreTimers old.timers = subst (λ (x : BindingsModel). AreTimers x.timers) c.self.view_is

@@ -1,3 +1,4 @@
+-- `send_known`: a known binding's packet is sent as in the definition; else no binding changes.
 use Rattle.std.{proofs.Common.{◌≡◌, ℕ, Option, Some, None, Result, Ok, Err, cond, subst}, specs.{Prelude.{IfOk, IfSome}, Option.is_some}}
 use Rattle.std.specs.declared.alloc.AllocError.{AllocError}
 use Rattle.napt_config.specs.Rules.{AreTimers}

@@ -1,3 +1,4 @@
+-- `spare`: the number is the least that no binding has, live or held.
 use Rattle.std.{proofs.Common.{◌≡◌, ◌∙◌, sym, ap}, specs.Option.is_some}
 use Rattle.napt_rules.specs.Prelude.{hold_ago}
 use Rattle.napt_table.{specs.{Bindings.BindingsModel, HeldLists.seen_binding, BindingIndexes.{BindingIndexModel, held_at}, Keys.external_key}, proofs.LeastFree.first_agrees}

@@ -1,3 +1,4 @@
+-- `timed`: the row and the end are those of the live binding with the number.
 use Rattle.std.{proofs.Common.{◌≡◌, Option, Some, None, cond, sym, ◌∙◌, ap}, specs.Option.option_map}
 use Rattle.napt_config.specs.declared.settings.Timers.{Timers}
 use Rattle.napt_rules.specs.Prelude.{Binding, with_live_flows, row}

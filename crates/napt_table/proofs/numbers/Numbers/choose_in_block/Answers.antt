@@ -1,3 +1,4 @@
+-- `choose_in_block`: where parity is free, the candidates are all numbers of the block from the place on.
 use Rattle.std.{proofs.Common.{◌∙◌, not, ap}, specs.Prelude.find}
 use Rattle.napt_table.{specs.{Classes.from_place, Places.is_used}, proofs.InBlock.each_by}
 use Rattle.napt_table.proofs.numbers.Numbers.choose_in_block.Goals as goal

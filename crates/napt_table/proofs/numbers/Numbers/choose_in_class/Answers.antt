@@ -1,3 +1,4 @@
+-- `choose_in_class`: the candidates are the numbers of the class from the place on.
 use Rattle.std.{proofs.Common.{◌∙◌, not, ap}, specs.Prelude.find}
 use Rattle.napt_table.{specs.Places.is_used, proofs.Classes.candidates_by_class}
 use Rattle.napt_table.proofs.numbers.Numbers.choose_in_class.Goals as goal

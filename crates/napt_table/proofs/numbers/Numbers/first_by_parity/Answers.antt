@@ -1,3 +1,4 @@
+-- `first_by_parity`: the number is the first free one of the place's parity, or else of the other.
 use Rattle.std.{proofs.Common.{◌∙◌, ℕ, ◌+◌, ◌%◌, not, sym, ap}, specs.Prelude.find}
 use Rattle.napt_table.{specs.{declared.candidate_class.CandidateClass.CandidateClass, Classes.{from_place, class_in_block}, Places.is_used}, proofs.InBlock.{found_alike, found_unlike}}
 use Rattle.napt_table.proofs.numbers.Numbers.first_by_parity.Goals as goal

@@ -1,3 +1,4 @@
+-- `first_from`: the number is the least free one in `from..end`.
 use Rattle.napt_collections.specs.BitSets.{has}
 use Rattle.napt_table.proofs.numbers.Numbers.first_from.Goals as goal
 

@@ -1,3 +1,4 @@
+-- `first_of_all`: the number is the first free one of a class without gaps, from the place on.
 use Rattle.napt_table.{specs.Places.is_used, proofs.Choices.{near_number, far_number}}
 use Rattle.napt_table.proofs.numbers.Numbers.first_of_all.Goals as goal
 

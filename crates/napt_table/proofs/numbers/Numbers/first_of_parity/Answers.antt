@@ -1,3 +1,4 @@
+-- `first_of_parity`: the number is the first free one of a class with a step of 2, from the place on.
 use Rattle.std.proofs.Common.{◌∙◌}
 use Rattle.napt_collections.specs.BitSets.{has}
 use Rattle.napt_table.proofs.Choices.{near_choice, far_choice, no_choice}

@@ -1,3 +1,4 @@
+-- `bindings`: the sorted rows are those of the list's live bindings.
 use Rattle.std.proofs.{Common.{rules, ◌≤◌, sym, ap, ◌∙◌, subst}, lemmas.List.Sorted.{answers_always, IsNonDecreasingBy-from_sort}}
 use Rattle.napt_rules.specs.Prelude.{rank, sorted_rows, rows}
 use Rattle.napt_table.{specs.Tables.TableModel, proofs.ListedRows.made_in_order}

@@ -1,3 +1,4 @@
+-- `from_builder`: the table's list, without any event, agrees with the stored bindings.
 use Rattle.std.proofs.Common.{map, ap, sym, subst}
 use Rattle.napt_table.specs.{Events.list_after_events, Tables.{IsTable}}
 use Rattle.napt_table.proofs.TableBuilders.{begun_keeps_its_list}

@@ -1,3 +1,4 @@
+-- `outbound_known`: a known binding's packet is sent as in `step_out`, and the invariant is kept.
 use Rattle.std.{proofs.Common.{◌≤◌, ◌∙◌, ℕ, Option, Result, ap, refl, sym, subst}, specs.Prelude.{IfOk, IfSome}}
 use Rattle.napt_wire.specs.declared.Cause.{Cause}
 use Rattle.napt_rules.specs.Prelude.{OutboundEffect, IsNumber}
@@ -40,11 +41,13 @@ returns-in-Some-clause-known c block =
     let same = sym (k.any_block list apart keeps block) in
     rw (← c.self.view_is) (record {
       answered = (k.sends list apart (all_taken t c.self.invariant packet.now le) keeps
-          (table_out (table_model t) c.self.invariant.state packet c.requires.number c.requires.block).sound.apart).0 ∙ ap
+          (table_out (table_model t) c.self.invariant.state packet c.requires.number c.requires.block).sound.apart).0
+          ∙ ap
           (λ (o : OutboundEffect). o.number) same;
       left = shown_after t (record t { past = c.and-self-inside.result; bindings = c.send_known.new.self }) packet.now
           (Sent packet) refl refl c.in_ok-number.ensures.timers k.place k.at c.and-self-inside.ensures
-          ∙ ap (λ (o : OutboundEffect). let s : TableModel = record (table_model t) { list = o.list; at = packet.now } in s) same;
+          ∙ ap (λ (o : OutboundEffect). let s : TableModel = record (table_model t) { list = o.list; at = packet.now }
+          in s) same;
     })
 
 pub returns-in-Some-clause-named : goal.returns-in-Some-clause-named

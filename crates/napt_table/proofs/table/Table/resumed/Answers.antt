@@ -1,3 +1,4 @@
+-- `resumed`: the table of a saved state satisfies the invariant of tables.
 use Rattle.std.proofs.Common.{sym, subst}
 use Rattle.napt_table.{specs.Tables.IsTable, proofs.ResumedTables.resumed_is_table}
 use Rattle.napt_table.proofs.table.Table.resumed.Goals as goal

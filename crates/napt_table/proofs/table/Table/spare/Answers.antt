@@ -1,3 +1,4 @@
+-- `spare`: the number is the least that no binding of the list has, live or held, and the invariant is kept.
 use Rattle.std.{proofs.Common.{◌≤◌, refl, sym, subst}, specs.Option.is_some}
 use Rattle.napt_rules.specs.Prelude.{by_number, hold_ago}
 use Rattle.napt_table.specs.{declared.table_event.TableEvent.TheVariants.Purged, HeldLists.seen_binding, BindingIndexes.held_at, TableModels.{table_model, list_of}, Tables.TableModel}
@@ -25,7 +26,8 @@ returns-clause-answer c =
     let le : t.bindings.at ≤ now = subst (λ (s : TableModel). s.at ≤ now) (sym c.self.view_is) c.requires.later in
     let ago = hold_ago t.bindings.timers now in
     let apart = c.self.invariant.state.sound.apart in
-    rw (← c.self.view_is) (first_agrees (λ n. is_some (seen_binding t.bindings.timers ago (held_at t.bindings.held protocol n)))
+    rw (← c.self.view_is) (first_agrees (λ n. is_some
+    (seen_binding t.bindings.timers ago (held_at t.bindings.held protocol n)))
     (λ n. is_some (by_number t.bindings.timers t.bindings.held.address ago protocol n (list_of t))) 1 65536
     (λ n small. sym (some_agree t.bindings.timers ago t.bindings.held.address protocol n (list_of t) apart
     (held_at t.bindings.held protocol n) (c.self.invariant.keeps.held protocol n ago

@@ -1,3 +1,4 @@
+-- `timed_by_inside`: the row and the end are those of the endpoint's live binding, whatever the likely number.
 use Rattle.std.proofs.Common.{sym, ◌∙◌}
 use Rattle.napt_laws.proofs.Endpoints.{end_is}
 use Rattle.napt_table.proofs.TableSteps.{timed_inside, timed_likely}

@@ -1,3 +1,4 @@
+-- `timed_by_number`: the row and the end are those of the list's live binding with the number.
 use Rattle.std.proofs.Common.{◌≤◌, ◌∙◌, sym, subst}
 use Rattle.napt_table.{specs.Tables.TableModel, proofs.TableSteps.timed_number}
 use Rattle.napt_table.proofs.table.Table.timed_by_number.Goals as goal

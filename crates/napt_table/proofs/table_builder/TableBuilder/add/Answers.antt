@@ -1,3 +1,4 @@
+-- `add`: the binding's endpoints are free, and the stored bindings are then those of the longer list.
 use Rattle.std.{proofs.Common.{◌≡◌, [], ◌∷◌, ◌++◌, map, find, refl, sym, ◌∙◌, ap, subst}, proofs.lemmas.List.map-append}
 use Rattle.napt_rules.specs.Prelude.{has_number, row, AreBindingsApart}
 use Rattle.napt_table.specs.{Beginnings.list_of, Tables.TableModel}

@@ -1,3 +1,4 @@
+-- `redirects`: no redirect shares an endpoint with an earlier one, and the loop keeps its invariant.
 use Rattle.std.proofs.Common.{◌≡◌, ◌+◌, ◌<◌, List, [], ◌∷◌, ◌++◌, map, length, get_or, false, sym, ◌∙◌, ap, subst}
 use Rattle.napt_config.specs.{Rules.{Rules}, declared.settings.Redirect.Redirect}
 use Rattle.napt_rules.specs.Prelude.{Binding, row, AreBindingsApart}
@@ -30,7 +31,10 @@ loop-redirect-preserved c =
     let same = c.redirects-redirect-items.ensures.redirects in
     let is : redirect ≡ get_or config.redirects k other = ap (λ (rs : List Redirect). get_or rs k other) same in
     let below : k < length config.redirects = rw (← same) c.loop-redirect-test.true in
-    let with_list : List Binding → TableModel = λ l. record (initial_table config address) { list = l; at = c.args.at } in
+    let with_list : List Binding → TableModel = λ l. record (initial_table config address) {
+      list = l;
+      at = c.args.at;
+    } in
     elim c.if-pair-address.branch [
       | then-pair-address+in_ok-add w ↦
           let pushed = begun_pushed config address k redirect other below is

@@ -1,3 +1,4 @@
+-- `restore`: the restored binding is live or held, and neither it nor a flow was used after the clock.
 use Rattle.std.proofs.{Common.{◌≡◌, false, sym, ◌∙◌, arith}, lemmas.{Grind.common_steps, Bool.Decides.nat_tests}}
 use Rattle.napt_rules.specs.Prelude.{hold_ago}
 use Rattle.napt_table.{proofs.ResumedTables.{one_distinct, seen_lives, seen_used}}

@@ -1,3 +1,4 @@
+-- `resumed`: each binding of the state may be added, as the configuration takes the state.
 use Rattle.std.proofs.Common.{◌≡◌, ◌≤◌, ◌<◌, List, [], ◌∷◌, ◌++◌, map, length, get_or, sym, ◌∙◌, ap, subst}
 use Rattle.napt_config.specs.Rules.{Rules}
 use Rattle.napt_rules.specs.Prelude.{Binding, Each, AreFlowsOwn, State, row, AreBindingsApart}
@@ -13,7 +14,8 @@ restore-requires-clause-apart c =
     let list = c.deref-binding-items.ensures.value ∙ ap (λ (s : State). s.list) c.state.view_is in
     let is : get_or state.list k x ≡ x = sym (c.binding-item.is ∙ ap (λ (l : List Binding). get_or l k x) list) in
     let below : k < length state.list = rw (← list) c.loop-binding-test.true in
-    subst (λ (s : TableModel). AreBindingsApart (map row (s.list ++ state_bindings_at s.timers s.at s.address (x ∷ []))))
+    subst (λ (s : TableModel). AreBindingsApart (map row
+    (s.list ++ state_bindings_at s.timers s.at s.address (x ∷ []))))
     (sym c.loop-binding.invariant)
     (subst (λ (y : Binding). AreBindingsApart (map row (begun_to config c.args.address state k
     ++ state_bindings_at config.timers state.clock c.args.address (y ∷ [])))) is
@@ -43,7 +45,8 @@ restore-requires-clause-flows c =
     let list = c.deref-binding-items.ensures.value ∙ ap (λ (s : State). s.list) c.state.view_is in
     let is : get_or state.list k x ≡ x = sym (c.binding-item.is ∙ ap (λ (l : List Binding). get_or l k x) list) in
     let below : k < length state.list = rw (← list) c.loop-binding-test.true in
-    subst (λ (s : TableModel). Each (λ b. AreFlowsOwn s.at b.flows) (state_bindings_at s.timers s.at s.address (x ∷ [])))
+    subst (λ (s : TableModel). Each (λ b. AreFlowsOwn s.at b.flows)
+    (state_bindings_at s.timers s.at s.address (x ∷ [])))
     (sym c.loop-binding.invariant)
     (subst (λ (y : Binding). Each (λ b. AreFlowsOwn state.clock b.flows)
     (state_bindings_at config.timers state.clock c.args.address (y ∷ []))) is

@@ -1,8 +1,9 @@
+-- `Translator::new`: the new translator satisfies `IsTranslator`.
 use Rattle.std.{proofs.Common.{ℕ, List, ◌∙◌, ap}, specs.Prelude.slice_index}
 use Rattle.napt_table.specs.Tables.{TableModel}
 use Rattle.napt_translate.proofs.translator.Translator.new.Goals as goal
 
--- the table is the one that the configuration opens with
+-- The table is the initial table of the configuration.
 pub invariant_of-result : goal.invariant_of-result
 invariant_of-result c =
     let shown = c.in_ok-table.ensures.shown in

@@ -1,3 +1,4 @@
+-- `outbound`: the translator still satisfies `IsTranslator` after a packet through a known binding.
 use Rattle.std.{proofs.Common.{◌∙◌, ℕ, Option, None, Ok, ap, subst}, specs.Prelude.IfSome}
 use Rattle.napt_config.specs.declared.settings.PortBlock.{PortBlock}
 use Rattle.napt_table.specs.Tables.{TableModel, GoesOut}

@@ -1,9 +1,10 @@
+-- rewrite_end: the words to replace are those of the definition, for ends with and without a number.
 use Rattle.std.proofs.{Common.{arith, ◌≡◌, ℕ, ◌+◌, List, [], ◌∷◌, Option, Some, None, option_map, refl}, lemmas.{Grind.common_steps, Bool.Decides.nat_tests}}
 use Rattle.napt_wire.specs.Prelude.{word_change, checksum_changes, number_changes, end_changes, Endpoint, TransportForm}
 use Rattle.napt_wire.proofs.header.Header.rewrite_end.Goals.{in-Some, in-None}
 use Rattle.napt_wire.proofs.header.Header.rewrite_end.Goals as goal
 
--- an end that has a number at a place
+-- The changes of an end that has a number.
 changes_at : (start place : ℕ) (offset : Option ℕ) (form : TransportForm) (old new : Endpoint) (bytes : List ℕ) →
     option_map (λ (n : ℕ). start + n) offset ≡ Some place →
     number_changes offset form start old new bytes

@@ -1,3 +1,4 @@
+-- fix: three updates for one word each are one update for the words of an address.
 use Rattle.napt_wire.proofs.Checksums.{canon_three}
 use Rattle.napt_wire.proofs.header_rewrite.AddressRewrite.fix.Goals as goal
 

@@ -1,3 +1,4 @@
+-- from_packet: the words to replace are those of the definition.
 use Rattle.std.proofs.{Common.arith, lemmas.{Grind.common_steps, Bool.Decides.nat_tests}}
 use Rattle.napt_wire.specs.Rewriting.{reverted_changes}
 use Rattle.napt_wire.proofs.header_rewrite.ErrorRewrite.from_packet.Goals as goal

@@ -1,3 +1,4 @@
+-- write: every word lies within the bytes, and the three groups of words are written in order.
 use Rattle.std.proofs.{Common.{◌+◌, ◌≤◌, length, ◌∷◌, []}, lemmas.List.Elements.{All-head, All-tail}}
 use Rattle.napt_wire.proofs.{Changes.length-changed, EndReplacement.{there-front, there-rest, there-changed}}
 use Rattle.napt_wire.specs.Prelude.{changes_of, address_changes_of, with_changes, Change}

@@ -1,3 +1,4 @@
+-- fix: the updates for the address, the number and the transport checksum are one update for all words.
 use Rattle.std.proofs.Common.{option_to_list}
 use Rattle.napt_wire.{specs.HeaderRewrite.address_changes_of, proofs.Checksums.{canon_all, canon-less}}
 use Rattle.napt_wire.proofs.header_rewrite.Rewrite.fix.Goals as goal

@@ -1,3 +1,4 @@
+-- header: the stored offset and body describe the packet's own headers.
 use Rattle.std.proofs.{Common.{arith, ◌≡◌, ℕ, List}, lemmas.{Grind.common_steps, Bool.Decides.nat_tests}}
 use Rattle.napt_wire.{specs.Prelude.{body_of, form_of, TransportForm}, proofs.ReadingChecks.room_of_packet}
 use Rattle.napt_wire.proofs.packet.Packet.header.Goals as goal

@@ -1,3 +1,4 @@
+-- into_bytes: a packet has fewer than 2 ^ 16 bytes.
 use Rattle.std.proofs.Common.{rules}
 use Rattle.napt_wire.proofs.PacketNumbers.{length-packet}
 use Rattle.napt_wire.proofs.packet.Packet.into_bytes.Goals as goal

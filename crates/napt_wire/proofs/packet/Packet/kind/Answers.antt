@@ -1,3 +1,4 @@
+-- kind: the stored body gives the kind, and for an error the quoted datagram.
 use Rattle.std.proofs.{Common.{arith, List, ℕ}, lemmas.{Grind.common_steps, Bool.Decides.nat_tests}}
 use Rattle.napt_wire.{proofs.WithInner.{is_error_of, quoted_form}, specs.Prelude.{inner, kind}}
 use Rattle.napt_wire.proofs.packet.Packet.kind.Goals as goal

@@ -1,3 +1,4 @@
+-- quoted_header: the quoted datagram has whole headers, at the stored offset and of the stored form.
 use Rattle.std.proofs.Common.{◌≡◌, ℕ, List, ap, ◌∙◌, refl}
 use Rattle.napt_wire.{specs.Prelude.{inner_datagram_start, quoted_of, Quoted}, proofs.{ReadingChecks.passes_of_read, WithInner.{error_of, inner_room, passes_error}}}
 use Rattle.napt_wire.proofs.packet.Packet.quoted_header.Goals as goal

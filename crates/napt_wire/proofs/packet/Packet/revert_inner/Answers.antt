@@ -1,3 +1,4 @@
+-- revert_inner: the result is the reverted packet, which still reads, and its checksums are right as before.
 use Rattle.std.proofs.Common.{◌≡◌, Ok, sym, ◌∙◌, ap, refl, take, drop, length, ◌++◌, List, ℕ}
 use Rattle.napt_wire.proofs.{Changes.vec-changed, ReadingChecks.{passes_of_read, reads_of_passes}, ChecksumsStayRight.error_right}
 use Rattle.napt_wire.proofs.WithInner.{passes_error, KeepsError, error_kept_of, error_there, error_of, carries_inner, not_error, error_found, quoted_form}
@@ -24,7 +25,7 @@ write-requires c =
     rw (c.from_packet-rewrite.ensures, c.deref_mut.ensures.value, c.deref.ensures.value)
     (error_there c.self.invariant.reads.0 c.args.way c.args.end c.self.inside.bytes.items passed)
 
--- what the vector holds at the end
+-- The bytes of the vector at the end.
 held : (c : After-self-1) →
     take c.self.inside.bytes.len (c.write.new.bytes ++ drop (length c.write.new.bytes) c.self.inside.bytes.items)
     ≡ with_changes (reverted_changes c.args.way c.args.end c.self.inside.bytes.items) c.self.inside.bytes.items
@@ -55,7 +56,8 @@ invariant_of-self c =
 
 pub returns-clause-value : goal.returns-clause-value
 unfolding reverted
-returns-clause-value c = held c ∙ ap (λ (bytes : List ℕ). with_changes (reverted_changes c.args.way c.args.end bytes) bytes)
+returns-clause-value c = held c ∙ ap (λ (bytes : List ℕ). with_changes (reverted_changes c.args.way c.args.end bytes)
+    bytes)
     c.self.view_is
 
 pub returns-clause-reads : goal.returns-clause-reads

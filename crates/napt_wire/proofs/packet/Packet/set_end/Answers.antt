@@ -1,3 +1,4 @@
+-- set_end: the result is the packet with the new end, which still reads, and its checksum is right as before.
 use Rattle.std.proofs.{Common.{arith, ◌≡◌, ◌∙◌, ap, take, drop, length, ◌++◌, List, ℕ, take_at}, lemmas.{Grind.common_steps, Bool.Decides.nat_tests}}
 use Rattle.napt_wire.proofs.{Changes.length-changed, EndReplacement.end-there, ReadingChecks.{room_of_packet, passes_of_read, reads_of_passes}, ChecksumsStayRight.end_right}
 use Rattle.napt_wire.{proofs.WithEnd.{Carries, IsPlain, plain_of, carries_of, end_passes, end_found, end_form}, specs.Prelude.{form_at, with_changes, end_changes}}
@@ -8,7 +9,7 @@ write-requires c =
     rw (c.rewrite_end-rewrite.ensures, c.header.ensures.at_is, c.deref_mut.ensures.value, c.deref.ensures.value)
     (end-there 0 c.args.end c.args.new c.self.inside.bytes.items (room_of_packet _ c.self.invariant.reads))
 
--- what the vector holds at the end
+-- The bytes of the vector at the end.
 is_new : (c : goal.After-self-1) → take c.self.inside.bytes.len (c.write.new.bytes
     ++ drop (length c.write.new.bytes) c.self.inside.bytes.items)
     ≡ with_changes (end_changes 0 c.args.end c.args.new c.self.inside.bytes.items) c.self.inside.bytes.items
@@ -36,7 +37,8 @@ invariant_of-self c =
     }
 
 pub returns-clause-value : goal.returns-clause-value
-returns-clause-value c = is_new c ∙ ap (λ (bytes : List ℕ). with_changes (end_changes 0 c.args.end c.args.new bytes) bytes)
+returns-clause-value c = is_new c ∙ ap (λ (bytes : List ℕ). with_changes (end_changes 0 c.args.end c.args.new bytes)
+    bytes)
     c.self.view_is
 
 pub returns-clause-reads : goal.returns-clause-reads

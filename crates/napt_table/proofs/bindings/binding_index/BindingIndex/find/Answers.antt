@@ -1,10 +1,11 @@
+-- `find`: the binding that is found has the key, and is at the index that is returned.
 use Rattle.std.proofs.{Common.{◌≡◌, Some, sym, ap, ◌∙◌}, lemmas.Map.Made.lookup_key_passes}
 use Rattle.napt_rules.specs.Prelude.{Binding}
 use Rattle.napt_table.specs.{declared.bindings.{keys.ExternalNumberKey.ExternalNumberKey, binding_index.BindingIndex.TheInside.Inside}, HeldModels.IsHeld, Keys.{key_eq, key_of}}
 use Rattle.napt_table.proofs.{Ends.held_in, Keys.key_is}
 use Rattle.napt_table.proofs.bindings.binding_index.BindingIndex.find.Goals as goal
 
--- a binding that is held has the number of its key
+-- A stored binding has the protocol and number of its key.
 own_key : (it : Inside) → IsHeld it → (key : ExternalNumberKey) (b : Binding) → held_in it key ≡ Some b → key ≡ key_of b
 own_key it is key b h = λ i. record {
   number = (sym (is.named.external_is key b h) i).number;

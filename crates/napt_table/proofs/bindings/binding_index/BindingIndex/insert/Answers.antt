@@ -1,3 +1,4 @@
+-- `insert`: the index then has the binding too, and its invariant is kept.
 use Rattle.std.proofs.{Common.{ℕ, ◌≡◌, ◌∙◌, ◌+◌, ◌||◌, ap, refl, sym, subst, cond, Some, None, arith}, lemmas.Option.same_Some}
 use Rattle.napt_wire.specs.declared.Protocol.{Protocol}
 use Rattle.napt_table.specs.{declared.bindings.keys.ExternalNumberKey.ExternalNumberKey, NumbersInUse.is_in_use, HeldModels.{holdings_of, number_of_inside}}
@@ -23,7 +24,8 @@ invariant_of-self c =
     subst (λ (x : ExternalNumberKey). held_in c.self.inside x ≡ None) (sym key_is)
     (subst (λ (h : BindingIndexModel). held_binding h (key_of fresh) ≡ None) (sym c.self.view_is) c.requires.free) in
     let absent : HasNoInside (holdings_of c.self.inside) fresh.row.protocol fresh.row.inside =
-    subst (λ (h : BindingIndexModel). HasNoInside h fresh.row.protocol fresh.row.inside) (sym c.self.view_is) c.requires.absent in
+    subst (λ (h : BindingIndexModel). HasNoInside h fresh.row.protocol fresh.row.inside) (sym c.self.view_is)
+    c.requires.absent in
     let protocol : fresh.row.protocol ≡ key.protocol = sym (ap (λ (x : ExternalNumberKey). x.protocol) key_is) in
     let ends = c.inside_key-inside.ensures ∙ λ i. inside_key ((c.protocol.ensures ∙ protocol) i) (c.inside.ensures i) in
     step_held c.self.inside _ is key c.key_of-key.ensures.small fresh.row.inside None (Some fresh) free

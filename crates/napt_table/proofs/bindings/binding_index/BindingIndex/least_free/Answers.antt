@@ -1,3 +1,4 @@
+-- `least_free`: the least number that is not in use is the least that no binding has.
 use Rattle.std.specs.Option.{is_some}
 use Rattle.napt_table.{specs.{HeldModels.holdings_of, BindingIndexes.held_at, NumbersInUse.is_in_use, Keys.external_key}, proofs.LeastFree.first_agrees}
 use Rattle.napt_table.proofs.bindings.binding_index.BindingIndex.least_free.Goals as goal

@@ -1,3 +1,4 @@
+-- `new`: an index without bindings satisfies its invariant.
 use Rattle.std.proofs.Common.{◌∙◌}
 use Rattle.napt_table.proofs.Ends.{none_held}
 use Rattle.napt_table.proofs.bindings.binding_index.BindingIndex.new.Goals as goal

@@ -1,3 +1,4 @@
+-- `receive`: the binding changes as `binding_after_inbound` says, if it is live, and the invariant is kept.
 use Rattle.std.proofs.{Common.{◌≡◌, Some, None, sym, subst, ap, ◌∙◌}, lemmas.Option.same_Some}
 use Rattle.napt_rules.specs.Prelude.{Binding, with_live_flows, row}
 use Rattle.napt_binding.specs.Inbounds.{inbound_answer, binding_after_inbound}
@@ -61,5 +62,6 @@ returns-clause-found c = rw (← c.self.view_is) (λ d s.
       c.purge_and_receive.ensures.answer ∙ ap (inbound_answer c.args.inbound p) is,
       left_at_place c.self.inside _ c.self.view_is _ c.in-Some.place _ f.value f.entry
           _ l.value c.self.invariant l.unique _
-          ∙ ap (λ (x : Binding). Some x) (c.purge_and_receive.ensures.left ∙ ap (binding_after_inbound c.args.inbound p) is),
+          ∙ ap (λ (x : Binding). Some x) (c.purge_and_receive.ensures.left
+          ∙ ap (binding_after_inbound c.args.inbound p) is),
     ))

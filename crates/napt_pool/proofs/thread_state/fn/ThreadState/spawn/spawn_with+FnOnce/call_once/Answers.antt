@@ -1,3 +1,4 @@
+-- spawn: the closure satisfies what `spawn_with` requires.
 use Rattle.std.proofs.Common.{rules}
 use Rattle.napt_pool.proofs.thread_state.fn.ThreadState.spawn.spawn_with+FnOnce.call_once.Goals as goal
 

@@ -1,5 +1,6 @@
+-- `legs_name_their_binding`: a leg records the binding that is found after it, and an error or a drop none.
 use Rattle.napt_laws.proofs.BindingUseLaws.{out_says_its_binding, in_says_its_binding, errors_go_through_none, dropped_go_through_none}
-use Rattle.napt_laws.proofs.legs.legs_say_their_binding.Goals as goal
+use Rattle.napt_laws.proofs.legs.legs_name_their_binding.Goals as goal
 
 pub returns-clause-outbound : goal.returns-clause-outbound
 returns-clause-outbound c = out_says_its_binding

@@ -1,0 +1,6 @@
+-- `runs_name_their_hosts`: the external endpoint of each binding after a run gives its inside host.
+use Rattle.napt_laws.proofs.Holders.{runs_tell}
+use Rattle.napt_laws.proofs.hosts.runs_name_their_hosts.Goals as goal
+
+pub returns : goal.returns
+returns c = runs_tell c.runs_are_sound.ensures.sound c.runs_keep_to_blocks.ensures

@@ -1,5 +1,0 @@
-use Rattle.napt_laws.proofs.Holders.{runs_tell}
-use Rattle.napt_laws.proofs.hosts.runs_tell_their_hosts.Goals as goal
-
-pub returns : goal.returns
-returns c = runs_tell c.runs_are_sound.ensures.sound c.runs_keep_to_blocks.ensures
