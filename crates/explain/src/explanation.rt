@@ -13,7 +13,6 @@ use napt_lines::{
 };
 use napt_log_text::TimeStamp;
 use napt_sequential::Input;
-use napt_sizing::{Sizes, tell_sizes};
 use std::alloc::AllocError;
 use std::io::Write;
 use std::rt::Files;
@@ -29,7 +28,6 @@ enum View<'a, W> {
     Objects,
     /// The answers to requests.
     Holders(Holders<'a>),
-    Sizes(Sizes),
     Log(RunLog<'a, W>),
 }
 
@@ -78,7 +76,6 @@ fn begin_told<'a, R: Files + Print + Eprint + AllocGlobal>(
             holders.take(before.ended)?;
             View::Holders(holders)
         }
-        (OutputForm::Sizes, _) => View::Sizes(Sizes::of(alloc, config, before.living)?),
         (_, Some(number)) => View::Only(SinglePacket::new(number)),
         (_, None) => View::Lines(PacketLines::new(options.choice)),
     })
@@ -104,7 +101,6 @@ impl<'a, W: Write + Drop> View<'a, W> {
                 }
             }
             View::Holders(holders) => holders.take(&line.passing.step.ended)?,
-            View::Sizes(sizes) => sizes.take(config, line.passing)?,
             View::Log(log) => log.take(rt, config, line.passing)?,
         }
         Ok(())
@@ -123,7 +119,6 @@ impl<'a, W: Write + Drop> View<'a, W> {
             View::Only(only) => only.tell(rt, page, ending),
             View::Objects => Ok(()),
             View::Holders(holders) => holders.tell(rt, ending),
-            View::Sizes(sizes) => tell_sizes(rt, &sizes, ending),
             View::Log(log) => log.finish(rt, ending),
         }
     }

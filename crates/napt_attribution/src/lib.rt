@@ -20,4 +20,4 @@ pub use crate::blocks::tell_blocks;
 pub use crate::holders::Holders;
 pub use crate::requests::{HolderRequest, party_of, requests_at};
 pub use crate::run_log::{LogPaths, RunLog, begin_run_log};
-pub use crate::spans::{BadTime, nanoseconds_of, span_of};
+pub use crate::spans::{BadTime, span_of};

@@ -73,7 +73,7 @@ impl<'a> RunReport<'a> {
         ending: &RunEnd<'_>,
     ) -> Result<(), Exit> {
         self.coverage.tell(rt);
-        self.coverage.tell_living(rt, None, &ending.living);
+        self.coverage.tell_living(rt, &ending.living);
         let cuts = ending.cuts;
         let text = report_of(
             rt.alloc(),

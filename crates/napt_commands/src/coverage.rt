@@ -1,6 +1,5 @@
 //! How much captures show: what figures of a run need and captures may lack.
 
-use crate::warning::start_warning;
 use napt_account::{LogEntry, LogStep};
 use napt_sequential::{Input, Outcome};
 use napt_wire::{Cause, Side};
@@ -70,8 +69,8 @@ impl Coverage {
     }
 
     /// Reports that half of the bindings had not ended at the end, at which these live, or that the captures are shorter
-    /// than a timer. `under` names the configuration, where there are several.
-    pub fn tell_living<R: Eprint>(mut self, rt: &R, under: Option<&str>, entries: &[LogEntry]) {
+    /// than a timer.
+    pub fn tell_living<R: Eprint>(mut self, rt: &R, entries: &[LogEntry]) {
         self.end(entries);
         let (living, made) = (self.made.saturating_sub(self.ended), self.made);
         let span = self.last.saturating_sub(self.first.unwrap_or(0));
@@ -79,16 +78,15 @@ impl Coverage {
         if !is_half && span >= self.longest {
             return;
         }
-        start_warning(rt, under);
         let (span, longest) = (span / SECOND, self.longest / SECOND);
         let _ = match is_half {
-            true => eprint!(rt;
-                "{living} of {made} bindings have not ended when the captures do, after {span} s"
+            true => eprintln!(rt;
+                "explain: {living} of {made} bindings have not ended when the captures do, after {span} s: more at once may come"
             ),
-            false => eprint!(rt;
-                "the captures span {span} s, less than the {longest} s that a binding lives behind its last packet"
+            false => eprintln!(rt;
+                "explain: the captures span {span} s, less than the {longest} s that a binding lives behind its last packet: \
+more at once may come"
             ),
         };
-        let _ = eprintln!(rt; ": more at once may come");
     }
 }

@@ -27,4 +27,4 @@ pub use crate::run_packet::{Consumer, RunEnd, RunPacket, take_all};
 pub use crate::seconds::Seconds;
 pub use crate::sorted_entries::SortedEntries;
 pub use crate::start::RunStart;
-pub use crate::warning::{print_warning, start_warning};
+pub use crate::warning::print_warning;
