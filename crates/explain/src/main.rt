@@ -7,6 +7,7 @@
 #![tactic(auto)]
 
 mod captures;
+mod command_output;
 mod commands;
 mod explanation;
 mod flaws;

@@ -1,17 +1,22 @@
 //! A run over captures, as the command line asks for it.
 
 use crate::captures::{CaptureInputs, OpenCaptures, RefusedRun, StartedCaptures};
-use crate::explanation::begin_explanation;
+use crate::command_output::{CommandOutput, PacketObjects};
+use crate::explanation::{BegunRun, Explanation};
 use crate::follow_command::follow;
 use crate::options::{ExplainOptions, OutputForm};
+use crate::progress::ExplainProgress;
 use crate::reading::{GivenLog, RunStarts};
+use napt_attribution::{Holders, begin_run_log};
 use napt_capture::{EmptySource, Source, Watched};
-use napt_commands::{Exit, OutsideCapture, RunStart, take_all};
-use napt_lines::{Replies, RunComparison, ends_of};
+use napt_commands::{Exit, RunStart, take_all};
+use napt_config::Config;
+use napt_lines::{PacketLines, Replies, RunComparison, SinglePacket, ends_of};
+use napt_log_text::TimeStamp;
 use napt_program::{InputFiles, StandardStreams};
 use napt_sequential::Input;
 use napt_wire::{Endpoint, Side};
-use std::alloc::{AllocError, Global};
+use std::alloc::AllocError;
 use std::io::Read;
 use std::rt::Files;
 
@@ -132,20 +137,38 @@ impl<'a> RunSetting<'a> {
         rt: &R,
         captures: &mut CaptureInputs<'_, '_, '_, A, B>,
     ) -> Result<(), Exit> {
-        let (options, start, asked) = (self.options, &self.starts.first, &self.given.asked);
-        if !options.outside.follows() {
-            let mut explanation = begin_explanation(rt, options, start, asked, None)?;
-            captures.hand_over(rt, &mut explanation)?;
-            return explanation.end(rt, captures.flaws());
+        let (options, start) = (self.options, &self.starts.first);
+        let alloc = rt.alloc();
+        let followed = match options.outside.follows() {
+            true => Some(FollowedInputs::read(rt, options, start.config(), captures)?),
+            false => None,
+        };
+        let begun = BegunRun::of(alloc, start)?;
+        let told = ToldRun {
+            rt,
+            options,
+            captures,
+            followed,
+        };
+        match (options.form, options.choice.only) {
+            (OutputForm::Objects, _) => {
+                let choice = options.choice;
+                told.explain(begun, PacketObjects { choice })
+            }
+            (OutputForm::Log(paths), _) => {
+                tell_new_entries(rt, start)?;
+                let is_held = options.is_of_gateway();
+                let log = begin_run_log(rt, paths, is_held, start.config(), &begun.living)?;
+                told.explain(begun, log)
+            }
+            (OutputForm::Holders(_) | OutputForm::Requests(_), _) => {
+                let mut holders = Holders::of(alloc, &self.given.asked)?;
+                holders.take(&begun.ended)?;
+                told.explain(begun, holders)
+            }
+            (_, Some(number)) => told.explain(begun, SinglePacket::new(number, options.choice)),
+            (_, None) => told.explain(begun, PacketLines::new(options.choice)),
         }
-        let mut inputs = captures.all(rt)?;
-        let ends = named_ends(rt.alloc(), options, &mut inputs)?;
-        let config = start.config();
-        let inputs = options.outside.inputs_under(rt.alloc(), config, inputs)?;
-        let replies = Replies::of(options.outside, config, &ends);
-        let mut explanation = begin_explanation(rt, options, start, asked, replies)?;
-        take_all(rt, &inputs, &mut explanation)?;
-        explanation.end(rt, captures.flaws())
     }
 
     /// Writes the outside capture that replies make, once all packets are there.
@@ -165,16 +188,87 @@ impl<'a> RunSetting<'a> {
     }
 }
 
-/// The inside endpoints that the inputs name, if they are replies of which each may have a line; else none.
-fn named_ends(
-    alloc: Global,
-    options: &ExplainOptions<'_>,
-    inputs: &mut [Input],
-) -> Result<Vec<Option<Endpoint>>, AllocError> {
-    match (options.outside, options.form) {
-        (OutsideCapture::Replies, OutputForm::Lines | OutputForm::Objects) => ends_of(
-            alloc, inputs,
-        ),
-        _ => Ok(Vec::new(alloc)),
+/// The packets of a run of which replies follow it.
+#[derive(Drop)]
+struct FollowedInputs {
+    inputs: Vec<Input>,
+    /// The inside endpoint that each names, if it is a reply that reads.
+    ends: Vec<Option<Endpoint>>,
+}
+
+impl FollowedInputs {
+    /// Reads all packets, of which the replies follow the run under a configuration.
+    fn read<R: Eprint + AllocGlobal, A: Source, B: Source>(
+        rt: &R,
+        options: &ExplainOptions<'_>,
+        config: &Config,
+        captures: &mut CaptureInputs<'_, '_, '_, A, B>,
+    ) -> Result<FollowedInputs, Exit> {
+        let mut inputs = captures.all(rt)?;
+        let ends = ends_of(rt.alloc(), &mut inputs)?;
+        let inputs = options.outside.inputs_under(rt.alloc(), config, inputs)?;
+        Ok(FollowedInputs { inputs, ends })
     }
+}
+
+/// A run that is told, over packets that come from captures, or that are kept since replies follow it.
+#[derive(Drop)]
+struct ToldRun<'a, 'c, 'r, 'i, 'o, R, A: Source, B: Source> {
+    rt: &'c R,
+    options: &'a ExplainOptions<'a>,
+    captures: &'c mut CaptureInputs<'r, 'i, 'o, A, B>,
+    followed: Option<FollowedInputs>,
+}
+
+impl<'a, 'c, 'r, 'i, 'o, R, A: Source, B: Source> ToldRun<'a, 'c, 'r, 'i, 'o, R, A, B> {
+    /// Hands its packets to what a command prints or writes.
+    fn explain<O: CommandOutput<R> + Drop>(self, begun: BegunRun<'a>, output: O) -> Result<(), Exit>
+    where
+        R: Files + Print + Eprint + AllocGlobal,
+    {
+        let (rt, options, captures) = (self.rt, self.options, self.captures);
+        let progress = ExplainProgress::of(rt);
+        match &self.followed {
+            None => {
+                let mut explanation = Explanation::begin(
+                    rt.alloc(),
+                    options,
+                    begun,
+                    None,
+                    progress,
+                    output,
+                )?;
+                captures.hand_over(rt, &mut explanation)?;
+                explanation.end(rt, captures.flaws())
+            }
+            Some(followed) => {
+                let replies = Replies::of(options.outside, begun.config(), &followed.ends);
+                let mut explanation = Explanation::begin(
+                    rt.alloc(),
+                    options,
+                    begun,
+                    replies,
+                    progress,
+                    output,
+                )?;
+                take_all(rt, &followed.inputs, &mut explanation)?;
+                explanation.end(rt, captures.flaws())
+            }
+        }
+    }
+}
+
+/// Tells where the log begins new entries for the bindings of the state, if what was kept of it has not theirs.
+fn tell_new_entries<R: Eprint + AllocGlobal>(
+    rt: &R,
+    start: &RunStart<'_>,
+) -> Result<(), AllocError> {
+    if start.begins_entries(rt.alloc())? {
+        let mut date = String::new(rt.alloc());
+        TimeStamp(u128::from(start.clock())).add_date(&mut date)?;
+        let _ = eprintln!(rt;
+            "explain: the log begins a new entry for each binding of the state, at {date}"
+        );
+    }
+    Ok(())
 }

@@ -1,7 +1,6 @@
 //! The log of a run as CSV. docs/FORMATS.md describes its fields and the order of its rows; `napt_log_text` defines its
 //! rows.
 
-use crate::blocks::tell_needless;
 use crate::row_file::{RowFile, create_rows};
 use napt_account::LogEntry;
 use napt_commands::{Exit, RunPacket};
@@ -45,8 +44,7 @@ impl<'a, W: Write + Drop> LogFile<'a, W> {
         self.rows.turn(rt)
     }
 
-    /// Writes the rows of the bindings that live at the end, and all that is not written yet, and says if the log is not
-    /// needed.
+    /// Writes the rows of the bindings that live at the end, and all that is not written yet.
     pub fn finish<R: Files + Print + Eprint>(
         &mut self,
         rt: &R,
@@ -57,8 +55,6 @@ impl<'a, W: Write + Drop> LogFile<'a, W> {
             add_living(config, part, &mut self.rows.text)?;
             self.rows.turn(rt)?;
         }
-        self.rows.finish(rt)?;
-        tell_needless(rt, config);
-        Ok(())
+        self.rows.finish(rt)
     }
 }

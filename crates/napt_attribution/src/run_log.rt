@@ -1,5 +1,6 @@
 //! What `explain log` writes of a run: its log, and the packets and the report beside it.
 
+use crate::blocks::tell_needless;
 use crate::log_file::{LogFile, begin_log};
 use crate::packet_file::{PacketFile, begin_packets};
 use napt_account::LogEntry;
@@ -115,7 +116,7 @@ impl<'a, W: Write + Drop> RunLog<'a, W> {
         self.log.rows.settle(rt)
     }
 
-    /// Writes what needs the end, and all that is not written yet.
+    /// Writes what needs the end, and all that is not written yet. Says if nobody needs the log, unless figures are made of it.
     pub fn finish<R: Files + Print + Eprint + AllocGlobal>(
         self,
         rt: &R,
@@ -129,9 +130,13 @@ impl<'a, W: Write + Drop> RunLog<'a, W> {
         if let Some(packets) = &mut packets {
             packets.rows.finish(rt)?;
         }
-        if let Some(report) = &report {
-            report.write(rt, ending)?;
+        log.finish(rt, ending.config, &ending.living)?;
+        match &report {
+            Some(report) => report.write(rt, ending),
+            None => {
+                tell_needless(rt, ending.config);
+                Ok(())
+            }
         }
-        log.finish(rt, ending.config, &ending.living)
     }
 }

@@ -35,10 +35,11 @@ impl UsedBinding {
 }
 
 /// The packet that is shown alone.
-#[derive(Clone, Copy, Default)]
+#[derive(Clone, Copy)]
 pub struct SinglePacket {
     /// Its number, from 1.
     number: u64,
+    choice: PacketSelection,
     /// Whether it came.
     is_found: bool,
     /// Whether it meets the other conditions.
@@ -50,10 +51,14 @@ pub struct SinglePacket {
 
 impl SinglePacket {
     /// Before the first packet.
-    pub fn new(number: u64) -> SinglePacket {
+    pub fn new(number: u64, choice: PacketSelection) -> SinglePacket {
         SinglePacket {
             number,
-            ..SinglePacket::default()
+            choice,
+            is_found: false,
+            is_chosen: false,
+            out: None,
+            into: None,
         }
     }
 
@@ -62,7 +67,6 @@ impl SinglePacket {
         &mut self,
         alloc: Global,
         text: &mut String,
-        choice: PacketSelection,
         line: PacketLine<'_>,
     ) -> Result<(), AllocError> {
         let RunPacket {
@@ -75,7 +79,7 @@ impl SinglePacket {
             return Ok(());
         }
         self.is_found = true;
-        self.is_chosen = line.is_chosen(alloc, choice)?;
+        self.is_chosen = line.is_chosen(alloc, self.choice)?;
         if !self.is_chosen {
             return Ok(());
         }

@@ -5,11 +5,11 @@ use crate::ended_bindings::{add_binding, add_end};
 use crate::lines::{PacketLine, has_party};
 use crate::packet_selection::PacketSelection;
 use crate::remotes::Remotes;
-use crate::replies::{Replies, advice_of_replies};
+use crate::replies::Replies;
 use napt_account::Entry;
 use napt_commands::{Exit, LossCounts, Page, RunEnd, RunPacket, Seconds, SortedEntries};
 use napt_config::Config;
-use napt_display::reasons::{advice, meaning};
+use napt_display::reasons::CauseText;
 use napt_records::{OutcomeCounts, cause_name};
 use napt_table::Row;
 use napt_wire::Cause;
@@ -165,8 +165,8 @@ impl PacketLines {
         if many == 0 {
             return Ok(());
         }
-        let name = cause_name(cause);
-        writeln!(text, "  {many} dropped, {name}: {}", meaning(cause))?;
+        let (name, meaning) = (cause_name(cause), CauseText::of(cause).meaning);
+        writeln!(text, "  {many} dropped, {name}: {meaning}")?;
         if let Some(replies) = outside.replies {
             replies.add_losses(text, cause, &outside.losses)?;
         }
@@ -190,9 +190,10 @@ impl PacketLines {
         if is_answered {
             writeln!(text, "    many packets end so: {OTHER_NUMBERS}")?;
         }
+        let told = CauseText::of(cause);
         let told = match outside.replies {
-            Some(_) => advice_of_replies(cause).or(advice(cause)),
-            None => advice(cause),
+            Some(_) => told.advice_of_replies.or(told.advice),
+            None => told.advice,
         };
         match told {
             Some(advice) if is_answered => writeln!(text, "    else: {advice}"),
