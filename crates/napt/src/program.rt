@@ -1,4 +1,4 @@
-//! What the program does: it reads its words and its configuration, opens the files in a fixed order, and runs over them.
+//! The program reads its arguments and configuration, opens the files in a fixed order, and runs.
 
 ghost use Rattle.std.specs.Prelude.{◌≡◌, IfErr, OnOk, map, string_bytes};
 ghost use Rattle.napt_rules.specs.Prelude.{TakesState};
@@ -14,12 +14,12 @@ use std::alloc::Global;
 use std::io::{Read, Write};
 use std::sync::Arc;
 
-/// Does what the words of the command line ask for: runs over the files that they name, with a worker thread for each
-/// external address, or writes help or the version to standard output. At a terminal it tells which captures are cut.
+/// Does what the command line requests: runs over the files that it names, with a worker thread for
+/// each external address, or prints help or the version. At a terminal, it reports cut captures.
 ///
-/// Fails, before any capture is opened, where the words are not understood, where memory runs out for them, where a
-/// standard stream that stands for a file is closed, or where the configuration is refused; else where a file cannot
-/// be opened or created, or the run fails. A shut gate is never told.
+/// Before any capture is opened, fails if the arguments are not understood or memory for them is
+/// refused, if a needed standard stream is closed, or if the configuration is refused; after that,
+/// if a file cannot be opened or created, or if the run fails. A shut gate is never reported.
 pub fn serve<R: ProgramHost>(
     rt: &R,
     streams: StandardStreams,
@@ -30,8 +30,8 @@ pub fn serve<R: ProgramHost>(
     serve_words(rt, streams, call, words(rt)?)
 }
 
-/// The same for these words, the program's name first: where it ends well they are understood, and it stops only by
-/// what they name.
+/// Does what these arguments request; the first is the program's name. If it succeeds, they were
+/// understood, and it fails only by what they name.
 pub fn serve_words<R: ProgramHost>(
     rt: &R,
     streams: StandardStreams,
@@ -55,7 +55,7 @@ pub fn serve_words<R: ProgramHost>(
     }
 }
 
-/// Runs over all that the options name, and saves the state that the run leaves, if it is to be saved.
+/// Runs over the files that the options name, and saves the state after the run, if requested.
 fn run<R: ProgramHost>(
     rt: &R,
     streams: StandardStreams,
@@ -83,7 +83,7 @@ fn run<R: ProgramHost>(
     Ok(())
 }
 
-/// Runs over the devices, and tells people at a terminal which captures are cut.
+/// Runs over the devices, and prints at a terminal which captures end inside a record.
 fn run_over<R: ProgramHost, S: Read + Drop, T: Write + Drop, F: Read + Write + Drop>(
     rt: &R,
     call: ProgramCall,
@@ -124,14 +124,14 @@ fn run_over<R: ProgramHost, S: Read + Drop, T: Write + Drop, F: Read + Write + D
     }
 }
 
-/// The state that a run leaves. Fails, as a run does, if memory runs out.
+/// Returns the state after a run. Fails with `MEMORY` if memory is refused.
 fn state_left(alloc: Global, passed: &RunSummary) -> Result<State, Stop>
     ensures { IfErr result (λ stop. stop ≡ MEMORY) }
 {
     passed.final_bindings(alloc).map_err(|_| MEMORY)
 }
 
-/// The gate of a run, which always opens. Fails, as a run does, if memory runs out.
+/// Returns the gate of a run, which is always open. Fails with `MEMORY` if memory is refused.
 fn gate(alloc: Global) -> Result<Arc<OpenGate>, Stop>
     ensures { IfErr result (λ stop. stop ≡ MEMORY) }
 {

@@ -1,4 +1,4 @@
--- Flows of which no two are of one remote.
+-- Flows of which no two are of one remote, in lists and in slots.
 use Rattle.std.proofs.lemmas.{Grind.common_steps, Bool.Decides.nat_tests}
 use Rattle.std.proofs.Common.{◌≡◌, ℕ, zero, suc, ◌+◌, ◌<◌, Bool, true, false, ◌||◌, cond, List, [], ◌∷◌, ◌++◌, length, take, set, get_or, Option, Some, None, refl, sym, ◌∙◌, ap, arith, filter}
 use Rattle.std.{specs.List.list_any, proofs.lemmas.{Bool.{or_parts, true≢false}, List.Folds.list_any_at}}
@@ -33,7 +33,7 @@ same_any remote (f ∷ flows) zero d flow e =
     ap (λ (r : Endpoint). same_endpoint r remote || list_any (is_flow_of remote) flows) e
 same_any remote (f ∷ flows) (suc i) d flow e = ap (λ v. is_flow_of remote f || v) (same_any remote flows i d flow e)
 
--- a flow takes the place of one of its remote
+-- If a flow replaces one of its remote, the flows stay distinct.
 pub distinct_set : (flows : List Flow) (i : ℕ) (d flow : Flow) → flow.remote ≡ (get_or flows i d).remote →
     AreDistinct flows → AreDistinct (set flows i flow)
 distinct_set [] i d flow e h = tt
@@ -49,7 +49,7 @@ distinct_pushed (f ∷ flows) flow h d =
     or_parts (is_flow_of flow.remote f) (list_any (is_flow_of flow.remote) flows) h in
     (any_last (is_flow_of f.remote) flows flow d.0 (other_way flow f q.0), distinct_pushed flows flow q.1 d.1)
 
--- a flow is of another remote than those before it
+-- The remote of a flow is none of those before it.
 pub not_before : (flows : List Flow) (i : ℕ) (d : Flow) → i < length flows → AreDistinct flows →
     list_any (is_flow_of (get_or flows i d).remote) (take i flows) ≡ false
 not_before [] i d lt h = absurd (omega arith)
@@ -73,7 +73,8 @@ stands_before [] (suc i) k flow h = cc
 stands_before (o ∷ slots) (suc i) zero flow h = (omega arith, h)
 stands_before (o ∷ slots) (suc i) (suc k) flow h = let s = stands_before slots i k flow h in (omega (arith, s.0), s.1)
 
-pub not_in_slots_before : (many : FlowMaps) (i : ℕ) (flow : Flow) → FlowMapsInvariant many → IsInSlot many.slots.slots i flow →
+pub not_in_slots_before : (many : FlowMaps) (i : ℕ) (flow : Flow) → FlowMapsInvariant many →
+    IsInSlot many.slots.slots i flow →
     list_any (is_flow_of flow.remote) (standing_flows (take i many.slots.slots)) ≡ false
 not_in_slots_before many i flow is here = any_none (is_flow_of flow.remote) (take i many.slots.slots) (λ k f h.
     let s = stands_before many.slots.slots i k f h in
@@ -83,8 +84,9 @@ not_in_slots_before many i flow is here = any_none (is_flow_of flow.remote) (tak
       | false ↦ λ e. refl
     ] refl)
 
--- one slot more
-pub somes_more : (slots : List (Option Flow)) (i : ℕ) (flow : Flow) → IsInSlot slots i flow → standing_flows (take (suc i) slots)
+-- One slot more adds its flow.
+pub somes_more : (slots : List (Option Flow)) (i : ℕ) (flow : Flow) → IsInSlot slots i flow →
+    standing_flows (take (suc i) slots)
     ≡ standing_flows (take i slots) ++ flow ∷ []
 somes_more [] i flow h = cc
 somes_more (o ∷ slots) zero flow h = grind (arith, common_steps, nat_tests)
@@ -104,14 +106,15 @@ pub distinct_live : (timers : Timers) (now : ℕ) (protocol : Protocol) (flows :
     AreDistinct (live_flows timers now protocol flows)
 distinct_live timers now protocol flows d = grind (arith, common_steps, nat_tests, distinct_kept)
 
--- ONE MORE OF A LIST OF FLOWS
+-- ONE MORE FLOW OF A LIST
 
 pub put_next : (new middle old : List (Option Flow)) (done : List Flow) (flow : Flow) → new ≡ middle ++ Some flow ∷ [] →
     middle ≡ old → standing_flows old ≡ done → standing_flows new ≡ done ++ flow ∷ []
 put_next new middle old done flow put same is = ap standing_flows put
     ∙ (somes_pushed middle flow ∙ ap (λ (l : List Flow). l ++ flow ∷ []) (ap standing_flows same ∙ is))
 
-pub next_slot : (slots : List (Option Flow)) (i : ℕ) (flow : Flow) → IsInSlot slots i flow → standing_flows (take (i + 1) slots)
+pub next_slot : (slots : List (Option Flow)) (i : ℕ) (flow : Flow) → IsInSlot slots i flow →
+    standing_flows (take (i + 1) slots)
     ≡ standing_flows (take i slots) ++ flow ∷ []
 next_slot slots i flow h = let s : i + 1 ≡ suc i = omega arith in ap (λ (n : ℕ). standing_flows (take n slots)) s
     ∙ somes_more slots i flow h
@@ -121,7 +124,9 @@ pub empty_slot : (slots : List (Option Flow)) (i : ℕ) → ((flow : Flow) → I
 empty_slot slots i none = let s : i + 1 ≡ suc i = omega arith in ap (λ (n : ℕ). standing_flows (take n slots)) s
     ∙ somes_no_more slots i none
 
-pub absent_next : (many : FlowMaps) (old : List (Option Flow)) (done : List Flow) (remote : Endpoint) → FlowMapsInvariant many →
-    many.slots.slots ≡ old → standing_flows old ≡ done → list_any (is_flow_of remote) done ≡ false → place_of_remote many remote ≡ None
+pub absent_next : (many : FlowMaps) (old : List (Option Flow)) (done : List Flow) (remote : Endpoint) →
+    FlowMapsInvariant many →
+    many.slots.slots ≡ old → standing_flows old ≡ done → list_any (is_flow_of remote) done ≡ false →
+    place_of_remote many remote ≡ None
 absent_next many old done remote is same all none =
     no_place many remote is (ap (list_any (is_flow_of remote)) (ap standing_flows same ∙ all) ∙ none)

@@ -1,4 +1,4 @@
--- A binding lives before its end, and no longer.
+-- A binding is live before its end, and not from then on.
 use Rattle.std.proofs.lemmas.Grind.{common_steps}
 use Rattle.std.proofs.Common.{◌≡◌, ℕ, ◌+◌, ◌<◌, ◌≤◌, ◌++◌, length, take, get_or, max, Bool, true, false, ◌||◌, cond, List, [], ◌∷◌, Option, Some, None, refl, sym, ◌∙◌, ap, arith, nat_lt, nat_le}
 use Rattle.std.{specs.List.list_any, proofs.lemmas.{Bool.Decides.nat_tests, List.take_more}}
@@ -39,12 +39,12 @@ ends_are_first timers t now binding = ap (λ v. binding.row.fixed || v)
     (by_before binding.row.protocol timers t now binding)
     ∙ either_fixed binding.row.fixed now (end_by_protocol binding.row.protocol timers binding)
 
--- what is before an end now was so earlier
+-- What is before an end was before it earlier, too.
 pub before_sooner : (n m : ℕ) → n ≤ m → (end : Option ℕ) → is_before m end ≡ true → is_before n end ≡ true
 before_sooner n m le None h = refl
 before_sooner n m le (Some end) h = grind (arith, nat_tests)
 
--- what lives at the same times ends at the same time
+-- Two ends are equal if the same times are before both.
 
 pub same_before : (a b : ℕ) → ((t : ℕ) → nat_lt t a ≡ nat_lt t b) → a ≡ b
 same_before a b same = let at_a : nat_lt a a ≡ nat_lt a b = same a in let at_b : nat_lt b a ≡ nat_lt b b = same b in
@@ -56,7 +56,7 @@ same_end None (Some b) same = let at : true ≡ nat_lt b b = same b in grind (ar
 same_end (Some a) None same = let at : nat_lt a a ≡ true = same a in grind (arith, nat_tests)
 same_end (Some a) (Some b) same = ap Some (same_before a b same)
 
--- the dead flows of a binding that lives tell nothing of its end
+-- The expired flows of a live binding do not change its end.
 
 live_then : (timers : Timers) (now t : ℕ) (b : Binding) → is_live timers now b ≡ true →
     is_live timers t (with_live_flows timers now b) ≡ is_live timers t b
@@ -77,7 +77,7 @@ end_without_dead timers t now b live =
     sym (ends_are_first timers t at (with_live_flows timers now b)) ∙ (live_then timers now at b live
     ∙ ends_are_first timers t at b))
 
--- one flow more
+-- One more flow.
 
 last_end_joined : (timers : Timers) (flows : List Flow) (flow : Flow) → last_end timers (flows ++ flow ∷ [])
     ≡ max (end_after flow.last (idle timers flow.marks)) (last_end timers flows)
@@ -90,7 +90,7 @@ pub last_end_more : (timers : Timers) (flows : List Flow) (n : ℕ) (d : Flow) �
 last_end_more timers flows n d lt =
     ap (last_end timers) (take_more flows n d lt) ∙ last_end_joined timers (take n flows) (get_or flows n d)
 
--- the later of two ends
+-- The end of two rows of flows is the later of their ends.
 pub max_before : (a b : ℕ) (p q l : ℕ → Bool) (end : ℕ) → ((t : ℕ) → p t ≡ nat_lt t a) → ((t : ℕ) → q t ≡ nat_lt t b) →
     ((t : ℕ) → l t ≡ (p t || q t)) → ((t : ℕ) → l t ≡ nat_lt t end) → max a b ≡ end
 max_before a b p q l end is_a is_b is_l is_end =

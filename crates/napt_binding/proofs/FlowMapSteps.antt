@@ -1,4 +1,4 @@
--- Many flows, when one begins, changes or goes.
+-- Flows in maps, when one begins, changes or is removed.
 use Rattle.std.proofs.lemmas.{Grind.common_steps, Bool.Decides.nat_tests}
 use Rattle.std.proofs.Common.{◌≡◌, ◌≢◌, ℕ, ◌+◌, ◌-◌, ◌≤◌, ◌⊎◌, inl, inr, true, false, cond, List, [], ◌∷◌, ◌++◌, length, set, get_or, Option, Some, None, slice_get, refl, sym, ◌∙◌, ap, arith, eqb, eqb-true}
 use Rattle.std.{specs.{List.list_any, HashMap.hash_map_len}, proofs.lemmas.Bool.{eq-eqb, and_from, and_parts, true≢false}}
@@ -18,19 +18,21 @@ endpoint_same a b e =
     (eq-eqb a.address b.address (ap (λ (x : Endpoint). x.address) e))
     (eq-eqb a.number b.number (ap (λ (x : Endpoint). x.number) e))
 
--- which of two a remote is
+-- Two endpoints are equal, or they differ.
 either : (a b : Endpoint) → ((a ≡ b) × (same_endpoint a b ≡ true)) ⊎ ((a ≢ b) × (same_endpoint a b ≡ false))
 either a b = grind (arith, common_steps, nat_tests, endpoint_is, endpoint_same)
 
 -- FOUND OR NOT
 
-pub one : (many : FlowMaps) (remote : Endpoint) (i : ℕ) → FlowMapsInvariant many → place_of_remote many remote ≡ Some i →
+pub one : (many : FlowMaps) (remote : Endpoint) (i : ℕ) → FlowMapsInvariant many →
+    place_of_remote many remote ≡ Some i →
     (k : ℕ) (flow : Flow) → IsInSlot many.slots.slots k flow → is_flow_of remote flow ≡ true → k ≡ i
 one many remote i is h k flow stands of =
     let e : flow.remote ≡ remote = endpoint_is flow.remote remote of in
     same_Some k i (sym (is.found k flow stands) ∙ (ap (place_of_remote many) e ∙ h))
 
-pub place_of_is : (many : FlowMaps) (remote : Endpoint) (i : ℕ) (flow : Flow) → FlowMapsInvariant many → place_of_remote many remote
+pub place_of_is : (many : FlowMaps) (remote : Endpoint) (i : ℕ) (flow : Flow) → FlowMapsInvariant many →
+    place_of_remote many remote
     ≡ Some i → IsInSlot many.slots.slots i flow → is_flow_of remote flow ≡ true
 place_of_is many remote i flow is h stands =
     let s = is.stands remote i h in
@@ -41,20 +43,22 @@ pub not_found : (many : FlowMaps) (remote : Endpoint) → FlowMapsInvariant many
     list_any (is_flow_of remote) (standing_flows many.slots.slots) ≡ false
 not_found many remote is h = grind (arith, common_steps, nat_tests, any_none, either)
 
-pub has_found : (many : FlowMaps) (remote : Endpoint) (i : ℕ) → FlowMapsInvariant many → place_of_remote many remote ≡ Some i →
+pub has_found : (many : FlowMaps) (remote : Endpoint) (i : ℕ) → FlowMapsInvariant many →
+    place_of_remote many remote ≡ Some i →
     list_any (is_flow_of remote) (standing_flows many.slots.slots) ≡ true
 has_found many remote i is h =
     let s = is.stands remote i h in
     any_stands (is_flow_of remote) many.slots.slots i s.0 s.1 (endpoint_same s.0.remote remote s.2)
 
-pub no_place : (many : FlowMaps) (remote : Endpoint) → FlowMapsInvariant many → list_any (is_flow_of remote) (standing_flows many.slots.slots)
+pub no_place : (many : FlowMaps) (remote : Endpoint) → FlowMapsInvariant many →
+    list_any (is_flow_of remote) (standing_flows many.slots.slots)
     ≡ false → place_of_remote many remote ≡ None
 no_place many remote is h = elim (place_of_remote many remote) as (λ o. place_of_remote many remote ≡ o → o ≡ None) [
   | None ↦ λ e. refl
   | Some i ↦ λ e. absurd (true≢false (sym (has_found many remote i is e) ∙ h))
 ] refl
 
--- WHAT IS KEPT
+-- WHAT DOES NOT CHANGE, AND THE INVARIANT
 
 pub same_many : (old new : FlowMaps) → FlowMapsInvariant old → new.slots.slots ≡ old.slots.slots →
     ((e : Endpoint) → place_of_remote new e ≡ place_of_remote old e) →
@@ -76,7 +80,8 @@ put_found : (slots : List (Option Flow)) (old : Endpoint → Option ℕ) (flow :
 put_found slots old flow absent found i f h =
     grind (arith, common_steps, nat_tests, stands_pushed, endpoint_same, same_Some, either)
 
-pub put_many : (old new : FlowMaps) (flow : Flow) → FlowMapsInvariant old → place_of_remote old flow.remote ≡ None → new.slots.slots
+pub put_many : (old new : FlowMaps) (flow : Flow) → FlowMapsInvariant old → place_of_remote old flow.remote ≡ None →
+    new.slots.slots
     ≡ old.slots.slots ++ Some flow ∷ [] →
     ((e : Endpoint) → place_of_remote new e ≡ cond (same_endpoint flow.remote e) (Some (length old.slots.slots))
     (place_of_remote old e)) →
@@ -97,7 +102,8 @@ put_many old new flow is absent slots places counts many = record {
       ∙ ap (λ (l : List (Option Flow)). length (standing_flows l)) (sym slots)));
 }
 
-pub taken_many : (old new : FlowMaps) (i : ℕ) (flow : Flow) → FlowMapsInvariant old → IsInSlot old.slots.slots i flow → new.slots.slots
+pub taken_many : (old new : FlowMaps) (i : ℕ) (flow : Flow) → FlowMapsInvariant old →
+    IsInSlot old.slots.slots i flow → new.slots.slots
     ≡ set old.slots.slots i None →
     ((e : Endpoint) → place_of_remote new e ≡ cond (same_endpoint flow.remote e) None (place_of_remote old e)) →
     ((a : ℕ) → count_at new.addresses a ≡ count_at old.addresses a - cond {A = ℕ} (eqb flow.remote.address a) 1 0) →
@@ -123,7 +129,8 @@ taken_many old new i flow is there slots places counts many = record {
         | inl p ↦ let z : None ≡ Some f = p.1 in cc
         | inr p ↦ elim (either flow.remote f.remote) as (λ r. place_of_remote new f.remote ≡ Some k) [
           | inl q ↦ absurd
-              (p.0 (same_Some k i (sym (is.found k f p.1) ∙ (ap (place_of_remote old) (sym q.0) ∙ is.found i flow there))))
+              (p.0 (same_Some k i (sym (is.found k f p.1)
+              ∙ (ap (place_of_remote old) (sym q.0) ∙ is.found i flow there))))
           | inr q ↦ places f.remote ∙ (ap (λ v. cond v None (place_of_remote old f.remote)) q.1 ∙ is.found k f p.1)
         ]
       ];
@@ -148,7 +155,8 @@ taken_many old new i flow is there slots places counts many = record {
       left ∙ ap (λ (l : List (Option Flow)). length (standing_flows l)) (sym slots);
 }
 
-pub changed_many : (old new : FlowMaps) (i : ℕ) (was flow : Flow) → FlowMapsInvariant old → IsInSlot old.slots.slots i was →
+pub changed_many : (old new : FlowMaps) (i : ℕ) (was flow : Flow) → FlowMapsInvariant old →
+    IsInSlot old.slots.slots i was →
     was.remote ≡ flow.remote → new.slots.slots ≡ set old.slots.slots i (Some flow) →
     ((e : Endpoint) → place_of_remote new e ≡ place_of_remote old e) →
     ((a : ℕ) → count_at new.addresses a ≡ count_at old.addresses a) →
@@ -178,7 +186,8 @@ changed_many old new i was flow is there same slots places counts many = record 
   found = λ k f h.
       elim (stands_set old.slots.slots i (Some flow) k f (ap (λ (l : List (Option Flow)). slice_get l k) (sym slots)
       ∙ h)) as (λ r. place_of_remote new f.remote ≡ Some k) [
-        | inl p ↦ places f.remote ∙ (ap (place_of_remote old) (sym (same ∙ ap (λ (x : Flow). x.remote) (same_Some flow f p.1)))
+        | inl p ↦ places f.remote ∙ (ap (place_of_remote old)
+            (sym (same ∙ ap (λ (x : Flow). x.remote) (same_Some flow f p.1)))
             ∙ (is.found i was there ∙ ap (λ (n : ℕ). Some n) (sym p.0)))
         | inr p ↦ places f.remote ∙ is.found k f p.1
       ];
@@ -196,7 +205,8 @@ changed_many old new i was flow is there same slots places counts many = record 
       ∙ ap (λ (l : List (Option Flow)). length (standing_flows l)) (sym slots)));
 }
 
-pub few_counted : (many : FlowMaps) (address : ℕ) → FlowMapsInvariant many → count_at many.addresses address ≤ length many.slots.slots
+pub few_counted : (many : FlowMaps) (address : ℕ) → FlowMapsInvariant many →
+    count_at many.addresses address ≤ length many.slots.slots
 few_counted many address is =
     let le = Rattle.std.proofs.lemmas.List.Sums.sum_by-le (of_address address) 1 many.slots.slots (λ k d lt.
     one_at_most (get_or many.slots.slots k d)) in
@@ -207,6 +217,7 @@ few_counted many address is =
     one_at_most (Some f) = elim (eqb f.remote.address address) as (λ v. cond {A = ℕ} v 1 0 ≤ 1)
         [ true ↦ omega arith | false ↦ omega arith ]
 
-pub found_is : (many : FlowMaps) (remote : Endpoint) → FlowMapsInvariant many → Rattle.std.specs.Prelude.is_some (place_of_remote many remote)
+pub found_is : (many : FlowMaps) (remote : Endpoint) → FlowMapsInvariant many →
+    Rattle.std.specs.Prelude.is_some (place_of_remote many remote)
     ≡ list_any (is_flow_of remote) (standing_flows many.slots.slots)
 found_is many remote is = grind (arith, common_steps, nat_tests, not_found, has_found)

@@ -1,10 +1,10 @@
--- Words on lists against one another.
+-- Lemmas about searches in lists, and changes of them.
 use Rattle.std.proofs.lemmas.Grind.{common_steps}
 use Rattle.std.proofs.Common.{◌≡◌, ℕ, Bool, true, false, ◌&&◌, ◌||◌, cond, List, [], ◌∷◌, ◌++◌, map, Some, None, refl, sym, ◌∙◌, ap, arith, zero, suc, ◌<◌, length, get_or, set, ltb, filter, position, is_some}
 use Rattle.std.{specs.List.{position_or_len, list_any}, proofs.lemmas.{Bool.{or_parts, Decides.nat_tests}, List.Quantifiers.position-Some}}
 use Rattle.napt_rules.specs.Prelude.{change_first}
 
--- A CHANGE BY PLACE
+-- A CHANGE BY INDEX
 
 any_place : {X : Type 0} (t : X → Bool) (xs : List X) → list_any t xs ≡ ltb (position_or_len t xs) (length xs)
 any_place t [] = refl
@@ -54,7 +54,7 @@ change_nowhere t f (x ∷ xs) h =
     let p : (t x ≡ false) × (list_any t xs ≡ false) = or_parts (t x) (list_any t xs) h in
     ap (λ v. cond v (f x ∷ xs) (x ∷ change_first t f xs)) p.0 ∙ ap (λ (l : List _). x ∷ l) (change_nowhere t f xs p.1)
 
--- SEARCHES AMONG THE KEPT, EACH OF WHICH IS THEN SEEN ANOTHER WAY THAT THE TEST DOES NOT TELL
+-- SEARCHES IN A FILTERED LIST WHOSE ELEMENTS ARE CHANGED, BUT NOT IN WHAT THE SEARCH LOOKS AT
 
 module _ {X : Type 0} (p t : X → Bool) (f : X → X) (same : (x : X) → t (f x) ≡ t x) where
   pub any_seen : (xs : List X) → list_any t (map f (filter p xs)) ≡ list_any (λ x. p x && t x) xs
@@ -74,7 +74,7 @@ module _ {X : Type 0} (p t : X → Bool) (f : X → X) (same : (x : X) → t (f 
         set_seen_here xs i d y (omega arith) here (λ k h. before (suc k) (omega arith)) kept changed in
         grind (arith, same x, first, rest)
 
-    -- one that is kept is put where the first was, and is seen as a change of it
+    -- Replacing the first element that is kept and found changes the first one that is found in the filtered list.
     pub set_seen : (xs : List X) (i : ℕ) (d y : X) → position (λ x. p x && t x) xs ≡ Some i → p y ≡ true →
         f y ≡ h (f (get_or xs i d)) → map f (filter p (set xs i y)) ≡ change_first t h (map f (filter p xs))
     set_seen xs i d y e kept changed = grind (arith, common_steps, nat_tests, position-Some, set_seen_here)

@@ -1,4 +1,4 @@
--- Flows that are put as if never used, and then get their last use, the one that was used first going first.
+-- Flows that are inserted as if never used, and then get their last uses in ascending order.
 use Rattle.std.proofs.lemmas.{Grind.common_steps, Bool.Decides.nat_tests}
 use Rattle.std.proofs.Common.{◌≡◌, ◌≢◌, ℕ, zero, suc, ◌+◌, ◌<◌, ◌≤◌, inl, inr, false, ◌||◌, List, [], ◌∷◌, length, map, get_or, set, Option, Some, slice_get, refl, ◌∙◌, ap, arith, subst}
 use Rattle.std.{specs.List.list_any, proofs.{Math.ListN.length-set, lemmas.{Bool.cases_eq, List.{get_or_default, Elements.{All-nil, All-cons}}}}}
@@ -6,7 +6,7 @@ use Rattle.std.proofs.lemmas.Option.{same_Some}
 use Rattle.napt_rules.specs.{declared.Flow.Flow, Prelude.{is_flow_of, Endpoint}}
 use Rattle.napt_binding.{specs.Slots.{standing_flows, IsInSlot, NoneUsedAfter, AreByLastUse}, proofs.{Slots.{stands_there, stands_elsewhere}, LastUses.used_set}}
 
--- what stands past the end of a list of flows
+-- The flow that stands for one past the end of a list.
 abbrev pub nothing : Flow
 nothing = record {
   remote = record { address = 0; number = 0 };
@@ -17,7 +17,7 @@ nothing = record {
 abbrev pub no_entry : ℕ × Flow
 no_entry = (0, nothing)
 
--- as if it had never been used
+-- The flow as if it had never been used.
 abbrev pub unused : Flow → Flow
 unused flow = record { remote = flow.remote; marks = flow.marks; last = 0 }
 
@@ -29,17 +29,18 @@ pub any_unused : (remote : Endpoint) (flows : List Flow) →
 any_unused remote [] = refl
 any_unused remote (f ∷ flows) = ap (λ v. is_flow_of remote f || v) (any_unused remote flows)
 
--- each slot has a flow of the same remote
+-- Each slot has a flow of the same remote.
 pub record AreAlike (flows : List Flow) (slots : List (Option Flow)) : Type 0 where
   pub as_many : length slots ≡ length flows
   pub alike : (i : ℕ) (flow : Flow) → slice_get flows i ≡ Some flow → (was : Flow) × IsInSlot slots i was
       × (was.remote ≡ flow.remote)
 
--- each slot has a flow of the same remote, those of the first n entries have their own, none was used after the rest
+-- Each slot has a flow of the same remote, the first n entries are back in theirs, and none was used after the rest.
 pub record AreBack (flows : List Flow) (entries : List (ℕ × Flow)) (n : ℕ) (slots : List (Option Flow)) : Type 0 where
   pub alike : AreAlike flows slots
   pub back : (j : ℕ) → j < n → IsInSlot slots (get_or entries j no_entry).0 (get_or entries j no_entry).1
-  pub rising : (j : ℕ) → n ≤ j → j < length entries → NoneUsedAfter (standing_flows slots) (get_or entries j no_entry).1.last
+  pub rising : (j : ℕ) → n ≤ j → j < length entries →
+      NoneUsedAfter (standing_flows slots) (get_or entries j no_entry).1.last
 
 length_unused : (flows : List Flow) → length (map as_unused flows) ≡ length flows
 length_unused [] = refl

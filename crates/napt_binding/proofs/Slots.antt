@@ -1,4 +1,4 @@
--- What stands in slots, when one is filled or emptied.
+-- What the slots have in them after one is filled or emptied.
 use Rattle.std.proofs.lemmas.Grind.{common_steps}
 use Rattle.std.proofs.Common.{◌≡◌, ◌≢◌, ℕ, zero, suc, ◌+◌, ◌<◌, ◌⊎◌, inl, inr, Bool, true, false, ◌||◌, cond, List, [], ◌∷◌, ◌++◌, length, set, Option, Some, None, nat_lt, refl, sym, ◌∙◌, ap, arith, filter, ◌==◌}
 use Rattle.std.{specs.List.list_any, proofs.lemmas.{Bool.Decides.nat_tests, Option.same_Some, List.{length_push, Sums.sum_by-cons}}}
@@ -11,7 +11,7 @@ module _ {X : Type 0} where
   stands_within (o ∷ slots) zero x h = omega arith
   stands_within (o ∷ slots) (suc i) x h = omega (arith, stands_within slots i x h)
 
-  -- what stands after a slot was written
+  -- What the slots have in them after one was written.
   pub stands_set : (slots : List (Option X)) (i : ℕ) (o : Option X) (k : ℕ) (y : X) → IsInSlot (set slots i o) k y →
       ((k ≡ i) × (o ≡ Some y)) ⊎ ((k ≢ i) × IsInSlot slots k y)
   stands_set [] i o k y h = cc
@@ -20,7 +20,8 @@ module _ {X : Type 0} where
   stands_set (z ∷ slots) (suc i) o zero y h = inr ((λ e. absurd (omega (arith, e))), h)
   stands_set (z ∷ slots) (suc i) o (suc k) y h = grind (arith, common_steps, nat_tests, stands_set slots i o k y h)
 
-  pub stands_there : (slots : List (Option X)) (i : ℕ) (x y : X) → IsInSlot slots i x → IsInSlot (set slots i (Some y)) i y
+  pub stands_there : (slots : List (Option X)) (i : ℕ) (x y : X) → IsInSlot slots i x →
+      IsInSlot (set slots i (Some y)) i y
   stands_there [] i x y h = cc
   stands_there (o ∷ slots) zero x y h = refl
   stands_there (o ∷ slots) (suc i) x y h = stands_there slots i x y h
@@ -34,13 +35,13 @@ module _ {X : Type 0} where
   stands_elsewhere (z ∷ slots) (suc i) o (suc k) y differs h = stands_elsewhere slots i o k y (λ e.
       differs (ap suc e)) h
 
-  -- one that is changed twice
+  -- Of two writes to a slot, the second one counts.
   pub set_twice : (slots : List (Option X)) (i : ℕ) (a b : Option X) → set (set slots i a) i b ≡ set slots i b
   set_twice [] i a b = refl
   set_twice (z ∷ slots) zero a b = refl
   set_twice (z ∷ slots) (suc i) a b = ap (λ (l : List (Option X)). z ∷ l) (set_twice slots i a b)
 
-  -- after one more slot
+  -- What the slots have in them after one was appended.
   pub stands_pushed : (slots : List (Option X)) (o : Option X) (k : ℕ) (y : X) → IsInSlot (slots ++ o ∷ []) k y →
       ((k ≡ length slots) × (o ≡ Some y)) ⊎ IsInSlot slots k y
   stands_pushed [] o zero y h = inl (refl, same_Some o (Some y) h)
@@ -60,7 +61,8 @@ module _ {X : Type 0} where
 
   -- THE LIST
 
-  pub somes_pushed : (slots : List (Option X)) (y : X) → standing_flows (slots ++ Some y ∷ []) ≡ standing_flows slots ++ y ∷ []
+  pub somes_pushed : (slots : List (Option X)) (y : X) →
+      standing_flows (slots ++ Some y ∷ []) ≡ standing_flows slots ++ y ∷ []
   somes_pushed [] y = refl
   somes_pushed (None ∷ slots) y = somes_pushed slots y
   somes_pushed (Some x ∷ slots) y = ap (λ (l : List X). x ∷ l) (somes_pushed slots y)
@@ -86,7 +88,7 @@ module _ {X : Type 0} where
   all_kept p (None ∷ slots) all = all_kept p slots (λ i x h. all (suc i) x h)
   all_kept p (Some y ∷ slots) all = grind (arith, all zero y refl, all_kept p slots (λ i x h. all (suc i) x h))
 
-  -- one that is not kept goes
+  -- Emptying a slot whose flow the filter removes does not change the filtered list.
   pub kept_emptied : (p : X → Bool) (slots : List (Option X)) (i : ℕ) (x : X) → IsInSlot slots i x → p x ≡ false →
       filter p (standing_flows (set slots i None)) ≡ filter p (standing_flows slots)
   kept_emptied p [] i x h e = cc
@@ -97,7 +99,8 @@ module _ {X : Type 0} where
   kept_emptied p (Some y ∷ slots) (suc i) x h e = ap (λ (l : List X). cond (p y) (y ∷ l) l)
       (kept_emptied p slots i x h e)
 
-  pub one_more : (slots : List (Option X)) (y : X) → length (standing_flows (slots ++ Some y ∷ [])) ≡ length (standing_flows slots) + 1
+  pub one_more : (slots : List (Option X)) (y : X) →
+      length (standing_flows (slots ++ Some y ∷ [])) ≡ length (standing_flows slots) + 1
   one_more slots y = ap (λ (l : List X). length l) (somes_pushed slots y) ∙ length_push (standing_flows slots) y
 
   pub as_many_set : (slots : List (Option X)) (i : ℕ) (x y : X) → IsInSlot slots i x →
@@ -108,7 +111,8 @@ module _ {X : Type 0} where
   as_many_set (Some z ∷ slots) zero x y h = refl
   as_many_set (Some z ∷ slots) (suc i) x y h = omega (arith, as_many_set slots i x y h)
 
-  pub one_fewer : (slots : List (Option X)) (i : ℕ) (x : X) → IsInSlot slots i x → length (standing_flows (set slots i None)) + 1
+  pub one_fewer : (slots : List (Option X)) (i : ℕ) (x : X) → IsInSlot slots i x →
+      length (standing_flows (set slots i None)) + 1
       ≡ length (standing_flows slots)
   one_fewer [] i x h = cc
   one_fewer (None ∷ slots) zero x h = cc
@@ -116,7 +120,7 @@ module _ {X : Type 0} where
   one_fewer (Some y ∷ slots) zero x h = omega arith
   one_fewer (Some y ∷ slots) (suc i) x h = omega (arith, one_fewer slots i x h)
 
-  -- the one that passes is changed where it stands
+  -- A change of the only flow that is found, in its slot, is a change of the first one that is found in the list.
   pub kept_set : (p t : X → Bool) (f : X → X) (slots : List (Option X)) (i : ℕ) (x : X) → IsInSlot slots i x →
       p x ≡ true → p (f x) ≡ true → t x ≡ true →
       ((k : ℕ) (y : X) → IsInSlot slots k y → t y ≡ true → k ≡ i) → filter p (standing_flows (set slots i (Some (f x))))
@@ -132,10 +136,13 @@ module _ {X : Type 0} where
       let same : f x ≡ f y = ap f (sym s) in
       ap (λ v. cond v (f x ∷ filter p (standing_flows slots)) (filter p (standing_flows slots))) stays
       ∙ (ap (λ (z : X). z ∷ filter p (standing_flows slots)) same
-      ∙ sym (ap (λ v. change_first t f (cond v (y ∷ filter p (standing_flows slots)) (filter p (standing_flows slots)))) kept_y
-      ∙ ap (λ v. cond v (f y ∷ filter p (standing_flows slots)) (y ∷ change_first t f (filter p (standing_flows slots)))) here_y))
+      ∙ sym (ap (λ v. change_first t f (cond v (y ∷ filter p (standing_flows slots))
+      (filter p (standing_flows slots)))) kept_y
+      ∙ ap (λ v. cond v (f y ∷ filter p (standing_flows slots))
+      (y ∷ change_first t f (filter p (standing_flows slots)))) here_y))
   kept_set p t f (Some y ∷ slots) (suc i) x h kept stays here one =
-      let rest : filter p (standing_flows (set slots i (Some (f x)))) ≡ change_first t f (filter p (standing_flows slots)) =
+      let rest : filter p (standing_flows (set slots i (Some (f x))))
+      ≡ change_first t f (filter p (standing_flows slots)) =
       kept_set p t f slots i x h kept stays here (λ k y g e. let z : suc k ≡ suc i = one (suc k) y g e in
       omega arith) in
       let other : t y ≡ false = elim (t y) as (λ v. t y ≡ v → v ≡ false) [

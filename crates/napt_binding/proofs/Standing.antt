@@ -1,4 +1,4 @@
--- The flows of a binding that stand, when a packet goes out, and its bindings that live.
+-- The standing flows of a binding, when a packet goes out and when one comes in.
 use Rattle.std.proofs.lemmas.{Grind.common_steps, Bool.Decides.nat_tests}
 use Rattle.std.proofs.Common.{◌≡◌, ℕ, Bool, true, false, cond, List, [], ◌∷◌, ◌++◌, get_or, set, Option, Some, refl, sym, ◌∙◌, ap, arith, eqb, filter, position}
 use Rattle.std.{specs.List.list_any, proofs.lemmas.{Bool.{and_from, or_parts, eq-eqb}, Option.same_Some, List.Quantifiers.position-Some}}
@@ -35,7 +35,7 @@ module _ (timers : Timers) (good : AreTimers timers) (now : ℕ) (protocol : Pro
       ∙ sym (map_same (filter (is_standing timers now protocol) flows)))
       ∙ any_seen (is_standing timers now protocol) (is_flow_of remote) (λ x. x) (λ x. refl) flows
 
-  -- the flow that stands is used where it is
+  -- In a list, the standing flow of the remote is used where it is.
   pub flow_set : (flows : List Flow) (i : ℕ) (d : Flow) → position (standing_flow_of timers now protocol remote) flows
       ≡ Some i →
       live_flows timers now protocol (set flows i (flow_after protocol Outgoing flags now (get_or flows i d)))
@@ -57,7 +57,7 @@ module _ (timers : Timers) (good : AreTimers timers) (now : ℕ) (protocol : Pro
       (cond v (live_flows timers now protocol flows) (live_flows timers now protocol flows
       ++ record { remote = remote; marks = no_marks; last = now } ∷ []))) there))))
 
-  -- where none stands, the dead go and one begins
+  -- If no flow of the remote stands, the expired flows are removed and one begins.
   pub flow_begun : (flows : List Flow) → list_any (standing_flow_of timers now protocol remote) flows ≡ false →
       live_flows timers now protocol (live_flows timers now protocol flows ++ flow_after protocol Outgoing flags now
       (record { remote = remote; marks = no_marks; last = now }) ∷ []) ≡ change_first (is_flow_of remote)
@@ -82,7 +82,7 @@ module _ (timers : Timers) (good : AreTimers timers) (now : ℕ) (protocol : Pro
       list_any (is_flow_of remote) (live_flows timers now protocol flows) ≡ false
   none_left flows e = any_standing flows ∙ e
 
-  -- the flow that stands is used in its slot
+  -- In slots, the standing flow of the remote is used in its slot.
   pub flow_stood : (slots : List (Option Flow)) (i : ℕ) (flow : Flow) → IsInSlot slots i flow →
       is_standing timers now protocol flow ≡ true → is_flow_of remote flow ≡ true →
       ((k : ℕ) (y : Flow) → IsInSlot slots k y → is_flow_of remote y ≡ true → k ≡ i) →
@@ -95,7 +95,8 @@ module _ (timers : Timers) (good : AreTimers timers) (now : ℕ) (protocol : Pro
       ∙ any_stands (standing_flow_of timers now protocol remote) slots i flow here
       (and_from (is_standing timers now protocol flow) (is_flow_of remote flow) stands of) in
       standing timers now protocol (standing_flows (set slots i (Some (flow_after protocol Outgoing flags now flow))))
-      ∙ (kept_set (is_standing timers now protocol) (is_flow_of remote) (flow_after protocol Outgoing flags now) slots i flow
+      ∙ (kept_set (is_standing timers now protocol) (is_flow_of remote) (flow_after protocol Outgoing flags now) slots
+      i flow
       here stands (used_standing timers good now protocol flags flow) of one
       ∙ (ap (change_first (is_flow_of remote) (flow_after protocol Outgoing flags now))
       (sym (standing timers now protocol (standing_flows slots)))
@@ -103,7 +104,8 @@ module _ (timers : Timers) (good : AreTimers timers) (now : ℕ) (protocol : Pro
       (cond v live (live ++ record { remote = remote; marks = no_marks; last = now } ∷ []))) there)))
 
   pub live_stood : (slots : List (Option Flow)) (i : ℕ) (flow : Flow) → IsInSlot slots i flow →
-      list_any (is_live_flow timers now) (standing_flows (set slots i (Some (flow_after protocol Outgoing flags now flow)))) ≡ true
+      list_any (is_live_flow timers now) (standing_flows
+      (set slots i (Some (flow_after protocol Outgoing flags now flow)))) ≡ true
   live_stood slots i flow here = any_stands (is_live_flow timers now)
       (set slots i (Some (flow_after protocol Outgoing flags now flow))) i (flow_after protocol Outgoing flags now flow)
       (stands_there slots i flow (flow_after protocol Outgoing flags now flow) here)
@@ -114,7 +116,7 @@ module _ (timers : Timers) (good : AreTimers timers) (now : ℕ) (protocol : Pro
   live_begun flows flow = any_pushed (is_live_flow timers now) flows (flow_after protocol Outgoing flags now flow)
       (used_live timers good protocol Outgoing flags now flow)
 
-  -- it does not stand in its slot, nor elsewhere
+  -- If the flow of the remote does not stand in its slot, no flow of the remote stands.
   pub none_stands : (slots : List (Option Flow)) (i : ℕ) (flow : Flow) → IsInSlot slots i flow →
       is_standing timers now protocol flow ≡ false → ((k : ℕ) (y : Flow) → IsInSlot slots k y → is_flow_of remote y
       ≡ true → k ≡ i) → list_any (standing_flow_of timers now protocol remote) (standing_flows slots) ≡ false
@@ -135,14 +137,16 @@ module _ (timers : Timers) (good : AreTimers timers) (now : ℕ) (protocol : Pro
       (position-Some (standing_flow_of timers now protocol remote) flows i flow e).0
       (used_live timers good protocol Outgoing flags now flow)
 
--- a segment that comes in uses the flow in its slot
+-- An incoming segment uses the flow in its slot.
 pub flow_refreshed : (now : ℕ) (remote : Endpoint) (flags : Flags) (slots : List (Option Flow)) (i : ℕ) (flow : Flow) →
-    IsInSlot slots i flow → is_flow_of remote flow ≡ true → ((k : ℕ) (y : Flow) → IsInSlot slots k y → is_flow_of remote y
+    IsInSlot slots i flow → is_flow_of remote flow ≡ true →
+    ((k : ℕ) (y : Flow) → IsInSlot slots k y → is_flow_of remote y
     ≡ true → k ≡ i) →
     standing_flows (set slots i (Some (flow_after Tcp Incoming flags now flow))) ≡ change_first (is_flow_of remote)
     (flow_after Tcp Incoming flags now) (standing_flows slots)
 flow_refreshed now remote flags slots i flow here of one =
-    sym (filter_true (λ f. true) (λ f. refl) (standing_flows (set slots i (Some (flow_after Tcp Incoming flags now flow)))))
+    sym (filter_true (λ f. true) (λ f. refl) (standing_flows
+    (set slots i (Some (flow_after Tcp Incoming flags now flow)))))
     ∙ (kept_set (λ f. true) (is_flow_of remote) (flow_after Tcp Incoming flags now) slots i flow here refl refl of one
     ∙ ap (change_first (is_flow_of remote) (flow_after Tcp Incoming flags now)) (filter_true (λ f. true) (λ f. refl)
     (standing_flows slots)))

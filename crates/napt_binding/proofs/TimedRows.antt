@@ -35,7 +35,7 @@ module _ (flows : List (Option Flow)) (links : List Links) (are : AreLinksTimed 
   end_within row lt = linked_within (prev links (row + 1))
       (are.row.back (row + 1) (end_node flows (row + 1) (omega (arith, lt))) (λ e. absurd (omega (arith, e)))).0
 
--- a slot that is read
+-- A slot that is read and not empty has a flow.
 pub flow_read : (flows : List (Option Flow)) (place : ℕ) (v : Option Flow) → place < length flows →
     v ≡ get_or flows place v → is_some v ≡ true → (f : Flow) × (flow_in flows place ≡ Some f)
 flow_read flows place None lt read some = absurd (true≢false (sym some))
@@ -70,13 +70,13 @@ module _ (flows after : List (Option Flow)) (links new_links : List Links) (plac
     ]
   ]
 
-  -- what is in the slot afterwards, or was in another before
+  -- After a slot was emptied, a flow in a slot was there before, and its slot is another.
   known : (i : ℕ) (f : Flow) → flow_in after i ≡ Some f → o ≡ None → (i ≢ place) × (flow_in flows i ≡ Some f)
   known i f h e =
       let ne : i ≢ place = λ z. none-some f (sym (ap (flow_in after) z ∙ (there ∙ e)) ∙ h) in
       (ne, sym (others i ne) ∙ h)
 
-  -- it is emptied
+  -- The slot is emptied.
   module _ (was : Flow) (here : flow_in flows place ≡ Some was) (gone : o ≡ None)
       (nexts : (x : ℕ) → next new_links x
       ≡ cond (eqb x (prev links (place + 3))) (next links (place + 3)) (next links x))
@@ -116,7 +116,7 @@ module _ (flows after : List (Option Flow)) (links new_links : List Links) (plac
           ]);
     }
 
-  -- it is filled
+  -- The slot is filled.
   module _ (flow : Flow) (empty : flow_in flows place ≡ None) (fresh : o ≡ Some flow)
       (late : NoneUsedAfter (standing_flows flows) flow.last)
       (nexts : (x : ℕ) → next new_links x
@@ -158,7 +158,7 @@ module _ (flows after : List (Option Flow)) (links new_links : List Links) (plac
       it_is : (i : ℕ) (f : Flow) → i ≡ place → flow_in after i ≡ Some f → flow ≡ f
       it_is i f e h = same_Some flow f (sym fresh ∙ (sym there ∙ (sym (ap (flow_in after) e) ∙ h)))
 
-      -- it is last in its row
+      -- Every flow of the same row comes before the new one.
       latest : (i : ℕ) (f : Flow) → flow_in flows i ≡ Some f → row_of f ≡ row_of flow → over (i + 3) < over (place + 3)
       latest i f h same = under (i + 3) (node_of flows i f h)
           (subst (λ (k : ℕ). are.rank (i + 3) < are.rank (k + 1)) same (are.within i f h).1)
@@ -291,7 +291,7 @@ slot_of : (flows : List (Option Flow)) (x : ℕ) → is_linked flows x ≡ true 
 slot_of flows x l ge = grind (arith, common_steps, nat_tests, is_some)
 
 module _ (flows : List (Option Flow)) (links : List Links) (are : AreLinksTimed flows links) where
-  -- what is between the ends of a row is of the row
+  -- A node between the ends of a row is of that row.
   same_row : (k row r : ℕ) → k < 2 → row < 2 → are.rank k < r → r < are.rank (k + 1) → are.rank row < r →
       r < are.rank (row + 1) → k ≡ row
   same_row zero zero r lk lr a b c d = refl
@@ -319,7 +319,7 @@ module _ (flows : List (Option Flow)) (links : List Links) (are : AreLinksTimed 
     over_linked : is_linked flows (row + 1) ≡ true
     over_linked = end_node flows (row + 1) (omega (arith, low))
 
-    -- a flow's node is no end
+    -- The node of a flow is not an end of a row.
     apart_from : (i x : ℕ) (f : Flow) → flow_in flows i ≡ Some f → x < 3 → are.rank (i + 3) ≢ are.rank x
     apart_from i x f h lt e =
         let same = are.row.apart (i + 3) x (node_of flows i f h) (end_node flows x lt) e in
@@ -404,9 +404,9 @@ module _ (flows : List (Option Flow)) (links : List Links) (are : AreLinksTimed 
               are.rising i place f flow h at (same ∙ sym is) (omega (arith, r, w.1)),
         )
 
--- WHAT IS LIVE
+-- LIVE FLOWS
 
--- for how long a flow of the row lives
+-- The timer of the flows of a row, in seconds.
 abbrev pub timer : Timers → ℕ → ℕ
 timer timers zero = timers.established
 timer timers (suc row) = timers.transitory
@@ -426,14 +426,16 @@ either_row f = elim (is_established f.marks) as (λ v. (cond {A = ℕ} v 0 1 ≡
     [ true ↦ inl refl | false ↦ inr refl ]
 
 module _ (timers : Timers) (now : ℕ) (slots : List (Option Flow)) where
-  -- a flow of the row lives if the latest does
+  -- A flow of the row is live if its latest one is.
 
   pub one_live : (row : ℕ) (latest : Option ℕ) → IsLatest row slots latest →
-      is_recent_time now (timer timers row) latest ≡ true → list_any (is_live_flow timers now) (standing_flows slots) ≡ true
+      is_recent_time now (timer timers row) latest ≡ true →
+      list_any (is_live_flow timers now) (standing_flows slots) ≡ true
   one_live row latest h k = grind (arith, common_steps, nat_tests, any_stands, live_in)
 
   none_live : (row : ℕ) (latest : Option ℕ) → IsLatest row slots latest →
-      is_recent_time now (timer timers row) latest ≡ false → EachOfRow row slots (λ f. is_live_flow timers now f ≡ false)
+      is_recent_time now (timer timers row) latest ≡ false →
+      EachOfRow row slots (λ f. is_live_flow timers now f ≡ false)
   none_live row latest h k g j p q = grind (arith, common_steps, nat_tests, live_in)
 
   pub live_is : (established others : Option ℕ) → IsLatest 0 slots established → IsLatest 1 slots others →
@@ -447,7 +449,8 @@ or_true true b h = refl
 or_true false b h = h
 
 pub lives_until : (timers : Timers) (now : ℕ) (slots : List (Option Flow)) (established others : Option ℕ) (e o : ℕ) →
-    IsLatest 0 slots established → IsLatest 1 slots others → list_any (is_live_flow timers now) (standing_flows slots) ≡ true →
+    IsLatest 0 slots established → IsLatest 1 slots others →
+    list_any (is_live_flow timers now) (standing_flows slots) ≡ true →
     ((t : ℕ) → now < t → t ≤ e → is_recent_time t timers.established established ≡ true) →
     ((t : ℕ) → now < t → t ≤ o → is_recent_time t timers.transitory others ≡ true) →
     (t : ℕ) → (e < t → t ≤ o) → list_any (is_live_flow timers t) (standing_flows slots) ≡ true

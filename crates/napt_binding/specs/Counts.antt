@@ -2,14 +2,14 @@
 use Rattle.std.specs.{Prelude.{◌≡◌, ℕ, nat_eq, unwrap_or, None}, HashMap.{get, spare}}
 use Rattle.napt_binding.specs.declared.address_counts.AddressCounts.{AddressCounts}
 
--- an address without an entry has none
+-- The count of an address, which is 0 if the address has no entry.
 abbrev pub count_at : AddressCounts → ℕ → ℕ
 count_at addresses address = unwrap_or (get nat_eq addresses.counts address) 0
 
--- the address has no entry, which would take memory
+-- The address has no entry, which would take memory.
 abbrev pub HasNoEntry : AddressCounts → ℕ → Type 0
 HasNoEntry addresses address = get nat_eq addresses.counts address ≡ None
 
--- how many addresses more fit without a growth
+-- The number of further addresses that fit without growth.
 abbrev pub room_of : AddressCounts → ℕ
 room_of addresses = spare addresses.counts

@@ -1,32 +1,32 @@
--- How the flows of a binding are kept: one as it is, few in a list, many behind maps.
+-- How the flows of a binding are stored: one flow as it is, few flows in a list, and many with maps.
 use Rattle.std.specs.{Prelude.{ℕ, ◌≤◌, nat_le, Bool, true, false, not, ◌&&◌, List, [], ◌∷◌, length}, List.list_any}
 use Rattle.napt_config.specs.declared.settings.Timers.{Timers}
 use Rattle.napt_rules.specs.declared.{Flow.Flow, OutboundPacket.OutboundPacket}
 use Rattle.napt_binding.specs.{declared.flows.FlowStore.{FlowStore, TheVariants.{Empty, One, Few, Many}}, Slots.{standing_flows, AreDistinct}, FlowMapInvariants.FlowMapsInvariant}
 use Rattle.napt_binding.specs.{StandingFlows.standing_flow_of, OutboundFlows.standing_at}
 
--- so many are kept in a list at most
+-- The maximum number of flows in a list.
 abbrev pub most_listed : ℕ
 most_listed = 8
 
--- no flow of the list is the packet's, and with a new one it would be too long
+-- Returns whether no standing flow of the list is the packet's, and a new one would make the list too long.
 abbrev pub is_full : Timers → OutboundPacket → List Flow → Bool
 is_full timers sent flows = nat_le most_listed (length (standing_at timers sent flows))
     && not (list_any (standing_flow_of timers sent.now sent.protocol sent.remote) flows)
 
--- in the order in which they began
+-- The flows in the order in which they began.
 abbrev pub flows_of : FlowStore → List Flow
 flows_of Empty = []
 flows_of (One flow) = flow ∷ []
 flows_of (Few flows) = flows.items
 flows_of (Many many) = standing_flows many.value.slots.slots
 
--- kept with maps
+-- Returns whether the flows are stored with maps.
 abbrev pub has_maps : FlowStore → Bool
 has_maps (Many many) = true
 has_maps _ = false
 
--- a list that is full
+-- Returns whether the flows are in a list that is full.
 abbrev pub are_full : Timers → OutboundPacket → FlowStore → Bool
 are_full timers sent (Few flows) = is_full timers sent flows.items
 are_full timers sent _ = false

@@ -1,12 +1,14 @@
--- What a packet that comes in finds at a binding.
+-- What an incoming packet finds at a binding.
 use Rattle.std.specs.Prelude.{cond, Result, Ok, Err}
 use Rattle.napt_rules.specs.{declared.{InboundRules.InboundRules, InboundPacket.InboundPacket}, Prelude.{Binding, permits, binding_after_in, Cause, Filtered, Endpoint}}
 
--- what a packet that comes in is told of the binding with its number
+-- The answer to an incoming packet by the binding with its number: the inside endpoint, or filtered.
 abbrev pub inbound_answer : InboundRules → InboundPacket → Binding → Result Endpoint Cause
-inbound_answer inbound packet binding = cond (permits inbound binding packet.remote) (Ok binding.row.inside) (Err Filtered)
+inbound_answer inbound packet binding = cond (permits inbound binding packet.remote) (Ok binding.row.inside)
+    (Err Filtered)
 
--- the binding that it leaves
+-- The binding after the packet, which changes it only if it is permitted.
 abbrev pub binding_after_inbound : InboundRules → InboundPacket → Binding → Binding
-binding_after_inbound inbound packet binding = cond (permits inbound binding packet.remote) (binding_after_in inbound packet binding)
+binding_after_inbound inbound packet binding = cond (permits inbound binding packet.remote)
+    (binding_after_in inbound packet binding)
     binding

@@ -1,8 +1,8 @@
--- What the slots of a binding show.
+-- What contracts see of the slots of a binding.
 use Rattle.std.specs.Prelude.{ℕ, List, Option}
 use Rattle.napt_rules.specs.declared.Flow.{Flow}
 
 pub record FlowSlotsModel : Type 0 where
   pub slots : List (Option Flow)
-  -- how many more fit without a growth
+  -- The number of further slots that fit without growth.
   pub room : ℕ

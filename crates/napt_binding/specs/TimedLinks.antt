@@ -1,11 +1,11 @@
--- How slots are kept: with their flows linked in rows by last use.
+-- How slots are stored: with their flows linked in rows by last use.
 use Rattle.std.specs.Prelude.{◌≡◌, ℕ, ◌+◌, ◌-◌, ◌<◌, ◌≤◌, nat_lt, Bool, ◌||◌, min, List, length, slice_index_or, Option, Some, None, is_some}
 use Rattle.std.specs.Vec.{vec_len, vec_capacity}
 use Rattle.napt_collections.specs.{declared.links.Links.Links, Links.{next, prev, IsRow}}
 use Rattle.napt_rules.specs.declared.Flow.{Flow}
 use Rattle.napt_binding.specs.{Slots.row_of, SlotsModels.FlowSlotsModel, declared.flows.slots.FlowSlots.TheInside.Inside}
 
--- links have 32 bits
+-- The maximum number of links, whose indices have 32 bits.
 abbrev pub most_links : ℕ
 most_links = 4294967295
 
@@ -16,15 +16,15 @@ shown_flow it = record {
       (min (vec_capacity it.flows - vec_len it.flows) (vec_capacity it.links - vec_len it.links));
 }
 
--- what the slot has; none past the end
+-- The flow in the slot, or none if the slot is empty or past the end.
 abbrev pub flow_in : List (Option Flow) → ℕ → Option Flow
 flow_in flows place = slice_index_or flows place None
 
--- an end of a row, or the node of a slot with a flow
+-- Returns whether a node is an end of a row, or belongs to a slot with a flow.
 abbrev pub is_linked : List (Option Flow) → ℕ → Bool
 is_linked flows node = nat_lt node 3 || is_some (flow_in flows (node - 3))
 
--- both rows are linked as one, and each goes from the node with its number to the one after
+-- Both rows are linked as one: row r goes from node r to node r + 1, in ascending order of last use.
 pub record AreLinksTimed (flows : List (Option Flow)) (links : List Links) : Type 0 where
   pub lengths : length links ≡ length flows + 3
   pub fits : length links ≤ most_links

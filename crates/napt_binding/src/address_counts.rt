@@ -1,4 +1,4 @@
-//! Counts by address: the flows of a remote one, the bindings of an inside one.
+//! Counts by address: the flows of a remote address, or the bindings of an inside one.
 
 ghost use Rattle.std.specs.Prelude.{◌≡◌, ◌==◌, ℕ, ◌+◌, ◌-◌, ◌*◌, ◌^◌, ◌<◌, ◌≤◌, cond, nat_lt, OnOk};
 
@@ -14,7 +14,7 @@ pub struct AddressCounts {
 impl AddressCounts {
     ghost use Rattle.napt_binding.specs.Counts.{count_at, room_of, HasNoEntry};
 
-    /// Nothing is counted. It takes no memory.
+    /// Creates counts that are all 0, without allocating.
     pub fn new(alloc: Global) -> AddressCounts
         ensures { (address : ℕ) → count_at result address ≡ 0 }
     {
@@ -23,7 +23,7 @@ impl AddressCounts {
         }
     }
 
-    /// Makes room for one more address, and changes no count; `AllocError` if memory is refused.
+    /// Makes room for one more address, and changes no count. Fails if memory is refused.
     pub fn reserve(&mut self) -> Result<(), AllocError>
         ensures counts { (address : ℕ) → count_at self.new address ≡ count_at self.old address }
         ensures room { OnOk result (0 < room_of self.new) }
@@ -31,7 +31,7 @@ impl AddressCounts {
         self.counts.reserve(1)
     }
 
-    /// The count of the address.
+    /// Returns the count of the address.
     pub fn count(&self, address: u32) -> usize
         ensures { result ≡ count_at self.now address }
     {
@@ -41,7 +41,7 @@ impl AddressCounts {
         }
     }
 
-    /// Whether the address's count is not 0.
+    /// Returns whether the count of the address is not 0.
     pub(crate) fn has(&self, address: u32) -> bool
         ensures { result ≡ nat_lt 0 (count_at self.now address) }
     {
@@ -51,7 +51,7 @@ impl AddressCounts {
         }
     }
 
-    /// Counts one more of the address, for which there is room. It takes no memory.
+    /// Increments the count of the address, for which there must be room. Takes no memory.
     pub fn increment(&mut self, address: u32)
         requires room { 0 < room_of self.old }
         requires fits { count_at self.old address + 1 < 2 ^ 64 }
@@ -65,7 +65,7 @@ impl AddressCounts {
         }
     }
 
-    /// Counts one less of the address, down to 0. It leaves as much room.
+    /// Decrements the count of the address, unless it is 0. The room does not shrink.
     pub fn decrement(&mut self, address: u32)
         ensures counts { (other : ℕ) → count_at self.new other ≡ count_at self.old other
             - cond {A = ℕ} (address == other) 1 0 }

@@ -1,6 +1,6 @@
 //! The flows of one binding.
 //!
-//! No call looks at more than a few of them, except to drop dead ones and to give up their slots.
+//! No call looks at more than a few of them, except to remove expired flows and empty slots.
 
 ghost use Rattle.std.specs.{Prelude.{◌≡◌, ◌==◌, ◌≤◌, ◌<◌, ◌^◌, ◌||◌, ℕ, Bool, true, false, filter, OnOk, OnErr, IfOk, [], ◌∷◌}, List.list_any};
 ghost use Rattle.napt_binding.specs.{Ends.last_end, FlowStores.{flows_of, FlowStoreInvariant}, Slots.{AreDistinct, NoneUsedAfter, standing_flows}, FlowMapInvariants.FlowMapsInvariant};
@@ -24,10 +24,10 @@ use napt_wire::{Endpoint, Flags, Protocol, Way};
 use std::alloc::{AllocError, Global};
 use std::marker::Model;
 
-/// How many flows are kept without maps, and searched one by one.
+/// The maximum number of flows that are stored without maps, and searched one by one.
 const FEW: usize = 8;
 
-/// How flows are kept. Most bindings have one, which takes no memory of its own.
+/// How flows are stored. Most bindings have one flow, which takes no memory of its own.
 #[derive(Drop)]
 enum FlowStore {
     Empty,
@@ -36,7 +36,7 @@ enum FlowStore {
     Many(Box<FlowMaps>),
 }
 
-/// The flows of one binding, oldest first, no two of one remote endpoint; contracts see them as a list.
+/// The flows of one binding, oldest first, no two of one remote endpoint; contracts see a list.
 #[derive(Drop)]
 pub struct Flows {
     kept: FlowStore,
@@ -55,7 +55,7 @@ impl Model for Flows {
     ghost invariant = { λ flows. FlowStoreInvariant flows.kept };
 }
 
-/// Whether so many flows of a binding count that one more is kept with maps.
+/// Returns whether the packet begins a flow that needs maps, since `FEW` or more flows stand.
 fn is_full(flows: &[Flow], timers: IdleTimers, sent: OutboundPacket) -> bool
     ensures { result ≡ storage.is_full timers sent flows.now }
 {
@@ -66,7 +66,7 @@ fn is_full(flows: &[Flow], timers: IdleTimers, sent: OutboundPacket) -> bool
         && flow_list::standing_place(flows, timers, sent).is_none()
 }
 
-/// One flow, after a packet goes out: still one if it is of the packet's remote, or is dead.
+/// Returns the store after a packet goes out: one flow still, if it is the packet's or expired.
 fn after_one(
     alloc: Global,
     timers: IdleTimers,
@@ -93,8 +93,8 @@ fn after_one(
     Ok(FlowStore::Few(flows))
 }
 
-/// These flows, no two of one remote, get maps, and that of the packet's remote is used. Out of line, since a function
-/// pays at its entry for all its locals.
+/// Puts these flows, no two of one remote, into maps, and uses that of the packet's remote. This is
+/// not inlined, since a function pays at its entry for all its locals.
 #[inline(never)]
 fn with_maps(
     alloc: Global,
@@ -116,8 +116,8 @@ fn with_maps(
     Ok(FlowStore::Many(Box::new(alloc, many)?))
 }
 
-/// Uses the flow of the packet's remote; if none is live, begins one. If memory is refused nothing changes. Few flows
-/// get maps if they are full, and only then.
+/// Uses the flow of the packet's remote, or begins one if none is live. Changes nothing if memory
+/// is refused. A list of flows gets maps if it is full, and only then.
 fn use_kept(
     kept: &mut FlowStore,
     alloc: Global,
@@ -156,7 +156,7 @@ fn use_kept(
     }
 }
 
-/// A copy of the flows of a protocol that live at a time, in ns.
+/// Returns a copy of the flows of a protocol that live at `now` (ns).
 pub(crate) fn live_flows(
     alloc: Global,
     flows: &[Flow],
@@ -172,7 +172,7 @@ pub(crate) fn live_flows(
 }
 
 impl Flows {
-    /// No flows. It takes no memory.
+    /// Creates an empty list of flows, without allocating.
     pub fn new(_alloc: Global) -> Flows
         ensures { result ≡ [] }
     {
@@ -181,7 +181,7 @@ impl Flows {
         }
     }
 
-    /// These flows, oldest first, no two of one remote endpoint.
+    /// Creates the flows from a list of them, oldest first, no two of one remote endpoint.
     pub fn from_flows(alloc: Global, flows: &[Flow]) -> Result<Flows, AllocError>
         requires { AreDistinct flows.now }
         ensures { IfOk result (λ made. made ≡ flows.now) }
@@ -195,7 +195,7 @@ impl Flows {
         Ok(Flows { kept })
     }
 
-    /// A copy of the flows, oldest first.
+    /// Returns a copy of the flows, oldest first.
     fn copied(&self, alloc: Global) -> Result<Vec<Flow>, AllocError>
         ensures flows { IfOk result (λ made. made.items ≡ self.now) }
         ensures distinct { IfOk result (λ made. AreDistinct made.items) }
@@ -208,7 +208,7 @@ impl Flows {
         }
     }
 
-    /// A copy of the flows of a protocol that live at a time, in ns, oldest first.
+    /// Returns a copy of the flows of a protocol that live at `now` (ns), oldest first.
     #[tactic(auto, using(crate::proofs::DistinctFlows::distinct_live))]
     pub fn live(
         &self,
@@ -226,7 +226,7 @@ impl Flows {
         Ok(flows)
     }
 
-    /// The flows of a binding whose first packet goes out. They take no memory of their own.
+    /// Creates the flows of a binding whose first packet goes out, without allocating.
     pub fn from_packet(
         _alloc: Global,
         timers: IdleTimers,
@@ -241,7 +241,7 @@ impl Flows {
         })
     }
 
-    /// The last moment at which one of these TCP flows is live, or the greatest time if that is earlier; one is live now.
+    /// Returns until when (ns) one of these TCP flows is live, at most `u64::MAX`; one is at `now`.
     pub(crate) fn last_moment(&self, timers: IdleTimers, now: u64) -> u64
         requires live { list_any (life.is_live_flow timers now) self.now ≡ true }
         ensures later { now ≤ result }
@@ -258,7 +258,7 @@ impl Flows {
         }
     }
 
-    /// When the last of these TCP flows ends, in ns; 0 if there is none.
+    /// Returns when the last of these TCP flows ends, in ns, or 0 if there is none.
     pub(crate) fn last_end(&self, timers: IdleTimers) -> u128
         ensures { result ≡ last_end timers self.now }
     {
@@ -270,7 +270,7 @@ impl Flows {
         }
     }
 
-    /// Whether one of these TCP flows is live.
+    /// Returns whether one of these TCP flows is live at `now` (ns).
     pub(crate) fn has_live(&self, timers: IdleTimers, now: u64) -> bool
         ensures { result ≡ list_any (life.is_live_flow timers now) self.now }
     {
@@ -282,7 +282,7 @@ impl Flows {
         }
     }
 
-    /// Removes the dead ones of these TCP flows.
+    /// Removes the TCP flows that have expired at `now` (ns).
     pub(crate) fn retain_live(&mut self, timers: IdleTimers, now: u64)
         ensures { self.new ≡ filter (life.is_live_flow timers now) self.old }
     {
@@ -298,7 +298,7 @@ impl Flows {
         }
     }
 
-    /// Whether a flow's remote has the address.
+    /// Returns whether a flow's remote has the address.
     pub(crate) fn has_address(&self, address: u32) -> bool
         ensures { result ≡ list_any (λ flow. flow.remote.address == address) self.now }
     {
@@ -310,7 +310,7 @@ impl Flows {
         }
     }
 
-    /// Whether a flow is of the remote.
+    /// Returns whether a flow is of the remote.
     pub(crate) fn has_remote(&self, remote: Endpoint) -> bool
         ensures { result ≡ list_any (traffic.is_flow_of remote) self.now }
     {
@@ -322,7 +322,7 @@ impl Flows {
         }
     }
 
-    /// Uses the flow of the packet's remote; if none is live, begins one. If memory is refused nothing changes.
+    /// Uses the packet's flow, or begins it if none is live. Changes nothing if memory is refused.
     pub(crate) fn use_flow(
         &mut self,
         alloc: Global,
@@ -338,7 +338,7 @@ impl Flows {
         use_kept(&mut self.kept, alloc, timers, sent)
     }
 
-    /// Marks the remote's flow, if any, as used now by an incoming segment.
+    /// Marks the remote's flow, if there is one, as used now by an incoming segment.
     pub(crate) fn refresh_flow(&mut self, now: u64, remote: Endpoint, flags: Flags)
         requires { NoneUsedAfter self.old now }
         ensures { self.new ≡ change_first (traffic.is_flow_of remote)

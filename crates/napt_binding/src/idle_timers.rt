@@ -1,4 +1,4 @@
-//! The idle timers that bindings go by.
+//! The idle timers of bindings.
 
 ghost use Rattle.std.specs.Prelude.{◌≡◌};
 ghost use Rattle.napt_config.specs.Rules.{AreTimers};
@@ -8,8 +8,8 @@ use crate::life::SECOND;
 use napt_config::{Config, Timers};
 use std::marker::Model;
 
-/// The idle timers of a configuration, each within its limits (RFC 4787, REQ-5; RFC 5382, REQ-5; RFC 5508, REQ-2).
-/// Contracts see them as those timers.
+/// The idle timers of a configuration, each within its limits (RFC 4787, REQ-5; RFC 5382, REQ-5;
+/// RFC 5508, REQ-2). Contracts see the `Timers`.
 #[derive(Clone, Copy)]
 pub struct IdleTimers {
     pub(crate) seconds: Timers,
@@ -29,7 +29,7 @@ impl Model for IdleTimers {
 }
 
 impl IdleTimers {
-    /// Those of the configuration.
+    /// Returns the timers of the configuration.
     pub fn from_config(config: &Config) -> IdleTimers
         ensures { result ≡ config.now.timers }
     {
@@ -38,15 +38,15 @@ impl IdleTimers {
         }
     }
 
-    /// Law: each timer is within its limits. It does nothing when it runs.
+    /// Law: each timer is within its limits. The call does nothing when it runs.
     pub fn are_within_limits(self)
         ensures { AreTimers self }
     {
         let _ = &self.seconds;
     }
 
-    /// The time that the hold is before `now` (ns), or 0: what had ended by then keeps its number no longer (RFC 6888,
-    /// REQ-8).
+    /// Returns the time one hold before `now` (ns), or 0. What had ended by then is no longer held
+    /// (RFC 6888, REQ-8).
     pub fn hold_ago(self, now: u64) -> u64
         ensures { result ≡ life.hold_ago self now }
     {

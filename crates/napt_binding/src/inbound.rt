@@ -1,4 +1,4 @@
-//! How a table treats incoming packets.
+//! The configuration's rules for incoming packets.
 
 ghost use Rattle.std.specs.Prelude.{◌≡◌};
 ghost use Rattle.napt_rules.specs.Prelude as rules;
@@ -6,7 +6,7 @@ ghost use Rattle.napt_rules.specs.Prelude as rules;
 use napt_config::Config;
 use napt_rules::InboundRules;
 
-/// The configuration's rules for incoming packets.
+/// Returns the configuration's rules for incoming packets (RFC 4787, REQ-8 and REQ-6).
 pub fn inbound_rules(config: &Config) -> InboundRules
     ensures { result ≡ rules.inbound_rules config.now }
 {

@@ -1,6 +1,6 @@
-//! One binding of a translator: how long it and its flows live, whom it lets in, and what packets do to it.
+//! One binding of a translator: how long it lives, which remotes it lets in, what packets do to it.
 //!
-//! The rules are those of RFC 3022, RFC 4787, RFC 5382 and RFC 5508; `specs/` states them, each with its sections.
+//! The rules are those of RFC 3022, 4787, 5382 and 5508; `specs/` states them with their sections.
 #![tactic(auto)]
 
 mod address_counts;
@@ -24,6 +24,6 @@ pub use packed_row::PackedRow;
 pub use state_binding::{from_state, to_state};
 pub use traffic::{purge_and_receive, send};
 
-/// An inside endpoint and the external endpoint it is mapped to under one protocol (RFC 3022, section 2.2), with its
-/// flows.
+/// A binding as a table stores it: an inside endpoint, the external endpoint to which it is mapped
+/// under one protocol (RFC 3022, section 2.2), and its flows.
 pub type TableBinding = napt_rules::StoredBinding<PackedRow, Flows>;

@@ -11,10 +11,10 @@ use crate::session::idle;
 use napt_rules::Flow;
 use napt_wire::Protocol;
 
-/// In nanoseconds.
+/// The number of nanoseconds in a second.
 pub(crate) const SECOND: u64 = 1_000_000_000;
 
-/// Whether `last` is less than `seconds` ago.
+/// Returns whether `last` is less than `seconds` seconds before `now`; both times are in ns.
 pub fn is_recent(now: u64, last: u64, seconds: u64) -> bool
     requires { seconds ≤ 1_000_000_000 }
     ensures { result ≡ life.is_recent now last seconds }
@@ -22,7 +22,7 @@ pub fn is_recent(now: u64, last: u64, seconds: u64) -> bool
     now.saturating_sub(last) < seconds * SECOND
 }
 
-/// The last moment at which what was last used at `last` is live, or the greatest time if that is earlier.
+/// Returns the last time (ns) at which what was used at `last` is live, at most `u64::MAX`.
 pub(crate) fn last_moment(last: u64, seconds: u64) -> u64
     requires some { 0 < seconds }
     requires few { seconds ≤ 1_000_000_000 }
@@ -34,7 +34,7 @@ pub(crate) fn last_moment(last: u64, seconds: u64) -> u64
     last.saturating_add(seconds * SECOND - 1)
 }
 
-/// `seconds` after `last`, in ns.
+/// Returns the time that is `seconds` seconds after `last`, in ns.
 pub(crate) fn end_after(last: u64, seconds: u64) -> u128
     requires { seconds ≤ 1_000_000_000 }
     ensures { result ≡ end_after last seconds }
@@ -42,14 +42,14 @@ pub(crate) fn end_after(last: u64, seconds: u64) -> u128
     u128::from(last) + u128::from(seconds) * u128::from(SECOND)
 }
 
-/// The first time, in ns, at which a TCP flow is no longer live, if it is not used again.
+/// Returns the first time (ns) at which a TCP flow is not live, if it is not used again.
 pub(crate) fn flow_end(flow: &Flow, timers: IdleTimers) -> u128
     ensures { result ≡ end_after flow.now.last (marks.idle timers flow.now.marks) }
 {
     end_after(flow.last, idle(flow.marks, timers))
 }
 
-/// The last moment at which a TCP flow is live, or the greatest time if that is earlier.
+/// Returns the last time (ns) at which a TCP flow is live, at most `u64::MAX`.
 pub(crate) fn flow_moment(flow: &Flow, timers: IdleTimers) -> u64
     ensures lives { (t : ℕ) → t ≤ result → life.is_live_flow timers t flow.now ≡ true }
     ensures far { (t : ℕ) → t < 2 ^ 64 → life.is_live_flow timers t flow.now ≡ true →
@@ -58,14 +58,14 @@ pub(crate) fn flow_moment(flow: &Flow, timers: IdleTimers) -> u64
     last_moment(flow.last, idle(flow.marks, timers))
 }
 
-/// Whether a TCP flow is live.
+/// Returns whether a TCP flow is live at `now` (ns).
 pub fn is_live_flow(flow: &Flow, timers: IdleTimers, now: u64) -> bool
     ensures { result ≡ life.is_live_flow timers now flow.now }
 {
     is_recent(now, flow.last, idle(flow.marks, timers))
 }
 
-/// Whether a flow of the protocol counts: one outside TCP lives as long as its binding.
+/// Returns whether a flow stands: under TCP a live one; any other lives as long as its binding.
 pub(crate) fn is_standing(flow: &Flow, timers: IdleTimers, now: u64, protocol: Protocol) -> bool
     ensures { result ≡ is_standing timers now protocol flow.now }
 {
@@ -75,8 +75,8 @@ pub(crate) fn is_standing(flow: &Flow, timers: IdleTimers, now: u64, protocol: P
     }
 }
 
-/// Whether the binding is live at `now` (ns): it was used less than its timer ago (RFC 4787, REQ-5 and REQ-6; RFC 5508, REQ-2),
-/// in TCP one of its flows was (RFC 5382, REQ-5). A redirect always is.
+/// Returns whether the binding is live at `now` (ns): it, or under TCP one of its flows, was used less than
+/// its timer ago (RFC 4787, REQ-5 and REQ-6; RFC 5508, REQ-2; RFC 5382, REQ-5). A redirect always is.
 #[inline(always)]
 pub fn is_live(binding: &TableBinding, timers: IdleTimers, now: u64) -> bool
     ensures { result ≡ life.is_live timers now binding.now }
@@ -91,8 +91,8 @@ pub fn is_live(binding: &TableBinding, timers: IdleTimers, now: u64) -> bool
     }
 }
 
-/// When the binding ends if no packet goes through it: the first time, in ns, at which it is no longer live. `None` for
-/// a redirect, which never ends.
+/// Returns when the binding ends if no packet goes through it: the first time, in ns, at which it
+/// is not live. Returns `None` for a redirect, which never ends.
 pub fn end_of(binding: &TableBinding, timers: IdleTimers) -> Option<u128>
     ensures { result ≡ end_of timers binding.now }
 {
@@ -107,8 +107,8 @@ pub fn end_of(binding: &TableBinding, timers: IdleTimers) -> Option<u128>
     Some(end)
 }
 
-/// Until when (ns) a binding that is live now is sure to live, whatever packets come: at least now, and no longer than
-/// a packet now would keep it. Of one that is no redirect it is the last such time.
+/// Returns a time (ns) until which a live binding is sure to live, whatever packets come: at least `now`, and
+/// no later than a packet at `now` would let it live. If it is no redirect, it is the last such time.
 pub fn until(binding: &TableBinding, timers: IdleTimers, now: u64) -> u64
     requires live { life.is_live timers now binding.now ≡ true }
     ensures later { now ≤ result }
@@ -142,7 +142,7 @@ pub fn until(binding: &TableBinding, timers: IdleTimers, now: u64) -> u64
     }
 }
 
-/// Removes a TCP binding's dead flows.
+/// Removes the flows of a TCP binding that have expired at `now` (ns).
 pub(crate) fn purge_flows(binding: &mut TableBinding, timers: IdleTimers, now: u64)
     ensures { binding.new ≡ life.with_live_flows timers now binding.old }
 {

@@ -1,4 +1,4 @@
-//! An outgoing packet, and the flow of its remote.
+//! What an outgoing packet does to the flow of its remote.
 
 ghost use Rattle.std.specs.Prelude.{◌≡◌};
 ghost use Rattle.napt_rules.specs.Prelude as rules;
@@ -8,14 +8,14 @@ use crate::traffic::{fresh_flow, used};
 use napt_rules::{Flow, OutboundPacket};
 use napt_wire::Way;
 
-/// The flow after the packet.
+/// Returns the flow after the packet went out.
 pub(crate) fn flow_after(sent: OutboundPacket, flow: Flow) -> Flow
     ensures { result ≡ rules.flow_after sent.protocol Way.Outgoing sent.flags sent.now flow }
 {
     used(flow, sent.protocol, Way::Outgoing, sent.flags, sent.now)
 }
 
-/// The flow that begins with the packet.
+/// Returns the flow that begins with the packet.
 pub(crate) fn new_flow(sent: OutboundPacket) -> Flow
     ensures { result ≡ packets.new_flow sent }
 {

@@ -1,4 +1,4 @@
-//! A row as a binding keeps it.
+//! A row as a binding stores it.
 
 ghost use Rattle.std.specs.Prelude.{◌≡◌, ◌<◌, ◌^◌};
 
@@ -6,7 +6,7 @@ use napt_rules::Row;
 use napt_wire::{Endpoint, Protocol};
 use std::marker::Model;
 
-/// A row in 16 bytes, without the gaps that its endpoints would leave; contracts see it as the row.
+/// A row in 16 bytes, without the padding of its endpoints; contracts see a `Row`.
 #[derive(Drop)]
 pub struct PackedRow {
     inside_address: u32,
@@ -65,7 +65,7 @@ impl PackedRow {
         self.external_number
     }
 
-    /// Whether it is a static redirect.
+    /// Returns whether the row is a static redirect.
     pub fn is_fixed(&self) -> bool
         ensures { result ≡ self.now.fixed }
     {

@@ -15,21 +15,21 @@ pub(crate) const NO_MARKS: SessionMarks = SessionMarks {
     reset: false,
 };
 
-/// A reset, or a FIN each way.
+/// Returns whether the flow is closing: it was reset, or a FIN was seen each way.
 fn is_closing(marks: SessionMarks) -> bool
     ensures { result ≡ rules.is_closing marks }
 {
     marks.reset || (marks.fin_out && marks.fin_in)
 }
 
-/// A SYN each way, and not closing.
+/// Returns whether the session is established: a SYN was seen each way, and it is not closing.
 pub(crate) fn is_established(marks: SessionMarks) -> bool
     ensures { result ≡ rules.is_established marks }
 {
     marks.syn_out && marks.syn_in && !is_closing(marks)
 }
 
-/// How long the flow may be idle, in seconds.
+/// Returns how long a flow with these marks may be idle, in seconds.
 pub(crate) fn idle(marks: SessionMarks, timers: IdleTimers) -> u64
     ensures value { result ≡ rules.idle timers marks }
     ensures some { 0 < result }
@@ -42,7 +42,7 @@ pub(crate) fn idle(marks: SessionMarks, timers: IdleTimers) -> u64
     }
 }
 
-/// The marks after a segment in this direction.
+/// Returns the marks after a segment in this direction.
 pub(crate) fn marked(marks: SessionMarks, way: Way, flags: Flags) -> SessionMarks
     ensures { result ≡ rules.marked marks way flags }
 {

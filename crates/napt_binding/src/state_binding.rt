@@ -1,4 +1,4 @@
-//! A binding of a state, and the same as a table keeps it.
+//! Converts a binding of a state to one of a table, and back.
 
 ghost use Rattle.std.specs.{Prelude.{◌≡◌, true, cond, Some, None, IfOk}, List.list_any};
 ghost use Rattle.napt_rules.specs.Life as life;
@@ -13,14 +13,14 @@ use napt_rules::{Flow, StateBinding};
 use napt_wire::Protocol;
 use std::alloc::{AllocError, Global};
 
-/// Whether one of these TCP flows is live.
+/// Returns whether one of these TCP flows is live at `now` (ns).
 fn has_live(flows: &[Flow], timers: IdleTimers, now: u64) -> bool
     ensures { result ≡ list_any (life.is_live_flow timers now) flows.now }
 {
     flows.iter().any(|flow| is_live_flow(flow, timers, now))
 }
 
-/// Whether a binding of a state is live at `now` (ns).
+/// Returns whether a binding of a state is live at `now` (ns).
 fn is_live(binding: &StateBinding, timers: IdleTimers, now: u64) -> bool
     ensures { result ≡ life.is_live timers now binding.now }
 {
@@ -34,7 +34,7 @@ fn is_live(binding: &StateBinding, timers: IdleTimers, now: u64) -> bool
     }
 }
 
-/// The binding of a state, without its dead flows, if it is live at `now` (ns).
+/// Returns the binding of a state without expired flows, or `None` if it is not live at `now` (ns).
 pub fn from_state(
     alloc: Global,
     binding: &StateBinding,
@@ -57,7 +57,7 @@ pub fn from_state(
     }))
 }
 
-/// The binding without the flows that are dead at `now` (ns), as a state has it.
+/// Returns the binding as a state has it, without the flows that have expired at `now` (ns).
 pub fn to_state(
     alloc: Global,
     binding: &TableBinding,

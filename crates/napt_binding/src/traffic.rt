@@ -1,4 +1,4 @@
-//! Packets through one binding.
+//! What packets do to one binding.
 
 ghost use Rattle.std.specs.Prelude.{◌≡◌, true, OnOk, OnErr};
 ghost use Rattle.napt_rules.specs.Filtering as filtering;
@@ -17,7 +17,7 @@ use napt_rules::{Flow, InboundPacket, InboundRules, OutboundPacket};
 use napt_wire::{Cause, Endpoint, Flags, Protocol, Way};
 use std::alloc::{AllocError, Global};
 
-/// A flow of the remote that begins now, without marks.
+/// Returns a flow of the remote that begins now, without marks.
 pub(crate) fn fresh_flow(remote: Endpoint, now: u64) -> Flow
     ensures { result ≡ record { remote = remote; marks = marks.no_marks; last = now } }
 {
@@ -28,14 +28,14 @@ pub(crate) fn fresh_flow(remote: Endpoint, now: u64) -> Flow
     }
 }
 
-/// Whether the flow is of the remote.
+/// Returns whether the flow is of the remote endpoint.
 pub(crate) fn is_flow_of(flow: &Flow, remote: Endpoint) -> bool
     ensures { result ≡ traffic.is_flow_of remote flow.now }
 {
     flow.remote == remote
 }
 
-/// The flow used now, in TCP with new marks.
+/// Returns the flow, used now and, under TCP, with the marks of the segment.
 pub(crate) fn used(flow: Flow, protocol: Protocol, way: Way, flags: Flags, now: u64) -> Flow
     ensures { result ≡ traffic.flow_after protocol way flags now flow }
 {
@@ -50,7 +50,7 @@ pub(crate) fn used(flow: Flow, protocol: Protocol, way: Way, flags: Flags, now: 
     }
 }
 
-/// Whether the remote may send in through the binding (RFC 4787, REQ-8).
+/// Returns whether the remote may send in through the binding (RFC 4787, REQ-8).
 fn permits(binding: &TableBinding, inbound: InboundRules, remote: Endpoint) -> bool
     ensures { result ≡ filtering.permits inbound binding.now remote }
 {
@@ -64,9 +64,9 @@ fn permits(binding: &TableBinding, inbound: InboundRules, remote: Endpoint) -> b
     }
 }
 
-/// Sends a packet out through the binding, under the binding's protocol. A redirect does not change. Dead flows may
-/// stay, and do not count. No flow may have been used later. `AllocError`, and nothing changed, if memory for a new flow
-/// is refused.
+/// Sends a packet out through the binding, under the binding's protocol. A redirect does not
+/// change. Expired flows may stay and have no effect. No flow may have been used after the packet's
+/// time. Returns `AllocError`, and changes nothing, if memory for a new flow is refused.
 pub fn send(
     binding: &mut TableBinding,
     alloc: Global,
@@ -90,7 +90,7 @@ pub fn send(
     Ok(())
 }
 
-/// Whether incoming packets keep the binding alive (RFC 4787, REQ-6).
+/// Returns whether incoming packets refresh the binding (RFC 4787, REQ-6).
 fn is_refreshed(binding: &TableBinding, refresh: MappingRefresh) -> bool
     ensures { result ≡ traffic.refreshes refresh binding.now.row }
 {
@@ -113,9 +113,9 @@ fn receive(binding: &mut TableBinding, inbound: InboundRules, packet: InboundPac
     }
 }
 
-/// Takes in a packet through the binding, under the binding's protocol, and removes its dead flows. Returns the inside
-/// endpoint, or `Filtered` if the filter refuses the remote (RFC 4787, REQ-8). No flow may have been used later. It takes
-/// no memory.
+/// Receives a packet through the binding, under the binding's protocol, and removes expired flows.
+/// Returns the inside endpoint, or `Cause::Filtered` if the filter refuses the remote (RFC 4787,
+/// REQ-8). No flow may have been used after the packet's time. Takes no memory.
 pub fn purge_and_receive(
     binding: &mut TableBinding,
     timers: IdleTimers,

@@ -45,7 +45,7 @@ dotted_read text (Some read) address of is =
     let (dotted, value) = dotted_whole text read.0 read.1 address of is in
     (read.0, dotted, value)
 
--- what is read as an address is dotted
+-- A text that is read as an address is the dotted decimal of its four bytes.
 pub dotted-address_of : (text : List ℕ) (address : ℕ) → address_of text ≡ Some address → (octets : List ℕ)
     × IsDotted text octets × (from_be_bytes w32 octets ≡ address)
 unfolding address_of

@@ -1,4 +1,4 @@
--- What a reading that ends well went through.
+-- If a reading succeeds, so did each of its steps.
 use Rattle.std.proofs.lemmas.Grind.{common_steps}
 use Rattle.std.proofs.Common.{◌≡◌, ℕ, ◌+◌, ◌≤◌, Bool, true, false, List, Option, Some, None, Result, Ok, Err, is_some, refl, subst, arith, leb-true, nat_le, ok_or}
 use Rattle.std.specs.Option.{option_map_or}
@@ -10,7 +10,8 @@ pub reads : {A B P : Type 0} (r : Result A ConfigFault) (f : A → Result B Conf
 reads (Ok x) f y e then = then x refl e
 reads (Err fault) f y e then = cc
 
-pub holds : {B P : Type 0} (rule : Bool) (fault : ConfigFault) (r : Result B ConfigFault) (y : B) → require_rule rule fault >> r
+pub holds : {B P : Type 0} (rule : Bool) (fault : ConfigFault) (r : Result B ConfigFault) (y : B) →
+    require_rule rule fault >> r
     ≡ Ok y → (rule ≡ true → r ≡ Ok y → P) → P
 holds true fault r y e then = then refl e
 holds false fault r y e then = cc
@@ -25,7 +26,7 @@ option_reads : {A : Type 0} (P : A → Type 0) (o : Option Data) (default : A) (
 option_reads P None default reading x e at_default at_value = let same : default ≡ x = cc in subst P same at_default
 option_reads P (Some d) default reading x e at_default at_value = at_value d x e
 
--- what holds of the default and of each value that is read holds of what a key gives
+-- What holds of the default and of each value that is read holds of what is read at a key.
 pub optional_reads : {A : Type 0} (P : A → Type 0) (key : List ℕ) (default : A) (reading : Data → Result A ConfigFault)
     (table : Members) (x : A) → optional key default reading table ≡ Ok x
     → P default → ((d : Data) (y : A) → reading d ≡ Ok y → P y) → P x
@@ -37,20 +38,20 @@ absent_reads : {A : Type 0} (o : Option Data) (default : A) (reading : Data → 
 absent_reads None default reading x none e = cc
 absent_reads (Some d) default reading x none e = cc
 
--- a key that is absent gives the default
+-- An absent key gives the default.
 pub optional-absent : {A : Type 0} (key : List ℕ) (default : A) (reading : Data → Result A ConfigFault)
     (table : Members) (x : A) → is_some (get_member key table) ≡ false → optional key default reading table ≡ Ok x →
     x ≡ default
 optional-absent key default reading table x none e = absent_reads (get_member key table) default reading x none e
 
--- a list of at most so many entries has no more
+-- A list that `list_up_to` reads has at most `most` entries.
 pub list_up_to-counts : (most : ℕ) (value : Data) (entries : Items) → list_up_to most value ≡ Ok entries →
     item_count entries ≤ most
 unfolding list_up_to
 list_up_to-counts most value entries is = grind (arith, common_steps, reads, holds, nat_le, leb-true)
 
 module _ {A : Type 0} (step : A → Data → Result A ConfigFault) where
-  -- what each step keeps is kept
+  -- What each step preserves, all steps preserve.
   pub each_keeps : (P : A → Type 0) → ((now next : A) (d : Data) → P now → step now d ≡ Ok next → P next) →
       (now last : A) (entries : Items) → P now → each_in_order step now entries ≡ Ok last → P last
   each_keeps P kept now last no_items start e = let same : now ≡ last = cc in subst P same start
@@ -58,7 +59,7 @@ module _ {A : Type 0} (step : A → Data → Result A ConfigFault) where
       reads (step now d) (λ n. each_in_order step n rest) last e λ next stepped more.
       each_keeps P kept next last rest (kept now next d start stepped) more
 
-  -- where each step adds one, all add their number
+  -- If each step adds one, all steps add the number of entries.
   pub each_adds : (size : A → ℕ) → ((now next : A) (d : Data) → step now d ≡ Ok next → size next ≡ size now + 1) →
       (now last : A) (entries : Items)
       → each_in_order step now entries ≡ Ok last → size last ≡ size now + item_count entries

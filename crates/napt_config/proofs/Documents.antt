@@ -1,4 +1,4 @@
--- Texts that are UTF-8, and others.
+-- A text in UTF-8 is parsed as TOML, and any other text has no table.
 use Rattle.std.proofs.{Common.{◌≡◌, ℕ, Bool, true, false, List, None, refl}, lemmas.Str.{is_utf8-from_IsUtf8, IsUtf8-from_is_utf8}}
 use Rattle.std.specs.Str.{IsUtf8, is_utf8}
 use Rattle.toml.specs.Parse.{parse_document}

@@ -1,4 +1,4 @@
--- Entries of a list, beside the items that they stand for.
+-- A list of values has as many entries as its view.
 use Rattle.std.proofs.Common.{◌≡◌, List, [], ◌∷◌, length, refl, arith}
 use Rattle.toml.specs.{declared.value.Value.Value, View.items_view}
 use Rattle.napt_config.specs.Configured.{item_count}

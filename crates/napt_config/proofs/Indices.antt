@@ -20,7 +20,7 @@ below_both false place size others (Some i) index small more is =
     let same : size + i ≡ index = cc in
     omega (arith, more i refl, same)
 
--- an index is below the number of hosts
+-- An index is below the number of hosts.
 pub index_of-bound : (inside : List PrefixModel) (host index : ℕ) → host_index inside host ≡ Some index
     → index < host_count inside
 index_of-bound [] host index is = cc
@@ -36,7 +36,7 @@ next_fits : (address size many : ℕ) → 0 < size → address % size ≡ 0 → 
 next_fits address size many some whole below =
     grind (arith, common_steps, div-lt_iff_lt-mul, mul-le-mul_right, one_more, div-add-mod')
 
--- an address at a place of a network is an address
+-- The address at a place in a network is below 2 ^ 32.
 pub address_fits : (network : PrefixModel) (place : ℕ) → IsPrefix network → place < prefix_size network →
     network.address + place < 2 ^ 32
 address_fits network place is within =
@@ -63,7 +63,7 @@ nth_block-is size nth even low room =
       high = omega (arith, room);
     }
 
--- all blocks of one address are below 65536
+-- All blocks of one address end at or below 65536.
 block_fits : (size hosts addresses index : ℕ) → 1 ≤ addresses → index < hosts →
     (hosts + (addresses - 1)) / addresses * size ≤ 64512 → size * (index / addresses) + size ≤ 64512
 block_fits size hosts addresses index some within room =
@@ -82,8 +82,9 @@ block_at-is : (size addresses : ℕ) (found : Option ℕ) → ((index : ℕ) →
 block_at-is size addresses None each = tt
 block_at-is size addresses (Some index) each = each index refl
 
--- the blocks of hosts are blocks
-pub block_in-is : (block : Option ℕ) (inside : List PrefixModel) (pool : List ℕ) (pairs : List (ℕ × ℕ)) → 1 ≤ length pool →
+-- The block of a host satisfies `IsPortBlock`.
+pub block_in-is : (block : Option ℕ) (inside : List PrefixModel) (pool : List ℕ) (pairs : List (ℕ × ℕ)) →
+    1 ≤ length pool →
     IfSome block (AreBlocks inside pool pairs)
     → (host : ℕ) → IfSome (block_in block inside (length pool) host) IsPortBlock
 unfolding block_in

@@ -1,4 +1,4 @@
--- Keys of a map, beside the members that it stands for.
+-- Checking the keys of a table gives the same result as checking the members of its view.
 use Rattle.std.{proofs.Common.{◌≡◌, ℕ, Bool, List, [], ◌∷◌, map, Bor, String, Global, string_bytes, refl, bytes_eq}, specs.List.{list_any, list_all}}
 use Rattle.std.specs.Map.{keys_of}
 use Rattle.toml.specs.{declared.value.Value.Value, View.members_view}
@@ -7,7 +7,7 @@ use Rattle.napt_config.specs.Configured.{only_keys}
 abbrev pub texts : List (Bor (List ℕ)) → List (List ℕ)
 texts names = map (λ name. name.now) names
 
--- whether each key is one of the names
+-- Returns whether each key is one of the names.
 abbrev pub all_among : List (Bor (List ℕ)) → List (String Global) → Bool
 all_among names keys = list_all (λ key. list_any (λ name. bytes_eq name.now (string_bytes key)) names) keys
 

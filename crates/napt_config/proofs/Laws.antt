@@ -1,4 +1,4 @@
--- What a table configures keeps the rules of a configuration.
+-- The configuration of a table satisfies the rules of a configuration.
 use Rattle.std.proofs.lemmas.Grind.{common_steps}
 use Rattle.std.proofs.Common.{◌≡◌, ℕ, ◌+◌, ◌-◌, ◌%◌, ◌^◌, ◌<◌, ◌≤◌, ◌==◌, Bool, true, false, not, List, [], ◌∷◌, ◌++◌, length, get_or, Option, Some, None, Ok, nat_lt, nat_le, nat_cmp, is_some, refl, sym, ap, subst, ◌∙◌, ltb-true, leb-true, eqb-true, length-append, arith, All, IfSome, ok_or, codes}
 use Rattle.std.specs.{BTreeMap.insert_entry, List.{list_any, before_first, after_first, Sorted.IsStrictlySortedBy}, Map.{keys_of, values_of}}
@@ -95,7 +95,8 @@ inside_keeps now next entry start is =
     let (network, is_network, made) = inside_step now next entry is in
     subst (All IsPrefix) (sym made) (All-push IsPrefix now network start is_network)
 
-inside_adds : (now next : List PrefixModel) (entry : Data) → with_prefix now entry ≡ Ok next → length next ≡ length now + 1
+inside_adds : (now next : List PrefixModel) (entry : Data) → with_prefix now entry ≡ Ok next →
+    length next ≡ length now + 1
 inside_adds now next entry is = grind (arith, common_steps, inside_step, length-append)
 
 prefixes_in-keeps : (table : Members) (inside : List PrefixModel) → prefixes_in each_in_order table ≡ Ok inside →
@@ -175,7 +176,7 @@ block_size_at-keeps : (size : ℕ) (value : Data) → block_size_at value ≡ Ok
 unfolding block_size_at
 block_size_at-keeps size value is = grind (arith, common_steps, reads, holds, number_at-range, eqb-true)
 
--- a size of blocks, and what it asks of the rest of the table
+-- A valid size of blocks, and what it requires of the rest of the table.
 pub record SizeRules (pool : List ℕ) (inside : List PrefixModel) (table : Members) (size : ℕ) : Type 0 where
   pub is_size : IsSize size
   pub apart : are_prefixes_apart inside ≡ true
@@ -203,7 +204,8 @@ record PairStep (pool : List ℕ) (inside : List PrefixModel) (now next : Pairs)
   pub new : is_some (paired_with now host) ≡ false
   pub is : next ≡ insert_entry nat_cmp now host external
 
-pair_step : (pool : List ℕ) (inside : List PrefixModel) (now next : Pairs) (entry : Data) → with_pair pool inside now entry
+pair_step : (pool : List ℕ) (inside : List PrefixModel) (now next : Pairs) (entry : Data) →
+    with_pair pool inside now entry
     ≡ Ok next → PairStep pool inside now next
 unfolding with_pair
 pair_step pool inside now next entry is = grind (arith, common_steps, reads, holds, is_some, not-true)
@@ -213,7 +215,8 @@ pub record PairsSoFar (pool : List ℕ) (inside : List PrefixModel) (pairs : Pai
   pub hosts : All (λ host. prefixes_have inside host ≡ true) (keys_of pairs)
   pub externals : All (λ external. contains_address pool external ≡ true) (values_of pairs)
 
-pairs_keep : (pool : List ℕ) (inside : List PrefixModel) (now next : Pairs) (entry : Data) → PairsSoFar pool inside now →
+pairs_keep : (pool : List ℕ) (inside : List PrefixModel) (now next : Pairs) (entry : Data) →
+    PairsSoFar pool inside now →
     with_pair pool inside now entry ≡ Ok next → PairsSoFar pool inside next
 pairs_keep pool inside now next entry start is =
     let step = pair_step pool inside now next entry is in
@@ -225,7 +228,8 @@ pairs_keep pool inside now next entry start is =
           ≡ true) now start.externals step.external_in_pool;
     })
 
-pairs_add : (pool : List ℕ) (inside : List PrefixModel) (now next : Pairs) (entry : Data) → with_pair pool inside now entry
+pairs_add : (pool : List ℕ) (inside : List PrefixModel) (now next : Pairs) (entry : Data) →
+    with_pair pool inside now entry
     ≡ Ok next → length next ≡ length now + 1
 pairs_add pool inside now next entry is =
     let step = pair_step pool inside now next entry is in
@@ -294,7 +298,7 @@ without_pairs pool inside table (Some size) kept = record {
 
 -- ---- the whole
 
--- the blocks that a table gives are blocks
+-- The blocks that a table gives satisfy `IsPortBlock`.
 pub blocks-keep : (table : Members) (pool : List ℕ) (inside : List PrefixModel) (hold : ℕ) (block : Option ℕ) →
     1 ≤ length pool → block_size_in pool inside hold table ≡ Ok block
     → (host : ℕ) → IfSome (block_in block inside (length pool) host) IsPortBlock
@@ -302,7 +306,7 @@ blocks-keep table pool inside hold block some is =
     block_in-is block inside pool [] some (without_pairs pool inside table block
     (block_size_in-keeps pool inside hold table block is))
 
--- what a table configures keeps the rules
+-- The configuration of a table satisfies the rules.
 pub configured-keeps : (table : Members) (rules : Rules) → configured table ≡ Ok rules → RulesInvariant rules
 unfolding configured
 configured-keeps table rules is =
@@ -318,7 +322,8 @@ configured-keeps table rules is =
     reads (block_size_in pool inside timers.hold table) _ rules rest₈ λ block block_is rest₉.
     reads (pairs_in each_in_order pool inside table) _ rules rest₉ λ pairs pairs_is rest₁₀.
     reads
-    (redirects_in each_in_order inside (paired_address block inside pool pairs) (block_in block inside (length pool)) table)
+    (redirects_in each_in_order inside (paired_address block inside pool pairs) (block_in block inside (length pool))
+    table)
     _ rules rest₁₀ λ redirects redirects_are last.
     let made : Rules = record {
       pool = pool;
@@ -339,7 +344,8 @@ configured-keeps table rules is =
     let of_ring = ring_in-keeps ring table ring_is in
     let of_blocks = are_blocks pool inside table block pairs
     (block_size_in-keeps pool inside timers.hold table block block_is) pairs_is in
-    let of_redirects = redirects_in-keeps inside (paired_address block inside pool pairs) (block_in block inside (length pool))
+    let of_redirects = redirects_in-keeps inside (paired_address block inside pool pairs)
+    (block_in block inside (length pool))
     table redirects redirects_are in
     subst RulesInvariant same (record {
       pool = record {

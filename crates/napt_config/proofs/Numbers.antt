@@ -7,7 +7,7 @@ use Rattle.toml.specs.Data.{Data}
 use Rattle.napt_config.proofs.Chains.{ok_or_ok}
 use Rattle.napt_config.specs.Prelude.{number_of, is_decimal, number_between, number_at_key}
 
--- digits, as `parse` means them
+-- `is_ascii_digit` and `digits_value` describe the digits that `parse` accepts.
 pub digits_model : IsNumeralModel (λ ds. list_all is_ascii_digit ds ≡ true) (digits_value 10)
 digits_model = numerals_by_value _ (search rules)
 
@@ -22,18 +22,18 @@ too_large : (least most : ℕ) (text : List ℕ) → most < digits_value 10 text
 unfolding number_of
 too_large least most text large = grind (arith, nat_tests)
 
--- a number that `parse` refuses
+-- A number that `parse` refuses is read as none.
 pub number_of-unread : {E : Type 0} (e : E) (least most : ℕ) (text : List ℕ) → most < 2 ^ 32 → is_decimal text ≡ true →
     ParsesUnsigned 32 10 text (Err e) → number_of least most text ≡ None
 number_of-unread e least most text bound number refused =
     grind (arith, common_steps, parse_digits, digits_model, are_digits, cases_lt, some_digits, too_large)
 
--- no text, no number
+-- An empty text is read as none.
 pub number_of-nothing : (least most : ℕ) → number_of least most [] ≡ None
 unfolding number_of
 number_of-nothing least most = refl
 
--- a number that is read is in its range
+-- A number that is read is in its range.
 pub number_of-range : (least most n : ℕ) (text : List ℕ) → number_of least most text ≡ Some n → (least ≤ n) × (n ≤ most)
 unfolding number_of
 number_of-range least most n text is = grind (arith, common_steps, cond_some, and_parts, leb-true)
@@ -46,6 +46,7 @@ between-range least most n (pos k) is =
     subst P same (leb-true _ _ low, leb-true _ _ high)
 between-range least most n (negsuc k) is = cc
 
-pub number_at-range : (least most n : ℕ) (value : Data) → number_at_key least most value ≡ Ok n → (least ≤ n) × (n ≤ most)
+pub number_at-range : (least most n : ℕ) (value : Data) → number_at_key least most value ≡ Ok n → (least ≤ n) ×
+    (n ≤ most)
 unfolding number_at_key
 number_at-range least most n value is = grind (arith, common_steps, between-range, ok_or_ok)

@@ -1,4 +1,4 @@
--- Pairs by ascending host, and one more among them.
+-- Pairs stay sorted by ascending host when one is inserted.
 use Rattle.std.proofs.Common.{◌≡◌, ℕ, ◌+◌, false, cond, List, [], ◌∷◌, length, is_some, Ordering, Less, Equal, Greater, nat_cmp, refl, ap, ◌∙◌, arith, Some}
 use Rattle.std.specs.{BTreeMap.{insert_entry, is_at}, Cmp.nat_cmp_total, List.{AllByRecursion, Sorted.IsStrictlySortedBy}, Map.{keys_of, lookup}}
 use Rattle.std.{specs.Ordering.{is_eq, match_ordering, ordering_reverse}, proofs.lemmas.List.Elements.{All-from_recursion, recursion_from_All}}
@@ -7,7 +7,7 @@ use Rattle.std.proofs.lemmas.Map.Views.{All-keys-insert_entry}
 abbrev pub Pairs : Type 0
 Pairs = List (ℕ × ℕ)
 
--- the host is below each of the pairs
+-- The host is below each host of the pairs.
 abbrev IsBelow : ℕ → Pairs → Type 0
 IsBelow host pairs = AllByRecursion (λ other. nat_cmp host other ≡ Less) (keys_of pairs)
 

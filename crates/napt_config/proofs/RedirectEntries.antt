@@ -1,4 +1,4 @@
--- Redirects that are read keep their rules.
+-- Redirects that are read satisfy their rules.
 use Rattle.std.proofs.lemmas.Grind.{common_steps}
 use Rattle.std.proofs.Common.{◌≡◌, ℕ, ◌+◌, ◌<◌, ◌≤◌, true, false, not, List, [], ◌∷◌, ◌++◌, length, Option, Some, Ok, refl, sym, ap, subst, ◌∙◌, length-append, arith, All, codes}
 use Rattle.std.{specs.List.{before_first, after_first}, proofs.lemmas.{Bool.{not-true, or_parts, or_from}, List.Elements.{All-push, All-nil}}}
@@ -10,11 +10,12 @@ use Rattle.napt_config.proofs.Numbers.{number_of-range, number_at-range}
 
 -- ---- one entry
 
--- its external port is below 1024, or in its host's block
+-- The external port of the redirect is below 1024 or in the block of its host.
 abbrev pub IsInBlock : (ℕ → Option PortBlock) → Redirect → Type 0
 IsInBlock block redirect = may_redirect (block redirect.address) redirect.external ≡ true
 
-socket_of-port : (text : List ℕ) (socket : TransportAddressModel) → transport_address_of_text text ≡ Some socket → 0 < socket.port
+socket_of-port : (text : List ℕ) (socket : TransportAddressModel) → transport_address_of_text text ≡ Some socket →
+    0 < socket.port
 unfolding transport_address_of_text
 socket_of-port text socket is = grind (arith, common_steps, option_and_then_some, number_of-range)
 

@@ -1,4 +1,4 @@
--- What is spelled is read back, and what is read is spelled so.
+-- A value that is spelled is read back, and a text that is read is the spelling of its value.
 use Rattle.std.proofs.lemmas.Grind.{common_steps}
 use Rattle.std.proofs.Common.{◌≡◌, ℕ, zero, suc, ◌+◌, ◌-◌, ◌%◌, ◌^◌, ◌<◌, ◌≤◌, ◌==◌, ◌&&◌, ◌||◌, Bool, true, false, cond, not, List, [], ◌∷◌, ◌++◌, length, get_or, take, drop, Option, Some, None, nat_lt, nat_le, decimal, refl, sym, ap, ◌∙◌, inl, inr, le-leb, le-ltb, lt-ltb, ltb-true, leb-true, eq-eqb, eqb-true, ne_eqb, append_assoc, take-append-drop, arith, ok_or, option_and_then}
 use Rattle.std.specs.{Char.is_ascii_digit, Int.{w32, to_be_bytes}, List.{list_all, list_any, position_or_len, before_first, after_first}, Net.Grammar.IsDotted}
@@ -126,7 +126,7 @@ no_digit_is_slash c digit = grind (arith, nat_tests)
 no_digit_is_colon : (c : ℕ) → is_ascii_digit c ≡ true → is_colon c ≡ false
 no_digit_is_colon c digit = grind (arith, nat_tests)
 
--- what is read after a separator is not empty, so the separator is there
+-- A text with a number after the separator has the separator, since the number is not empty.
 separated : (p : ℕ → Bool) (least most n : ℕ) (text : List ℕ) → number_of least most (after_first p text) ≡ Some n →
     position_or_len p text < length text
 separated p least most n text read = grind (arith, common_steps, cases_lt, number_of-nothing)
@@ -141,7 +141,7 @@ both_read : {A : Type 0} (f : ℕ → ℕ → Option A) (first second : Option �
     second ≡ Some y → f x y ≡ r → option_and_then (λ x. option_and_then (f x) second) first ≡ r
 both_read f first second x y r first_is second_is made = rw (first_is, second_is) made
 
--- an address, a mark that stands in none, and a number
+-- An address, a separator that is no digit and no dot, and a number.
 module _ (at least most : ℕ) (bound : most < 2 ^ 64) (no_digit : (c : ℕ) → is_ascii_digit c ≡ true → (c == at) ≡ false)
     (no_dot : (46 == at) ≡ false) where
   marked_text-of : (text : List ℕ) (address n : ℕ) → address_of (before_first (λ c. c == at) text) ≡ Some address →
@@ -172,7 +172,8 @@ module _ (at least most : ℕ) (bound : most < 2 ^ 64) (no_digit : (c : ℕ) →
         number_of-decimal,
       )
 
-network_text-of : (text : List ℕ) (network : PrefixModel) → prefix_of_text text ≡ Some network → text ≡ prefix_text network
+network_text-of : (text : List ℕ) (network : PrefixModel) → prefix_of_text text ≡ Some network →
+    text ≡ prefix_text network
 unfolding prefix_of_text prefix_text
 network_text-of text network is =
     option_and_then_some _ (address_of (before_first is_slash text)) network is λ address found more.
@@ -186,18 +187,22 @@ unfolding prefix_of_text prefix_text
 network_of-text network fine = marked_of-text 47 0 32 (omega arith) no_digit_is_slash refl prefix_at network.address
     network.bits (Some network) fine.address (omega arith) fine.bits (rw (eq-eqb _ _ fine.no_host_bits) refl)
 
-socket_text-of : (text : List ℕ) (socket : TransportAddressModel) → transport_address_of_text text ≡ Some socket → text ≡ transport_address_text socket
+socket_text-of : (text : List ℕ) (socket : TransportAddressModel) → transport_address_of_text text ≡ Some socket →
+    text ≡ transport_address_text socket
 unfolding transport_address_of_text transport_address_text
 socket_text-of text socket is =
     option_and_then_some _ (address_of (before_first is_colon text)) socket is λ address found more.
     option_and_then_some _ (number_of 1 65535 (after_first is_colon text)) socket more λ port counted made.
     let at : TransportAddressModel = record { address = address; port = port } in
     let same : at ≡ socket = cc in
-    marked_text-of 58 1 65535 (omega arith) no_digit_is_colon refl text address port found counted ∙ ap transport_address_text same
+    marked_text-of 58 1 65535 (omega arith) no_digit_is_colon refl text address port found counted
+    ∙ ap transport_address_text same
 
-socket_of-text : (socket : TransportAddressModel) → IsTransportAddress socket → transport_address_of_text (transport_address_text socket) ≡ Some socket
+socket_of-text : (socket : TransportAddressModel) → IsTransportAddress socket →
+    transport_address_of_text (transport_address_text socket) ≡ Some socket
 unfolding transport_address_of_text transport_address_text
-socket_of-text socket fine = marked_of-text 58 1 65535 (omega arith) no_digit_is_colon refl transport_address_at socket.address
+socket_of-text socket fine = marked_of-text 58 1 65535 (omega arith) no_digit_is_colon refl transport_address_at
+    socket.address
     socket.port (Some socket) fine.address fine.low (omega (arith, fine.high)) refl
 
 -- ---- whole results
@@ -223,7 +228,8 @@ pub networks_read_back : (fault : ConfigFault) (text : List ℕ) → IsReadBack 
     (ok_or (prefix_of_text text) fault)
 networks_read_back fault text = grind (arith, common_steps, read_back, network_text-of, network_of-text)
 
-pub sockets_read_back : (fault : ConfigFault) (text : List ℕ) → IsReadBack transport_address_text IsTransportAddress fault text
+pub sockets_read_back : (fault : ConfigFault) (text : List ℕ) →
+    IsReadBack transport_address_text IsTransportAddress fault text
     (ok_or (transport_address_of_text text) fault)
 sockets_read_back fault text = grind (arith, common_steps, read_back, socket_text-of, socket_of-text)
 

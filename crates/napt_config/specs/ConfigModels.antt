@@ -1,7 +1,7 @@
--- What a `Config` shows.
+-- What contracts see of a `Config`.
 use Rattle.napt_config.specs.{Rules.Rules, declared.config.Config.TheInside.Inside}
 
--- the fields, as lists and numbers
+-- The fields of a configuration, as lists and numbers.
 abbrev pub config_model : Inside → Rules
 config_model config = record {
   pool = config.pool.items;

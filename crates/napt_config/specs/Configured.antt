@@ -1,5 +1,5 @@
--- What the table of a configuration's text configures: its rules, or the fault of the first rule of a
--- configuration that it breaks. Each function below reads from top to bottom, a rule a line.
+-- What the table in a configuration's text configures: its rules, or the fault of the first rule of a configuration
+-- that it breaks. Each function below reads from top to bottom, with one rule on each line.
 use Rattle.std.specs.Prelude.{ℕ, ◌+◌, ◌%◌, ◌==◌, ◌++◌, ◌&&◌, Bool, true, false, not, ℤ, pos, negsuc, List, [], ◌∷◌, codes, length, bytes_eq, if◌then◌else◌, nat_lt, nat_le, Option, Some, None, ok_or, option_map, is_some, Result, Ok}
 use Rattle.std.specs.{List.list_any, Option.option_map_or, Result.result_ok, Ordering.nat_cmp, BTreeMap.insert_entry, Str.is_utf8}
 use Rattle.toml.specs.Data.{Data, Items, no_items, item, Members, no_members, member, get_member, as_str, as_integer, as_array, as_table}
@@ -14,16 +14,16 @@ use Rattle.napt_config.specs.declared.fault.ConfigFault.TheVariants.{NotToml, Un
 
 -- ---- keys
 
--- whether each key of the table is one of the names
+-- Returns whether each key of the table is one of the names.
 abbrev pub only_keys : List (List ℕ) → Members → Bool
 only_keys names no_members = true
 only_keys names (member key value rest) = list_any (λ name. bytes_eq name key) names && only_keys names rest
 
--- the same of a table in a value; another value has no keys
+-- The same of the table in a value; a value of another kind has no keys.
 abbrev pub only_keys_in : List (List ℕ) → Data → Bool
 only_keys_in names value = option_map_or (only_keys names) (as_table value) true
 
--- the same of each table in a list
+-- The same of each table in a list.
 abbrev pub only_keys_in_each : List (List ℕ) → Items → Bool
 only_keys_in_each names no_items = true
 only_keys_in_each names (item entry rest) = only_keys_in names entry && only_keys_in_each names rest
@@ -42,15 +42,15 @@ pair_keys = codes "host" ∷ codes "external" ∷ []
 abbrev pub redirect_keys : List (List ℕ)
 redirect_keys = codes "protocol" ∷ codes "inside" ∷ codes "external" ∷ []
 
--- the same of each table in a list in a value; another value has no keys
+-- The same of each table in the list in a value; a value of another kind has no keys.
 abbrev pub only_keys_in_list : List (List ℕ) → Data → Bool
 only_keys_in_list names value = option_map_or (only_keys_in_each names) (as_array value) true
 
--- the same of the value at a key, if it is there
+-- The same of the value at a key, if the key is present.
 abbrev pub knows_at : List ℕ → (Data → Bool) → Members → Bool
 knows_at key knows table = option_map_or knows (get_member key table) true
 
--- whether each key, in `timers` and in each entry of `pair` and `redirect` too, is one that a configuration knows
+-- Returns whether each key is known, including the keys in `timers` and in each entry of `pair` and `redirect`.
 unfoldable pub knows_all_keys : Members → Bool
 knows_all_keys table = ((only_keys top_keys table && knows_at (codes "timers") (only_keys_in timer_keys) table)
     && knows_at (codes "pair") (only_keys_in_list pair_keys) table)
@@ -58,16 +58,16 @@ knows_all_keys table = ((only_keys top_keys table && knows_at (codes "timers") (
 
 -- ---- values
 
--- how many entries a list has
+-- The number of entries in a list.
 abbrev pub item_count : Items → ℕ
 item_count no_items = 0
 item_count (item entry rest) = 1 + item_count rest
 
--- the value at a key that has to be there
+-- The value at a key that must be present.
 abbrev pub required : List ℕ → Members → Result Data ConfigFault
 required key table = ok_or (get_member key table) Missing
 
--- what the value at a key reads as, or the default if the key is absent
+-- What the value at a key reads as, or the default if the key is absent.
 abbrev pub optional : {A : Type 0} → List ℕ → A → (Data → Result A ConfigFault) → Members → Result A ConfigFault
 optional key default reading table = option_map_or reading (get_member key table) (Ok default)
 
@@ -83,7 +83,7 @@ list_in value = ok_or (as_array value) BadShape
 abbrev pub table_in : Data → Result Members ConfigFault
 table_in value = ok_or (as_table value) BadShape
 
--- what the word in a value says, of those that may be there
+-- The meaning of a word, given the words that are allowed with their meanings, or none for another word.
 abbrev pub word_meaning : {A : Type 0} → List (List ℕ × A) → List ℕ → Option A
 word_meaning [] word = None
 word_meaning (known ∷ others) word = if bytes_eq word known.0 then Some known.1 else word_meaning others word
@@ -93,7 +93,7 @@ word_at_key words value = do
   word ← text_in value
   ok_or (word_meaning words word) BadWord
 
--- the number, where it is from least to most
+-- The number, if it is from `least` to `most`.
 abbrev pub number_between : ℕ → ℕ → ℤ → Option ℕ
 number_between least most (pos n) = if nat_le least n && nat_le n most then Some n else None
 number_between least most (negsuc n) = None
@@ -103,28 +103,28 @@ number_at_key least most value = do
   number ← number_in value
   ok_or (number_between least most number) BadNumber
 
--- how the entries of a list are read, each added to what those before it gave
+-- A way to read the entries of a list, in which each entry adds to the result of those before it.
 abbrev pub EntryReader : Type 0 → Type 0
 EntryReader A = (A → Data → Result A ConfigFault) → A → Items → Result A ConfigFault
 
--- all of them, in order
+-- Reads all entries, in order.
 abbrev pub each_in_order : {A : Type 0} → EntryReader A
 each_in_order with_entry so_far no_items = Ok so_far
 each_in_order with_entry so_far (item entry rest) = with_entry so_far entry >>= λ now. each_in_order with_entry now rest
 
--- the first alone, if there is one: no memory is asked for before it is read
+-- Reads the first entry alone, if there is one: no memory is allocated before it is read.
 abbrev pub first_in_order : {A : Type 0} → EntryReader A
 first_in_order with_entry so_far no_items = Ok so_far
 first_in_order with_entry so_far (item entry rest) = with_entry so_far entry
 
--- the list in a value, of at most so many entries
+-- The list in a value, which may have at most `most` entries.
 unfoldable pub list_up_to : ℕ → Data → Result Items ConfigFault
 list_up_to most value = do
   entries ← list_in value
   require_rule (nat_le (item_count entries) most) TooMany
   Ok entries
 
--- the list at a required key, of 1 to 16 entries
+-- The list at a required key, which must have 1 to 16 entries.
 unfoldable pub short_list : List ℕ → Members → Result Items ConfigFault
 short_list key table = do
   value ← required key table
@@ -185,7 +185,7 @@ is_random_in table =
 
 -- ---- seed
 
--- the 16 bytes that 32 hexadecimal digits are
+-- The seed of 16 bytes that 32 hexadecimal digits spell, or none for another text.
 abbrev pub seed_of : List ℕ → Option Seed
 seed_of text = option_map (λ bytes. record { bytes = bytes }) (result_ok (decode_sized text 16))
 
@@ -195,7 +195,7 @@ seed_at value = do
   seed ← ok_or (seed_of text) BadSeed
   Ok (Some seed)
 
--- random numbers want a seed, and others have none
+-- The seed, which random numbers require and other numbers must not have.
 unfoldable pub seed_in : Bool → Members → Result (Option Seed) ConfigFault
 seed_in true table = do
   value ← required (codes "seed") table
@@ -228,14 +228,14 @@ timers_at value = do
   icmp ← optional (codes "icmp") 60 (timer_at 60) keys
   Ok (record { udp = udp; established = established; transitory = transitory; icmp = icmp; hold = 0 })
 
--- the timers of a configuration that has none
+-- The timers of a configuration that sets none, in seconds.
 abbrev pub default_timers : Timers
 default_timers = record { udp = 300; established = 7440; transitory = 240; icmp = 60; hold = 0 }
 
 unfoldable pub idle_timers_in : Members → Result Timers ConfigFault
 idle_timers_in table = optional (codes "timers") default_timers timers_at table
 
--- with the hold, which is no key of `timers`
+-- The idle timers and the hold, which is not a key of `timers`.
 unfoldable pub timers_in : Members → Result Timers ConfigFault
 timers_in table = do
   timers ← idle_timers_in table
@@ -259,7 +259,7 @@ quota_in table = optional (codes "quota") None quota_at table
 
 -- ---- block
 
--- how many numbers a block has: an even number
+-- The number of external numbers in a block, which must be even.
 unfoldable pub block_size_at : Data → Result ℕ ConfigFault
 block_size_at value = do
   size ← number_at_key 64 32256 value
@@ -280,7 +280,7 @@ block_size_in pool inside hold table = optional (codes "block") None (block_size
 
 -- ---- pair
 
--- the address at a required key
+-- The address at a required key.
 unfoldable pub address_in : List ℕ → Members → Result ℕ ConfigFault
 address_in key table = do
   value ← required key table
@@ -297,30 +297,32 @@ with_pair pool inside pairs entry = do
   require_rule (not (is_some (paired_with pairs host))) DoublePair
   Ok (insert_entry nat_cmp pairs host external)
 
-unfoldable pub pairs_at : EntryReader (List (ℕ × ℕ)) → List ℕ → List PrefixModel → Data → Result (List (ℕ × ℕ)) ConfigFault
+unfoldable pub pairs_at : EntryReader (List (ℕ × ℕ)) → List ℕ → List PrefixModel → Data →
+    Result (List (ℕ × ℕ)) ConfigFault
 pairs_at walk pool inside value = do
   entries ← list_up_to 256 value
   walk (with_pair pool inside) [] entries
 
-unfoldable pub pairs_in : EntryReader (List (ℕ × ℕ)) → List ℕ → List PrefixModel → Members → Result (List (ℕ × ℕ)) ConfigFault
+unfoldable pub pairs_in : EntryReader (List (ℕ × ℕ)) → List ℕ → List PrefixModel → Members →
+    Result (List (ℕ × ℕ)) ConfigFault
 pairs_in walk pool inside table = optional (codes "pair") [] (pairs_at walk pool inside) table
 
 -- ---- redirect
 
--- whether the protocol is TCP; else it is UDP
+-- Returns whether the protocol of an entry is TCP; otherwise it is UDP.
 unfoldable pub is_tcp_in : Members → Result Bool ConfigFault
 is_tcp_in keys = do
   value ← required (codes "protocol") keys
   word_at_key ((codes "tcp", true) ∷ (codes "udp", false) ∷ []) value
 
--- the transport address at a required key
+-- The transport address at a required key.
 unfoldable pub transport_address_in : List ℕ → Members → Result TransportAddressModel ConfigFault
 transport_address_in key keys = do
   value ← required key keys
   text ← text_in value
   ok_or (transport_address_of_text text) BadAddress
 
--- the port at a required key
+-- The port at a required key, which must not be 0.
 unfoldable pub port_in : List ℕ → Members → Result ℕ ConfigFault
 port_in key keys = do
   value ← required key keys
@@ -336,7 +338,7 @@ redirect_in inside block entry = do
   require_rule (may_redirect (block host.address) external) RedirectInBlock
   Ok (record { tcp = tcp; address = host.address; port = host.port; external = external })
 
--- whether one of the redirects is double with a later one
+-- Returns whether the later redirect is a double of one of the earlier ones.
 unfoldable pub have_double_redirect : (ℕ → ℕ) → List Redirect → Redirect → Bool
 have_double_redirect pair earlier later = list_any (λ redirect. is_double pair redirect later) earlier
 
@@ -353,14 +355,15 @@ redirects_at walk inside pair block value = do
   entries ← list_up_to 256 value
   walk (with_redirect inside pair block) [] entries
 
--- the redirects, where hosts have the external addresses of `pair`, and the blocks of `block`
-unfoldable pub redirects_in : EntryReader (List Redirect) → List PrefixModel → (ℕ → ℕ) → (ℕ → Option PortBlock) → Members
+-- The redirects, where `pair` gives the external address of a host and `block` gives its block.
+unfoldable pub redirects_in : EntryReader (List Redirect) → List PrefixModel → (ℕ → ℕ) → (ℕ → Option PortBlock) →
+    Members
     → Result (List Redirect) ConfigFault
 redirects_in walk inside pair block table = optional (codes "redirect") [] (redirects_at walk inside pair block) table
 
 -- ---- the whole
 
--- what the table configures
+-- What a table configures.
 unfoldable pub configured : Members → Result Rules ConfigFault
 configured table = do
   require_rule (knows_all_keys table) UnknownKey
@@ -374,7 +377,8 @@ configured table = do
   quota ← quota_in table
   block ← block_size_in pool inside timers.hold table
   pairs ← pairs_in each_in_order pool inside table
-  redirects ← redirects_in each_in_order inside (paired_address block inside pool pairs) (block_in block inside (length pool))
+  redirects ← redirects_in each_in_order inside (paired_address block inside pool pairs)
+      (block_in block inside (length pool))
       table
   Ok (record {
     pool = pool;
@@ -390,17 +394,17 @@ configured table = do
     redirects = redirects;
   })
 
--- what is read of a table before memory is asked for
+-- What is read of a table before any memory is allocated.
 unfoldable pub read_first : Members → Result (List ℕ) ConfigFault
 read_first table = do
   require_rule (knows_all_keys table) UnknownKey
   pool_in first_in_order table
 
--- the table that a text reads as: it is UTF-8, and TOML
+-- The table in a text, or none if the text is not TOML in UTF-8.
 unfoldable pub document_of : List ℕ → Option Members
 document_of text = if is_utf8 text then parse_document text else None
 
--- what the text configures
+-- What a text configures.
 unfoldable pub configuration_of : List ℕ → Result Rules ConfigFault
 configuration_of text = do
   table ← ok_or (document_of text) NotToml
@@ -408,7 +412,7 @@ configuration_of text = do
 
 -- ---- the configuration without a text
 
--- 203.0.113.1 for the private networks; all else by default
+-- The pool is 203.0.113.1, the private networks are inside, and everything else has its default.
 abbrev pub built_in : Rules
 built_in = record {
   pool = 0xCB007101 ∷ [];

@@ -1,4 +1,4 @@
-//! Addresses.
+//! IPv4 addresses.
 ghost use Rattle.std.specs.Prelude.{◌<◌, ◌^◌, Some};
 ghost use Rattle.napt_config.specs.{Text.{address_text, IsReadBack}, declared.fault.ConfigFault.TheVariants.BadAddress};
 
@@ -7,8 +7,8 @@ use std::fmt;
 use std::net::Ipv4Addr;
 use std::str::FromStr;
 
-/// An IPv4 address as a number, its first byte the highest. It is written `203.0.113.1`: four decimal
-/// numbers from 0 to 255 without leading zeros, separated by dots.
+/// An IPv4 address as a number whose highest byte is the first. It is written as `203.0.113.1`:
+/// four decimal numbers from 0 to 255 without leading zeros, separated by dots.
 #[derive(Clone, Copy, Debug, PartialEq, Eq)]
 pub struct Address(pub u32);
 
@@ -27,7 +27,7 @@ impl FromStr for Address {
 
     ghost from_str_gives = { IsReadBack (λ address. address_text address.0) (λ address. address.0 < 2 ^ 32) BadAddress };
 
-    /// Parses an address; `ConfigFault::BadAddress` if the text is none. What `Display` writes is read back.
+    /// Parses an address, or returns `ConfigFault::BadAddress`. What `Display` writes is read back.
     fn from_str(text: &str) -> Result<Address, ConfigFault> {
         match text::address(text) {
             Some(bits) => Ok(Address(bits)),

@@ -5,13 +5,13 @@ ghost use Rattle.napt_config.specs.Rules.{block_has_number, block_in, may_redire
 
 use crate::{PortBlock, Prefix};
 
-/// The first number that a block may have.
+/// The least number that a block may have.
 const FIRST_NUMBER: u64 = 1024;
 
-/// How many numbers there are from that one on.
+/// The count of the numbers from `FIRST_NUMBER` to 65535.
 const MOST_NUMBERS: u64 = 64512;
 
-/// How many addresses the prefixes have together.
+/// Returns the number of addresses that the prefixes have together.
 pub(crate) fn host_count(prefixes: &[Prefix]) -> u64
     requires few { length prefixes.now ≤ 16 }
     ensures count { result ≡ host_count prefixes.now }
@@ -30,7 +30,7 @@ fn meets_any(prefix: &Prefix, others: &[Prefix]) -> bool
     others.iter().any(|other| prefix.meets(other))
 }
 
-/// Whether no two of the prefixes have an address in common.
+/// Returns whether no two of the prefixes have an address in common.
 pub(crate) fn are_apart(prefixes: &[Prefix]) -> bool
     ensures { result ≡ are_prefixes_apart prefixes.now }
 {
@@ -44,7 +44,7 @@ pub(crate) fn are_apart(prefixes: &[Prefix]) -> bool
     true
 }
 
-/// Whether the hosts of the prefixes have blocks of this size, over so many addresses.
+/// Returns whether all hosts of the prefixes have blocks of this size, at `addresses` addresses.
 pub(crate) fn have_room(size: u16, prefixes: &[Prefix], addresses: usize) -> bool
     requires few { length prefixes.now ≤ 16 }
     requires some { 1 ≤ addresses }
@@ -56,7 +56,7 @@ pub(crate) fn have_room(size: u16, prefixes: &[Prefix], addresses: usize) -> boo
     most_hosts * u64::from(size) <= MOST_NUMBERS
 }
 
-/// The place of the address among those of the prefixes, prefix after prefix, from 0.
+/// Returns the index of the address among those of the prefixes, prefix after prefix, from 0.
 pub(crate) fn index_of(prefixes: &[Prefix], address: u32) -> Option<u64>
     requires few { length prefixes.now ≤ 16 }
     ensures { result ≡ host_index prefixes.now address }
@@ -71,7 +71,7 @@ pub(crate) fn index_of(prefixes: &[Prefix], address: u32) -> Option<u64>
     None
 }
 
-/// The address at a place among those of the prefixes, prefix after prefix, from 0.
+/// Returns the address at an index, from 0, among those of the prefixes, prefix after prefix.
 fn address_at(prefixes: &[Prefix], index: u64) -> Option<u32>
     ensures { result ≡ address_at prefixes.now index }
 {
@@ -85,7 +85,7 @@ fn address_at(prefixes: &[Prefix], index: u64) -> Option<u32>
     None
 }
 
-/// The block of a host, if there are blocks and the host is inside.
+/// Returns the block of a host, or `None` if there are no blocks or the host is not inside.
 #[tactic(auto, unfolding(crate::specs::Rules::block_in))]
 pub(crate) fn block_of(
     size: Option<u16>,
@@ -107,7 +107,7 @@ pub(crate) fn block_of(
     })
 }
 
-/// Whether the number is in the block.
+/// Returns whether the number is in the block.
 fn has_number(block: &PortBlock, number: u16) -> bool
     requires high { IsPortBlock block.now }
     ensures { result ≡ block_has_number block.now number }
@@ -115,7 +115,7 @@ fn has_number(block: &PortBlock, number: u16) -> bool
     block.first <= number && number - block.first < block.size
 }
 
-/// Whether a host with this block may have the number by a redirect.
+/// Returns whether a host with this block may have the number by a redirect.
 pub(crate) fn may_redirect(block: Option<PortBlock>, external: u16) -> bool
     requires high { IfSome block IsPortBlock }
     ensures { result ≡ may_redirect block external }
@@ -126,7 +126,7 @@ pub(crate) fn may_redirect(block: Option<PortBlock>, external: u16) -> bool
     }
 }
 
-/// The inside host whose block has the number, at the address at this place of a pool of so many.
+/// Returns the inside host whose block has the number at this place of a pool of `addresses`.
 #[tactic(auto, unfolding(crate::specs::Rules::host_at))]
 pub(crate) fn host_at(
     size: u16,

@@ -1,4 +1,4 @@
-//! The configuration.
+//! The configuration of a translator.
 ghost use Rattle.std.specs.{Prelude.{◌≡◌, ◌==◌, false, Err, IfOk, IsSome, ok_or, position}, Str.is_utf8};
 ghost use Rattle.toml.specs.{Parse.parse_document, View.table_view};
 ghost use Rattle.napt_config.specs.{Fault.{MakePost, FirstFaultComesFirst}, Configured.{document_of, read_first}, declared.fault.ConfigFault.TheVariants.NotToml};
@@ -12,19 +12,19 @@ use std::collections::BTreeMap;
 use std::marker::Model;
 use toml::Table;
 
-/// A configuration. Each value keeps these rules:
+/// A checked configuration. Each value satisfies these rules:
 ///
-/// - the pool has 1 to 16 addresses, none twice and none inside;
-/// - 1 to 16 prefixes are inside, with no bits set past their length;
-/// - the timers are at least 120 (UDP), 7440 (established), 240 (transitory) and 60 seconds (ICMP), and at
-///   most 1,000,000,000, as is a hold;
+/// - the pool has 1 to 16 addresses, none of them twice and none of them inside;
+/// - there are 1 to 16 inside prefixes, with no bits set past their length;
+/// - the timers are at least 120 (UDP), 7440 (established), 240 (transitory) and 60 seconds (ICMP), and at most
+///   1,000,000,000 seconds, as is a hold;
 /// - a ring has 1 to 4096 slots;
 /// - a quota, if there is one, allows 1 to 65535 bindings;
 /// - a block, if there is one, has an even number of external numbers from 64 to 32256; then no two prefixes have an
-///   address in common, every inside host has a block, and no host has an entry of `pair`;
+///   address in common, every inside host has a block, and no host has a `pair` entry;
 /// - at most 256 inside hosts are paired by an entry of their own, each once, with a pool address;
-/// - at most 256 redirects, each of an inside host and with ports that are not 0; where there are blocks, an external
-///   port above 1023 is in the host's block; no two of one protocol share an inside or an external endpoint.
+/// - there are at most 256 redirects, each of an inside host and with ports that are not 0; with blocks, an external
+///   port above 1023 is in the host's block; no two redirects of one protocol share an inside or an external endpoint.
 #[derive(Debug, Drop)]
 pub struct Config {
     pool: Vec<u32>,
@@ -57,9 +57,9 @@ impl Config {
     ghost use Rattle.napt_config.specs.Rules.{RulesInvariant, pair_of, is_inside, pool_place, block_of, host_of};
     ghost use Rattle.napt_config.specs.Configured.{configured, configuration_of, built_in};
 
-    /// Reads a configuration's text. Returns the configuration, or the fault of the first rule that the text breaks, or
-    /// `ConfigFault::Memory` if memory ran out before that. A text that is not UTF-8 is refused before memory is asked
-    /// for.
+    /// Reads the text of a configuration. Returns the configuration, or the fault of the first rule
+    /// that the text breaks, or `ConfigFault::Memory` if memory runs out before that. A text that
+    /// is not UTF-8 is refused before any memory is allocated.
     #[tactic(auto, unfolding(crate::specs::Configured::configuration_of))]
     pub fn read(alloc: Global, text: &[u8]) -> Result<Config, ConfigFault>
         ensures exact { MakePost (λ config. config) result (configuration_of text.now) }
@@ -70,7 +70,7 @@ impl Config {
         Config::from_table(alloc, &table)
     }
 
-    /// The configuration of a table.
+    /// Returns the configuration of a table, or the fault of the first rule that it breaks.
     #[tactic(auto, unfolding(crate::specs::Configured::configured, crate::specs::Configured::read_first))]
     fn from_table(alloc: Global, table: &Table) -> Result<Config, ConfigFault>
         ensures exact { MakePost (λ config. config) result (configured (table_view table.now)) }
@@ -106,8 +106,8 @@ impl Config {
         })
     }
 
-    /// The configuration if no text is given: the pool is 203.0.113.1, the private networks of RFC 1918 are inside, and
-    /// all else is default.
+    /// Returns the configuration that is used without a text: the pool is 203.0.113.1, the private
+    /// networks of RFC 1918 are inside, and all else has its default.
     #[tactic(auto, unfolding(crate::specs::Rules::block_in))]
     pub fn built_in(alloc: Global) -> Result<Config, AllocError>
         ensures exact { IfOk result (λ config. config ≡ built_in) }
@@ -130,7 +130,7 @@ impl Config {
         })
     }
 
-    /// An equal configuration.
+    /// Returns an equal configuration, or an error if memory runs out.
     pub fn copy(&self, alloc: Global) -> Result<Config, AllocError>
         ensures { IfOk result (λ config. config ≡ self.now) }
     {
@@ -149,10 +149,10 @@ impl Config {
         })
     }
 
-    /// The external address of a host (RFC 4787, section 4.1, "paired" pooling): that of its own entry, else the pool's
-    /// address at the host's number modulo the pool's size; where there are blocks, the pool's at the inside host's index
-    /// modulo that size. It takes no memory, and time logarithmic in the number of entries, or linear in that of
-    /// prefixes.
+    /// Returns the external address of a host (RFC 4787, section 4.1, "paired" pooling): that of
+    /// its `pair` entry, or else the pool's address at the host's number modulo the pool's size;
+    /// with blocks, at the inside host's index modulo that size. Takes no memory, and time
+    /// logarithmic in the number of entries or linear in that of prefixes.
     pub fn pair(&self, host: u32) -> u32
         ensures address { result ≡ pair_of self.now host }
         ensures in_pool { IsSome (pool_place self.now result) }
@@ -161,10 +161,10 @@ impl Config {
         pairing::pair(self.block, &self.inside, &self.pool, &self.pairs, host)
     }
 
-    /// The external numbers of an inside host, for each protocol, if each host has a block of them (RFC 7422, section
-    /// 2): of its external address. An inside host's index is its place among the addresses of the prefixes, prefix
-    /// after prefix in the order of the text, from 0. The hosts of one address have their blocks by ascending index,
-    /// from 1024 on.
+    /// Returns the block of an inside host (RFC 7422, section 2): the numbers of its external
+    /// address that it has for itself, for each protocol; `None` if hosts have no blocks. A host's
+    /// index is its place among the addresses of the prefixes, prefix after prefix, from 0. The
+    /// hosts of one address have their blocks in ascending order of the index, from 1024 on.
     pub fn block_of(&self, host: u32) -> Option<PortBlock>
         ensures block { result ≡ block_of self.now host }
         ensures kept { RulesInvariant self.now }
@@ -172,14 +172,14 @@ impl Config {
         blocks::block_of(self.block, &self.inside, self.pool.len(), host)
     }
 
-    /// Whether the address is in one of the inside prefixes.
+    /// Returns whether the address is in one of the inside prefixes.
     pub fn is_inside(&self, address: u32) -> bool
         ensures { result ≡ is_inside self.now address }
     {
         reading::have_address(&self.inside, address)
     }
 
-    /// The place of the address in the pool, from 0.
+    /// Returns the place of the address in the pool, from 0, or `None` if it is not in the pool.
     pub fn pool_index(&self, address: u32) -> Option<u32>
         ensures place { result ≡ pool_place self.now address }
         ensures kept { RulesInvariant self.now }
@@ -188,7 +188,7 @@ impl Config {
         Some(place as u32)
     }
 
-    /// The pool: 1 to 16 external addresses, as numbers.
+    /// Returns the pool: 1 to 16 external addresses, as numbers.
     pub fn pool(&self) -> &[u32]
         ensures addresses { result.now ≡ self.now.pool }
         ensures kept { RulesInvariant self.now }
@@ -196,8 +196,8 @@ impl Config {
         self.pool.as_slice()
     }
 
-    /// The static redirects, in the order of the text: at most 256, each of an inside host, with nonzero ports. No two
-    /// of one protocol share an inside or an external endpoint.
+    /// Returns the static redirects in the order of the text: at most 256, each of an inside host,
+    /// with nonzero ports. No two of one protocol share an inside or an external endpoint.
     pub fn redirects(&self) -> &[Redirect]
         ensures redirects { result.now ≡ self.now.redirects }
         ensures kept { RulesInvariant self.now }
@@ -205,7 +205,7 @@ impl Config {
         self.redirects.as_slice()
     }
 
-    /// How many slots each ring has, from 1 to 4096.
+    /// Returns the number of slots of each ring, from 1 to 4096.
     pub fn ring(&self) -> usize
         ensures slots { result ≡ self.now.ring }
         ensures kept { RulesInvariant self.now }
@@ -213,8 +213,8 @@ impl Config {
         self.ring
     }
 
-    /// How many bindings, over all protocols, an inside host may have at its external address (RFC 6888, REQ-4), from 1
-    /// to 65535; redirects do not count. None if there is no limit.
+    /// Returns how many bindings, over all protocols, an inside host may have at its external
+    /// address (RFC 6888, REQ-4): 1 to 65535, without redirects, or `None` if there is no limit.
     pub fn quota(&self) -> Option<u16>
         ensures quota { result ≡ self.now.quota }
         ensures kept { RulesInvariant self.now }
@@ -222,8 +222,8 @@ impl Config {
         self.quota
     }
 
-    /// How many external numbers each inside host has for itself: an even number from 64 to 32256. None if hosts have no
-    /// blocks.
+    /// Returns the number of external numbers in each host's block, an even number from 64 to
+    /// 32256, or `None` if hosts have no blocks.
     pub fn block(&self) -> Option<u16>
         ensures size { result ≡ self.now.block }
         ensures kept { RulesInvariant self.now }
@@ -231,8 +231,8 @@ impl Config {
         self.block
     }
 
-    /// The inside host whose block has this external endpoint, if hosts have blocks and one has it: who had it, at any
-    /// time. The search takes time linear in the numbers of addresses and of prefixes, and no memory.
+    /// Returns the inside host whose block has this external endpoint, at any time, or `None` if
+    /// there is none. Takes time linear in the numbers of addresses and of prefixes, and no memory.
     pub fn host_of(&self, address: u32, number: u16) -> Option<u32>
         ensures host { result ≡ host_of self.now address number }
         ensures kept { RulesInvariant self.now }
@@ -242,7 +242,7 @@ impl Config {
         blocks::host_at(size, &self.inside, self.pool.len(), number, place)
     }
 
-    /// How many inside hosts there are: the addresses that are in one of the prefixes or in several, each counted once.
+    /// Returns the number of inside hosts: addresses in one or more prefixes, each counted once.
     pub fn host_count(&self) -> u64
         ensures count { result ≡ address_count self.now.inside self.now.inside }
         ensures kept { RulesInvariant self.now }
@@ -250,28 +250,28 @@ impl Config {
         hosts::address_count(&self.inside)
     }
 
-    /// Which remotes may reach a binding from outside.
+    /// Returns which remotes may send in through a binding.
     pub fn filter(&self) -> Filter
         ensures { result ≡ self.now.filter }
     {
         self.filter
     }
 
-    /// Which UDP packets keep a binding alive.
+    /// Returns which UDP packets refresh a binding.
     pub fn refresh(&self) -> MappingRefresh
         ensures { result ≡ self.now.refresh }
     {
         self.refresh
     }
 
-    /// How the external number of a new binding is chosen: by the keys `parity`, `numbers` and `seed`.
+    /// Returns how new external numbers are chosen, by the keys `parity`, `numbers` and `seed`.
     pub fn choosing(&self) -> NumberAssignment
         ensures { result ≡ self.now.choosing }
     {
         self.choosing
     }
 
-    /// The idle timers, and the hold after them.
+    /// Returns the idle timers and the hold, in seconds.
     pub fn timers(&self) -> Timers
         ensures timers { result ≡ self.now.timers }
         ensures kept { RulesInvariant self.now }
@@ -280,14 +280,14 @@ impl Config {
     }
 }
 
-/// The place of the address in the pool, from 0.
+/// Returns the index of the address in the pool, or `None` if it is not in the pool.
 fn place_in(pool: &[u32], address: u32) -> Option<usize>
     ensures { result ≡ position (λ other. other == address) pool.now }
 {
     pool.iter().position(|other| *other == address)
 }
 
-/// The table of a TOML text.
+/// Parses a TOML text. Fails with `NotToml`, or with `Memory` if memory runs out.
 fn table_of(alloc: Global, text: &str) -> Result<Table, ConfigFault>
     ensures { MakePost table_view result (ok_or (parse_document text.now) NotToml) }
 {
@@ -298,7 +298,7 @@ fn table_of(alloc: Global, text: &str) -> Result<Table, ConfigFault>
     }
 }
 
-/// The table of a text, which must be TOML in UTF-8.
+/// Parses a text that must be TOML in UTF-8. Fails with `NotToml` or `Memory`.
 #[tactic(auto, unfolding(crate::specs::Configured::document_of))]
 fn document(alloc: Global, text: &[u8]) -> Result<Table, ConfigFault>
     ensures exact { MakePost table_view result (ok_or (document_of text.now) NotToml) }

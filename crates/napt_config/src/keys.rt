@@ -1,4 +1,4 @@
-//! The keys of a configuration.
+//! Checks that a configuration has no unknown keys.
 ghost use Rattle.std.specs.{Prelude.{◌≡◌, bytes_eq, codes, map}, List.list_any};
 ghost use Rattle.toml.specs.View.{view, table_view, items_view};
 ghost use Rattle.napt_config.specs.Configured.{only_keys, only_keys_in, only_keys_in_each, only_keys_in_list, top_keys, timer_keys, pair_keys, redirect_keys, knows_at, knows_all_keys};
@@ -12,7 +12,7 @@ fn is_one_of(key: &str, names: &[&str]) -> bool
     names.iter().any(|name| *name == key)
 }
 
-/// Whether each key of the table is one of the names.
+/// Returns whether each key of the table is one of the names.
 fn only_keys(table: &Table, names: &[&str]) -> bool
     ensures { result ≡ only_keys (map (λ name. name.now) names.now) (table_view table.now) }
 {
@@ -45,7 +45,7 @@ fn only_keys_in_each(entries: &[Value], names: &[&str]) -> bool
     true
 }
 
-/// The same for each table in a list in the value.
+/// Returns the same of each table in the list in a value; other values have no keys.
 fn only_keys_in_list(value: &Value, names: &[&str]) -> bool
     ensures { result ≡ only_keys_in_list (map (λ name. name.now) names.now) (view value.now) }
 {
@@ -96,7 +96,7 @@ fn knows_top_keys(table: &Table) -> bool
     )
 }
 
-/// Whether every key is known, including those in `timers` and in each entry of `pair` and `redirect`.
+/// Returns whether all keys are known, also in `timers` and in each entry of `pair` and `redirect`.
 #[tactic(auto, unfolding(crate::specs::Configured::knows_all_keys))]
 pub(crate) fn knows_all_keys(table: &Table) -> bool
     ensures { result ≡ knows_all_keys (table_view table.now) }

@@ -1,7 +1,7 @@
-//! The configuration of the translator: read from TOML, checked rule by rule, and kept.
+//! The configuration of the translator: it is read from TOML and checked rule by rule.
 //!
 //! `Config::read` returns the configuration of a text, or the fault of the first rule that the text
-//! breaks. Every `Config` keeps the rules for as long as it lives.
+//! breaks. Every `Config` satisfies the rules for as long as it lives.
 #![tactic(auto)]
 
 mod address;

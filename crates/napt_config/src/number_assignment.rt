@@ -1,4 +1,4 @@
-//! Reading how numbers are chosen: the keys `parity`, `numbers` and `seed`.
+//! Reads how numbers are chosen: the keys `parity`, `numbers` and `seed`.
 ghost use Rattle.std.specs.Prelude.{◌≡◌};
 ghost use Rattle.toml.specs.View.{view, table_view};
 ghost use Rattle.napt_config.specs.Fault.{ReadPost};
@@ -37,7 +37,7 @@ fn is_random(table: &Table) -> Result<bool, ConfigFault>
     }
 }
 
-/// The seed that 32 hexadecimal digits are.
+/// Returns the seed that 32 hexadecimal digits spell, or `None` for any other text.
 fn seed_of(text: &str) -> Option<Seed>
     ensures { result ≡ seed_of text.now }
 {
@@ -55,7 +55,7 @@ fn seed_at(value: &Value) -> Result<Option<Seed>, ConfigFault>
     Ok(Some(seed))
 }
 
-/// The seed, which random numbers want, and others have not.
+/// Reads the seed, which random numbers require and other numbers must not have.
 #[tactic(auto, unfolding(crate::specs::Configured::seed_in))]
 fn seed(table: &Table, is_random: bool) -> Result<Option<Seed>, ConfigFault>
     ensures { ReadPost (λ seed. seed) result (seed_in is_random (table_view table.now)) }
@@ -69,7 +69,7 @@ fn seed(table: &Table, is_random: bool) -> Result<Option<Seed>, ConfigFault>
     Ok(None)
 }
 
-/// How numbers are chosen.
+/// Reads how numbers are chosen.
 #[tactic(auto, unfolding(crate::specs::Configured::choosing_in))]
 pub(crate) fn choosing(table: &Table) -> Result<NumberAssignment, ConfigFault>
     ensures { ReadPost (λ choosing. choosing) result (choosing_in (table_view table.now)) }

@@ -1,11 +1,11 @@
-//! The external address that a host is paired with.
+//! The external address with which a host is paired.
 ghost use Rattle.std.specs.Prelude.{◌≡◌, ◌≤◌, length, unwrap_or};
 ghost use Rattle.napt_config.specs.{Prefixes.host_index, Rules.{paired_address, paired_with, pool_address_for}};
 
 use crate::{Prefix, blocks};
 use std::collections::BTreeMap;
 
-/// The pool's address at a number modulo the pool's size.
+/// Returns the pool's address at the number modulo the size of the pool.
 fn pooled(pool: &[u32], number: u64) -> u32
     requires some { 1 ≤ length pool.now }
     ensures { result ≡ pool_address_for pool.now number }
@@ -13,7 +13,7 @@ fn pooled(pool: &[u32], number: u64) -> u32
     pool[(number % pool.len() as u64) as usize]
 }
 
-/// The external address of a host with a block: the pool's at its index.
+/// Returns the external address of a host with a block: the pool's at the host's index.
 fn pair_by_index(inside: &[Prefix], pool: &[u32], host: u32) -> u32
     requires some { 1 ≤ length pool.now }
     requires few { length inside.now ≤ 16 }
@@ -25,10 +25,11 @@ fn pair_by_index(inside: &[Prefix], pool: &[u32], host: u32) -> u32
     }
 }
 
-/// The external address of a host without a block: that of its own entry, else the pool's at the host's number.
+/// Returns the external address of a host without a block: its entry's, or else the pool's.
 fn pair_by_entry(pool: &[u32], pairs: &BTreeMap<u32, u32>, host: u32) -> u32
     requires some { 1 ≤ length pool.now }
-    ensures { result ≡ unwrap_or (paired_with pairs.now.entries host) (pool_address_for pool.now host) }
+    ensures { result ≡ unwrap_or (paired_with pairs.now.entries host)
+        (pool_address_for pool.now host) }
 {
     match pairs.get(&host) {
         Some(external) => *external,
@@ -36,8 +37,8 @@ fn pair_by_entry(pool: &[u32], pairs: &BTreeMap<u32, u32>, host: u32) -> u32
     }
 }
 
-/// The external address of a host: without blocks that of its own entry, else the pool's address at the host's
-/// number modulo the pool's size; with blocks the pool's at the host's index modulo that size.
+/// Returns the external address of a host. Without blocks it is that of its entry, or else the
+/// pool's at the host's number modulo the pool's size; with blocks, at the host's index modulo it.
 #[tactic(auto, unfolding(crate::specs::Rules::paired_address))]
 pub(crate) fn pair(
     block: Option<u16>,

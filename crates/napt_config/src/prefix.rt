@@ -1,4 +1,4 @@
-//! Prefixes of addresses.
+//! IPv4 prefixes.
 ghost use Rattle.std.specs.Prelude.{◌≡◌, ◌≤◌, ◌<◌, ◌+◌, ◌^◌, ◌%◌, Some, IfOk};
 ghost use Rattle.napt_config.specs.Prefixes.{IsPrefix, prefix_has, prefix_size, is_prefix_within, do_prefixes_meet, private_networks};
 ghost use Rattle.napt_config.specs.{Text.{prefix_of_text, prefix_at, prefix_text, IsReadBack}, declared.fault.ConfigFault.TheVariants.BadPrefix};
@@ -9,8 +9,8 @@ use std::fmt;
 use std::marker::Model;
 use std::str::FromStr;
 
-/// The addresses that share the first bits of one address, written `10.0.0.0/8` (RFC 4632, section 3.1). The
-/// other bits of that address are 0.
+/// The addresses that share the leading bits of one address, written as `10.0.0.0/8` (RFC 4632,
+/// section 3.1). The other bits of that address are 0.
 #[derive(Clone, Copy, Debug, PartialEq, Eq)]
 pub struct Prefix {
     address: u32,
@@ -30,7 +30,7 @@ impl Model for Prefix {
 }
 
 impl Prefix {
-    /// The prefix of this address and this number of leading bits, if the other bits are 0.
+    /// Returns the prefix of `address` with `bits` leading bits, if the other bits are 0.
     pub(crate) fn new(address: u32, bits: u8) -> Option<Prefix>
         requires { bits ≤ 32 }
         ensures { result ≡ prefix_at address bits }
@@ -42,7 +42,7 @@ impl Prefix {
         }
     }
 
-    /// Parses a prefix.
+    /// Parses a prefix, or returns `None` if the text is none.
     #[tactic(auto, unfolding(crate::specs::Text::prefix_of_text))]
     pub(crate) fn read(text: &str) -> Option<Prefix>
         ensures { result ≡ prefix_of_text text.now }
@@ -53,7 +53,7 @@ impl Prefix {
         Prefix::new(address, bits as u8)
     }
 
-    /// The private networks (RFC 1918, section 3): 10.0.0.0/8, 172.16.0.0/12 and 192.168.0.0/16.
+    /// Returns the private networks 10.0.0.0/8, 172.16.0.0/12 and 192.168.0.0/16 (RFC 1918).
     pub(crate) fn private_networks(alloc: Global) -> Result<Vec<Prefix>, AllocError>
         ensures { IfOk result (λ prefixes. prefixes.items ≡ private_networks) }
     {
@@ -72,7 +72,7 @@ impl Prefix {
         Vec::from_slice(alloc, &[ten, sixteen, last])
     }
 
-    /// Whether the prefix contains the address.
+    /// Returns whether the prefix contains the address.
     pub fn contains(&self, address: u32) -> bool
         ensures { result ≡ prefix_has self.now address }
     {
@@ -80,7 +80,7 @@ impl Prefix {
         u64::from(address) >> free == u64::from(self.address) >> free
     }
 
-    /// How many addresses the prefix has.
+    /// Returns the number of addresses in the prefix.
     pub(crate) fn size(&self) -> u64
         ensures size { result ≡ prefix_size self.now }
         ensures some { 1 ≤ result }
@@ -89,7 +89,7 @@ impl Prefix {
         1 << (32 - self.bits)
     }
 
-    /// The address's place in the prefix, which contains it, from 0.
+    /// Returns the index in the prefix, from 0, of an address that it contains.
     pub(crate) fn place(&self, address: u32) -> u64
         ensures place { result ≡ address % prefix_size self.now }
         ensures bound { result ≤ address }
@@ -97,7 +97,7 @@ impl Prefix {
         u64::from(address) % self.size()
     }
 
-    /// The address at a place in the prefix, from 0.
+    /// Returns the address at an index in the prefix, from 0.
     pub(crate) fn address_at(&self, place: u64) -> u32
         requires within { place < prefix_size self.now }
         ensures { result ≡ self.now.address + place }
@@ -105,14 +105,14 @@ impl Prefix {
         (u64::from(self.address) + place) as u32
     }
 
-    /// Whether all of its addresses are the other's too.
+    /// Returns whether all addresses of the prefix are also in the other.
     pub(crate) fn is_in(&self, other: &Prefix) -> bool
         ensures { result ≡ is_prefix_within self.now other.now }
     {
         other.bits <= self.bits && other.contains(self.address)
     }
 
-    /// Whether both have an address in common: then one contains the other.
+    /// Returns whether both have an address in common, in which case one contains the other.
     pub(crate) fn meets(&self, other: &Prefix) -> bool
         ensures { result ≡ do_prefixes_meet self.now other.now }
     {
@@ -136,7 +136,7 @@ impl FromStr for Prefix {
 
     ghost from_str_gives = { IsReadBack prefix_text IsPrefix BadPrefix };
 
-    /// Parses a prefix; `ConfigFault::BadPrefix` if the text is none. What `Display` writes is read back.
+    /// Parses a prefix, or returns `ConfigFault::BadPrefix`. What `Display` writes is read back.
     fn from_str(text: &str) -> Result<Prefix, ConfigFault> {
         Prefix::read(text).ok_or(ConfigFault::BadPrefix)
     }

@@ -1,4 +1,4 @@
-//! Reading the keys of a configuration's table, each by its own rules.
+//! Reads the keys of a configuration's table, each by its own rules.
 ghost use Rattle.std.specs.{Prelude.{◌≡◌, ◌≤◌, length}, List.list_any};
 ghost use Rattle.toml.specs.View.{view, table_view, items_view};
 ghost use Rattle.napt_config.specs.{Fault.{ReadPost, MakePost, FirstFaultComesFirst}, Prefixes.prefixes_have};
@@ -10,30 +10,30 @@ use std::alloc::Global;
 use std::collections::BTreeMap;
 use toml::{Table, Value};
 
-/// The most entries of `pool` and `inside`.
+/// The maximum number of entries in `pool` and in `inside`.
 const MOST_ENTRIES: usize = 16;
 
-/// The most entries of `pair`.
+/// The maximum number of entries of `pair`.
 const MOST_PAIRS: usize = 256;
 
 /// The longest timer, in seconds.
 const MOST_SECONDS: u64 = 1_000_000_000;
 
-/// The most slots of a ring.
+/// The maximum number of slots of a ring.
 const MOST_SLOTS: u64 = 4096;
 
-/// The most bindings a quota may allow.
+/// The maximum number of bindings that a quota may allow.
 const MOST_BINDINGS: u64 = 65535;
 
-/// The smallest block, and the largest.
+/// The minimum and the maximum number of external numbers in a block.
 const LEAST_BLOCK: u64 = 64;
 
 const MOST_BLOCK: u64 = 32256;
 
-/// How many slots a ring has by default.
+/// The default number of slots of a ring.
 pub(crate) const DEFAULT_SLOTS: usize = 64;
 
-/// The list in a value, of at most so many entries.
+/// Returns the list in a value, which may have at most `most` entries.
 #[tactic(auto, unfolding(crate::specs::Configured::list_up_to), using(crate::proofs::Entries::items_are_counted))]
 pub(crate) fn list_up_to(most: usize, value: &Value) -> Result<&[Value], ConfigFault>
     ensures { ReadPost (λ entries. items_view entries.now) result (list_up_to most (view value.now)) }
@@ -45,7 +45,7 @@ pub(crate) fn list_up_to(most: usize, value: &Value) -> Result<&[Value], ConfigF
     Ok(entries)
 }
 
-/// The list at a required key, of 1 to 16 entries.
+/// Returns the list at a required key, which must have 1 to 16 entries.
 #[tactic(auto, unfolding(crate::specs::Configured::short_list), using(crate::proofs::Entries::items_are_counted))]
 fn short_list<'a>(table: &'a Table, key: &str) -> Result<&'a [Value], ConfigFault>
     ensures { ReadPost (λ entries. items_view entries.now) result
@@ -74,7 +74,7 @@ fn add_address(pool: &mut Vec<u32>, entry: &Value) -> Result<(), ConfigFault>
     Ok(())
 }
 
-/// The pool of the table: 1 to 16 addresses, none twice.
+/// Reads the pool: 1 to 16 addresses, none of them twice.
 #[tactic(auto, unfolding(crate::specs::Configured::pool_in))]
 pub(crate) fn pool(alloc: Global, table: &Table) -> Result<Vec<u32>, ConfigFault>
     ensures exact { MakePost (λ pool. pool.items) result
@@ -102,7 +102,7 @@ fn add_prefix(inside: &mut Vec<Prefix>, entry: &Value) -> Result<(), ConfigFault
     Ok(())
 }
 
-/// The prefixes at a key.
+/// Reads the prefixes at the key `inside`, of which there must be 1 to 16.
 #[tactic(auto, unfolding(crate::specs::Configured::prefixes_in))]
 fn prefixes(alloc: Global, table: &Table) -> Result<Vec<Prefix>, ConfigFault>
     ensures exact { MakePost (λ inside. inside.items) result
@@ -117,14 +117,14 @@ fn prefixes(alloc: Global, table: &Table) -> Result<Vec<Prefix>, ConfigFault>
     Ok(inside)
 }
 
-/// Whether the address is in one of the prefixes.
+/// Returns whether the address is in one of the prefixes.
 pub(crate) fn have_address(prefixes: &[Prefix], address: u32) -> bool
     ensures { result ≡ prefixes_have prefixes.now address }
 {
     prefixes.iter().any(|prefix| prefix.contains(address))
 }
 
-/// Whether one of the addresses is in one of the prefixes.
+/// Returns whether one of the addresses is in one of the prefixes.
 fn have_any(prefixes: &[Prefix], addresses: &[u32]) -> bool
     ensures { result ≡ list_any (prefixes_have prefixes.now) addresses.now }
 {
@@ -133,7 +133,7 @@ fn have_any(prefixes: &[Prefix], addresses: &[u32]) -> bool
         .any(|address| have_address(prefixes, *address))
 }
 
-/// The inside prefixes of the table: 1 to 16, none with a pool address.
+/// Reads the inside prefixes: 1 to 16, none of which has an address of the pool.
 #[tactic(auto, unfolding(crate::specs::Configured::inside_in))]
 pub(crate) fn inside(alloc: Global, table: &Table, pool: &[u32]) -> Result<Vec<Prefix>, ConfigFault>
     ensures exact { MakePost (λ inside. inside.items) result
@@ -149,7 +149,7 @@ pub(crate) fn inside(alloc: Global, table: &Table, pool: &[u32]) -> Result<Vec<P
 
 // ---- words
 
-/// The filter of the table.
+/// Reads the filter, which is `Filter::Independent` by default.
 #[tactic(auto, unfolding(crate::specs::Configured::filter_in, crate::specs::Configured::word_at_key))]
 pub(crate) fn filter(table: &Table) -> Result<Filter, ConfigFault>
     ensures { ReadPost (λ filter. filter) result (filter_in (table_view table.now)) }
@@ -165,7 +165,7 @@ pub(crate) fn filter(table: &Table) -> Result<Filter, ConfigFault>
     }
 }
 
-/// Which UDP packets keep a binding alive.
+/// Reads which UDP packets refresh a binding; by default, outgoing packets do.
 #[tactic(auto, unfolding(crate::specs::Configured::refresh_in, crate::specs::Configured::word_at_key))]
 pub(crate) fn refresh(table: &Table) -> Result<MappingRefresh, ConfigFault>
     ensures { ReadPost (λ refresh. refresh) result (refresh_in (table_view table.now)) }
@@ -193,7 +193,7 @@ fn timer_at(value: &Value, least: u64) -> Result<u64, ConfigFault>
     Ok(seconds)
 }
 
-/// The seconds at a key, or the default if it is absent.
+/// Reads the seconds at a key, at least `least`, or returns the default if the key is absent.
 fn timer(table: &Table, key: &str, least: u64, default: u64) -> Result<u64, ConfigFault>
     ensures { ReadPost (λ seconds. seconds) result (optional key.now default (timer_at least)
         (table_view table.now)) }
@@ -222,7 +222,7 @@ fn timers_at(value: &Value) -> Result<Timers, ConfigFault>
     })
 }
 
-/// The timers of the table, without a hold.
+/// Reads the idle timers; their hold is 0.
 #[tactic(auto, unfolding(crate::specs::Configured::idle_timers_in))]
 fn idle_timers(table: &Table) -> Result<Timers, ConfigFault>
     ensures { ReadPost (λ timers. timers) result (idle_timers_in (table_view table.now)) }
@@ -233,7 +233,7 @@ fn idle_timers(table: &Table) -> Result<Timers, ConfigFault>
     }
 }
 
-/// The timers of the table.
+/// Reads the idle timers and the hold.
 #[tactic(auto, unfolding(crate::specs::Configured::timers_in))]
 pub(crate) fn timers(table: &Table) -> Result<Timers, ConfigFault>
     ensures { ReadPost (λ timers. timers) result (timers_in (table_view table.now)) }
@@ -245,7 +245,7 @@ pub(crate) fn timers(table: &Table) -> Result<Timers, ConfigFault>
 
 // ---- ring
 
-/// The number of slots of each ring.
+/// Reads the number of slots of each ring.
 #[tactic(auto, unfolding(crate::specs::Configured::ring_in))]
 pub(crate) fn ring(table: &Table) -> Result<usize, ConfigFault>
     ensures { ReadPost (λ slots. slots) result (ring_in (table_view table.now)) }
@@ -258,7 +258,7 @@ pub(crate) fn ring(table: &Table) -> Result<usize, ConfigFault>
 
 // ---- quota
 
-/// How many bindings a host may have.
+/// Reads how many bindings a host may have; `None` if the key is absent.
 #[tactic(auto, unfolding(crate::specs::Configured::quota_in, crate::specs::Configured::quota_at))]
 pub(crate) fn quota(table: &Table) -> Result<Option<u16>, ConfigFault>
     ensures { ReadPost (λ quota. quota) result (quota_in (table_view table.now)) }
@@ -271,7 +271,7 @@ pub(crate) fn quota(table: &Table) -> Result<Option<u16>, ConfigFault>
 
 // ---- block
 
-/// How many numbers a block has: an even number.
+/// Reads the number of external numbers in a block, which must be even.
 #[tactic(auto, unfolding(crate::specs::Configured::block_size_at))]
 fn block_size_at(value: &Value) -> Result<u16, ConfigFault>
     ensures { ReadPost (λ size. size) result (block_size_at (view value.now)) }
@@ -313,7 +313,7 @@ fn block_size(
     Ok(Some(size))
 }
 
-/// How many numbers each inside host has for itself: so many that all have a block.
+/// Reads the size of the hosts' blocks, with which every inside host must have a block.
 #[tactic(auto, unfolding(crate::specs::Configured::block_size_in))]
 pub(crate) fn block(
     table: &Table,
@@ -335,7 +335,7 @@ pub(crate) fn block(
 
 // ---- pair
 
-/// The address at a required key.
+/// Reads the address at a required key.
 #[tactic(auto, unfolding(crate::specs::Configured::address_in))]
 fn address_in(table: &Table, key: &str) -> Result<u32, ConfigFault>
     ensures { ReadPost (λ address. address) result (address_in key.now (table_view table.now)) }
@@ -353,7 +353,8 @@ fn add_pair(
 ) -> Result<(), ConfigFault>
     ensures exact { MakePost (λ _. pairs.new.entries) result
         (with_pair pool.now inside.now pairs.old.entries (view entry.now)) }
-    ensures first { FirstFaultComesFirst (with_pair pool.now inside.now pairs.old.entries (view entry.now))
+    ensures first { FirstFaultComesFirst (with_pair pool.now inside.now pairs.old.entries
+        (view entry.now))
         result }
 {
     let table = table_in(entry)?;
@@ -392,7 +393,7 @@ fn pairs_at(
     Ok(pairs)
 }
 
-/// The pairs of the table: at most 256 inside hosts, each with a pool address.
+/// Reads the pairs: at most 256 inside hosts, each once and with an address of the pool.
 #[tactic(auto, unfolding(crate::specs::Configured::pairs_in))]
 pub(crate) fn pairs(
     alloc: Global,
@@ -402,7 +403,8 @@ pub(crate) fn pairs(
 ) -> Result<BTreeMap<u32, u32>, ConfigFault>
     ensures exact { MakePost (λ pairs. pairs.entries) result
         (pairs_in each_in_order pool.now inside.now (table_view table.now)) }
-    ensures first { FirstFaultComesFirst (pairs_in first_in_order pool.now inside.now (table_view table.now))
+    ensures first { FirstFaultComesFirst (pairs_in first_in_order pool.now inside.now
+        (table_view table.now))
         result }
 {
     match value_at(table, "pair") {

@@ -1,4 +1,4 @@
-//! Reading the redirects of a configuration's table.
+//! Reads the redirects of a configuration's table.
 ghost use Rattle.std.specs.Prelude.{◌≡◌, ◌≤◌, ℕ, length, IfSome};
 ghost use Rattle.toml.specs.View.{view, table_view, items_view};
 ghost use Rattle.napt_config.specs.{Fault.{ReadPost, MakePost, FirstFaultComesFirst}, Rules.{paired_address, block_in, may_redirect, share_inside, share_external, is_double, IsPortBlock}};
@@ -11,10 +11,10 @@ use std::alloc::Global;
 use std::collections::BTreeMap;
 use toml::{Table, Value};
 
-/// The most entries of `redirect`.
+/// The maximum number of entries of `redirect`.
 const MOST_REDIRECTS: usize = 256;
 
-/// Whether the protocol of an entry is TCP; else it is UDP.
+/// Returns whether the protocol of an entry is TCP; otherwise it is UDP.
 #[tactic(auto, unfolding(crate::specs::Configured::is_tcp_in, crate::specs::Configured::word_at_key))]
 fn is_tcp_in(keys: &Table) -> Result<bool, ConfigFault>
     ensures { ReadPost (λ tcp. tcp) result (is_tcp_in (table_view keys.now)) }
@@ -26,16 +26,17 @@ fn is_tcp_in(keys: &Table) -> Result<bool, ConfigFault>
     }
 }
 
-/// The transport address at a required key.
+/// Reads the transport address at a required key.
 #[tactic(auto, unfolding(crate::specs::Configured::transport_address_in))]
 fn transport_address_in(keys: &Table, key: &str) -> Result<TransportAddress, ConfigFault>
-    ensures { ReadPost (λ socket. socket) result (transport_address_in key.now (table_view keys.now)) }
+    ensures { ReadPost (λ socket. socket) result
+        (transport_address_in key.now (table_view keys.now)) }
 {
     let text = text_in(required(keys, key)?)?;
     TransportAddress::read(text).ok_or(ConfigFault::BadAddress)
 }
 
-/// The port at a required key.
+/// Reads the port at a required key, which must not be 0.
 #[tactic(auto, unfolding(crate::specs::Configured::port_in))]
 fn port_in(keys: &Table, key: &str) -> Result<u16, ConfigFault>
     ensures { ReadPost (λ port. port) result (port_in key.now (table_view keys.now)) }
@@ -43,7 +44,7 @@ fn port_in(keys: &Table, key: &str) -> Result<u16, ConfigFault>
     Ok(number_at(required(keys, key)?, 1, 65535)? as u16)
 }
 
-/// Whether a host may have the external port: if hosts have blocks, it is below 1024, or in the host's block.
+/// Returns whether a host may have the external port: with blocks, below 1024 or in its block.
 fn may_have(
     host: u32,
     external: u16,
@@ -60,7 +61,7 @@ fn may_have(
     blocks::may_redirect(own, external)
 }
 
-/// The redirect of an inside host in an entry.
+/// Reads the redirect in an entry, which must be of an inside host.
 #[tactic(auto, unfolding(crate::specs::Configured::redirect_in))]
 fn redirect_in(
     entry: &Value,
@@ -92,14 +93,14 @@ fn redirect_in(
     })
 }
 
-/// Whether both share an inside endpoint.
+/// Returns whether both have the same inside endpoint, whatever the protocol.
 fn share_inside(a: &Redirect, b: &Redirect) -> bool
     ensures { result ≡ share_inside a.now b.now }
 {
     a.address == b.address && a.port == b.port
 }
 
-/// Whether both share an external endpoint.
+/// Returns whether both have the same external endpoint, whatever the protocol.
 fn share_external(
     a: &Redirect,
     b: &Redirect,
@@ -110,7 +111,8 @@ fn share_external(
 ) -> bool
     requires some { 1 ≤ length pool.now }
     requires few { length inside.now ≤ 16 }
-    ensures { result ≡ share_external (paired_address block inside.now pool.now pairs.now.entries) a.now
+    ensures { result ≡ share_external (paired_address block inside.now pool.now pairs.now.entries)
+        a.now
         b.now }
 {
     let a_address = pairing::pair(block, inside, pool, pairs, a.address);
@@ -118,7 +120,7 @@ fn share_external(
     a_address == b_address && a.external == b.external
 }
 
-/// Whether both are of one protocol and share an inside or an external endpoint.
+/// Returns whether both are of one protocol and share an inside or an external endpoint.
 fn is_double(
     a: &Redirect,
     b: &Redirect,
@@ -129,12 +131,13 @@ fn is_double(
 ) -> bool
     requires some { 1 ≤ length pool.now }
     requires few { length inside.now ≤ 16 }
-    ensures { result ≡ is_double (paired_address block inside.now pool.now pairs.now.entries) a.now b.now }
+    ensures { result ≡ is_double (paired_address block inside.now pool.now pairs.now.entries) a.now
+        b.now }
 {
     a.tcp == b.tcp && (share_inside(a, b) || share_external(a, b, block, inside, pool, pairs))
 }
 
-/// Whether one of the redirects clashes with a later one.
+/// Returns whether the later redirect is a double of one of the earlier ones.
 #[tactic(auto, unfolding(crate::specs::Configured::have_double_redirect))]
 fn have_double(
     earlier: &[Redirect],
@@ -146,7 +149,8 @@ fn have_double(
 ) -> bool
     requires some { 1 ≤ length pool.now }
     requires few { length inside.now ≤ 16 }
-    ensures { result ≡ have_double_redirect (paired_address block inside.now pool.now pairs.now.entries) earlier.now
+    ensures { result ≡ have_double_redirect
+        (paired_address block inside.now pool.now pairs.now.entries) earlier.now
         later.now }
 {
     for redirect in earlier {
@@ -201,10 +205,12 @@ fn redirects_at(
     requires blocks { (host : ℕ) → IfSome (block_in block inside.now (length pool.now) host)
         IsPortBlock }
     ensures exact { MakePost (λ redirects. redirects.items) result
-        (redirects_at each_in_order inside.now (paired_address block inside.now pool.now pairs.now.entries)
+        (redirects_at each_in_order inside.now
+        (paired_address block inside.now pool.now pairs.now.entries)
         (block_in block inside.now (length pool.now)) (view value.now)) }
     ensures first { FirstFaultComesFirst
-        (redirects_at first_in_order inside.now (paired_address block inside.now pool.now pairs.now.entries)
+        (redirects_at first_in_order inside.now
+        (paired_address block inside.now pool.now pairs.now.entries)
         (block_in block inside.now (length pool.now)) (view value.now)) result }
 {
     let entries = list_up_to(MOST_REDIRECTS, value)?;
@@ -215,8 +221,8 @@ fn redirects_at(
     Ok(redirects)
 }
 
-/// The redirects of the table: at most 256, each of an inside host; no two of one protocol share an inside or
-/// an external endpoint.
+/// Reads the redirects: at most 256, each of an inside host. No two of one protocol may share an
+/// inside or an external endpoint.
 #[tactic(auto, unfolding(crate::specs::Configured::redirects_in))]
 pub(crate) fn redirects(
     alloc: Global,
@@ -231,10 +237,12 @@ pub(crate) fn redirects(
     requires blocks { (host : ℕ) → IfSome (block_in block inside.now (length pool.now) host)
         IsPortBlock }
     ensures exact { MakePost (λ redirects. redirects.items) result
-        (redirects_in each_in_order inside.now (paired_address block inside.now pool.now pairs.now.entries)
+        (redirects_in each_in_order inside.now
+        (paired_address block inside.now pool.now pairs.now.entries)
         (block_in block inside.now (length pool.now)) (table_view table.now)) }
     ensures first { FirstFaultComesFirst
-        (redirects_in first_in_order inside.now (paired_address block inside.now pool.now pairs.now.entries)
+        (redirects_in first_in_order inside.now
+        (paired_address block inside.now pool.now pairs.now.entries)
         (block_in block inside.now (length pool.now)) (table_view table.now)) result }
 {
     match value_at(table, "redirect") {

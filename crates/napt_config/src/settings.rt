@@ -1,45 +1,45 @@
-//! Settings of a configuration.
+//! The settings of a configuration.
 
 use std::fmt;
 
-/// Which remotes may reach a binding from outside (RFC 4787, section 5).
+/// Which remotes may send in through a binding (RFC 4787, section 5).
 #[derive(Clone, Copy, Debug, PartialEq, Eq)]
 pub enum Filter {
-    /// Every remote.
+    /// Every remote may.
     Independent,
-    /// A remote whose address the inside host sent to.
+    /// A remote may if the inside endpoint has sent to its address.
     Address,
-    /// A remote whose address and port the inside host sent to.
+    /// A remote may if the inside endpoint has sent to its address and port.
     AddressPort,
 }
 
-/// Which UDP packets keep a binding alive (RFC 4787, REQ-6). Bindings of other protocols go by their own rules.
+/// Which packets refresh a UDP binding (RFC 4787, REQ-6); other protocols have their own rules.
 #[derive(Clone, Copy, Debug, PartialEq, Eq)]
 pub enum MappingRefresh {
-    /// Those that go out.
+    /// Outgoing packets refresh it.
     Outbound,
-    /// Those that go out, and those that are let in.
+    /// Outgoing packets, and incoming packets that are let in, refresh it.
     Both,
 }
 
 /// How the external number of a new binding is chosen (RFC 7857, sections 8 and 9).
 #[derive(Clone, Copy, Debug)]
 pub struct NumberAssignment {
-    /// Whether a port is mapped to one of its parity (RFC 4787, REQ-4).
+    /// Whether a port is mapped to one of the same parity (RFC 4787, REQ-4).
     pub keeps_parity: bool,
-    /// That of random numbers; without one a number is preserved where it is free.
+    /// The seed of random numbers. Without one, a number is preserved if it is free.
     pub seed: Option<Seed>,
 }
 
 impl NumberAssignment {
-    /// That of a configuration which says nothing of it.
+    /// The choice by default: parity is kept, and numbers are preserved.
     pub const DEFAULT: NumberAssignment = NumberAssignment {
         keeps_parity: true,
         seed: None,
     };
 }
 
-/// What random numbers are made of (RFC 6056, section 3.3.3). It is a secret: nothing that is printed shows it.
+/// The source of random numbers (RFC 6056, section 3.3.3). It is a secret and is never printed.
 #[derive(Clone, Copy)]
 pub struct Seed {
     pub bytes: [u8; 16],
@@ -51,18 +51,18 @@ impl fmt::Debug for Seed {
     }
 }
 
-/// Idle timers, in seconds (RFC 4787, section 4.3; RFC 5382, section 5; RFC 5508, section 3.2), and what follows them.
+/// Idle timers and the hold, in seconds (RFC 4787, section 4.3; RFC 5382, section 5; RFC 5508, section 3.2).
 #[derive(Clone, Copy, Debug, PartialEq, Eq)]
 pub struct Timers {
-    /// A UDP binding.
+    /// The timer of a UDP binding.
     pub udp: u64,
-    /// An established TCP flow.
+    /// The timer of an established TCP flow.
     pub established: u64,
-    /// Any other TCP flow.
+    /// The timer of any other TCP flow.
     pub transitory: u64,
-    /// The binding of an ICMP query.
+    /// The timer of an ICMP query's binding.
     pub icmp: u64,
-    /// How long an ended binding keeps its number from other inside endpoints (RFC 6888, REQ-8).
+    /// How long no other inside endpoint may get an ended binding's number (RFC 6888, REQ-8).
     pub hold: u64,
 }
 
@@ -77,25 +77,25 @@ impl Timers {
     };
 }
 
-/// The external numbers of one inside host, for each protocol: `size` numbers from `first` on (RFC 7422, section 2).
+/// A host's port block: `size` numbers from `first` on, for each protocol (RFC 7422, section 2).
 #[derive(Clone, Copy, Debug, PartialEq, Eq)]
 pub struct PortBlock {
-    /// The first number, even and at least 1024.
+    /// The first number, which is even and at least 1024.
     pub first: u16,
-    /// How many numbers, an even count of at least 64. The last is at most 65535.
+    /// The count of numbers, which is even and at least 64. The last number is at most 65535.
     pub size: u16,
 }
 
-/// A static redirect: a UDP or TCP port of an inside host, mapped to an external port (RFC 3022, section 2.2).
-/// Its external address is the host's paired one.
+/// A static redirect: a UDP or TCP port of an inside host, mapped to an external port (RFC 3022,
+/// section 2.2) at the external address that is paired with the host.
 #[derive(Clone, Copy, Debug, PartialEq, Eq)]
 pub struct Redirect {
-    /// Whether it is for TCP; else it is for UDP.
+    /// Whether the redirect is for TCP; otherwise it is for UDP.
     pub tcp: bool,
-    /// The inside host's address.
+    /// The address of the inside host.
     pub address: u32,
-    /// The inside host's port, never 0.
+    /// The port of the inside host, which is never 0.
     pub port: u16,
-    /// The external port, never 0.
+    /// The external port, which is never 0.
     pub external: u16,
 }

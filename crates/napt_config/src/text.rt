@@ -1,4 +1,4 @@
-//! Numbers and addresses in texts.
+//! Parses numbers and addresses.
 ghost use Rattle.std.specs.{Prelude.{◌≡◌, ◌≤◌, IfSome}, Char.is_ascii_digit, List.list_all};
 ghost use Rattle.napt_config.specs.Text.{is_decimal, number_of, address_of};
 
@@ -10,7 +10,7 @@ fn are_digits(bytes: &[u8]) -> bool
     bytes.iter().all(|byte| byte.is_ascii_digit())
 }
 
-/// Whether the text is a decimal number: ASCII digits alone, without a sign and without leading zeros.
+/// Returns whether the text is a decimal number: ASCII digits without sign or leading zeros.
 fn is_number(text: &str) -> bool
     ensures { result ≡ is_decimal text.now }
 {
@@ -19,7 +19,7 @@ fn is_number(text: &str) -> bool
     !bytes.is_empty() && are_digits(bytes) && !has_leading_zero
 }
 
-/// Parses a decimal number from `least` to `most`.
+/// Parses a decimal number, or returns `None` if the text is none from `least` to `most`.
 #[tactic(auto, unfolding(crate::specs::Text::number_of))]
 pub(crate) fn number(text: &str, least: u32, most: u32) -> Option<u32>
     ensures value { result ≡ number_of least most text.now }
@@ -34,7 +34,7 @@ pub(crate) fn number(text: &str, least: u32, most: u32) -> Option<u32>
     }
 }
 
-/// Parses an IPv4 address as a number.
+/// Parses an IPv4 address, which is returned as a number.
 #[tactic(auto, unfolding(crate::specs::Text::address_of))]
 pub(crate) fn address(text: &str) -> Option<u32>
     ensures { result ≡ address_of text.now }

@@ -7,7 +7,7 @@ use std::fmt;
 use std::marker::Model;
 use std::str::FromStr;
 
-/// An address and a port that is not 0 (RFC 8489, section 5), written `10.0.0.3:7000`.
+/// An address and a port that is not 0 (RFC 8489, section 5), written as `10.0.0.3:7000`.
 #[derive(Clone, Copy, Debug, PartialEq, Eq)]
 pub struct TransportAddress {
     address: u32,
@@ -27,7 +27,7 @@ impl Model for TransportAddress {
 }
 
 impl TransportAddress {
-    /// Parses a transport address.
+    /// Parses a transport address, or returns `None` if the text is none.
     #[tactic(auto, unfolding(crate::specs::Text::transport_address_of_text))]
     pub(crate) fn read(text: &str) -> Option<TransportAddress>
         ensures { result ≡ transport_address_of_text text.now }
@@ -41,14 +41,14 @@ impl TransportAddress {
         })
     }
 
-    /// The address, as a number.
+    /// Returns the address, as a number.
     pub fn address(&self) -> u32
         ensures { result ≡ self.now.address }
     {
         self.address
     }
 
-    /// The port, never 0.
+    /// Returns the port, which is never 0.
     pub fn port(&self) -> u16
         ensures { result ≡ self.now.port }
     {
@@ -72,8 +72,8 @@ impl FromStr for TransportAddress {
 
     ghost from_str_gives = { IsReadBack transport_address_text IsTransportAddress BadAddress };
 
-    /// Parses a transport address; `ConfigFault::BadAddress` if the text is none. What `Display` writes is read
-    /// back.
+    /// Parses a transport address, or returns `ConfigFault::BadAddress`. What `Display` writes is
+    /// read back.
     fn from_str(text: &str) -> Result<TransportAddress, ConfigFault> {
         TransportAddress::read(text).ok_or(ConfigFault::BadAddress)
     }

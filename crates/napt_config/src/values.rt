@@ -1,4 +1,4 @@
-//! The values of a table, each of the kind that its key asks for.
+//! Reads the values of a table, which must be of the kinds that their keys ask for.
 ghost use Rattle.std.specs.Prelude.{◌≡◌, ◌≤◌, option_map, IfOk};
 ghost use Rattle.toml.specs.{Data.get_member, View.{view, table_view, items_view}};
 ghost use Rattle.napt_config.specs.{Fault.ReadPost, Configured.{required, text_in, number_in, number_at_key, list_in, table_in}};
@@ -6,7 +6,7 @@ ghost use Rattle.napt_config.specs.{Fault.ReadPost, Configured.{required, text_i
 use crate::ConfigFault;
 use toml::{Table, Value};
 
-/// The value at a key.
+/// Returns the value at a key, or `None` if the key is absent.
 pub(crate) fn value_at<'a>(table: &'a Table, key: &str) -> Option<&'a Value>
     ensures { option_map (λ value. view value.now) result ≡ get_member key.now
         (table_view table.now) }
@@ -14,7 +14,7 @@ pub(crate) fn value_at<'a>(table: &'a Table, key: &str) -> Option<&'a Value>
     table.get(key)
 }
 
-/// The value at a required key.
+/// Returns the value at a required key, or `ConfigFault::Missing` if it is absent.
 pub(crate) fn required<'a>(table: &'a Table, key: &str) -> Result<&'a Value, ConfigFault>
     ensures { ReadPost (λ value. view value.now) result (required key.now (table_view table.now)) }
 {
@@ -24,7 +24,7 @@ pub(crate) fn required<'a>(table: &'a Table, key: &str) -> Result<&'a Value, Con
     }
 }
 
-/// The text in a value.
+/// Returns the text in a value, or `ConfigFault::BadShape` if it is no text.
 pub(crate) fn text_in(value: &Value) -> Result<&str, ConfigFault>
     ensures { ReadPost (λ text. text.now) result (text_in (view value.now)) }
 {
@@ -34,7 +34,7 @@ pub(crate) fn text_in(value: &Value) -> Result<&str, ConfigFault>
     }
 }
 
-/// The whole number in a value.
+/// Returns the whole number in a value, or `ConfigFault::BadShape` if it is none.
 pub(crate) fn number_in(value: &Value) -> Result<i64, ConfigFault>
     ensures { ReadPost (λ number. number) result (number_in (view value.now)) }
 {
@@ -44,7 +44,7 @@ pub(crate) fn number_in(value: &Value) -> Result<i64, ConfigFault>
     }
 }
 
-/// The whole number in a value, if it is from `least` to `most`.
+/// Returns the whole number in a value, which must be from `least` to `most`.
 #[tactic(auto, unfolding(crate::specs::Configured::number_at_key))]
 pub(crate) fn number_at(value: &Value, least: u64, most: u64) -> Result<u64, ConfigFault>
     ensures exact { ReadPost (λ number. number) result (number_at_key least most (view value.now)) }
@@ -56,7 +56,7 @@ pub(crate) fn number_at(value: &Value, least: u64, most: u64) -> Result<u64, Con
     }
 }
 
-/// The list in a value.
+/// Returns the list in a value, or `ConfigFault::BadShape` if it is no list.
 pub(crate) fn list_in(value: &Value) -> Result<&[Value], ConfigFault>
     ensures { ReadPost (λ entries. items_view entries.now) result (list_in (view value.now)) }
 {
@@ -66,7 +66,7 @@ pub(crate) fn list_in(value: &Value) -> Result<&[Value], ConfigFault>
     }
 }
 
-/// The table in a value.
+/// Returns the table in a value, or `ConfigFault::BadShape` if it is no table.
 pub(crate) fn table_in(value: &Value) -> Result<&Table, ConfigFault>
     ensures { ReadPost (λ keys. table_view keys.now) result (table_in (view value.now)) }
 {

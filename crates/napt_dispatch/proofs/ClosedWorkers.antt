@@ -1,4 +1,4 @@
--- What the workers are left with shows what a run gives, and from what a run goes on.
+-- The workers, as they ended, hold the bindings and the state after the run.
 use Rattle.std.proofs.lemmas.{Grind.common_steps, Bool.Decides.nat_tests, Option.get_or_from_slice_get}
 use Rattle.std.proofs.Common.{◌≡◌, ℕ, zero, suc, ◌+◌, ◌<◌, ◌≤◌, max, List, [], ◌∷◌, ◌++◌, length, map, Result, Ok, refl, sym, ◌∙◌, ap, subst, arith, append-nil}
 use Rattle.std.{proofs.lemmas.List.{length-map, Folds.flat_map-map}, specs.Prelude.{slice_index, slice_index_or, flat_map, OnOk}}
@@ -46,7 +46,8 @@ module _ (f : TranslatorModel → List Leg → TranslatorModel) where
       (began : starts ≡ started_from rules start (length rules.pool)) (left : machines ≡ zip_with f starts accepts)
       (done : IsDispatchedFrom rules start inputs accepts outcomes numbers) (last : ℕ)
       (clock : last ≡ last_clock start.clock inputs) (none : (s : TranslatorModel) → f s [] ≡ s)
-      (more : (s : TranslatorModel) (leg : Leg) (legs : List Leg) → f s (leg ∷ legs) ≡ f (translator_after leg s) legs) where
+      (more : (s : TranslatorModel) (leg : Leg) (legs : List Leg) →
+      f s (leg ∷ legs) ≡ f (translator_after leg s) legs) where
     abbrev course : RunEffect
     course = effect_from rules start inputs
 
@@ -71,17 +72,20 @@ module _ (f : TranslatorModel → List Leg → TranslatorModel) where
         let n : ℕ = length rules.pool in
         let long : length (started_from rules start n) ≡ n = length_started rules start n in
         let long_legs : length (map legs_of rules.pool) ≡ n = length-map rules.pool legs_of in
-        let begins : TranslatorModel = with_local_state (initial_translator w rules) (local_bindings start (slice_index rules.pool w)) in
+        let begins : TranslatorModel = with_local_state (initial_translator w rules)
+        (local_bindings start (slice_index rules.pool w)) in
         rw (
           states_are,
-          zip_index f (started_from rules start n) (map legs_of rules.pool) w (initial_translator 0 rules) (initial_translator 0 rules)
+          zip_index f (started_from rules start n) (map legs_of rules.pool) w (initial_translator 0 rules)
+              (initial_translator 0 rules)
               (omega arith) (omega arith),
           started_at rules start n w (initial_translator 0 rules) lt,
           map_index legs_of rules.pool w lt,
         )
         (after_kept none more begins (legs_of (slice_index rules.pool w)))
 
-    at_once : (address : ℕ) → IsTranslatorCurrent rules address (last_clock start.clock inputs) (kept_at address) course.list
+    at_once : (address : ℕ) → IsTranslatorCurrent rules address (last_clock start.clock inputs) (kept_at address)
+        course.list
     at_once address = (seen_from rules start inputs address).leaves
 
     latest_at : (address : ℕ) → max last (kept_at address).at ≡ last_clock start.clock inputs
@@ -101,7 +105,7 @@ module _ (f : TranslatorModel → List Leg → TranslatorModel) where
         ∙ ap rows_of (at_once address).agrees.same)) in
         rw (done.outcomes_are, shown, done.numbers_are, all) refl
 
-    -- and what they hand on
+    -- Their translators are those of the state after the run.
     pub workers_left : (passed : RunSummary) → passed.translators.items ≡ machines → passed.clock ≡ last →
         LeavesState rules (run_left_by rules start inputs) passed
     workers_left passed are at_last = record {
@@ -123,10 +127,11 @@ module _ (f : TranslatorModel → List Leg → TranslatorModel) where
     }
 
 pub started_more : (rules : Rules) (start : State) (n : ℕ) → started_from rules start (n + 1)
-    ≡ started_from rules start n ++ with_local_state (initial_translator n rules) (local_bindings start (slice_index rules.pool n)) ∷ []
+    ≡ started_from rules start n ++ with_local_state (initial_translator n rules)
+    (local_bindings start (slice_index rules.pool n)) ∷ []
 started_more rules start n = let e : n + 1 ≡ suc n = omega arith in ap (started_from rules start) e
 
--- A STATE WITHOUT BINDINGS, from which a run goes on as from the redirects alone
+-- A STATE WITHOUT BINDINGS: a run from it is the run from the redirects alone
 
 nothing : (state : State) → state.clock ≡ 0 → state.list ≡ [] → state ≡ record { clock = 0; list = [] }
 nothing state at none = λ i. record { clock = at i; list = none i }
@@ -142,7 +147,7 @@ pub started_anew : (rules : Rules) (state : State) (starts : List TranslatorMode
 started_anew rules state starts at none is =
     is ∙ ap (λ (start : State). started_from rules start (length rules.pool)) (under_nothing rules state at none)
 
--- the rows of the workers as they ended, by their translators
+-- The rows of the ended workers are those of their translators.
 pub rows_shown : {A : Type 0} (last : ℕ) (bindings : List Row) (ended lent : List (Ended TranslatorModel Leg A)) →
     bindings ≡ flat_map (λ e. rows_after last e.machine) lent → lent ≡ ended →
     bindings ≡ flat_map (rows_after last) (map (λ e. e.machine) ended)

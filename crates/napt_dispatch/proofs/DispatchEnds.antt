@@ -1,4 +1,4 @@
--- What the end of a dispatch tells.
+-- What holds of the answers and the translators when dispatching ends.
 use Rattle.std.proofs.lemmas.{Grind.common_steps, Bool.Decides.nat_tests}
 use Rattle.std.proofs.Common.{◌≡◌, ℕ, zero, suc, ◌<◌, List, [], ◌∷◌, length, map, refl, sym, ap, ◌∙◌, arith, append-nil, length-append, inl, inr}
 use Rattle.std.{specs.Prelude.{slice_index, slice_index_or}, proofs.{lemmas.Bool.cases_eq, Math.{ListN.get_or-append, Seq.get_or-append_seam}}}
@@ -62,7 +62,8 @@ pub started_at : (rules : Rules) (start : State) (n w : ℕ) (d : TranslatorMode
 started_at rules start zero w d lt = absurd (omega arith)
 started_at rules start (suc n) w d lt =
     let long : length (started_from rules start n) ≡ n = length_started rules start n in
-    let next : TranslatorModel = with_local_state (initial_translator n rules) (local_bindings start (slice_index rules.pool n)) in
+    let next : TranslatorModel = with_local_state (initial_translator n rules)
+    (local_bindings start (slice_index rules.pool n)) in
     elim (cases_eq w n) [
       | inl same ↦ rw same (rw long at (get_or-append_seam (started_from rules start n) next [] d))
       | inr other ↦ get_or-append (started_from rules start n) (next ∷ []) d w (omega arith)
@@ -77,7 +78,7 @@ module _ {P : Type 0} (tells : Passage → P) {g : Ghosts TranslatorModel Leg (T
   replies_kept stepped_is reply_is s (leg ∷ legs) =
       rw (reply_is s leg, stepped_is s leg, replies_kept stepped_is reply_is (translator_after leg s) legs) refl
 
-  -- what the workers answered is right
+  -- If the workers answered with their translators, the answers are right.
   pub right_since : (rules : Rules) (start : State) (starts : List TranslatorModel) (offered : List (List Leg))
       (taken : List (List (TracedAnswer P))) → starts ≡ started_from rules start (length rules.pool) →
       taken ≡ zip_with (replies g) starts offered →
@@ -95,11 +96,12 @@ module _ {P : Type 0} (tells : Passage → P) {g : Ghosts TranslatorModel Leg (T
             (omega arith) (omega arith),
         started_at rules start (length rules.pool) w (initial_translator w rules) lt,
       )
-      (replies_kept stepped_is reply_is (with_local_state (initial_translator w rules) (local_bindings start (slice_index rules.pool w)))
+      (replies_kept stepped_is reply_is (with_local_state (initial_translator w rules)
+      (local_bindings start (slice_index rules.pool w)))
       (of_worker offered w)) in
       ([], append-nil (of_worker taken w) ∙ is)
 
-  -- so is what begins it
+  -- The same holds if only the first of their answers were taken.
   pub right_begin : (rules : Rules) (start : State) (starts : List TranslatorModel) (offered : List (List Leg))
       (taken : List (List (TracedAnswer P))) → starts ≡ started_from rules start (length rules.pool) →
       ArePrefixesOf taken (zip_with (replies g) starts offered) →

@@ -1,4 +1,4 @@
--- The lists of all workers, by the number of the worker.
+-- The lists of all workers, by the index of the worker.
 use Rattle.std.{proofs.lemmas.{Grind.common_steps, Bool.{Decides.nat_tests, cases_eq, eq-eqb, ne_eqb}}, specs.Prelude.{slice_index, slice_set, slice_get}}
 use Rattle.std.proofs.Common.{◌≡◌, ◌≢◌, ℕ, zero, suc, ◌<◌, ◌==◌, Bool, true, false, cond, subst, List, [], ◌∷◌, ◌++◌, length, Some, refl, sym, ◌∙◌, ap, arith, inl, inr, append-nil, append_assoc}
 use Rattle.std.proofs.lemmas.List.{get_or-set_same, get_or-set_other, length-map}
@@ -8,7 +8,7 @@ use Rattle.napt_laws.specs.Dispatching.{IsFrontOf}
 use Rattle.napt_sequential.specs.declared.{fault.RunFault.RunFault, leg_trace.TracedAnswer.TracedAnswer}
 use Rattle.napt_dispatch.specs.{Dispatch.of_worker, DispatcherInvariants.{with_more_at, PoolGrows, DispatcherHalts}}
 
--- FRONTS
+-- PREFIXES
 
 pub front_none : {X : Type 0} (xs : List X) → IsFrontOf xs xs
 front_none xs = ([], append-nil xs)
@@ -21,7 +21,7 @@ fronts_both xs ys zs a b = (a.0 ++ b.0, sym (append_assoc xs a.0 b.0) ∙ (ap (�
 
 -- EACH WORKER
 
--- functions are one where they agree everywhere
+-- Two functions are equal if they agree everywhere.
 pub everywhere : {X Y : Type 0} {f g : X → Y} → ((x : X) → f x ≡ g x) → f ≡ g
 everywhere same = λ i x. same x i
 
@@ -42,7 +42,7 @@ module _ {X : Type 0} (w : ℕ) (xs : List X) (lists : ℕ → List X) where
 pub added_none : {X : Type 0} (w : ℕ) (lists : ℕ → List X) → with_more_at w [] lists ≡ lists
 added_none w lists = grind (arith, common_steps, nat_tests, everywhere, append-nil)
 
--- the same in a list of the lists
+-- The same holds of a list of lists.
 pub set_added : {X : Type 0} (lists : List (List X)) (w : ℕ) (xs : List X) → w < length lists →
     of_worker (slice_set lists w (of_worker lists w ++ xs)) ≡ with_more_at w xs (of_worker lists)
 set_added lists w xs lt = everywhere (λ v. elim (cases_eq v w) [
@@ -54,8 +54,10 @@ set_added lists w xs lt = everywhere (λ v. elim (cases_eq v w) [
 -- A POOL THAT GROWS
 
 module _ {P M G : Type 0} where
-  pub grows_not : {pool later_pool : Pool M G Leg (TracedAnswer P)} → initial_machines later_pool ≡ initial_machines pool →
-      accepted_items later_pool ≡ accepted_items pool → taken_answers later_pool ≡ taken_answers pool → PoolGrows pool later_pool
+  pub grows_not : {pool later_pool : Pool M G Leg (TracedAnswer P)} →
+      initial_machines later_pool ≡ initial_machines pool →
+      accepted_items later_pool ≡ accepted_items pool → taken_answers later_pool ≡ taken_answers pool →
+      PoolGrows pool later_pool
   grows_not began offered taken = grind (arith, common_steps, nat_tests, front_none)
 
   pub grows_none : (pool : Pool M G Leg (TracedAnswer P)) → PoolGrows pool pool
@@ -72,35 +74,40 @@ module _ {P M G : Type 0} where
   module _ (w : ℕ) (pool later_pool : Pool M G Leg (TracedAnswer P)) (within : w < length (initial_machines pool))
       (began : initial_machines later_pool ≡ initial_machines pool) where
     pub grows_offered : (legs : List Leg) → taken_answers later_pool ≡ taken_answers pool →
-        accepted_items later_pool ≡ slice_set (accepted_items pool) w (of_worker (accepted_items pool) w ++ legs) → PoolGrows pool later_pool
+        accepted_items later_pool ≡ slice_set (accepted_items pool) w (of_worker (accepted_items pool) w ++ legs) →
+        PoolGrows pool later_pool
     grows_offered legs same more =
         let now : of_worker (accepted_items later_pool) ≡ with_more_at w legs (of_worker (accepted_items pool)) =
         ap of_worker more ∙ set_added (accepted_items pool) w legs (rw length-map (rw length-map at within)) in
         record {
           starts_stay = began;
-          offered = λ v. subst (λ (lists : ℕ → List Leg). IsFrontOf (of_worker (accepted_items pool) v) (lists v)) (sym now)
+          offered = λ v. subst (λ (lists : ℕ → List Leg). IsFrontOf (of_worker (accepted_items pool) v) (lists v))
+              (sym now)
               (added_front w legs (of_worker (accepted_items pool)) v);
           taken = λ v. rw same (front_none (of_worker (taken_answers pool) v));
         }
 
     pub grows_taken : (answers : List (TracedAnswer P)) → accepted_items later_pool ≡ accepted_items pool →
-        taken_answers later_pool ≡ slice_set (taken_answers pool) w (of_worker (taken_answers pool) w ++ answers) → PoolGrows pool later_pool
+        taken_answers later_pool ≡ slice_set (taken_answers pool) w (of_worker (taken_answers pool) w ++ answers) →
+        PoolGrows pool later_pool
     grows_taken answers same more =
         let now : of_worker (taken_answers later_pool) ≡ with_more_at w answers (of_worker (taken_answers pool)) =
         ap of_worker more ∙ set_added (taken_answers pool) w answers (rw length-map (rw length-map at within)) in
         record {
           starts_stay = began;
           offered = λ v. rw same (front_none (of_worker (accepted_items pool) v));
-          taken = λ v. subst (λ (lists : ℕ → List (TracedAnswer P)). IsFrontOf (of_worker (taken_answers pool) v) (lists v)) (sym now)
+          taken = λ v. subst (λ (lists : ℕ → List (TracedAnswer P)). IsFrontOf (of_worker (taken_answers pool) v)
+              (lists v)) (sym now)
               (added_front w answers (of_worker (taken_answers pool)) v);
         }
 
-  -- a fault after that
+  -- A pool that has grown and then ended with a fault ended with that fault.
   pub halts_after : {open_gate : Bool} {fault : RunFault} {pool mid_pool later_pool : Pool M G Leg (TracedAnswer P)} →
-      PoolGrows pool mid_pool → DispatcherHalts open_gate mid_pool later_pool fault → DispatcherHalts open_gate pool later_pool fault
+      PoolGrows pool mid_pool → DispatcherHalts open_gate mid_pool later_pool fault →
+      DispatcherHalts open_gate pool later_pool fault
   halts_after a b = record { grows = grows_both a b.grows; fault_is = b.fault_is }
 
--- a place that the pool has
+-- The place of an address in the pool is below the pool's length.
 pub place_within : (pool : List ℕ) (w address : ℕ) → slice_get pool w ≡ Some address → (w < length pool)
     × (slice_index pool w ≡ address)
 place_within [] w address e = cc

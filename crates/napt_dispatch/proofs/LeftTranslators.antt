@@ -1,4 +1,4 @@
--- The state that the translators of a run are left with.
+-- The state that the translators hold after a run.
 use Rattle.std.proofs.{lemmas.{List.length-map, Option.{slice_get-map, slice_get_within, slice_get_cases}}, Common.{◌≡◌, ℕ, max, List, length, map, ◌∙◌, ap, arith, inl, inr}}
 use Rattle.std.specs.Option.{option_map}
 use Rattle.napt_config.specs.{Rules.Rules, declared.settings.Timers.Timers}
@@ -8,7 +8,7 @@ use Rattle.napt_sequential.specs.{declared.counted_translator.CountedTranslator.
 use Rattle.napt_laws.proofs.RunsLocal.{latest}
 use Rattle.napt_dispatch.specs.{declared.workers.RunSummary.RunSummary, Dispatch.IsLeftWith, RunsThrough.LeavesState}
 
--- a translator as one of a run on one thread, where its legs are not counted
+-- A translator as one of the sequential run, where its legs are not counted.
 abbrev pub uncounted : TranslatorModel → CountedTranslator
 uncounted translator = record { translator = translator; legs = 0 }
 

@@ -1,4 +1,4 @@
--- Runs from arrivals to departures, step by step.
+-- The steps of a run from an input source to an outcome sink.
 use Rattle.std.{proofs.lemmas.{Grind.common_steps, Bool.Decides.nat_tests, List.{map-append, length-map}}, specs.Prelude.slice_get}
 use Rattle.std.proofs.Common.{◌≡◌, ℕ, max, Bool, List, [], ◌∷◌, ◌++◌, length, map, Option, Some, Result, Ok, Err, refl, sym, ◌∙◌, ap, subst, arith, append-nil, append_assoc}
 use Rattle.napt_wire.specs.declared.{Way.Way, Side.Side}
@@ -26,20 +26,21 @@ pub clock_on : (from : ℕ) (inputs : List Arrival) (input : Arrival) (clock own
     (inputs ++ input ∷ [])
 clock_on from inputs input clock own now was same is = grind (arith, common_steps, nat_tests, clock_more)
 
--- OVER A POOL
+-- WITH A POOL
 
--- an input from outside has no second leg
+-- An input from outside has no second leg.
 none_behind : (rules : Rules) (start : State) (all : List Arrival) (number : ℕ) (input : Arrival) →
     slice_get all number ≡ Some input → (side : Side) → input.side ≡ side →
     NoneBehind (way_from input.side) (second_legs number (effect_from rules start all).acts)
 none_behind rules start all number input there side is = grind (arith, common_steps, nat_tests, outside_alone)
 
 module _ {P M G : Type 0} {tells : Passage → P} where
-  -- nothing was done
-  pub goes_none : {pool : Pool M G Leg (TracedAnswer P)} {d : Dispatcher P} → IsSizedFor pool d → DispatcherGoesOn tells pool d [] pool d
+  -- A dispatcher that did nothing continues.
+  pub goes_none : {pool : Pool M G Leg (TracedAnswer P)} {d : Dispatcher P} → IsSizedFor pool d →
+      DispatcherGoesOn tells pool d [] pool d
   goes_none sized = grind (arith, common_steps, nat_tests, grows_none, append-nil)
 
-  -- outcomes left, and nothing else was done
+  -- A dispatcher continues if outcomes left and nothing else was done.
   pub goes_over : (pool : Pool M G Leg (TracedAnswer P)) (d later : Dispatcher P) (went : List (ℕ × InputResult P)) →
       IsSizedFor pool d → later.queues ≡ d.queues → OutcomesAreHandedOver went d.progress later.progress →
       DispatcherGoesOn tells pool d went pool later
@@ -57,7 +58,8 @@ module _ {P M G : Type 0} {tells : Passage → P} where
   }
 
   module _ {pool mid_pool later_pool : Pool M G Leg (TracedAnswer P)} {d mid later : Dispatcher P} where
-    pub continues_both : DispatcherContinues tells pool d mid_pool mid → DispatcherContinues tells mid_pool mid later_pool later →
+    pub continues_both : DispatcherContinues tells pool d mid_pool mid →
+        DispatcherContinues tells mid_pool mid later_pool later →
         DispatcherContinues tells pool d later_pool later
     continues_both a b = record {
       grows = grows_both a.grows b.grows;
@@ -67,7 +69,8 @@ module _ {P M G : Type 0} {tells : Passage → P} where
     }
 
     pub goes_more : {xs ys : List (ℕ × InputResult P)} → DispatcherGoesOn tells pool d xs mid_pool mid →
-        DispatcherGoesOn tells mid_pool mid ys later_pool later → DispatcherGoesOn tells pool d (xs ++ ys) later_pool later
+        DispatcherGoesOn tells mid_pool mid ys later_pool later →
+        DispatcherGoesOn tells pool d (xs ++ ys) later_pool later
     goes_more {xs} {ys} a b = record {
       grows = grows_both a.grows b.grows;
       sized = b.sized;
@@ -76,7 +79,7 @@ module _ {P M G : Type 0} {tells : Passage → P} where
       keeps = λ rules start done all s. b.keeps rules start done all (a.keeps rules start done all s);
     }
 
-    -- answers were taken and legs offered, and nothing left
+    -- A dispatcher continues if answers were then taken and legs offered, and nothing left.
     pub goes_then : {xs : List (ℕ × InputResult P)} → DispatcherGoesOn tells pool d xs mid_pool mid →
         DispatcherContinues tells mid_pool mid later_pool later → DispatcherGoesOn tells pool d xs later_pool later
     goes_then a b = record {
@@ -95,12 +98,14 @@ module _ {P M G : Type 0} {tells : Passage → P} where
   continues_then a open_gate later_pool later (Ok done) b = continues_both a b
   continues_then a open_gate later_pool later (Err fault) b = halts_after a.grows b
 
-  -- WHAT IS READ
+  -- ONE INPUT IS READ
 
-  -- a place was made for an input, its first leg was held, and then perhaps answers were taken and legs offered
+  -- An input was opened, its first leg was held, and then answers may have been taken and legs offered.
   pub serves_as : (rules : Rules) (now number : ℕ) (input : Arrival) (pool : Pool M G Leg (TracedAnswer P))
-      (d admitted : Dispatcher P) (window : RunProgressModel P) (later_pool : Pool M G Leg (TracedAnswer P)) (later : Dispatcher P) →
-      window ≡ progress_expecting input.time (way_from input.side) d.progress → number ≡ length (progress_in d.progress) →
+      (d admitted : Dispatcher P) (window : RunProgressModel P) (later_pool : Pool M G Leg (TracedAnswer P))
+      (later : Dispatcher P) →
+      window ≡ progress_expecting input.time (way_from input.side) d.progress →
+      number ≡ length (progress_in d.progress) →
       Admits tells rules number now input (record d { progress = window }) admitted →
       journal_of admitted.progress ≡ journal_of window → DispatcherContinues tells pool admitted later_pool later →
       ReadInputPost tells rules now input pool d later_pool later
@@ -116,7 +121,8 @@ module _ {P M G : Type 0} {tells : Passage → P} where
         let none : NoneBehind way (second_legs (length (progress_in d.progress)) (effect_from rules start all).acts) =
         none_behind rules start all (length (progress_in d.progress)) input
         (input_there done rest input (length (progress_in d.progress)) long) input.side refl in
-        let expected : DispatcherInvariant tells rules start done all (dispatcher_state pool (record d { progress = window })) =
+        let expected : DispatcherInvariant tells rules start done all
+        (dispatcher_state pool (record d { progress = window })) =
         rw (ap progress_in is ∙ expecting_progress input.time way d.progress)
         (known_stands rules start done all (length d.queues) (dispatcher_state pool d).lane (progress_in d.progress)
         (progress_in d.progress ++ Awaited way ∷ [])
@@ -127,7 +133,7 @@ module _ {P M G : Type 0} {tells : Passage → P} where
         })).stands;
   }
 
-  -- WHAT WAS READ
+  -- THE INPUTS THAT WERE READ
 
   pub reads_none : (rules : Rules) (pool : Pool M G Leg (TracedAnswer P)) (d : Dispatcher P) → IsSizedFor pool d →
       d.progress.left ≡ [] → d.progress.under_way ≡ [] → ReadInputsPost tells rules pool d [] [] pool d
@@ -136,7 +142,8 @@ module _ {P M G : Type 0} {tells : Passage → P} where
   module _ {rules : Rules} {pool mid_pool later_pool : Pool M G Leg (TracedAnswer P)} {d mid later : Dispatcher P}
       {inputs : List Arrival} where
     pub reads_on : {xs ys : List (ℕ × InputResult P)} → ReadInputsPost tells rules pool d inputs xs mid_pool mid →
-        DispatcherGoesOn tells mid_pool mid ys later_pool later → ReadInputsPost tells rules pool d inputs (xs ++ ys) later_pool later
+        DispatcherGoesOn tells mid_pool mid ys later_pool later →
+        ReadInputsPost tells rules pool d inputs (xs ++ ys) later_pool later
     reads_on {ys = ys} a b = record {
       grows = grows_both a.grows b.grows;
       sized = b.sized;
@@ -146,7 +153,7 @@ module _ {P M G : Type 0} {tells : Passage → P} where
           (b.keeps rules start inputs (inputs ++ rest) (record { stands = a.served start at rest s })).stands;
     }
 
-    -- one input more
+    -- One more input was read.
     pub reads_more : {went : List (ℕ × InputResult P)} {now : ℕ} {input : Arrival} →
         ReadInputsPost tells rules pool d inputs went mid_pool mid → now ≡ last_clock d.clock (inputs ++ input ∷ []) →
         ReadInputPost tells rules now input mid_pool mid later_pool later →
@@ -159,14 +166,15 @@ module _ {P M G : Type 0} {tells : Passage → P} where
       left_is = b.left_stays ∙ a.left_is;
       served = λ start at rest s.
           let whole : (inputs ++ input ∷ []) ++ rest ≡ inputs ++ input ∷ rest = append_assoc inputs (input ∷ []) rest in
-          let before : DispatcherInvariant tells rules start inputs ((inputs ++ input ∷ []) ++ rest) (dispatcher_state mid_pool mid) =
+          let before : DispatcherInvariant tells rules start inputs ((inputs ++ input ∷ []) ++ rest)
+          (dispatcher_state mid_pool mid) =
           rw whole (a.served start at (input ∷ rest) (rw whole at s)) in
           b.served start inputs rest (many_read mid inputs a.times_are)
           (ap (λ (t : ℕ). max (last_clock t inputs) input.clock) at
           ∙ (sym (clock_more d.clock inputs input) ∙ sym clock)) before;
     }
 
--- where nothing is held and all outcomes left there is room
+-- There is room if nothing is held and all outcomes have left.
 pub room_idle : {P : Type 0} (d : Dispatcher P) → DispatcherIsDone d → d.progress.under_way ≡ [] → DispatcherHasRoom d
 room_idle d done none = grind (arith, common_steps, nat_tests, held_none)
 
@@ -200,7 +208,8 @@ module _ {P S F : Type 0} {takes : S → List (ℕ × InputResult P) → S → T
 
   pub lets_halt : {tells : Passage → P} {M G : Type 0} {pool mid_pool : Pool M G Leg (TracedAnswer P)}
       (later_pool : Pool M G Leg (TracedAnswer P)) {d mid : Dispatcher P} (later : Dispatcher P) {before between : S}
-      (after : S) (open_gate : Bool) (e : DispatchFault F) → OutcomesLeave tells takes pool d before mid_pool mid between →
+      (after : S) (open_gate : Bool) (e : DispatchFault F) →
+      OutcomesLeave tells takes pool d before mid_pool mid between →
       HaltsAt tells open_gate takes fails mid_pool mid between later_pool later after e →
       HaltsAt tells open_gate takes fails pool d before later_pool later after e
   lets_halt later_pool later after open_gate (dispatch_faults.Departure fault) a b = record {
@@ -215,11 +224,12 @@ module _ {P S F : Type 0} {takes : S → List (ℕ × InputResult P) → S → T
     halted = b.halted;
   }
 
-  -- outcomes left, and then there was a fault of dispatching
+  -- Outcomes left, and then there was a fault of dispatching.
   pub lets_stop : {tells : Passage → P} {M G : Type 0} {pool mid_pool later_pool : Pool M G Leg (TracedAnswer P)}
       {d mid handed : Dispatcher P} {before between after : S} {open_gate : Bool} {fault : RunFault} →
       OutcomesLeave tells takes pool d before mid_pool mid between →
-      OutcomesLeave tells takes mid_pool mid between mid_pool handed after → DispatcherHalts open_gate mid_pool later_pool fault →
+      OutcomesLeave tells takes mid_pool mid between mid_pool handed after →
+      DispatcherHalts open_gate mid_pool later_pool fault →
       RunThroughHalts tells open_gate takes pool d before later_pool after fault
   lets_stop {mid_pool = mid_pool} {handed = handed} {after = after} a b stop = record {
     last_pool = mid_pool;
@@ -228,29 +238,32 @@ module _ {P S F : Type 0} {takes : S → List (ℕ × InputResult P) → S → T
     halted = stop;
   }
 
-  -- outcomes left, and then answers were taken and legs offered
+  -- Outcomes left, and then answers were taken and legs offered.
   pub lets_turn : {tells : Passage → P} {M G : Type 0} {pool mid_pool later_pool : Pool M G Leg (TracedAnswer P)}
       {d mid handed later : Dispatcher P}
       {before between after : S} → OutcomesLeave tells takes pool d before mid_pool mid between →
-      OutcomesLeave tells takes mid_pool mid between mid_pool handed after → DispatcherContinues tells mid_pool handed later_pool later →
+      OutcomesLeave tells takes mid_pool mid between mid_pool handed after →
+      DispatcherContinues tells mid_pool handed later_pool later →
       OutcomesLeave tells takes pool d before later_pool later after
   lets_turn a b c = let both = lets_more _ _ _ a b in
       record { went = both.went; goes = goes_then both.goes c; took = both.took }
 
-  -- what left was settled
+  -- Outcomes left, and then the sink was flushed.
   pub lets_settle : {tells : Passage → P} {M G : Type 0} {pool later_pool : Pool M G Leg (TracedAnswer P)}
-      {d later : Dispatcher P} {before between after : S} → OutcomesLeave tells takes pool d before later_pool later between →
+      {d later : Dispatcher P} {before between after : S} →
+      OutcomesLeave tells takes pool d before later_pool later between →
       takes between [] after → OutcomesLeave tells takes pool d before later_pool later after
   lets_settle a b = lets_more _ _ _ a (record { went = []; goes = goes_none a.goes.sized; took = b })
 
-  -- WHAT WAS READ
+  -- THE INPUTS THAT WERE READ
 
   module _ {tells : Passage → P} {A B : Type 0} {rules : Rules} {hands : A → List Arrival → A → Type 0}
       {ends : A → Option B → A → Type 0}
       (is_settled : S → Type 0) {M G : Type 0} {pool mid_pool : Pool M G Leg (TracedAnswer P)}
       (later_pool : Pool M G Leg (TracedAnswer P)) {d mid : Dispatcher P} (later : Dispatcher P) {from left : A}
       {before between : S} (after : S) {inputs : List Arrival} {went : List (ℕ × InputResult P)} where
-    pub reads_halt : (open_gate : Bool) (e : DispatchFault F) → ReadInputsPost tells rules pool d inputs went mid_pool mid →
+    pub reads_halt : (open_gate : Bool) (e : DispatchFault F) →
+        ReadInputsPost tells rules pool d inputs went mid_pool mid →
         takes before went between → HasCome hands ends from inputs left →
         HaltsAt tells open_gate takes fails mid_pool mid between later_pool later after e →
         ReadsHalted tells rules hands ends takes fails is_settled pool d from before later_pool later left after
@@ -274,7 +287,7 @@ module _ {P S F : Type 0} {takes : S → List (ℕ × InputResult P) → S → T
       halted = b.halted;
     }
 
-    -- the end was told, or a fault
+    -- The inputs ended or the input source failed.
     pub reads_over : (end : EndOfInputs B) → ReadInputsPost tells rules pool d inputs went mid_pool mid →
         takes before went between → OutcomesLeave tells takes mid_pool mid between later_pool later after →
         InputsCame hands ends from inputs end.fault left → end.clock ≡ last_clock d.clock inputs →

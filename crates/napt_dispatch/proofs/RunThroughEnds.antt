@@ -1,4 +1,4 @@
--- What a run from arrivals to departures comes to.
+-- The endings of a run from an input source to an outcome sink.
 use Rattle.std.proofs.lemmas.{Grind.common_steps, Bool.Decides.nat_tests, List.length-map}
 use Rattle.std.proofs.Common.{◌≡◌, ℕ, Bool, false, inr, List, [], ◌++◌, length, replicate, Option, MatchOption, refl, sym, ◌∙◌, ap, subst, arith, append-nil}
 use Rattle.napt_config.specs.Rules.{Rules}
@@ -13,10 +13,11 @@ use Rattle.napt_dispatch.proofs.{DispatchEnds.same_lengths, Passing.many_read, L
 use Rattle.napt_dispatch.{proofs.Standing.{begin_stands, all_taken, dispatched, left_right, right_before}, specs.declared.outcome_sink.InputResult.InputResult}
 use Rattle.napt_dispatch.specs.declared.dispatcher.DispatchEnd.TheVariants as endings
 
--- before the first input
+-- The invariant holds before the first input.
 pub begun : {P : Type 0} {tells : Passage → P} {M G : Type 0} (rules : Rules) (start : State)
     (pool : Pool M G Leg (TracedAnswer P)) (d : Dispatcher P) (workers : ℕ) → workers ≡ length rules.pool →
-    d.queues ≡ replicate workers unused_queue → d.progress.left ≡ [] → d.progress.under_way ≡ [] → accepted_items pool ≡ replicate
+    d.queues ≡ replicate workers unused_queue → d.progress.left ≡ [] → d.progress.under_way ≡ [] →
+    accepted_items pool ≡ replicate
     (length rules.pool) [] → taken pool ≡ replicate (length rules.pool) [] → (inputs : List Arrival) →
     DispatcherInvariant tells rules start [] inputs (dispatcher_state pool d)
 begun rules start pool d workers many queues left none unoffered untaken inputs =
@@ -29,10 +30,11 @@ module _ {P : Type 0} {tells : Passage → P} {M G : Type 0} {rules : Rules} {st
     {inputs : List Arrival} {went : List (ℕ × InputResult P)}
     (r : ReadInputsPost tells rules pool d inputs went later_pool later) where
   stand_now : DispatcherInvariant tells rules start inputs inputs (dispatcher_state later_pool later)
-  stand_now = subst (λ all. DispatcherInvariant tells rules start inputs all (dispatcher_state later_pool later)) (append-nil inputs)
+  stand_now = subst (λ all. DispatcherInvariant tells rules start inputs all (dispatcher_state later_pool later))
+      (append-nil inputs)
       (r.served start at [] (begun (inputs ++ [])))
 
-  -- as many workers as addresses
+  -- There are as many workers as external addresses.
   many_offered : length (accepted_items later_pool) ≡ length rules.pool
   many_offered = length-map _ accepted_of ∙ (sym (length-map _ machine_of) ∙ (sym r.sized ∙ stand_now.many))
 
@@ -42,7 +44,8 @@ module _ {P : Type 0} {tells : Passage → P} {M G : Type 0} {rules : Rules} {st
 module _ {P : Type 0} {tells : Passage → P} {A F S B M G : Type 0} {rules : Rules} {start : State}
     {hands : A → List Arrival → A → Type 0} {ends : A → Option F → A → Type 0}
     {takes : S → List (ℕ × InputResult P) → S → Type 0} {fails : S → List (ℕ × InputResult P) → B → S → Type 0}
-    {is_settled : S → Type 0} {from : A} {before : S} {later_pool : Pool M G Leg (TracedAnswer P)} {left : A} {after : S} where
+    {is_settled : S → Type 0} {from : A} {before : S} {later_pool : Pool M G Leg (TracedAnswer P)} {left : A}
+    {after : S} where
   pub ends_by : (done : DispatchResult F B) (fault : Option F) (ending : DispatchEnd F B) →
       MatchOption fault (ending ≡ endings.Whole) (λ f. ending ≡ endings.Arrival f) →
       DispatchOk tells rules start hands ends takes fails is_settled from before later_pool left after fault done →
@@ -60,7 +63,8 @@ module _ {P : Type 0} {tells : Passage → P} {A F S B M G : Type 0} {rules : Ru
         let inputs : List Arrival = r.to_end.inputs in
         let went : List (ℕ × InputResult P) = r.to_end.went in
         let reads : ReadInputsPost tells rules pool d inputs went later_pool later = r.to_end.reads in
-        let s : DispatcherInvariant tells rules start inputs inputs (dispatcher_state later_pool later) = stand_now at begun reads in
+        let s : DispatcherInvariant tells rules start inputs inputs (dispatcher_state later_pool later) =
+        stand_now at begun reads in
         let many : length (accepted_items later_pool) ≡ length rules.pool = many_offered at begun reads in
         record {
           inputs = inputs;
@@ -76,9 +80,11 @@ module _ {P : Type 0} {tells : Passage → P} {A F S B M G : Type 0} {rules : Ru
               omega (arith, one, two, none, r.few);
           offered_many = many;
           answered = same_lengths _ _ (many_taken at begun reads ∙ sym many)
-              (λ v lt. all_taken ((dispatcher_state later_pool later).lane v) (s.lanes v (rw many at lt)) (r.done.owed v));
+              (λ v lt. all_taken ((dispatcher_state later_pool later).lane v) (s.lanes v (rw many at lt))
+              (r.done.owed v));
           right = λ right.
-              let both = dispatched rules start inputs (accepted_items later_pool) (of_worker (taken later_pool)) later s
+              let both = dispatched rules start inputs (accepted_items later_pool) (of_worker (taken later_pool))
+              later s
               reads.times_are right many r.done r.none_under_way in (
                 sym reads.left_is ∙ both.0,
                 rw (legs, ← reads.left_is) both.1,
@@ -87,7 +93,8 @@ module _ {P : Type 0} {tells : Passage → P} {A F S B M G : Type 0} {rules : Ru
 
     pub ends_early : (fault : B) →
         ReadsSome tells rules hands ends takes fails is_settled pool d from before later_pool later left after fault →
-        DispatchDeparturesErr tells rules start hands ends takes fails is_settled from before later_pool left after fault
+        DispatchDeparturesErr tells rules start hands ends takes fails is_settled from before later_pool left after
+        fault
     ends_early fault r = record {
       inputs = r.inputs;
       went = r.went;
@@ -99,14 +106,15 @@ module _ {P : Type 0} {tells : Passage → P} {A F S B M G : Type 0} {rules : Ru
           (stand_now at begun r.reads) r.reads.times_are right);
     }
 
-    -- and where there was a fault of dispatching
+    -- The ending if there was a fault of dispatching.
     pub ends_halted : (open_gate : Bool) (fault : RunFault) →
         ReadsToHalt tells rules hands ends takes fails is_settled pool d from before later_pool later left after
         open_gate fault → DispatchErr tells rules start hands ends takes fails is_settled from before later_pool left
         after
     ends_halted open_gate fault r =
         let all : List Arrival = r.inputs ++ r.unread in
-        let s : DispatcherInvariant tells rules start r.inputs all (dispatcher_state r.last_pool r.last) = r.reads.served start at r.unread
+        let s : DispatcherInvariant tells rules start r.inputs all (dispatcher_state r.last_pool r.last) =
+        r.reads.served start at r.unread
         (begun all) in
         record {
           inputs = all;
@@ -123,7 +131,7 @@ module _ {P : Type 0} {tells : Passage → P} {A F S B M G : Type 0} {rules : Ru
               (departed_long tells rules start all));
         }
 
-    -- also where all left before it
+    -- The same ending if all outcomes had left before the fault.
     pub ends_after : (end : EndOfInputs F) →
         ReadsAll tells rules hands ends takes fails is_settled pool d from before later_pool later left after end →
         DispatchErr tells rules start hands ends takes fails is_settled from before later_pool left after

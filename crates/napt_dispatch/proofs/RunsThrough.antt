@@ -1,4 +1,4 @@
--- What a run passes on, by what dispatching came to and the answers that the workers were right to give.
+-- The result of a run, from the ending of dispatching and the right answers of the workers.
 use native.Mathlib.Omega.{arith}
 use Rattle.std.{proofs.lemmas.{Grind.common_steps, Bool.Decides.nat_tests}, specs.Prelude.{IfOk, OnErr}}
 use Rattle.std.proofs.Common.{◌≡◌, ℕ, List, [], ◌++◌, length, map, Option, None, Some, Result, Ok, Err, ◌∙◌, ap, subst, append-nil, inl, inr}
@@ -15,7 +15,8 @@ module _ {P : Type 0} {tells : Passage → P} {A F S B M G : Type 0} {rules : Ru
     {hands : A → List Arrival → A → Type 0} {ends : A → Option F → A → Type 0}
     {takes : S → List (ℕ × InputResult P) → S → Type 0} {fails : S → List (ℕ × InputResult P) → B → S → Type 0}
     {is_settled : S → Type 0} {from : A} {before : S} (pool : Pool M G Leg (TracedAnswer P)) {left : A} {after : S}
-    (right : length (accepted_items pool) ≡ length rules.pool → AnswersAreRight tells rules start (accepted_items pool) (taken pool)) where
+    (right : length (accepted_items pool) ≡ length rules.pool →
+    AnswersAreRight tells rules start (accepted_items pool) (taken pool)) where
   pub passes_to : (end : Option F) (done : DispatchResult F B) →
       DispatchOk tells rules start hands ends takes fails is_settled from before pool left after end done →
       RunThroughEnd tells rules start hands ends takes fails is_settled from before left after end
@@ -56,7 +57,7 @@ module _ {P : Type 0} {tells : Passage → P} {A F S B M G : Type 0} {rules : Ru
     failed = e.failed;
   }
 
-  -- where the run itself failed, however dispatching ended
+  -- The result if the run itself failed, however dispatching ended.
   passes_late : (end : Option F) (done : DispatchResult F B) →
       DispatchOk tells rules start hands ends takes fails is_settled from before pool left after end done →
       RunThroughErr tells rules start hands ends takes fails is_settled from before left after
@@ -98,17 +99,20 @@ module _ {P : Type 0} {tells : Passage → P} {A F S B M G : Type 0} {rules : Ru
     took = inl early.took;
   }
 
--- WHERE THE INPUTS COME OFF A LIST
+-- INPUTS FROM A LIST
 
 module _ {tells : Passage → NoTrace} {A F B M G : Type 0} (rules : Rules) (start : State) (list : A → List Arrival)
-    (fails : OutcomeList → List (ℕ × InputResult NoTrace) → B → OutcomeList → Type 0) (is_settled : OutcomeList → Type 0)
+    (fails : OutcomeList → List (ℕ × InputResult NoTrace) → B → OutcomeList → Type 0) (is_settled : OutcomeList →
+    Type 0)
     (from : A) (none : OutcomeList) (pool : Pool M G Leg (TracedAnswer NoTrace)) (left : A) (some : OutcomeList)
-    (done : DispatchResult F B) (e : DispatchOk tells rules start (λ x xs y. list x ≡ xs ++ list y) (λ x end y. list x ≡ [])
+    (done : DispatchResult F B) (e : DispatchOk tells rules start (λ x xs y. list x ≡ xs ++ list y)
+    (λ x end y. list x ≡ [])
     Collects fails is_settled from none pool left some None done) where
   pub answered_whole : map length (taken pool) ≡ map length (accepted_items pool)
   answered_whole = e.answered
 
   pub dispatched_whole : none.outcomes.items ≡ [] →
-      (length (accepted_items pool) ≡ length rules.pool → AnswersAreRight tells rules start (accepted_items pool) (taken pool)) →
+      (length (accepted_items pool) ≡ length rules.pool →
+      AnswersAreRight tells rules start (accepted_items pool) (taken pool)) →
       IsDispatchedFrom rules start (list from) (accepted_items pool) some.outcomes.items done.legs.items
   dispatched_whole empty right = grind (arith, common_steps, nat_tests, came_whole)

@@ -1,4 +1,4 @@
--- What stands while a dispatcher hands out the legs of a run.
+-- The invariant of dispatching is kept while the legs of a run are offered and answered.
 use Rattle.std.proofs.lemmas.{Grind.common_steps, Bool.Decides.nat_tests}
 use Rattle.std.proofs.Common.{◌≡◌, ◌≢◌, ℕ, zero, suc, ◌+◌, ◌<◌, ◌≤◌, ◌==◌, max, Bool, false, cond, List, [], ◌∷◌, ◌++◌, length, map, replicate, Option, Some, None, option_to_list, Ok, Err, refl, sym, ◌∙◌, ap, subst, arith, inl, inr, append_assoc, append-nil, length-append}
 use Rattle.std.{specs.Prelude.{IfSome, drop, flat_map, slice_index, slice_get, slice_set}, proofs.lemmas.Bool.{cases_eq, eq-eqb, ne_eqb}}
@@ -27,9 +27,9 @@ use Rattle.napt_sequential.specs.{declared.{leg_trace.TracedAnswer.TracedAnswer,
 use Rattle.napt_sequential.{specs.{Steps.{steps_of, traced_replies}, Traces.{passage_of, traces_of}}, proofs.{JoinedSteps.{steps_get, refused_trace}, TracesAlone.right_told}}
 use Rattle.napt_sequential.{proofs.TracedLegs.{IsTraced, IsPlaced, legs_traced}, specs.declared.passage.Passage.Passage}
 
--- FRONTS
+-- PREFIXES
 
--- a front that is short enough is a front of the front
+-- A prefix of an appended list that is no longer than its first part is a prefix of that part.
 short_front : {X : Type 0} (xs ys : List X) (zs : List X) → length xs ≤ length ys → IsFrontOf xs (ys ++ zs) →
     IsFrontOf xs ys
 short_front [] ys zs le h = (ys, refl)
@@ -39,13 +39,15 @@ short_front (x ∷ xs) (y ∷ ys) zs le h =
     let more = short_front xs ys zs (omega arith) (h.0, rest) in
     (more.0, (cc))
 
-length_replies : {P : Type 0} (tells : Passage → P) (rules : Rules) (address : ℕ) (legs : List Leg) (kept : LocalState) →
+length_replies : {P : Type 0} (tells : Passage → P) (rules : Rules) (address : ℕ) (legs : List Leg)
+    (kept : LocalState) →
     length (traced_replies tells rules address legs kept) ≡ length legs
 length_replies tells rules address [] kept = refl
 length_replies tells rules address (l ∷ legs) kept =
     ap suc (length_replies tells rules address legs (local_after rules address l kept))
 
-replies_more : {P : Type 0} (tells : Passage → P) (rules : Rules) (address : ℕ) (legs more : List Leg) (kept : LocalState) →
+replies_more : {P : Type 0} (tells : Passage → P) (rules : Rules) (address : ℕ) (legs more : List Leg)
+    (kept : LocalState) →
     (others : List (TracedAnswer P))
     × (traced_replies tells rules address (legs ++ more) kept ≡ traced_replies tells rules address legs kept ++ others)
 replies_more tells rules address [] more kept = (traced_replies tells rules address more kept, refl)
@@ -53,37 +55,42 @@ replies_more {P} tells rules address (l ∷ legs) more kept =
     let rest = replies_more tells rules address legs more (local_after rules address l kept) in
     (rest.0, ap (λ (xs : List (TracedAnswer P)). traced_by tells rules address l kept ∷ xs) rest.1)
 
--- answers that are right at last were right before
+-- If the last answers are right, so were those taken before.
 pub right_before : {P : Type 0} {tells : Passage → P} {M G : Type 0} (rules : Rules) (start : State)
     (done all : List Arrival) (pool last_pool : Pool M G Leg (TracedAnswer P))
-    (d : Dispatcher P) → DispatcherInvariant tells rules start done all (dispatcher_state pool d) → PoolGrows pool last_pool →
-    AnswersAreRight tells rules start (accepted_items last_pool) (taken_answers last_pool) → AreRight tells rules start (dispatcher_state pool d)
+    (d : Dispatcher P) → DispatcherInvariant tells rules start done all (dispatcher_state pool d) →
+    PoolGrows pool last_pool →
+    AnswersAreRight tells rules start (accepted_items last_pool) (taken_answers last_pool) →
+    AreRight tells rules start (dispatcher_state pool d)
 right_before {P} {tells} rules start done all pool last_pool d s grows right = λ w lt.
     let address : ℕ = slice_index rules.pool w in
     let lane : Lane P = (dispatcher_state pool d).lane w in
     let o = s.lanes w lt in
     let more = grows.offered w in
     let others = replies_more tells rules address lane.offered more.0 (local_bindings start address) in
-    let whole : IsFrontOf lane.taken (traced_replies tells rules address lane.offered (local_bindings start address) ++ others.0) =
+    let whole : IsFrontOf lane.taken (traced_replies tells rules address lane.offered (local_bindings start address)
+    ++ others.0) =
     subst (λ l. IsFrontOf lane.taken l)
     (ap (λ legs. traced_replies tells rules address legs (local_bindings start address)) (sym more.1)
     ∙ others.1) (fronts_both _ _ _ (grows.taken w) (right w lt)) in
-    let long : length (traced_replies tells rules address lane.offered (local_bindings start address)) ≡ length lane.offered =
+    let long : length (traced_replies tells rules address lane.offered (local_bindings start address))
+    ≡ length lane.offered =
     length_replies tells rules address lane.offered (local_bindings start address) in
     let parts : length lane.offered ≡ length o.before + length o.rest =
     ap length o.parts ∙ length-append o.before o.rest in
     short_front lane.taken (traced_replies tells rules address lane.offered (local_bindings start address)) others.0
     (omega (arith, long, parts, o.long)) whole
 
--- a front of a front
+-- The first part of a prefix is a prefix.
 front_less : {X : Type 0} (xs ys zs : List X) → IsFrontOf (xs ++ ys) zs → IsFrontOf xs zs
 front_less xs ys zs h = (ys ++ h.0, sym (append_assoc xs ys h.0) ∙ h.1)
 
 -- ONE LANE
 
--- what was offered to a worker begins its legs of the whole run
+-- The legs offered to a worker are the first of its legs of the whole run.
 offered_front : {P : Type 0} {tells : Passage → P} (rules : Rules) (start : State) (done all : List Arrival)
-    (state : DispatcherModel P) → DispatcherInvariant tells rules start done all state → DispatcherReaches tells rules start done all state →
+    (state : DispatcherModel P) → DispatcherInvariant tells rules start done all state →
+    DispatcherReaches tells rules start done all state →
     (w : ℕ) → w < length rules.pool → IsFrontOf (state.lane w).offered
     (legs_at (slice_index rules.pool w) (effect_from rules start all).acts)
 offered_front rules start done all state s r w lt =
@@ -101,7 +108,7 @@ offered_front rules start done all state s r w lt =
       ) refl,
     )
 
--- a lane and the progress of the inputs change, so that what stands goes on standing
+-- A lane and the progress of the inputs change such that the invariant of the lane is kept.
 pub record LaneKeeps {P : Type 0} (tells : Passage → P) (rules : Rules) (start : State) (all : List Arrival) (w : ℕ)
     (one two : Lane P) (progress later : List (InputProgress P)) : Type 0 where
   pub stands : LaneStands one → LaneStands two
@@ -144,7 +151,7 @@ lane_keeps {tells = tells} w state later one two lt many was is others step = λ
           };
     }
 
--- the queues of one worker, and perhaps what it was offered and answered
+-- The queues of one worker change, and so may the legs offered to it and the answers taken from it.
 pub queues_keep : {P : Type 0} {tells : Passage → P} (w : ℕ) (d later : Dispatcher P)
     (change : WorkerQueueModel → WorkerQueueModel) (offered more : ℕ → List Leg)
     (taken answers : ℕ → List (TracedAnswer P)) → w < length d.queues → later.queues ≡ with_queue w change d.queues →
@@ -171,7 +178,7 @@ queues_keep w d later change offered more taken answers lt is others step =
     })
     step
 
--- only more is known, or as much, after some inputs
+-- The invariant is kept if at least as much is known after the same inputs.
 pub known_stands : {P : Type 0} {tells : Passage → P} (rules : Rules) (start : State) (done all : List Arrival)
     (many : ℕ) (lane : ℕ → Lane P) (progress later : List (InputProgress P)) →
     (AllKnown (whole_of tells rules start all) progress → AllKnown (whole_of tells rules start all) later) →
@@ -181,7 +188,7 @@ known_stands rules start done all many lane progress later known s = grind (arit
 
 -- AN OFFER
 
--- the first legs of the next message are counted as offered
+-- The first legs of the next message are counted as offered.
 pub offers_keep : {P : Type 0} {tells : Passage → P} (rules : Rules) (start : State) (all : List Arrival) (w : ℕ)
     (legs : List Leg) (offered : List Leg)
     (taken : List (TracedAnswer P)) (q : WorkerQueueModel) (progress : List (InputProgress P)) → q.ready ≡ legs ++ drop
@@ -213,9 +220,10 @@ offers_keep {tells = tells} rules start all w legs offered taken q progress read
       known = λ o right front known. known;
     }
 
--- WHAT IS HELD FIRST
+-- THE FIRST HELD ENTRY
 
-resolves_known : {P : Type 0} (whole : RunLegs P) (front : QueueHead) (window later : RunProgressModel P) (second : Option Leg) →
+resolves_known : {P : Type 0} (whole : RunLegs P) (front : QueueHead) (window later : RunProgressModel P)
+    (second : Option Leg) →
     queue_waits (progress_in window) front ≡ false → Resolves front window second later →
     AllKnown whole (progress_in window) → AllKnown whole (progress_in later)
 resolves_known whole fronts.Nothing window later second goes is known = rw is known
@@ -226,10 +234,12 @@ resolves_known whole (fronts.FirstPlace number) window later (Some leg) goes is 
     rw is.written.progress_is (known_set whole (progress_in window) number (Returning is.first)
     (returning_known whole number is.asks.p leg is.first legs is.first_is (known number is.asks.p is.asks.there)) known)
 
-first_stands : {P : Type 0} (whole : RunLegs P) (held : List PendingLeg) (window later : RunProgressModel P) (second : Option Leg) →
+first_stands : {P : Type 0} (whole : RunLegs P) (held : List PendingLeg) (window later : RunProgressModel P)
+    (second : Option Leg) →
     queue_waits (progress_in window) (front_of held) ≡ false → Resolves (front_of held) window second later →
     AllKnown whole (progress_in window) →
-    flat_map (resolved_legs whole.acts) held ≡ first_held_leg second held ++ flat_map (resolved_legs whole.acts) (drop 1 held)
+    flat_map (resolved_legs whole.acts) held ≡ first_held_leg second held
+    ++ flat_map (resolved_legs whole.acts) (drop 1 held)
 first_stands whole [] window later second goes is known = absurd cc
 first_stands whole (Ready leg ∷ rest) window later second goes is known = refl
 first_stands whole (Place number ∷ rest) window later None goes is known =
@@ -239,12 +249,14 @@ first_stands whole (Place number ∷ rest) window later (Some leg) goes is known
     ap (λ ls. ls ++ flat_map (resolved_legs whole.acts) rest)
     (second_known whole (progress_in window) number (Some leg) goes is.asks known)
 
--- it becomes a leg of the next message, or was a placeholder that stands for none
+-- It becomes a leg of the next message, or it was a placeholder without a leg.
 pub readied_keeps : {P : Type 0} {tells : Passage → P} (rules : Rules) (start : State) (all : List Arrival) (w : ℕ)
-    (offered : List Leg) (taken : List (TracedAnswer P)) (q : WorkerQueueModel) (window later : RunProgressModel P) (second : Option Leg) →
+    (offered : List Leg) (taken : List (TracedAnswer P)) (q : WorkerQueueModel) (window later : RunProgressModel P)
+    (second : Option Leg) →
     queue_waits (progress_in window) (front_of q.held) ≡ false → Resolves (front_of q.held) window second later →
     LaneKeeps tells rules start all w (record { offered = offered; taken = taken; queue = q })
-    (record { offered = offered; taken = taken; queue = queue_readied second q }) (progress_in window) (progress_in later)
+    (record { offered = offered; taken = taken; queue = queue_readied second q }) (progress_in window)
+    (progress_in later)
 readied_keeps {tells = tells} rules start all w offered taken q window later second goes is =
     let whole : RunLegs _ = whole_of tells rules start all in
     record {
@@ -262,8 +274,9 @@ each_at : (P : LegAct → Type 0) (address : ℕ) (acts : List LegAct) → Each 
 each_at P address [] h = tt
 each_at P address (a ∷ acts) h = grind (arith, common_steps, nat_tests, each_at P address acts h.1)
 
--- the act of a leg and what is told of it, which stand at one place
-pub record ActOf {P : Type 0} (tells : Passage → P) (timers : Timers) (Q : LegAct → Type 0) (leg : Leg) (told : TracedAnswer P)
+-- The act of a leg and the traced answer to it, which have the same index.
+pub record ActOf {P : Type 0} (tells : Passage → P) (timers : Timers) (Q : LegAct →
+    Type 0) (leg : Leg) (told : TracedAnswer P)
     : Type 0 where
   pub a : LegAct
   pub leg_is : a.leg ≡ leg
@@ -271,7 +284,8 @@ pub record ActOf {P : Type 0} (tells : Passage → P) (timers : Timers) (Q : Leg
   pub holds : Q a
 
 act_at : {P : Type 0} (tells : Passage → P) (timers : Timers) (Q : LegAct → Type 0) (acts : List LegAct)
-    (before more : List Leg) (leg : Leg) (taken rest : List (TracedAnswer P)) (told : TracedAnswer P) → length before ≡ length taken →
+    (before more : List Leg) (leg : Leg) (taken rest : List (TracedAnswer P)) (told : TracedAnswer P) →
+    length before ≡ length taken →
     Each Q acts → before ++ leg ∷ more ≡ map (λ (a : LegAct). a.leg) acts →
     (taken ++ told ∷ []) ++ rest ≡ map (traced_act tells timers) acts → ActOf tells timers Q leg told
 act_at tells timers Q [] [] more leg taken rest told long each legs answers = cc (legs)
@@ -309,7 +323,7 @@ get_map f [] n x h = cc
 get_map f (y ∷ xs) zero x h = let same : y ≡ x = cc (h) in ap (λ z. Some (f z)) same
 get_map f (y ∷ xs) (suc n) x h = get_map f xs n x h
 
--- what is told of an act, and what is known of its input then
+-- The record of an act, and what is then known of its input.
 module _ {P : Type 0} (tells : Passage → P) (rules : Rules) (start : State) (all : List Arrival) (a : LegAct)
     (said : Tells rules start all a)
   where
@@ -328,7 +342,7 @@ module _ {P : Type 0} (tells : Passage → P) (rules : Rules) (start : State) (a
     abbrev legs_here : List Leg
     legs_here = second_legs number (effect_from rules start all).acts
 
-    -- the input came to that, if the leg told its outcome
+    -- If the answer gave the input's outcome, it is the run's.
     abbrev Departs : P → P → Option Outcome → Type 0
     Departs first second outcome = IfSome (departed_with a.leg.now first second outcome)
         (λ d. slice_get whole_here.departed number ≡ Some d)
@@ -339,7 +353,7 @@ module _ {P : Type 0} (tells : Passage → P) (rules : Rules) (start : State) (a
         Departs first second outcome
     departs first second one two outcome h = grind (arith, common_steps, nat_tests, get_map, steps_get)
 
-    -- or its packet goes onward
+    -- If the packet goes onward, there is no outcome yet.
     onward : (first second : P) (place : ℕ) (packet : List ℕ) → a.end ≡ ends.Onward place packet →
         Departs first second (outcome_of_end a.end)
     onward first second place packet is = rw is tt
@@ -358,12 +372,12 @@ module _ {P : Type 0} (tells : Passage → P) (rules : Rules) (start : State) (a
         Departs first second (outcome_of_end a.end) → IsKnownNow (first, second)
     known_now first second is departs = grind (arith, common_steps, nat_tests, first_known, is_outgoing, second_asked)
 
-    -- a first leg
+    -- The answer is to a first leg.
     first_told : (way : Way) → a.leg.way ≡ way → NoneBehind way legs_here →
         IsPlaced rules.timers trace legs_here a → IsKnownNow (did, tells Nothing)
     first_told way goes none only = grind (arith, common_steps, nat_tests, known_now, first_there, departs, onward)
 
-    -- the second
+    -- The answer is to a second leg.
     second_told : (first : P) → slice_get whole_here.firsts number ≡ Some first →
         ((leg : Leg) × (legs_here ≡ leg ∷ [])) → IsPlaced rules.timers trace legs_here a → IsKnownNow (first, did)
     second_told first is some only =
@@ -375,7 +389,8 @@ module _ {P : Type 0} (tells : Passage → P) (rules : Rules) (start : State) (a
         grind (arith, common_steps, nat_tests, same_Some, first_told, second_told)
 
 act_tells : {P : Type 0} (tells : Passage → P) (rules : Rules) (start : State) (all : List Arrival) (leg : Leg)
-    (told : TracedAnswer P) (was : InputProgress P) (passages : P × P) → ActOf tells rules.timers (Tells rules start all) leg told →
+    (told : TracedAnswer P) (was : InputProgress P) (passages : P × P) →
+    ActOf tells rules.timers (Tells rules start all) leg told →
     passages_after (tells Nothing) was leg.way told.passage ≡ Some passages →
     ProgressIsKnown (whole_of tells rules start all) told.answer.number was →
     ProgressIsKnown (whole_of tells rules start all) told.answer.number
@@ -385,12 +400,14 @@ act_tells tells rules start all leg told was passages x is known =
     (told_known tells rules start all x.a x.holds was x.a.leg.way refl (rw (← x.told_is) at known)
     passages (rw (← x.leg_is, ← x.told_is) at is))
 
-first_owed : (legs : List Leg) (o : AwaitedLeg) (os : List AwaitedLeg) → o ∷ os ≡ map owed_of legs → (leg : Leg) × (rest : List Leg)
+first_owed : (legs : List Leg) (o : AwaitedLeg) (os : List AwaitedLeg) → o ∷ os ≡ map owed_of legs → (leg : Leg) ×
+    (rest : List Leg)
     × (legs ≡ leg ∷ rest) × (o ≡ owed_of leg) × (os ≡ map owed_of rest)
 first_owed [] o os h = cc
 first_owed (leg ∷ legs) o os h = (leg, legs, refl, cc, cc)
 
-module _ {P : Type 0} (tells : Passage → P) (rules : Rules) (start : State) (all : List Arrival) (w : ℕ) (told : TracedAnswer P)
+module _ {P : Type 0} (tells : Passage → P) (rules : Rules) (start : State) (all : List Arrival) (w : ℕ)
+    (told : TracedAnswer P)
     (owed : AwaitedLeg) (passages : P × P) (offered : List Leg) (taken : List (TracedAnswer P)) (q : WorkerQueueModel)
     (owes : q.owed ≡ owed ∷ drop 1 q.owed) where
   abbrev course : RunEffect
@@ -422,12 +439,15 @@ module _ {P : Type 0} (tells : Passage → P) (rules : Rules) (start : State) (a
       let each : Each (Tells rules start all) (acts_at address course.acts) =
       each_at (Tells rules start all) address course.acts (each_tells rules start all course.acts
       (answers_tell rules start all) (answers_fill rules start all) (legs_traced rules start all)) in
-      let legs : o.before ++ first.0 ∷ (first.1 ++ front.0) ≡ map (λ (a : LegAct). a.leg) (acts_at address course.acts) =
+      let legs : o.before ++ first.0 ∷ (first.1 ++ front.0)
+      ≡ map (λ (a : LegAct). a.leg) (acts_at address course.acts) =
       rw (o.parts, first.2, append_assoc) at front.1 in
-      subst (λ (o : AwaitedLeg). ProgressIsKnown (whole_of tells rules start all) told.answer.number (now_told o)) (sym first.3)
+      subst (λ (o : AwaitedLeg). ProgressIsKnown (whole_of tells rules start all) told.answer.number (now_told o))
+      (sym first.3)
       (act_tells tells rules start all first.0 told was passages (act_at tells rules.timers (Tells rules start all)
       (acts_at address course.acts) o.before (first.1 ++ front.0) first.0 taken told_front.0 told o.long each legs
-      told_front.1) (ap (λ (o : AwaitedLeg). passages_after (tells Nothing) was o.way told.passage) (sym first.3) ∙ is) known)
+      told_front.1) (ap (λ (o : AwaitedLeg). passages_after (tells Nothing) was o.way told.passage) (sym first.3)
+      ∙ is) known)
 
   pub answer_keeps : (progress : List (InputProgress P)) (was : InputProgress P) →
       slice_get progress told.answer.number ≡ Some was →
@@ -451,7 +471,7 @@ module _ {P : Type 0} (tells : Passage → P) (rules : Rules) (start : State) (a
         (now_told owed) (answer_known was is o right front (known told.answer.number was there)) known;
   }
 
--- ONE INPUT MORE
+-- ONE MORE INPUT
 
 single_by : (rules : Rules) (at : ℕ) (leg : Leg) (first : LegEffect) (e : End) →
     ((place : ℕ) (packet : List ℕ) → e ≢ ends.Onward place packet) → (with_second_leg rules at leg first e).acts
@@ -461,11 +481,11 @@ single_by rules at leg first e n = grind (arith, common_steps, nat_tests)
 from_inside : (side : Side) → way_from side ≡ Outgoing → side ≡ Inside
 from_inside side h = grind (arith, common_steps, nat_tests)
 
--- no address occurs twice
+-- No address occurs twice.
 abbrev Distinct : List ℕ → Type 0
 Distinct pool = (i j : ℕ) → i < length pool → j < length pool → slice_index pool i ≡ slice_index pool j → i ≡ j
 
--- by the addresses of workers as by their places
+-- Comparing the addresses of workers is comparing their indices.
 same_test : (pool : List ℕ) → Distinct pool → (v w : ℕ) → v < length pool → w < length pool →
     (slice_index pool w == slice_index pool v) ≡ (v == w)
 same_test pool distinct v w lv lw = grind (arith, common_steps, nat_tests, cases_eq, eq-eqb, ne_eqb)
@@ -478,13 +498,14 @@ legs_behind : (acts : List LegAct) (legs : List Leg) (rest : List PendingLeg) �
 legs_behind acts [] rest = refl
 legs_behind acts (leg ∷ legs) rest = ap (λ (ls : List Leg). leg ∷ ls) (legs_behind acts legs rest)
 
--- all that is held, as legs
+-- All held entries, as legs.
 legs_held : (acts : List LegAct) (q : WorkerQueueModel) →
     flat_map (resolved_legs acts) (all_held q) ≡ q.ready ++ flat_map (resolved_legs acts) q.held
 legs_held acts q = legs_behind acts q.ready q.held
 
--- one worker holds more
-lane_more : {P : Type 0} (acts : List LegAct) (offered : List Leg) (taken : List (TracedAnswer P)) (q later : WorkerQueueModel)
+-- More is held for one worker.
+lane_more : {P : Type 0} (acts : List LegAct) (offered : List Leg) (taken : List (TracedAnswer P))
+    (q later : WorkerQueueModel)
     (more : List PendingLeg) →
     HoldPost more q later → lane_legs acts (record { offered = offered; taken = taken; queue = later })
     ≡ lane_legs acts (record { offered = offered; taken = taken; queue = q }) ++ flat_map (resolved_legs acts) more
@@ -496,7 +517,8 @@ lane_more acts offered taken q later more h =
 
 module _ {P : Type 0} (tells : Passage → P) (rules : Rules) (start : State) (distinct : Distinct rules.pool)
     (done rest : List Arrival) (input : Arrival) (number now : ℕ) (long : length done ≡ number)
-    (clock : max (last_clock start.clock done) input.clock ≡ now) (offered : ℕ → List Leg) (taken : ℕ → List (TracedAnswer P))
+    (clock : max (last_clock start.clock done) input.clock ≡ now) (offered : ℕ → List Leg) (taken : ℕ →
+    List (TracedAnswer P))
     (d later : Dispatcher P) where
   abbrev all_of : List Arrival
   all_of = (done ++ input ∷ []) ++ rest
@@ -510,14 +532,16 @@ module _ {P : Type 0} (tells : Passage → P) (rules : Rules) (start : State) (d
   abbrev at_place : ℕ → ℕ
   at_place v = slice_index rules.pool v
 
-  -- the same, but for more that is held and known, with the legs of one input more
+  -- The invariant is kept if what is newly held and known has the legs of one more input.
   grown_stands : (extra : ℕ → List PendingLeg) → length later.queues ≡ length d.queues →
       AllHold extra d.queues later.queues →
       ((v : ℕ) → v < length rules.pool → legs_at (at_place v) (effect_from rules start now_done).acts ≡ legs_at
       (at_place v) (effect_from rules start done).acts ++ flat_map (resolved_legs acts_all) (extra v)) →
       (AllKnown (whole_of tells rules start all_of) (progress_in d.progress) → AllKnown
-      (whole_of tells rules start all_of) (progress_in later.progress)) → DispatcherInvariant tells rules start done all_of
-      (state_with offered taken d) → DispatcherInvariant tells rules start now_done all_of (state_with offered taken later)
+      (whole_of tells rules start all_of) (progress_in later.progress)) →
+      DispatcherInvariant tells rules start done all_of
+      (state_with offered taken d) → DispatcherInvariant tells rules start now_done all_of
+      (state_with offered taken later)
   grown_stands extra many holds legs known s = record {
     rest = rest;
     whole = refl;
@@ -534,7 +558,8 @@ module _ {P : Type 0} (tells : Passage → P) (rules : Rules) (start : State) (d
   }
 
   pub refused_stands : (cause : Cause) → admission rules input ≡ Err cause → later.queues ≡ d.queues →
-      progress_in later.progress ≡ slice_set (progress_in d.progress) number (progress_refused (tells Nothing) now cause) →
+      progress_in later.progress ≡ slice_set (progress_in d.progress) number
+      (progress_refused (tells Nothing) now cause) →
       DispatcherInvariant tells rules start done all_of (state_with offered taken d) →
       DispatcherInvariant tells rules start now_done all_of (state_with offered taken later)
   refused_stands cause is queues written =
@@ -572,7 +597,7 @@ module _ {P : Type 0} (tells : Passage → P) (rules : Rules) (start : State) (d
         (served_at rules (way_from input.side) packet == at_place v) ≡ (v == w)
     same_first v lt = rw (← served) (same_test rules.pool distinct v w lt within)
 
-    -- its first leg alone
+    -- The input has its first leg alone.
     pub alone_stands : (input.side ≡ Inside → pool_place rules (destination packet).address ≡ None) →
         length later.queues ≡ length d.queues →
         AllHold (λ v. only_at w (Ready leg_of ∷ []) v ++ []) d.queues later.queues →
@@ -591,7 +616,8 @@ module _ {P : Type 0} (tells : Passage → P) (rules : Rules) (start : State) (d
         cc in
         let acts : (effect_from rules start now_done).acts ≡ before.acts ++ first_act rules at_w leg_of before.list
         ∷ [] =
-        acts_grow rules start done rest input number now long clock packet admitted ∙ ap (λ (xs : List LegAct). before.acts
+        acts_grow rules start done rest input number now long clock packet admitted
+        ∙ ap (λ (xs : List LegAct). before.acts
         ++ xs) (single_by rules at_w leg_of first first.end never) in
         rw (
           acts,
@@ -603,7 +629,7 @@ module _ {P : Type 0} (tells : Passage → P) (rules : Rules) (start : State) (d
         ) refl)
         (λ known. rw same known) s
 
-    -- with a place for the second
+    -- The input also has a placeholder for its second leg.
     pub placed_stands : (to : ℕ) → to < length rules.pool → at_place to ≡ (destination packet).address →
         input.side ≡ Inside → length later.queues ≡ length d.queues →
         AllHold (λ v. only_at w (Ready leg_of ∷ []) v ++ only_at to (Place number ∷ []) v) d.queues later.queues →
@@ -623,16 +649,17 @@ module _ {P : Type 0} (tells : Passage → P) (rules : Rules) (start : State) (d
         ) refl)
         (λ known. rw same known) s
 
--- an input that is dropped before any leg
+-- An input that is dropped before any leg.
 pub refused_admits : {P : Type 0} {tells : Passage → P} (rules : Rules) (number now : ℕ) (input : Arrival)
     (d later : Dispatcher P) (cause : Cause) →
     Distinct rules.pool → admission rules input ≡ Err cause → later.queues ≡ d.queues →
-    progress_in later.progress ≡ slice_set (progress_in d.progress) number (progress_refused (tells Nothing) now cause) →
+    progress_in later.progress ≡ slice_set (progress_in d.progress) number
+    (progress_refused (tells Nothing) now cause) →
     Admits tells rules number now input d later
 refused_admits rules number now input d later cause distinct is queues written =
     grind (arith, common_steps, nat_tests, refused_stands)
 
--- an input with a first leg, and perhaps a place for its second
+-- An input with a first leg, and perhaps a placeholder for its second.
 pub admitted_admits : {P : Type 0} {tells : Passage → P} (rules : Rules) (number now : ℕ) (input : Arrival)
     (d later : Dispatcher P) (packet : List ℕ)
     (w : ℕ) → Distinct rules.pool → OnwardIsForeseen → IsPacket packet → admission rules input ≡ Ok packet →
@@ -680,7 +707,7 @@ begin_stands rules start inputs offered taken d is no_legs no_answers progress =
 
 -- THE END
 
--- all answers were taken
+-- All answers were taken.
 pub all_taken : {P : Type 0} (lane : Lane P) → LaneStands lane → lane.queue.owed ≡ [] → length lane.taken
     ≡ length lane.offered
 all_taken lane o none = grind (arith, common_steps, nat_tests, length-map, length-append)
@@ -693,11 +720,11 @@ module _ {P : Type 0} {tells : Passage → P} (rules : Rules) (start : State) (i
   abbrev whole : RunLegs P
   whole = whole_of tells rules start inputs
 
-  -- what left is the front of what the run gives
+  -- The results that left the window are the first ones of the run.
   pub left_right : IsFrontOf d.progress.left (timed_results inputs (input_results tells rules start inputs))
   left_right = left_front whole d.progress inputs times (s.reaches right).known (departed_long tells rules start inputs)
 
-  -- all of it, where no input is open
+  -- They are all of the run's results if no input is open.
   pub dispatched : length offered ≡ length rules.pool → DispatcherIsDone d → d.progress.under_way ≡ [] →
       (d.progress.left ≡ timed_results inputs (input_results tells rules start inputs))
       × IsDispatchedFrom rules start inputs offered (map collected_outcome d.progress.left) (counts_in d.queues)
@@ -714,7 +741,8 @@ module _ {P : Type 0} {tells : Passage → P} (rules : Rules) (start : State) (i
         left,
         record {
           legs = map_at (λ address. legs_at address whole.acts) offered [] rules.pool many reached;
-          outcomes_are = ap (map collected_outcome) left ∙ (timed_outcomes inputs (input_results tells rules start inputs) long
+          outcomes_are = ap (map collected_outcome) left
+              ∙ (timed_outcomes inputs (input_results tells rules start inputs) long
               ∙ departed_outcomes tells rules start inputs);
           numbers_are = map_at (λ address. length (legs_at address whole.acts)) (counts_in d.queues) 0 rules.pool
               (length-map d.queues (λ q. q.offered) ∙ s.many)

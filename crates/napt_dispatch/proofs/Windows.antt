@@ -33,7 +33,8 @@ get_at (y ∷ xs) (suc i) x lt is = get_at xs i x (omega arith) is
 
 -- WHAT IS KNOWN
 
-get_set : {P : Type 0} (xs : List (InputProgress P)) (n i : ℕ) (v x : InputProgress P) → slice_get (set xs n v) i ≡ Some x →
+get_set : {P : Type 0} (xs : List (InputProgress P)) (n i : ℕ) (v x : InputProgress P) →
+    slice_get (set xs n v) i ≡ Some x →
     ((i ≡ n) × (v ≡ x)) ⊎ (slice_get xs i ≡ Some x)
 get_set [] n i v x h = inr h
 get_set (o ∷ os) zero zero v x h = inl (refl, (cc))
@@ -55,7 +56,7 @@ get_push [] x (suc i) y h = cc
 get_push (z ∷ xs) x zero y h = inl h
 get_push (z ∷ xs) x (suc i) y h = elim (get_push xs x i y h) [ inl e ↦ inl e | inr e ↦ inr (ap suc e.0, e.1) ]
 
--- a second leg was taken out, which the last answer asks for
+-- A second leg was removed, for which the last answer asks.
 pub returning_known : {P : Type 0} (whole : RunLegs P) (n : ℕ) (p : InputProgress P) (leg : Leg) (first : P) →
     second_legs n whole.acts ≡ leg ∷ [] → first_in p ≡ Some first → ProgressIsKnown whole n p →
     ProgressIsKnown whole n (Returning first)
@@ -74,18 +75,20 @@ pub ended_known : {P : Type 0} (whole : RunLegs P) (n : ℕ) (d : InputResult P)
     ProgressIsKnown whole n (progress_ended d)
 ended_known whole n d is = grind (arith, common_steps, nat_tests, told_end, no_first)
 
--- nothing is known of one more, but that none is behind a first leg that comes in
+-- Of one more input it is only known that no second leg follows an incoming first leg.
 pub known_push : {P : Type 0} (whole : RunLegs P) (progress : List (InputProgress P)) (way : Way) →
     NoneBehind way (second_legs (length progress) whole.acts) → AllKnown whole progress →
     AllKnown whole (progress ++ Awaited way ∷ [])
 known_push whole progress way none known = grind (arith, common_steps, nat_tests, get_push)
 
-known_departed : {P : Type 0} (whole : RunLegs P) (i : ℕ) (p : InputProgress P) (d : InputResult P) → departed_in p ≡ Some d →
+known_departed : {P : Type 0} (whole : RunLegs P) (i : ℕ) (p : InputProgress P) (d : InputResult P) →
+    departed_in p ≡ Some d →
     ProgressIsKnown whole i p → slice_get whole.departed i ≡ Some d
 known_departed whole i p d is known = rw is at known.departed
 
--- what has left
-left_known : {P : Type 0} (whole : RunLegs P) (i : ℕ) (pair : ℕ × InputResult P) → ProgressIsKnown whole i (ended_in pair) →
+-- The results that left the window agree with the run.
+left_known : {P : Type 0} (whole : RunLegs P) (i : ℕ) (pair : ℕ × InputResult P) →
+    ProgressIsKnown whole i (ended_in pair) →
     slice_get whole.departed i ≡ Some pair.1
 left_known whole i pair known = known_departed whole i (ended_in pair) pair.1 (departed_ended pair.1) known
 
@@ -93,8 +96,9 @@ second_by : {P : Type 0} (legs : List Leg) (number : ℕ) (p : InputProgress P) 
     KnowsSecond legs number p → legs ≡ option_to_list (second_leg_asked number p)
 second_by legs number p goes knows = grind (arith, common_steps, nat_tests)
 
--- the second leg that is asked for
-pub second_known : {P : Type 0} (whole : RunLegs P) (progress : List (InputProgress P)) (number : ℕ) (second : Option Leg) →
+-- The second leg for which an answer asks is that of the run.
+pub second_known : {P : Type 0} (whole : RunLegs P) (progress : List (InputProgress P)) (number : ℕ)
+    (second : Option Leg) →
     is_unknown (slice_get progress number) ≡ false → AsksForSecondLeg number progress second → AllKnown whole progress →
     second_legs number whole.acts ≡ option_to_list second
 second_known whole progress number second goes asks known =
@@ -106,7 +110,7 @@ second_known whole progress number second goes asks known =
 abbrev window_of : {P : Type 0} → List (ℕ × InputResult P) → List (OpenInput P) → RunProgressModel P
 window_of left items = record { left = left; under_way = items }
 
--- what is read of all inputs, where one open input changes
+-- What is read of all inputs if one open input changes.
 module _ {P X : Type 0} (f : ℕ × InputResult P → X) (h : OpenInput P → X) (left : List (ℕ × InputResult P))
     (items : List (OpenInput P)) (number place : ℕ) (later : OpenInput P) where
   reads_set : (x : X) → number ≡ length left + place → h later ≡ x →
@@ -126,7 +130,7 @@ module _ {P : Type 0} (left : List (ℕ × InputResult P)) (items : List (OpenIn
   n_is : number ≡ length left + place
   n_is = grind (arith, common_steps, nat_tests)
 
-  -- the progress of an open input
+  -- The progress of an open input.
   pub open_get : slice_get (progress_in window) number ≡ Some o.progress
   open_get =
       let place_is : number ≡ length (map ended_in left) + place = omega (arith, n_is, length-map left ended_in) in
@@ -136,17 +140,17 @@ module _ {P : Type 0} (left : List (ℕ × InputResult P)) (items : List (OpenIn
       ap (λ (w : RunProgressModel P). slice_get (progress_in w) number) (sym is)
       ∙ (get_behind (map ended_in left) (map known_in items) number place place_is ∙ here)
 
-  -- what is told of its legs, once this is told of one that it awaits
+  -- The records of its legs, once the answer to an awaited leg brings one.
   pub open_answers : (none : P) (way : Way) (passage : P) (passages : Option (P × P)) →
       passages ≡ passages_after none o.progress way passage → IfSome passages (AnswersTo none window number way passage)
   open_answers none way passage passages e = grind (arith, common_steps, nat_tests, open_get)
 
-  -- its progress is set
+  -- Its progress is set.
   pub open_written : (later : OpenInput P) (p : InputProgress P) → later.time ≡ o.time → later.progress ≡ p →
       ProgressIsWritten number p window (window_of left (set items place later))
   open_written later p time same = grind (arith, common_steps, nat_tests, reads_same, reads_set, n_is)
 
-  -- its mark is set or cleared
+  -- Its mark is set or cleared.
   pub open_has_mark : (later : OpenInput P) (m : Bool) → later.has_place ≡ m →
       HasMark number m window (window_of left (set items place later))
   open_has_mark later m same = grind (arith, common_steps, nat_tests, reads_set, n_is)
@@ -155,12 +159,12 @@ module _ {P : Type 0} (left : List (ℕ × InputResult P)) (items : List (OpenIn
       later.has_place ≡ m → InputIsMarked number m window (window_of left (set items place later))
   open_marked later m time progress mark = grind (arith, common_steps, nat_tests, reads_same, open_has_mark)
 
-  -- or not
+  -- Its mark stays.
   pub open_unmarked : (later : OpenInput P) → later.has_place ≡ o.has_place →
       marks_in (window_of left (set items place later)) ≡ marks_in window
   open_unmarked later same = reads_same unmarked mark_of left items number place later o at same ∙ ap marks_in is
 
-  -- its second leg
+  -- Its second leg.
   pub open_second : (later : OpenInput P) (second : Option Leg) → IsSecondOf number o later second →
       IsSecond number window (window_of left (set items place later)) second
   open_second later None s = (
@@ -175,7 +179,7 @@ module _ {P : Type 0} (left : List (ℕ × InputResult P)) (items : List (OpenIn
     mark = open_has_mark later false (ap mark_of s.1);
   }
 
--- nothing of the second leg of one whose outcome left
+-- No second leg is known of an input whose outcome has left the window.
 pub left_unknown : {P : Type 0} (left : List (ℕ × InputResult P)) (ps : List (InputProgress P)) (number : ℕ) →
     number < length left → is_unknown (slice_get (map ended_in left ++ ps) number) ≡ true
 left_unknown [] ps number lt = absurd (omega arith)
@@ -202,14 +206,15 @@ length_marks window = grind (arith, common_steps, nat_tests, length_of, length-m
 pub times_long : {P : Type 0} (window : RunProgressModel P) → length (times_in window) ≡ length (progress_in window)
 times_long window = grind (arith, common_steps, nat_tests, length_of, length-map, length_all)
 
--- a number that no open input has
+-- The number of no open input.
 pub unread_unknown : {P : Type 0} (left : List (ℕ × InputResult P)) (items : List (OpenInput P)) (number : ℕ) →
     length left + length items ≤ number → is_unknown (slice_get (progress_in (window_of left items)) number) ≡ true
 unread_unknown left items number le = grind (arith, common_steps, nat_tests, past_unknown, length_all)
 
 -- STEPS
 
-pub expecting_times : {P : Type 0} (time : ℕ) (way : Way) (window : RunProgressModel P) → times_in (progress_expecting time way window)
+pub expecting_times : {P : Type 0} (time : ℕ) (way : Way) (window : RunProgressModel P) →
+    times_in (progress_expecting time way window)
     ≡ times_in window ++ time ∷ []
 expecting_times time way window = grind (arith, common_steps, nat_tests, map-append, append_assoc)
 
@@ -217,7 +222,8 @@ pub expecting_progress : {P : Type 0} (time : ℕ) (way : Way) (window : RunProg
     progress_in (progress_expecting time way window) ≡ progress_in window ++ Awaited way ∷ []
 expecting_progress time way window = grind (arith, common_steps, nat_tests, map-append, append_assoc)
 
-pub expecting_marks : {P : Type 0} (time : ℕ) (way : Way) (window : RunProgressModel P) → marks_in (progress_expecting time way window)
+pub expecting_marks : {P : Type 0} (time : ℕ) (way : Way) (window : RunProgressModel P) →
+    marks_in (progress_expecting time way window)
     ≡ marks_in window ++ false ∷ []
 expecting_marks time way window = grind (arith, common_steps, nat_tests, map-append, append_assoc)
 
@@ -233,15 +239,17 @@ expecting_unmarked {P} time way number window later n is =
           ∙ get_behind (marks_in window) (false ∷ []) number 0 long);
     }
 
--- the first open input may leave
-pub first_leaves : {P : Type 0} (window : RunProgressModel P) (first : OpenInput P) (rest : List (OpenInput P)) (d : InputResult P)
+-- The first open input may leave.
+pub first_leaves : {P : Type 0} (window : RunProgressModel P) (first : OpenInput P) (rest : List (OpenInput P))
+    (d : InputResult P)
     (left : List (ℕ × InputResult P)) → window.under_way ≡ first ∷ rest → FirstMayLeave window.under_way →
     departed_in first.progress ≡ Some d → left ≡ window.left ++ (first.time, d) ∷ [] →
     FirstInputLeaves (first.time, d) window (window_of left rest)
 first_leaves window first rest d left is may ends more = grind (arith, common_steps, nat_tests)
 
--- one outcome left
-pub leaves_over : {P : Type 0} (pair : ℕ × InputResult P) (window later : RunProgressModel P) → FirstInputLeaves pair window later →
+-- One outcome left.
+pub leaves_over : {P : Type 0} (pair : ℕ × InputResult P) (window later : RunProgressModel P) →
+    FirstInputLeaves pair window later →
     OutcomesAreHandedOver (pair ∷ []) window later
 leaves_over {P} pair window later l =
     let lefts : List (InputProgress P) = map ended_in window.left in
@@ -278,12 +286,14 @@ pub over_none : {P : Type 0} (window : RunProgressModel P) → OutcomesAreHanded
 over_none window = grind (arith, common_steps, nat_tests, append-nil)
 
 pub over_more : {P : Type 0} (xs ys : List (ℕ × InputResult P)) (window middle later : RunProgressModel P) →
-    OutcomesAreHandedOver xs window middle → OutcomesAreHandedOver ys middle later → OutcomesAreHandedOver (xs ++ ys) window later
+    OutcomesAreHandedOver xs window middle → OutcomesAreHandedOver ys middle later →
+    OutcomesAreHandedOver (xs ++ ys) window later
 over_more xs ys window middle later a b = grind (arith, common_steps, nat_tests, append_assoc)
 
 -- THE END
 
-get_left : {P : Type 0} (left : List (ℕ × InputResult P)) (ps : List (InputProgress P)) (i : ℕ) (pair : ℕ × InputResult P) →
+get_left : {P : Type 0} (left : List (ℕ × InputResult P)) (ps : List (InputProgress P)) (i : ℕ) (pair : ℕ ×
+    InputResult P) →
     slice_get left i ≡ Some pair → slice_get (map ended_in left ++ ps) i ≡ Some (ended_in pair)
 get_left [] ps i pair h = cc
 get_left (x ∷ left) ps zero pair h = cc
@@ -301,8 +311,11 @@ front_by {P} (x ∷ left) more (i ∷ inputs) (o ∷ outs) long times h =
     let rest : IsFrontOf left (timed_results inputs outs) =
     front_by left more inputs outs (omega arith) (cc (times)) (λ k pair g. h (suc k) pair g) in
     let time : x.0 ≡ i.time = cc (times) in
-    let outcome : x.1 ≡ o = cc (here) in
-    (rest.0, ap (λ l. x ∷ l) rest.1 ∙ ap (λ (y : ℕ × InputResult P). y ∷ timed_results inputs outs) (rw (time, outcome) refl))
+    let outcome : x.1 ≡ o = cc (here) in (
+      rest.0,
+      ap (λ l. x ∷ l) rest.1 ∙ ap (λ (y : ℕ × InputResult P). y ∷ timed_results inputs outs)
+          (rw (time, outcome) refl),
+    )
 
 pub left_front : {P : Type 0} (whole : RunLegs P) (window : RunProgressModel P) (inputs : List Arrival) →
     times_in window ≡ map (λ i. i.time) inputs → AllKnown whole (progress_in window) →
@@ -312,10 +325,11 @@ left_front whole window inputs times known long =
     (λ i pair g. left_known whole i pair (known i (ended_in pair)
     (get_left window.left (map known_in window.under_way) i pair g)))
 
--- the same where more inputs came than were read
+-- The same if more inputs came than were read.
 pub left_front_of : {P : Type 0} (whole : RunLegs P) (window : RunProgressModel P) (inputs unread : List Arrival) →
     times_in window ≡ map (λ i. i.time) inputs → AllKnown whole (progress_in window) →
-    length whole.departed ≡ length (inputs ++ unread) → IsFrontOf window.left (timed_results (inputs ++ unread) whole.departed)
+    length whole.departed ≡ length (inputs ++ unread) →
+    IsFrontOf window.left (timed_results (inputs ++ unread) whole.departed)
 left_front_of whole window inputs unread times known long =
     let more : List ℕ = map (λ (i : Arrival). i.time) unread in
     front_by window.left (map progress_arrived window.under_way ++ more) (inputs ++ unread) whole.departed long
@@ -349,7 +363,7 @@ timed_outcomes [] (o ∷ outs) e = absurd (omega arith)
 timed_outcomes (i ∷ inputs) [] e = absurd (omega arith)
 timed_outcomes (i ∷ inputs) (o ∷ outs) e = ap (λ l. o.outcome ∷ l) (timed_outcomes inputs outs (omega arith))
 
--- what the inputs of a run come to has its outcomes
+-- The results of the inputs of a run have the run's outcomes.
 same_outcomes : {P : Type 0} (tells : Passage → P) (all : List StepResult) →
     map (λ d. d.outcome) (map (input_result tells) all) ≡ map (λ s. s.outcome) all
 same_outcomes tells [] = refl

@@ -1,4 +1,4 @@
--- What is true of a worker after legs were offered and answers taken.
+-- What holds of a worker after legs were offered to it and answers taken from it.
 use Rattle.std.{proofs.lemmas.{Grind.common_steps, Bool.{Decides.nat_tests, cases_lt}, List.length-map}, specs.Prelude.slice_set}
 use Rattle.std.proofs.Common.{◌≡◌, ◌≢◌, ◌⊎◌, ◌||◌, ℕ, zero, suc, ◌+◌, ◌<◌, ◌≤◌, min, Bool, true, false, List, [], ◌∷◌, ◌++◌, length, map, take, drop, length-append, length-drop, take-append-drop, Option, refl, sym, ◌∙◌, ap, subst, arith}
 use Rattle.napt_rules.specs.{Prelude.effect_from, declared.Leg.Leg}
@@ -12,9 +12,10 @@ use Rattle.napt_dispatch.proofs.Lanes.{grows_none, added_own, added_other, added
 use Rattle.napt_dispatch.proofs.{QueueStates.{queue_own, queue_other, sum_with, nothing}, Standing.{queues_keep, offers_keep, readied_keeps, answer_keeps}}
 use Rattle.napt_sequential.specs.declared.{leg_trace.TracedAnswer.TracedAnswer, passage.Passage.Passage}
 
--- WHAT STANDS FIRST
+-- THE FIRST HELD ENTRY
 
-journal_as : {P : Type 0} {times times' : List ℕ} {left left' : List (ℕ × InputResult P)} → times ≡ times' → left ≡ left' →
+journal_as : {P : Type 0} {times times' : List ℕ} {left left' : List (ℕ × InputResult P)} → times ≡ times' →
+    left ≡ left' →
     (let j : List ℕ × List (ℕ × InputResult P) = (times, left) in j) ≡ (times', left')
 journal_as a b = λ i. (a i, b i)
 
@@ -42,7 +43,7 @@ resolved_on front second window later is =
 
 -- OFFERS
 
--- what waits goes on waiting
+-- An entry that waited still waits if no more is known.
 waits_on : {P : Type 0} (progress later : List (InputProgress P)) (front : QueueHead) → Forgets progress later →
     queue_waits progress front ≡ true → queue_waits later front ≡ true
 waits_on progress later front forgets h = grind (arith, common_steps, nat_tests)
@@ -77,11 +78,12 @@ readies_moved w d later within same m = record {
   forgets = λ number h. rw same h;
 }
 
-pub readies_both : {P : Type 0} {tells : Passage → P} {w : ℕ} {d mid later : Dispatcher P} → ReadyLegsPost tells w d mid →
+pub readies_both : {P : Type 0} {tells : Passage → P} {w : ℕ} {d mid later : Dispatcher P} →
+    ReadyLegsPost tells w d mid →
     ReadyLegsPost tells w mid later → ReadyLegsPost tells w d later
 readies_both a b = grind (arith, common_steps, nat_tests)
 
--- a message of as many legs as there are and as fit takes the ring's room, or all that can be offered
+-- A message of all legs that fit fills the ring, or takes all that can be offered.
 pub offers_all : {P : Type 0} (progress : List (InputProgress P)) (q : WorkerQueueModel) (most count : ℕ) →
     count ≡ min (length q.ready) most → (queue_waits progress (front_of q.held) ≡ true) ⊎ (most ≤ length q.ready) →
     (queue_waits progress (front_of (map (λ leg. Ready leg) (drop count q.ready) ++ q.held)) ≡ true) ⊎ (count ≡ most)
@@ -89,14 +91,16 @@ offers_all progress q most count is full = grind (arith, common_steps, nat_tests
 
 module _ {P M G : Type 0} where
   pub over_pool : {tells : Passage → P} {pool later_pool : Pool M G Leg (TracedAnswer P)} {d later : Dispatcher P} →
-      DispatcherKeeps tells (dispatcher_state pool d) (dispatcher_state later_pool later) → KeepsAt tells pool d later_pool later
+      DispatcherKeeps tells (dispatcher_state pool d) (dispatcher_state later_pool later) →
+      KeepsAt tells pool d later_pool later
   over_pool keeps = λ rules start done all s. record { stands = keeps rules start done all s.stands }
 
   module _ {tells : Passage → P} (w most : ℕ) (pool : Pool M G Leg (TracedAnswer P)) (d mid : Dispatcher P)
       (r : ReadyLegsPost tells w d mid)
-      (room : length (of_worker (accepted_items pool) w) + most ≡ length (of_worker (taken_answers pool) w) + capacity_of pool)
+      (room : length (of_worker (accepted_items pool) w) + most ≡ length (of_worker (taken_answers pool) w)
+      + capacity_of pool)
       (all : (waits_behind mid w ≡ true) ⊎ (most ≤ length (queue_of mid.queues w).ready)) where
-    -- nothing could be sent
+    -- No leg could be sent.
     pub none_sent : 0 ≡ min (length (queue_of mid.queues w).ready) most → HasOffered pool mid w
     none_sent none = grind (arith, common_steps, nat_tests, offers_all)
 
@@ -111,14 +115,16 @@ module _ {P M G : Type 0} where
     pub none_alone : OffersOnlyTo w pool d pool mid
     none_alone = grind (arith, common_steps, nat_tests)
 
-    -- legs were sent
+    -- Legs were sent.
     module _ (legs : List Leg) (later_pool : Pool M G Leg (TracedAnswer P)) (later : Dispatcher P)
         (within : w < length (initial_machines pool)) (inside : w < length mid.queues)
         (queues : later.queues ≡ with_queue w (with_offers legs) mid.queues) (same : later.progress ≡ mid.progress)
-        (accepted : accepted_items later_pool ≡ slice_set (accepted_items pool) w (of_worker (accepted_items pool) w ++ legs))
+        (accepted : accepted_items later_pool ≡ slice_set (accepted_items pool) w
+        (of_worker (accepted_items pool) w ++ legs))
         (took : taken_answers later_pool ≡ taken_answers pool) where
       offered_now : of_worker (accepted_items later_pool) ≡ with_more_at w legs (of_worker (accepted_items pool))
-      offered_now = ap of_worker accepted ∙ set_added (accepted_items pool) w legs (rw length-map (rw length-map at within))
+      offered_now = ap of_worker accepted ∙ set_added (accepted_items pool) w legs
+          (rw length-map (rw length-map at within))
 
       offered_own : of_worker (accepted_items later_pool) w ≡ of_worker (accepted_items pool) w ++ legs
       offered_own = ap (λ f. f w) offered_now ∙ added_own w legs (of_worker (accepted_items pool))
@@ -135,7 +141,8 @@ module _ {P M G : Type 0} where
           let ready = (queue_of mid.queues w).ready in
           let parts : ready ≡ legs ++ drop (length legs) ready =
           rw (long, first) (sym (take-append-drop count ready)) in
-          queues_keep w mid later (with_offers legs) (of_worker (accepted_items pool)) (of_worker (accepted_items later_pool))
+          queues_keep w mid later (with_offers legs) (of_worker (accepted_items pool))
+          (of_worker (accepted_items later_pool))
           (of_worker (taken_answers pool)) (of_worker (taken_answers later_pool)) inside queues
           (λ v n. (offered_other v n, ap (λ lists. of_worker lists v) took))
           (λ rules start all. rw (offered_own, took, same) (offers_keep rules start all w legs
@@ -148,8 +155,9 @@ module _ {P M G : Type 0} where
       sent_all count capacity =
           grind (arith, common_steps, nat_tests, offers_all, queue_own, offered_own, length-append)
 
-  -- what was offered all that it can be still is after offers to another worker
-  pub offered_still : (w : ℕ) (pool : Pool M G Leg (TracedAnswer P)) (d : Dispatcher P) (later_pool : Pool M G Leg (TracedAnswer P))
+  -- A worker that was offered all that it can be still is, after offers to another worker.
+  pub offered_still : (w : ℕ) (pool : Pool M G Leg (TracedAnswer P)) (d : Dispatcher P)
+      (later_pool : Pool M G Leg (TracedAnswer P))
       (later : Dispatcher P) → OffersOnlyTo w pool d later_pool later → (v : ℕ) → v ≢ w → HasOffered pool d v →
       HasOffered later_pool later v
   offered_still w pool d later_pool later o v n full = grind (arith, common_steps, nat_tests, waits_on)
@@ -161,13 +169,14 @@ notes_none w d = grind (arith, common_steps, nat_tests, added_none)
 
 module _ {P : Type 0} {tells : Passage → P} (w : ℕ) (told : TracedAnswer P) (mid later : Dispatcher P)
     (within : w < length mid.queues) (n : NoteAnswerPost tells w told mid later) where
-  -- one answer more was noted
+  -- One more answer was recorded.
   pub notes_more : (answers : List (TracedAnswer P)) (d : Dispatcher P) → NoteAnswersPost tells w answers d mid →
       NoteAnswersPost tells w (answers ++ told ∷ []) d later
   notes_more answers d a = record {
     journal_stays = written_same told.answer.number (Answered n.owed told.answer.end n.passages.0 n.passages.1)
         mid.progress later.progress n.written ∙ a.journal_stays;
-    keeps = λ offered taken. subst (λ (f : ℕ → List (TracedAnswer P)). DispatcherKeeps tells (state_with offered taken d)
+    keeps = λ offered taken. subst (λ (f : ℕ → List (TracedAnswer P)). DispatcherKeeps tells
+        (state_with offered taken d)
         (state_with offered f later)) (sym (added_more w answers taken (told ∷ []))) (λ rules start done all s.
         queues_keep w mid later queue_answered offered offered (with_more_at w answers taken)
         (with_more_at w (told ∷ []) (with_more_at w answers taken)) within n.answers.later_is
@@ -179,26 +188,29 @@ module _ {P : Type 0} {tells : Passage → P} (w : ℕ) (told : TracedAnswer P) 
         rules start done all (a.keeps offered taken rules start done all s));
   }
 
-  -- fewer are owed
+  -- Fewer answers are owed.
   pub noted_less : many_owed later.queues + 1 ≡ many_owed mid.queues
   noted_less = grind (arith, common_steps, nat_tests, sum_with)
 
--- answers were taken from the pool and noted
+-- Answers were taken from the pool and recorded.
 pub answered_keeps : {P : Type 0} {tells : Passage → P} {M G : Type 0} (w : ℕ) (answers : List (TracedAnswer P))
-    (pool : Pool M G Leg (TracedAnswer P)) (d : Dispatcher P) (later_pool : Pool M G Leg (TracedAnswer P)) (later : Dispatcher P) →
+    (pool : Pool M G Leg (TracedAnswer P)) (d : Dispatcher P) (later_pool : Pool M G Leg (TracedAnswer P))
+    (later : Dispatcher P) →
     w < length (initial_machines pool) → accepted_items later_pool ≡ accepted_items pool →
     taken_answers later_pool ≡ slice_set (taken_answers pool) w (of_worker (taken_answers pool) w ++ answers) →
-    NoteAnswersPost tells w answers d later → DispatcherKeeps tells (dispatcher_state pool d) (dispatcher_state later_pool later)
+    NoteAnswersPost tells w answers d later → DispatcherKeeps tells (dispatcher_state pool d)
+    (dispatcher_state later_pool later)
 answered_keeps {P} {tells} w answers pool d later_pool later within same took n =
     let taken_now : of_worker (taken_answers later_pool) ≡ with_more_at w answers (of_worker (taken_answers pool)) =
     ap of_worker took ∙ set_added (taken_answers pool) w answers (rw length-map (rw length-map at within)) in
-    subst (λ (f : ℕ → List (TracedAnswer P)). DispatcherKeeps tells (dispatcher_state pool d) (state_with (of_worker (accepted_items later_pool)) f
+    subst (λ (f : ℕ → List (TracedAnswer P)). DispatcherKeeps tells (dispatcher_state pool d)
+    (state_with (of_worker (accepted_items later_pool)) f
     later)) (sym taken_now)
     (subst (λ (lists : List (List Leg)). DispatcherKeeps tells (dispatcher_state pool d) (state_with (of_worker lists)
     (with_more_at w answers (of_worker (taken_answers pool))) later)) (sym same)
     (n.keeps (of_worker (accepted_items pool)) (of_worker (taken_answers pool))))
 
--- some were taken after others, or none
+-- Answers were taken in one of two steps, or in none.
 pub taken_more : {P : Type 0} (d mid later : Dispatcher P) (any more both : Bool) → both ≡ (more || any) →
     HasTaken d mid any → HasTaken mid later more → HasTaken d later both
 taken_more d mid later any more both e a b = grind (arith, common_steps, nat_tests)

@@ -1,7 +1,7 @@
--- What a dispatcher offers its workers and takes from them.
+-- The legs that a dispatcher offers to its workers, and the answers that it takes from them.
 --
--- As long as the answers are right, they are the run's, so the next leg offered is the run's next leg. That they are
--- right is a premise here: it is proved once the workers are joined.
+-- As long as the answers are right, they are the run's, and so the next leg offered is the run's next leg. That they
+-- are right is a premise here. It is proved once the workers are joined.
 use Rattle.std.specs.Prelude.{◌≡◌, ⊤, ℕ, zero, suc, ◌<◌, ◌≤◌, max, Bool, true, false, List, [], ◌∷◌, ◌++◌, map, length, slice_index, slice_index_or, Result, Ok, Err}
 use Rattle.napt_config.specs.Rules.{Rules}
 use Rattle.napt_rules.specs.{Prelude.{bindings_at, live_and_held, Arrival, rows, State, initial_state, effect_from, legs_at, LocalState}, declared.{Row.Row, Leg.Leg, Outcome.Outcome}}
@@ -15,41 +15,42 @@ use Rattle.napt_laws.specs.Dispatching.{IsFrontOf}
 
 -- WORKERS
 
--- the bindings of an address in a state, at its clock
+-- The bindings of a state at one external address, and the clock of the state, in ns.
 abbrev pub local_bindings : State → ℕ → LocalState
 local_bindings start address = record { list = bindings_at address start.list; at = start.clock }
 
--- the translators of the first n addresses of the pool in a state
+-- The translators of the first n addresses of the pool, each with the bindings of the state at its address.
 abbrev pub started_from : Rules → State → ℕ → List TranslatorModel
 started_from rules start zero = []
 started_from rules start (suc n) =
-    started_from rules start n ++ with_local_state (initial_translator n rules) (local_bindings start (slice_index rules.pool n)) ∷ []
+    started_from rules start n ++ with_local_state (initial_translator n rules)
+    (local_bindings start (slice_index rules.pool n)) ∷ []
 
--- before any leg
+-- The translators of the first n addresses of the pool before any leg.
 abbrev pub started_translators : Rules → ℕ → List TranslatorModel
 started_translators rules n = started_from rules (initial_state rules) n
 
--- the list of one worker
+-- The list of worker w, in a list with one list for each worker.
 abbrev pub of_worker : {X : Type 0} → List (List X) → ℕ → List X
 of_worker lists w = slice_index_or lists w []
 
--- a fault of a run that has started. A gate that promises yes is never reported as shut
+-- The fault may come in a run that has started. A gate that is always open is never reported as shut.
 abbrev pub IsFaultUnder : Bool → RunFault → Type 0
 IsFaultUnder open_gate faults.Memory = ⊤
 IsFaultUnder open_gate faults.TooMany = ⊥
 IsFaultUnder open_gate (faults.Pool fault) = open_gate ≡ true → is_shut fault ≡ false
 
--- a fault of dispatching, which starts no threads
+-- The fault may come from dispatching, which starts no threads. A gate that is always open is not reported as shut.
 abbrev pub IsDispatchFault : Bool → RunFault → Type 0
 IsDispatchFault open_gate faults.Memory = ⊤
 IsDispatchFault open_gate faults.TooMany = ⊥
 IsDispatchFault open_gate (faults.Pool fault) = IsFaultOf (λ w. ⊤) fault × (open_gate ≡ true → is_shut fault ≡ false)
 
--- the bindings of a worker's translator that are live at a time
+-- The bindings of a translator that are live at `now` or at its own time, whichever is later, in ns.
 abbrev pub rows_after : ℕ → TranslatorModel → List Row
 rows_after now state = rows state.rules.timers (max now state.table.at) state.table.list
 
--- a worker's translator that is left with the bindings of its address in a state
+-- The translator holds the bindings of its address in the state: those that are live or held at the state's clock.
 pub record IsLeftWith (rules : Rules) (state : State) (address : ℕ) (translator : TranslatorModel) : Type 0 where
   pub timers : translator.rules.timers ≡ rules.timers
   pub past : translator.table.at ≤ state.clock
@@ -57,16 +58,18 @@ pub record IsLeftWith (rules : Rules) (state : State) (address : ℕ) (translato
 
 -- WHAT IS OFFERED AND ANSWERED
 
--- the answers taken from each worker, and what is told with them, are its translator's, to the legs that it was offered
-abbrev pub AnswersAreRight : {P : Type 0} → (Passage → P) → Rules → State → List (List Leg) → List (List (TracedAnswer P)) → Type 0
+-- The answers taken from each worker, with their records, are its translator's first answers to the legs offered to it.
+abbrev pub AnswersAreRight : {P : Type 0} → (Passage → P) → Rules → State → List (List Leg) →
+    List (List (TracedAnswer P)) → Type 0
 AnswersAreRight tells rules start offered taken =
     (w : ℕ) → w < length rules.pool →
     let address : ℕ = slice_index rules.pool w in
-    IsFrontOf (of_worker taken w) (traced_replies tells rules address (of_worker offered w) (local_bindings start address))
+    IsFrontOf (of_worker taken w) (traced_replies tells rules address (of_worker offered w)
+    (local_bindings start address))
 
--- WHAT INPUTS COME TO
+-- THE RESULTS OF INPUTS
 
--- what an input of the run came to, as these are told of its legs
+-- The result of an input from its step in the run; `tells` gives the record of each leg.
 abbrev pub input_result : {P : Type 0} → (Passage → P) → StepResult → InputResult P
 input_result tells step = record {
   outcome = step.outcome;
@@ -80,13 +83,13 @@ input_results tells rules start inputs = map (input_result tells) (steps_of rule
 
 -- THE END
 
--- a fault of dispatching is reported before one of the pool
+-- Combines the results of dispatching and of closing. A fault of dispatching takes precedence over one of the pool.
 abbrev pub first_fault : {D C : Type 0} → Result D RunFault → Result C PoolFault → Result (D × C) RunFault
 first_fault (Err fault) closed = Err fault
 first_fault (Ok dispatched) (Err fault) = Err (faults.Pool fault)
 first_fault (Ok dispatched) (Ok ended) = Ok (dispatched, ended)
 
--- what a dispatcher returns for a run over the inputs from a state
+-- A dispatcher's result for a run from a state: the legs offered, the outcomes and the numbers of legs are the run's.
 pub record IsDispatchedFrom (rules : Rules) (start : State) (inputs : List Arrival) (offered : List (List Leg))
     (outcomes : List Outcome) (numbers : List ℕ) : Type 0 where
   pub legs : offered ≡ map (λ address. legs_at address (effect_from rules start inputs).acts) rules.pool

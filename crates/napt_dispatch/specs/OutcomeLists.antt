@@ -7,6 +7,6 @@ use Rattle.napt_dispatch.specs.declared.{outcome_list.OutcomeList.OutcomeList, o
 abbrev pub collected_outcome : {P : Type 0} → ℕ × InputResult P → Outcome
 collected_outcome pair = pair.1.outcome
 
--- the outcomes are appended
+-- The outcomes of these results were appended to the list.
 abbrev pub Collects : OutcomeList → List (ℕ × InputResult NoTrace) → OutcomeList → Type 0
 Collects before pairs after = after.outcomes.items ≡ before.outcomes.items ++ map collected_outcome pairs

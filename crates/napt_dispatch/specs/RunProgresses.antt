@@ -1,4 +1,4 @@
--- The inputs that were read: those whose outcomes have left, and the open ones.
+-- The progress of the inputs that were read: of those whose outcomes have left the window, and of the open ones.
 use Rattle.std.specs.Prelude.{◌≡◌, ℕ, ◌≤◌, ◌++◌, List, [], ◌∷◌, length, Bool, true, false, Option, Some, None, IfSome, is_some, option_to_list, map, slice_get, slice_set}
 use Rattle.napt_wire.specs.declared.{Cause.Cause, Way.{Way, TheVariants.{Outgoing, Incoming}}}
 use Rattle.napt_config.specs.Rules.{Rules}
@@ -10,7 +10,7 @@ use Rattle.napt_sequential.specs.{declared.passage.Passage.Passage, Traces.trace
 use Rattle.napt_dispatch.specs.declared.{outcome_sink.InputResult.InputResult, dispatcher.progress.{OpenInput.OpenInput, InputProgress.InputProgress}}
 use Rattle.napt_dispatch.specs.{declared.dispatcher.progress.InputProgress.TheVariants.{Awaited, Returning, Answered}, Dispatch.input_results}
 
--- what has left, with the arrival times, then the open inputs, all in the order of the inputs
+-- The results that left the window, each with its arrival time in ns, and then the open inputs, all in input order.
 pub record RunProgressModel (P : Type 0) : Type 0 where
   pub left : List (ℕ × InputResult P)
   pub under_way : List (OpenInput P)
@@ -23,19 +23,20 @@ end_of_answer (outcomes.ToOutside packet) = ends.ToOutside packet
 end_of_answer (outcomes.ToInside packet) = ends.ToInside packet
 end_of_answer (outcomes.Dropped cause) = ends.Dropped cause
 
--- ended, with no second leg
+-- The progress of an input that ended with this result and awaits no second leg.
 abbrev pub progress_ended : {P : Type 0} → InputResult P → InputProgress P
 progress_ended departed =
-    Answered (record { way = Incoming; now = departed.now }) (end_of_answer departed.outcome) departed.first departed.second
+    Answered (record { way = Incoming; now = departed.now }) (end_of_answer departed.outcome) departed.first
+    departed.second
 
--- dropped without a leg, of which this is told
+-- The result of an input that has no leg and is dropped. `none` is the record of a leg that does not exist.
 abbrev pub refused_at : {P : Type 0} → P → ℕ → Cause → InputResult P
 refused_at none now cause = record { outcome = outcomes.Dropped cause; now = now; first = none; second = none }
 
 abbrev pub progress_refused : {P : Type 0} → P → ℕ → Cause → InputProgress P
 progress_refused none now cause = progress_ended (refused_at none now cause)
 
--- once its outcome has left, an input counts as ended, with no placeholder
+-- An input whose outcome has left the window counts as ended, and has no placeholder.
 abbrev pub ended_in : {P : Type 0} → ℕ × InputResult P → InputProgress P
 ended_in pair = progress_ended pair.1
 
@@ -51,25 +52,25 @@ progress_arrived input = input.time
 abbrev pub mark_of : {P : Type 0} → OpenInput P → Bool
 mark_of input = input.has_place
 
--- the progress of all inputs that were read
+-- The progress of all inputs that were read, in their order.
 abbrev pub progress_in : {P : Type 0} → RunProgressModel P → List (InputProgress P)
 progress_in window = map ended_in window.left ++ map known_in window.under_way
 
--- their arrival times
+-- The arrival times of all inputs that were read, in ns.
 abbrev pub times_in : {P : Type 0} → RunProgressModel P → List ℕ
 times_in window = map time_in window.left ++ map progress_arrived window.under_way
 
--- whether each is marked: a placeholder is held for its second leg
+-- For each input that was read, whether it is marked: a placeholder is held for its second leg.
 abbrev pub marks_in : {P : Type 0} → RunProgressModel P → List Bool
 marks_in window = map unmarked window.left ++ map mark_of window.under_way
 
--- what an input came to at a time, by the outcome that its answer told, and by what is told of its legs
+-- The result of an input at a time, in ns, if its outcome is known, with the records of its two legs.
 abbrev pub departed_with : {P : Type 0} → ℕ → P → P → Option Outcome → Option (InputResult P)
 departed_with now first second None = None
 departed_with now first second (Some outcome) =
     Some (record { outcome = outcome; now = now; first = first; second = second })
 
--- if it is known
+-- The result of an input, if it is known.
 abbrev pub departed_in : {P : Type 0} → InputProgress P → Option (InputResult P)
 departed_in (Answered owed end first second) = departed_with owed.now first second (outcome_of_end end)
 departed_in _ = None
@@ -81,54 +82,55 @@ abbrev pub is_incoming : Way → Bool
 is_incoming Incoming = true
 is_incoming Outgoing = false
 
--- it is not known if the input has a second leg (RFC 4787, REQ-9)
+-- It is undecided if the input has a second leg (RFC 4787, REQ-9). Also true after an incoming leg, or of no input.
 abbrev pub is_unknown : {P : Type 0} → Option (InputProgress P) → Bool
 is_unknown (Some (Answered owed end first second)) = is_incoming owed.way
 is_unknown _ = true
 
--- an input is open, and not marked
+-- The input with this number is open and not marked.
 pub record IsUnmarked {P : Type 0} (number : ℕ) (window : RunProgressModel P) : Type 0 where
   pub open_is : length window.left ≤ number
   pub mark : slice_get (marks_in window) number ≡ Some false
 
--- the first open input has ended, and no placeholder is held for it
+-- The first open input has ended, and no placeholder is held for its second leg.
 abbrev pub FirstMayLeave : {P : Type 0} → List (OpenInput P) → Type 0
 FirstMayLeave [] = ⊥
 FirstMayLeave (first ∷ rest) = (has_ended first.progress ≡ true) × (first.has_place ≡ false)
 
 -- STEPS
 
--- one more input was read, which arrived at a time, and whose first leg goes this way
+-- One more input was read, which arrived at `time`, in ns, and whose first leg has this direction.
 abbrev pub progress_expecting : {P : Type 0} → ℕ → Way → RunProgressModel P → RunProgressModel P
 progress_expecting time way window = record window {
   under_way = window.under_way ++ record { time = time; progress = Awaited way; has_place = false } ∷ [];
 }
 
--- what is told of the first leg and of the second, once this is told of a leg that goes this way and is awaited
+-- The records of the first and second leg, where `passage` is that of an awaited leg with this direction; else `None`.
 abbrev pub passages_after : {P : Type 0} → P → InputProgress P → Way → P → Option (P × P)
 passages_after none (Awaited Outgoing) Outgoing passage = Some (passage, none)
 passages_after none (Awaited Incoming) Incoming passage = Some (passage, none)
 passages_after none (Returning first) Incoming passage = Some (first, passage)
 passages_after none _ _ passage = None
 
--- the progress of one input was set
-pub record ProgressIsWritten {P : Type 0} (number : ℕ) (progress : InputProgress P) (window later : RunProgressModel P) : Type 0 where
+-- The progress of the input with this number was set. The results that left and the arrival times stay.
+pub record ProgressIsWritten {P : Type 0} (number : ℕ) (progress : InputProgress P)
+    (window later : RunProgressModel P) : Type 0 where
   pub left_stays : later.left ≡ window.left
   pub times_stay : times_in later ≡ times_in window
   pub progress_is : progress_in later ≡ slice_set (progress_in window) number progress
 
--- the mark of one input was set or cleared
+-- The mark of the input with this number was set or cleared.
 abbrev pub HasMark : {P : Type 0} → ℕ → Bool → RunProgressModel P → RunProgressModel P → Type 0
 HasMark number mark window later = marks_in later ≡ slice_set (marks_in window) number mark
 
--- and nothing else changed
+-- The mark of the input with this number was set or cleared, and nothing else changed.
 pub record InputIsMarked {P : Type 0} (number : ℕ) (mark : Bool) (window later : RunProgressModel P) : Type 0 where
   pub left_stays : later.left ≡ window.left
   pub times_stay : times_in later ≡ times_in window
   pub progress_stays : progress_in later ≡ progress_in window
   pub marks_are : HasMark number mark window later
 
--- what the first open input came to left, with its arrival time
+-- The result of the first open input, which had ended, left the window with its arrival time in ns.
 pub record FirstInputLeaves {P : Type 0} (pair : ℕ × InputResult P) (window later : RunProgressModel P) : Type 0 where
   pub progress : InputProgress P
   pub first : window.under_way ≡ record { time = pair.0; progress = progress; has_place = false } ∷ later.under_way
@@ -137,7 +139,7 @@ pub record FirstInputLeaves {P : Type 0} (pair : ℕ × InputResult P) (window l
 
 -- THE RUN
 
--- its acts, what its inputs came to, and what is told of their first legs
+-- The acts of a run, the results of its inputs, and the records of their first legs.
 pub record RunLegs (P : Type 0) : Type 0 where
   pub acts : List LegAct
   pub departed : List (InputResult P)
@@ -150,7 +152,7 @@ whole_of tells rules start inputs = record {
   firsts = map (λ trace. tells trace.first) (traces_of rules start inputs);
 }
 
--- the second leg that the last answer asks for
+-- The second leg that an answer asks for: one if the packet goes onward (RFC 4787, REQ-9), otherwise none.
 abbrev pub second_leg_asked_by : ℕ → ℕ → End → Option Leg
 second_leg_asked_by number now (ends.Onward place packet) =
     Some (record { number = number; now = now; way = Incoming; packet = packet })
@@ -160,12 +162,13 @@ abbrev pub second_leg_asked : {P : Type 0} → ℕ → InputProgress P → Optio
 second_leg_asked number (Answered owed end first second) = second_leg_asked_by number owed.now end
 second_leg_asked number _ = None
 
-pub record AsksForSecondLeg {P : Type 0} (number : ℕ) (progress : List (InputProgress P)) (second : Option Leg) : Type 0 where
+pub record AsksForSecondLeg {P : Type 0} (number : ℕ) (progress : List (InputProgress P)) (second : Option Leg) : Type
+    0 where
   pub p : InputProgress P
   pub there : slice_get progress number ≡ Some p
   pub asked_is : second_leg_asked number p ≡ second
 
--- what is told of the first leg, while there is to be a second
+-- The record of the first leg, as long as a second leg is to follow.
 abbrev pub first_by : {P : Type 0} → P → End → Option P
 first_by first (ends.Onward place packet) = Some first
 first_by first _ = None
@@ -175,19 +178,19 @@ first_in (Awaited way) = None
 first_in (Returning first) = Some first
 first_in (Answered owed end first second) = first_by first end
 
--- none is behind a first leg that comes in
+-- An incoming first leg is not followed by a second leg.
 abbrev pub NoneBehind : Way → List Leg → Type 0
 NoneBehind Outgoing legs = Unit {0}
 NoneBehind Incoming legs = legs ≡ []
 
--- what is known of the legs of an input after its first
+-- What the progress of an input says of its second legs in the run is true.
 abbrev pub KnowsSecond : {P : Type 0} → List Leg → ℕ → InputProgress P → Type 0
 KnowsSecond legs number (Awaited way) = NoneBehind way legs
 KnowsSecond legs number (Returning first) = (leg : Leg) × (legs ≡ leg ∷ [])
 KnowsSecond legs number (Answered owed end first second) =
     is_incoming owed.way ≡ false → legs ≡ option_to_list (second_leg_asked_by number owed.now end)
 
--- the progress of an input agrees with the run
+-- The progress of an input agrees with the run.
 pub record ProgressIsKnown {P : Type 0} (whole : RunLegs P) (number : ℕ) (progress : InputProgress P) : Type 0 where
   pub departed : IfSome (departed_in progress) (λ departed. slice_get whole.departed number ≡ Some departed)
   pub first : IfSome (first_in progress) (λ first. slice_get whole.firsts number ≡ Some first)
@@ -196,8 +199,9 @@ pub record ProgressIsKnown {P : Type 0} (whole : RunLegs P) (number : ℕ) (prog
 abbrev pub AllKnown : {P : Type 0} → RunLegs P → List (InputProgress P) → Type 0
 AllKnown {P} whole progress = (i : ℕ) (p : InputProgress P) → slice_get progress i ≡ Some p → ProgressIsKnown whole i p
 
--- these left, and nothing else changed
-pub record OutcomesAreHandedOver {P : Type 0} (went : List (ℕ × InputResult P)) (window later : RunProgressModel P) : Type 0 where
+-- These results left the window. The arrival times and marks stay, and the progress still agrees with any run.
+pub record OutcomesAreHandedOver {P : Type 0} (went : List (ℕ × InputResult P)) (window later : RunProgressModel P) :
+    Type 0 where
   pub left_is : later.left ≡ window.left ++ went
   pub times_stay : times_in later ≡ times_in window
   pub marks_stay : marks_in later ≡ marks_in window

@@ -1,4 +1,4 @@
--- A run from arrivals to departures.
+-- A run from an input source to an outcome sink.
 use Rattle.std.specs.Prelude.{◌≡◌, ◌⊎◌, ⊤, ℕ, ◌^◌, ◌<◌, max, Bool, List, [], ◌∷◌, ◌++◌, map, length, slice_get, Option, Some, None, Result, Ok, Err, MatchResult}
 use Rattle.napt_config.specs.Rules.{Rules, RulesInvariant}
 use Rattle.napt_rules.specs.{Prelude.{Arrival, State, last_clock, next_state, run_result_from}, declared.Leg.Leg}
@@ -14,20 +14,20 @@ use Rattle.napt_dispatch.specs.declared.faults.DispatchFault.TheVariants as disp
 use Rattle.napt_dispatch.specs.declared.dispatcher.DispatchEnd.TheVariants as endings
 use Rattle.napt_dispatch.specs.declared.faults.PassFault.TheVariants as pass_faults
 
--- OUTCOMES THAT LEAVE
+-- OUTCOMES THAT ARE WRITTEN
 
--- what inputs came to, with their arrival times
+-- The results of inputs, each with the arrival time of its input, in ns.
 abbrev pub timed_results : {X : Type 0} → List Arrival → List X → List (ℕ × X)
 timed_results inputs xs = zip_with (λ input x. (input.time, x)) inputs xs
 
--- what is known of departures before and after they take outcomes, and where a fault comes
+-- A relation of a sink before and after it accepts these results. `Failing` also has the fault with which that ended.
 abbrev pub OutcomeTaking : Type 0 → Type 0 → Type 1
 OutcomeTaking P S = S → List (ℕ × InputResult P) → S → Type 0
 
 abbrev pub Failing : Type 0 → Type 0 → Type 0 → Type 1
 Failing P S F = S → List (ℕ × InputResult P) → F → S → Type 0
 
--- the first of these outcomes were taken, and the fault came while taking the others
+-- The first of these results were written, and the fault came while the others were written.
 pub record DeparturesFail {P S F : Type 0} (takes : OutcomeTaking P S) (fails : Failing P S F) (before : S)
     (went : List (ℕ × InputResult P)) (fault : F) (after : S) : Type 0 where
   pub first : List (ℕ × InputResult P)
@@ -37,24 +37,26 @@ pub record DeparturesFail {P S F : Type 0} (takes : OutcomeTaking P S) (fails : 
   pub took : takes before first middle
   pub failed : fails middle others fault after
 
--- the outcomes that left the window were taken
+-- The results that left the window were written.
 pub record HandOverOk {P S : Type 0} (takes : OutcomeTaking P S) (before : S) (window : RunProgressModel P) (after : S)
     (later : RunProgressModel P) : Type 0 where
   pub went : List (ℕ × InputResult P)
   pub handed : OutcomesAreHandedOver went window later
   pub took : takes before went after
 
--- or taking them failed
-pub record HandOverErr {P S F : Type 0} (takes : OutcomeTaking P S) (fails : Failing P S F) (before : S) (window : RunProgressModel P)
+-- Writing the results that left the window failed.
+pub record HandOverErr {P S F : Type 0} (takes : OutcomeTaking P S) (fails : Failing P S F) (before : S)
+    (window : RunProgressModel P)
     (after : S) (later : RunProgressModel P) (fault : F) : Type 0 where
   pub went : List (ℕ × InputResult P)
   pub handed : OutcomesAreHandedOver went window later
   pub failed : DeparturesFail takes fails before went fault after
 
--- OVER A POOL
+-- WITH A POOL
 
--- the pool has the same workers, the dispatcher's invariant still holds, and these outcomes left
-pub record DispatcherGoesOn {P M G : Type 0} (tells : Passage → P) (pool : Pool M G Leg (TracedAnswer P)) (d : Dispatcher P)
+-- The pool has the same workers, the dispatcher's invariant still holds, and these results left the window.
+pub record DispatcherGoesOn {P M G : Type 0} (tells : Passage →
+    P) (pool : Pool M G Leg (TracedAnswer P)) (d : Dispatcher P)
     (went : List (ℕ × InputResult P)) (later_pool : Pool M G Leg (TracedAnswer P)) (later : Dispatcher P) : Type 0 where
   pub grows : PoolGrows pool later_pool
   pub sized : IsSizedFor later_pool later
@@ -62,27 +64,31 @@ pub record DispatcherGoesOn {P M G : Type 0} (tells : Passage → P) (pool : Poo
   pub left_is : later.progress.left ≡ d.progress.left ++ went
   pub keeps : KeepsAt tells pool d later_pool later
 
--- and were taken
-pub record OutcomesLeave {P M G S : Type 0} (tells : Passage → P) (takes : OutcomeTaking P S) (pool : Pool M G Leg (TracedAnswer P))
-    (d : Dispatcher P) (before : S) (later_pool : Pool M G Leg (TracedAnswer P)) (later : Dispatcher P) (after : S) : Type 0
+-- The dispatcher continues, and the results that left its window were written.
+pub record OutcomesLeave {P M G S : Type 0} (tells : Passage →
+    P) (takes : OutcomeTaking P S) (pool : Pool M G Leg (TracedAnswer P))
+    (d : Dispatcher P) (before : S) (later_pool : Pool M G Leg (TracedAnswer P)) (later : Dispatcher P) (after : S) :
+    Type 0
   where
     pub went : List (ℕ × InputResult P)
     pub goes : DispatcherGoesOn tells pool d went later_pool later
     pub took : takes before went after
 
--- or there was a fault of dispatching, after these outcomes were taken
+-- Dispatching ended with a fault, after the results that left the window were written.
 pub record RunThroughHalts {P M G S : Type 0} (tells : Passage → P) (open_gate : Bool) (takes : OutcomeTaking P S)
-    (pool : Pool M G Leg (TracedAnswer P)) (d : Dispatcher P) (before : S) (later_pool : Pool M G Leg (TracedAnswer P)) (after : S)
+    (pool : Pool M G Leg (TracedAnswer P)) (d : Dispatcher P) (before : S)
+    (later_pool : Pool M G Leg (TracedAnswer P)) (after : S)
     (fault : RunFault) : Type 0 where
   pub last_pool : Pool M G Leg (TracedAnswer P)
   pub last : Dispatcher P
   pub lets : OutcomesLeave tells takes pool d before last_pool last after
   pub halted : DispatcherHalts open_gate last_pool later_pool fault
 
-module _ {P M G S F : Type 0} (tells : Passage → P) (open_gate : Bool) (takes : OutcomeTaking P S) (fails : Failing P S F)
+module _ {P M G S F : Type 0} (tells : Passage → P) (open_gate : Bool) (takes : OutcomeTaking P S)
+    (fails : Failing P S F)
     (pool : Pool M G Leg (TracedAnswer P)) (d : Dispatcher P) (before : S) (later_pool : Pool M G Leg (TracedAnswer P))
     (later : Dispatcher P) (after : S) where
-  -- or taking them failed
+  -- Writing the results that left the window failed with this fault.
   pub record StopsAt (fault : F) : Type 0 where
     pub went : List (ℕ × InputResult P)
     pub goes : DispatcherGoesOn tells pool d went later_pool later
@@ -98,17 +104,19 @@ module _ {P M G S F : Type 0} (tells : Passage → P) (open_gate : Bool) (takes 
 
 -- READING
 
--- before the first input: the pool has a worker for each address, and the dispatcher queues for each worker
-pub record RunThroughStart {P M G : Type 0} (rules : Rules) (pool : Pool M G Leg (TracedAnswer P)) (d : Dispatcher P) : Type 0 where
+-- Before the first input, the pool has a worker for each external address, and the dispatcher has queues for each.
+pub record RunThroughStart {P M G : Type 0} (rules : Rules) (pool : Pool M G Leg (TracedAnswer P)) (d : Dispatcher P)
+    : Type 0 where
   pub keeps : RulesInvariant rules
   pub count : length (initial_machines pool) ≡ length rules.pool
   pub sized : IsSizedFor pool d
   pub left : d.progress.left ≡ []
   pub under_way : d.progress.under_way ≡ []
 
--- one more input was read, at this time
+-- One more input was read at time `now`, in ns.
 pub record ReadInputPost {P M G : Type 0} (tells : Passage → P) (rules : Rules) (now : ℕ) (input : Arrival)
-    (pool : Pool M G Leg (TracedAnswer P)) (d : Dispatcher P) (later_pool : Pool M G Leg (TracedAnswer P)) (later : Dispatcher P)
+    (pool : Pool M G Leg (TracedAnswer P)) (d : Dispatcher P) (later_pool : Pool M G Leg (TracedAnswer P))
+    (later : Dispatcher P)
     : Type 0 where
   pub grows : PoolGrows pool later_pool
   pub sized : IsSizedFor later_pool later
@@ -117,11 +125,13 @@ pub record ReadInputPost {P M G : Type 0} (tells : Passage → P) (rules : Rules
   pub served : (start : State) (done rest : List Arrival) → length done ≡ length (progress_in d.progress) →
       max (last_clock start.clock done) input.clock ≡ now →
       DispatcherInvariant tells rules start done ((done ++ input ∷ []) ++ rest) (dispatcher_state pool d) →
-      DispatcherInvariant tells rules start (done ++ input ∷ []) ((done ++ input ∷ []) ++ rest) (dispatcher_state later_pool later)
+      DispatcherInvariant tells rules start (done ++ input ∷ []) ((done ++ input ∷ []) ++ rest)
+      (dispatcher_state later_pool later)
 
--- these are all inputs read so far, and all outcomes that have left
+-- These are all inputs that were read so far, and all results that left the window.
 pub record ReadInputsPost {P M G : Type 0} (tells : Passage → P) (rules : Rules) (pool : Pool M G Leg (TracedAnswer P))
-    (d : Dispatcher P) (inputs : List Arrival) (went : List (ℕ × InputResult P)) (later_pool : Pool M G Leg (TracedAnswer P))
+    (d : Dispatcher P) (inputs : List Arrival) (went : List (ℕ × InputResult P))
+    (later_pool : Pool M G Leg (TracedAnswer P))
     (later : Dispatcher P) : Type 0 where
   pub grows : PoolGrows pool later_pool
   pub sized : IsSizedFor later_pool later
@@ -131,13 +141,13 @@ pub record ReadInputsPost {P M G : Type 0} (tells : Passage → P) (rules : Rule
       DispatcherInvariant tells rules start [] (inputs ++ rest) (dispatcher_state pool d) →
       DispatcherInvariant tells rules start inputs (inputs ++ rest) (dispatcher_state later_pool later)
 
--- these inputs came, and then perhaps the end or a fault
+-- These inputs came, perhaps followed by the end of the inputs or a fault of the input source.
 abbrev pub HasCome : {A F : Type 0} → (A → List Arrival → A → Type 0) → (A → Option F → A → Type 0) → A → List Arrival →
     A → Type 0
 HasCome {A} {F} hands ends before inputs after =
     hands before inputs after ⊎ ((end : Option F) × InputsCame hands ends before inputs end after)
 
--- the translators of a run are left with a state, each with the bindings of its address
+-- The translators of a run end with a state: each has the bindings of its external address, in the order of the pool.
 pub record LeavesState (rules : Rules) (state : State) (passed : RunSummary) : Type 0 where
   pub clock : passed.clock ≡ state.clock
   pub many : length passed.translators.items ≡ length rules.pool
@@ -145,49 +155,50 @@ pub record LeavesState (rules : Rules) (state : State) (passed : RunSummary) : T
       slice_get passed.translators.items place ≡ Some translator → IsLeftWith rules state address translator
 
 module _ {P A F S B : Type 0} (tells : Passage → P) (rules : Rules) (hands : A → List Arrival → A → Type 0)
-    (ends : A → Option F → A → Type 0) (takes : OutcomeTaking P S) (fails : Failing P S B) (is_settled : S → Type 0) where
-  module _ {M G : Type 0} (pool : Pool M G Leg (TracedAnswer P)) (d : Dispatcher P) (from : A) (before : S)
-      (later_pool : Pool M G Leg (TracedAnswer P)) (later : Dispatcher P) (left : A) (after : S) where
-    -- the arrivals ended or failed, and every input before that was read
-    pub record ReadsToEnd (end : EndOfInputs F) : Type 0 where
-      pub inputs : List Arrival
-      pub went : List (ℕ × InputResult P)
-      pub came : InputsCame hands ends from inputs end.fault left
-      pub clock : end.clock ≡ last_clock d.clock inputs
-      pub reads : ReadInputsPost tells rules pool d inputs went later_pool later
-      pub took : takes before went after
+    (ends : A → Option F → A → Type 0) (takes : OutcomeTaking P S) (fails : Failing P S B) (is_settled : S → Type 0)
+  where
+    module _ {M G : Type 0} (pool : Pool M G Leg (TracedAnswer P)) (d : Dispatcher P) (from : A) (before : S)
+        (later_pool : Pool M G Leg (TracedAnswer P)) (later : Dispatcher P) (left : A) (after : S) where
+      -- The inputs ended or the input source failed, and every input before that was read.
+      pub record ReadsToEnd (end : EndOfInputs F) : Type 0 where
+        pub inputs : List Arrival
+        pub went : List (ℕ × InputResult P)
+        pub came : InputsCame hands ends from inputs end.fault left
+        pub clock : end.clock ≡ last_clock d.clock inputs
+        pub reads : ReadInputsPost tells rules pool d inputs went later_pool later
+        pub took : takes before went after
 
-    -- and every outcome has left and is settled
-    pub record ReadsAll (end : EndOfInputs F) : Type 0 where
-      pub to_end : ReadsToEnd end
-      pub done : DispatcherIsDone later
-      pub none_under_way : later.progress.under_way ≡ []
-      pub few : length later.progress.left < 2 ^ 64
-      pub settled : is_settled after
+      -- Every input was read, and every outcome was written and flushed.
+      pub record ReadsAll (end : EndOfInputs F) : Type 0 where
+        pub to_end : ReadsToEnd end
+        pub done : DispatcherIsDone later
+        pub none_under_way : later.progress.under_way ≡ []
+        pub few : length later.progress.left < 2 ^ 64
+        pub settled : is_settled after
 
-    -- the departures failed after some inputs
-    pub record ReadsSome (fault : B) : Type 0 where
-      pub inputs : List Arrival
-      pub went : List (ℕ × InputResult P)
-      pub come : HasCome hands ends from inputs left
-      pub reads : ReadInputsPost tells rules pool d inputs went later_pool later
-      pub failed : DeparturesFail takes fails before went fault after
+      -- The outcome sink failed after some inputs were read.
+      pub record ReadsSome (fault : B) : Type 0 where
+        pub inputs : List Arrival
+        pub went : List (ℕ × InputResult P)
+        pub come : HasCome hands ends from inputs left
+        pub reads : ReadInputsPost tells rules pool d inputs went later_pool later
+        pub failed : DeparturesFail takes fails before went fault after
 
-    -- there was a fault of dispatching after some inputs, of which the last may not have been read
-    pub record ReadsToHalt (open_gate : Bool) (fault : RunFault) : Type 0 where
-      pub inputs : List Arrival
-      pub unread : List Arrival
-      pub went : List (ℕ × InputResult P)
-      pub come : HasCome hands ends from (inputs ++ unread) left
-      pub last_pool : Pool M G Leg (TracedAnswer P)
-      pub last : Dispatcher P
-      pub reads : ReadInputsPost tells rules pool d inputs went last_pool last
-      pub took : takes before went after
-      pub halted : DispatcherHalts open_gate last_pool later_pool fault
+      -- Dispatching ended with a fault after some inputs. The last of them may not have been read.
+      pub record ReadsToHalt (open_gate : Bool) (fault : RunFault) : Type 0 where
+        pub inputs : List Arrival
+        pub unread : List Arrival
+        pub went : List (ℕ × InputResult P)
+        pub come : HasCome hands ends from (inputs ++ unread) left
+        pub last_pool : Pool M G Leg (TracedAnswer P)
+        pub last : Dispatcher P
+        pub reads : ReadInputsPost tells rules pool d inputs went last_pool last
+        pub took : takes before went after
+        pub halted : DispatcherHalts open_gate last_pool later_pool fault
 
-    abbrev pub ReadsHalted : Bool → DispatchFault B → Type 0
-    ReadsHalted open_gate (dispatch_faults.Departure fault) = ReadsSome fault
-    ReadsHalted open_gate (dispatch_faults.Run fault) = ReadsToHalt open_gate fault
+      abbrev pub ReadsHalted : Bool → DispatchFault B → Type 0
+      ReadsHalted open_gate (dispatch_faults.Departure fault) = ReadsSome fault
+      ReadsHalted open_gate (dispatch_faults.Run fault) = ReadsToHalt open_gate fault
 
 module _ {P A F S B : Type 0} (tells : Passage → P) (rules : Rules) (start : State)
     (hands : A → List Arrival → A → Type 0) (ends : A → Option F → A → Type 0) (takes : OutcomeTaking P S)
@@ -195,7 +206,7 @@ module _ {P A F S B : Type 0} (tells : Passage → P) (rules : Rules) (start : S
   -- THE RESULT OF DISPATCHING, from a state
 
   module _ {M G : Type 0} (from : A) (before : S) (pool : Pool M G Leg (TracedAnswer P)) (left : A) (after : S) where
-    -- the arrivals ended or failed, and the outcomes of all inputs before that left
+    -- The inputs ended or the input source failed, and the outcomes of all inputs before that were written.
     pub record DispatchOk (end : Option F) (done : DispatchResult F B) : Type 0 where
       pub inputs : List Arrival
       pub went : List (ℕ × InputResult P)
@@ -210,7 +221,7 @@ module _ {P A F S B : Type 0} (tells : Passage → P) (rules : Rules) (start : S
           (went ≡ timed_results inputs (input_results tells rules start inputs))
           × IsDispatchedFrom rules start inputs (accepted_items pool) (map collected_outcome went) done.legs.items
 
-    -- the departures failed
+    -- The outcome sink failed.
     pub record DispatchDeparturesErr (fault : B) : Type 0 where
       pub inputs : List Arrival
       pub went : List (ℕ × InputResult P)
@@ -220,7 +231,7 @@ module _ {P A F S B : Type 0} (tells : Passage → P) (rules : Rules) (start : S
       pub right : AnswersAreRight tells rules start (accepted_items pool) (taken pool) →
           IsFrontOf went (timed_results inputs (input_results tells rules start inputs))
 
-    -- there was a fault of dispatching
+    -- Dispatching itself ended with a fault.
     pub record DispatchErr : Type 0 where
       pub inputs : List Arrival
       pub went : List (ℕ × InputResult P)
@@ -238,7 +249,7 @@ module _ {P A F S B : Type 0} (tells : Passage → P) (rules : Rules) (start : S
   -- THE RESULT OF A RUN
 
   module _ (from : A) (before : S) (left : A) (after : S) where
-    -- the arrivals ended or failed, and exactly the outcomes of the sequential run over the inputs before that left
+    -- The inputs ended or the source failed, and exactly the sequential run's outcomes for those before were written.
     pub record RunThroughEnd (end : Option F) : Type 0 where
       pub inputs : List Arrival
       pub came : InputsCame hands ends from inputs end left
@@ -252,7 +263,7 @@ module _ {P A F S B : Type 0} (tells : Passage → P) (rules : Rules) (start : S
       pub legs : passed.legs.items ≡ (run_result_from rules start whole.inputs).legs
       pub leaves : LeavesState rules (next_state rules start whole.inputs) passed
 
-    -- the departures failed, and what left before are the first outcomes of the sequential run
+    -- The outcome sink failed. The outcomes written before are the first ones of the sequential run.
     pub record RunThroughDeparturesErr (fault : B) : Type 0 where
       pub inputs : List Arrival
       pub went : List (ℕ × InputResult P)
@@ -260,8 +271,8 @@ module _ {P A F S B : Type 0} (tells : Passage → P) (rules : Rules) (start : S
       pub front : IsFrontOf went (timed_results inputs (input_results tells rules start inputs))
       pub failed : DeparturesFail takes fails before went fault after
 
-    -- the run itself failed, and what left before are the first outcomes of the sequential run. Taking them may have
-    -- failed too
+    -- The run itself failed. The outcomes written before are the first ones of the sequential run. Writing them may
+    -- have failed too.
     pub record RunThroughErr : Type 0 where
       pub inputs : List Arrival
       pub went : List (ℕ × InputResult P)
@@ -275,7 +286,7 @@ module _ {P A F S B : Type 0} (tells : Passage → P) (rules : Rules) (start : S
     RunThroughPost (Err (pass_faults.Departure fault)) = RunThroughDeparturesErr fault
     RunThroughPost (Err (pass_faults.Run fault)) = RunThroughErr
 
--- a fault of a run that has started. A gate that promises yes is never reported as shut
+-- The fault may come in a run that has started. A gate that is always open is never reported as shut.
 abbrev pub IsStoppedUnder : {F B : Type 0} → Bool → PassFault F B → Type 0
 IsStoppedUnder open_gate (pass_faults.Run fault) = IsFaultUnder open_gate fault
 IsStoppedUnder open_gate _ = ⊤

@@ -1,51 +1,51 @@
--- The queues of workers, and how they change.
+-- The queues of the workers, and how they change.
 use Rattle.std.specs.Prelude.{◌≡◌, ℕ, ◌+◌, ◌<◌, ◌≤◌, ◌^◌, ◌==◌, if◌then◌else◌, List, [], ◌∷◌, ◌++◌, drop, map, length, option_to_list, slice_set, slice_index_or, Option, Some, None}
 use Rattle.std.specs.List.{sum_by}
 use Rattle.napt_rules.specs.declared.Leg.{Leg}
 use Rattle.napt_dispatch.specs.declared.dispatcher.holding.{QueueHead.QueueHead, PendingLeg.{PendingLeg, TheVariants.{Ready, Place}}, AwaitedLeg.AwaitedLeg}
 use Rattle.napt_dispatch.specs.declared.dispatcher.holding.QueueHead.TheVariants as fronts
 
--- one worker: the number of legs offered, those not answered yet, those of the next message, and what is held behind
+-- One worker: the number of legs offered, those not answered yet, the next message, and what is held after it.
 pub record WorkerQueueModel : Type 0 where
   pub offered : ℕ
   pub owed : List AwaitedLeg
   pub ready : List Leg
   pub held : List PendingLeg
 
--- before any offer
+-- The queues of a worker before any offer.
 abbrev pub unused_queue : WorkerQueueModel
 unused_queue = record { offered = 0; owed = []; ready = []; held = [] }
 
--- the queues of worker w
+-- The queues of worker w.
 abbrev pub queue_of : List WorkerQueueModel → ℕ → WorkerQueueModel
 queue_of queues w = slice_index_or queues w unused_queue
 
--- the number of legs offered to each worker
+-- The number of legs that were offered to each worker.
 abbrev pub counts_in : List WorkerQueueModel → List ℕ
 counts_in queues = map (λ q. q.offered) queues
 
--- all that is held, oldest first, and its count
+-- All entries that are held for a worker, oldest first, and their number.
 abbrev pub all_held : WorkerQueueModel → List PendingLeg
 all_held q = map (λ leg. Ready leg) q.ready ++ q.held
 
 abbrev pub held_legs_count : WorkerQueueModel → ℕ
 held_legs_count q = length q.ready + length q.held
 
--- how many legs are not answered yet, and how much is held, at all workers
+-- The number of legs that are not answered yet, and the number of entries held, over all workers.
 abbrev pub many_owed : List WorkerQueueModel → ℕ
 many_owed queues = sum_by (λ q. length q.owed) queues
 
 abbrev pub many_held : List WorkerQueueModel → ℕ
 many_held queues = sum_by held_legs_count queues
 
--- the count of legs and placeholders held is right, and there is a worker
+-- There are 1 to 4,294,967,295 workers, for which `many` legs and placeholders are held, at most 65,536.
 pub record AreQueuesCounted (many : ℕ) (queues : List WorkerQueueModel) : Type 0 where
   pub counted : many ≡ many_held queues
   pub few : many ≤ 65536
   pub some : 0 < length queues
   pub numbered : length queues < 2 ^ 32
 
--- what is first
+-- The kind of the first entry of a queue.
 abbrev pub front_of : List PendingLeg → QueueHead
 front_of [] = fronts.Nothing
 front_of (Ready leg ∷ rest) = fronts.FirstLeg
@@ -56,21 +56,21 @@ owed_of leg = record { way = leg.way; now = leg.now }
 
 -- STEPS
 
--- the queues of worker w change, and no other
+-- The queues of worker w change, and those of the others stay.
 abbrev pub with_queue : ℕ → (WorkerQueueModel → WorkerQueueModel) → List WorkerQueueModel → List WorkerQueueModel
 with_queue w change queues = slice_set queues w (change (queue_of queues w))
 
--- more is held, behind everything else
+-- More entries are held for a worker, after all others.
 pub record HoldPost (more : List PendingLeg) (q later : WorkerQueueModel) : Type 0 where
   pub offered_stays : later.offered ≡ q.offered
   pub owed_stays : later.owed ≡ q.owed
   pub held_is : all_held later ≡ all_held q ++ more
 
--- for each worker
+-- More entries are held for each worker, after all others.
 abbrev pub AllHold : (ℕ → List PendingLeg) → List WorkerQueueModel → List WorkerQueueModel → Type 0
 AllHold more queues later = (v : ℕ) → HoldPost (more v) (queue_of queues v) (queue_of later v)
 
--- for one worker, or for none
+-- The entries for worker w alone: none for any other worker.
 abbrev pub only_at : ℕ → List PendingLeg → ℕ → List PendingLeg
 only_at w more v = if v == w then more else []
 
@@ -78,7 +78,7 @@ abbrev pub lane_at : ℕ → Option ℕ → ℕ → List PendingLeg
 lane_at number None v = []
 lane_at number (Some w) v = only_at w (Place number ∷ []) v
 
--- the leg that is held first, or stands for the placeholder that is, becomes one of the next message
+-- The leg that the first held entry adds to the next message: its own, or `second` in place of a placeholder.
 abbrev pub first_held_leg : Option Leg → List PendingLeg → List Leg
 first_held_leg second [] = []
 first_held_leg second (Ready leg ∷ rest) = leg ∷ []
@@ -87,7 +87,7 @@ first_held_leg second (Place number ∷ rest) = option_to_list second
 abbrev pub queue_readied : Option Leg → WorkerQueueModel → WorkerQueueModel
 queue_readied second q = record q { ready = q.ready ++ first_held_leg second q.held; held = drop 1 q.held }
 
--- these legs, the first of the next message, were offered, and await their answers
+-- These legs, the first of the next message, were offered, and their answers are owed.
 abbrev pub with_offers : List Leg → WorkerQueueModel → WorkerQueueModel
 with_offers legs q = record q {
   offered = q.offered + length legs;
@@ -95,7 +95,7 @@ with_offers legs q = record q {
   ready = drop (length legs) q.ready;
 }
 
--- the oldest leg was answered
+-- The oldest leg that was owed has been answered.
 abbrev pub queue_answered : WorkerQueueModel → WorkerQueueModel
 queue_answered q = record q { owed = drop 1 q.owed }
 

@@ -1,9 +1,9 @@
-//! The dispatcher: it offers the legs of all inputs to workers, and takes their answers.
+//! The dispatcher offers the legs of all inputs to the workers and takes their answers.
 //!
-//! Legs not offered yet are held for each worker in the order of the inputs. An outgoing packet to an external address has a
-//! second leg at the worker of that address, if the answer to the first leg is onward (RFC 4787, REQ-9). As soon as the input
-//! is read, a placeholder for the second leg is held for that worker. Everything behind it waits for that answer; nothing
-//! else does.
+//! Each worker has a queue of the legs that are not offered yet, in input order. An outgoing packet
+//! to an external address has a second leg at that address's worker if the first leg's answer is
+//! onward (RFC 4787, REQ-9). As soon as the input is read, a placeholder for the second leg enters
+//! that worker's queue. What follows it there waits for that answer, and nothing else does.
 ghost use Rattle.std.specs.Prelude.{◌≡◌, ◌<◌, ◌^◌, [], length, map, replicate, IfOk, IfErr, OnOk, OnErr};
 ghost use Rattle.napt_pool.specs.{Pools.{initial_machines, accepted_items, taken_answers, zip_with}, Histories.replies};
 ghost use Rattle.napt_rules.specs.Prelude.{State, initial_state};
@@ -36,16 +36,16 @@ use std::sync::Wait;
 use vector_pool::VectorPool;
 use worker_queues::WorkerQueues;
 
-/// The number of legs in a message, if the ring has room for four times as many. A power of 2.
+/// The number of held legs at which a message is due, unless the ring is small. A power of two.
 const BATCH: usize = 32;
 
 /// The dispatcher's state: the queues of each worker and the progress of each input.
 #[derive(Drop)]
 pub(crate) struct Dispatcher<P> {
     alloc: Global,
-    /// The clock of the state that the run goes on from, in ns.
+    /// The clock of the state from which the run starts, in ns.
     clock: u64,
-    /// The number of legs in a message where none waits for another reason, less one. It has ones alone as bits.
+    /// One less than the number of held legs at which a message is due. Its bits are all ones.
     mask: usize,
     queues: WorkerQueues,
     progress: RunProgress<P>,
@@ -53,7 +53,7 @@ pub(crate) struct Dispatcher<P> {
 }
 
 impl<P: LegTrace> Dispatcher<P> {
-    /// The state before the first input, for a number of workers, the number of legs that fit in a ring, and a clock in ns.
+    /// Returns a dispatcher without inputs. `ring` is a ring's size in legs; `clock` is in ns.
     fn new(
         alloc: Global,
         workers: u32,
@@ -77,11 +77,11 @@ impl<P: LegTrace> Dispatcher<P> {
     }
 }
 
-/// Runs the inputs over a pool of workers: offers every leg, takes every answer, and returns the outcome of each input and
-/// the number of legs offered to each worker. After an `Err` only `close` is of use on the pool.
+/// Runs the inputs over a pool of workers, and returns each input's outcome and each worker's
+/// number of legs. After an error, the pool can only be closed.
 ///
-/// If `close` confirms that the answers were the workers' own, the outcomes, the numbers and the legs are those of the
-/// sequential run.
+/// If `close` confirms that the answers are the workers' own, the outcomes, the numbers and the
+/// legs are those of the sequential run.
 pub fn dispatch<R: Wait, G: Gate>(
     rt: &R,
     alloc: Global,
@@ -90,14 +90,18 @@ pub fn dispatch<R: Wait, G: Gate>(
     inputs: &[Input],
 ) -> Result<(Vec<Outcome>, Vec<u64>), RunFault>
     requires few { length inputs.now < 2 ^ 32 }
-    requires started { initial_machines pool.old ≡ started_translators config.now (length config.now.pool) }
+    requires started { initial_machines pool.old
+        ≡ started_translators config.now (length config.now.pool) }
     requires unoffered { accepted_items pool.old ≡ replicate (length config.now.pool) [] }
     requires untaken { taken_answers pool.old ≡ replicate (length config.now.pool) [] }
     ensures starts { initial_machines pool.new ≡ initial_machines pool.old }
-    ensures settled { OnOk result (map length (taken_answers pool.new) ≡ map length (accepted_items pool.new)) }
+    ensures settled { OnOk result (map length (taken_answers pool.new)
+        ≡ map length (accepted_items pool.new)) }
     ensures run { IfOk result (λ done. taken_answers pool.new
-        ≡ zip_with (replies ⟦<Worker<NoTrace> as Machine>⟧) (initial_machines pool.new) (accepted_items pool.new) →
-        IsDispatchedFrom config.now (initial_state config.now) inputs.now (accepted_items pool.new) done.0.items
+        ≡ zip_with (replies ⟦<Worker<NoTrace> as Machine>⟧) (initial_machines pool.new)
+        (accepted_items pool.new) →
+        IsDispatchedFrom config.now (initial_state config.now) inputs.now (accepted_items pool.new)
+        done.0.items
         done.1.items) }
     ensures fault { IfErr result (IsDispatchFault G.is_open) }
 {
@@ -114,26 +118,26 @@ pub fn dispatch<R: Wait, G: Gate>(
 /// How dispatching ended.
 #[derive(Drop)]
 pub(crate) enum DispatchEnd<A, D> {
-    /// The arrivals ended, and every outcome has left.
+    /// The inputs ended, and every outcome was written.
     Whole,
-    /// The arrivals failed, and the outcome of every input before the fault has left.
+    /// The input source failed, and the outcome of every input before the fault was written.
     Arrival(A),
-    /// The departures failed.
+    /// The outcome sink failed.
     Departure(D),
 }
 
 /// The result of dispatching.
 #[derive(Drop)]
 pub(crate) struct DispatchResult<A, D> {
-    /// The number of legs offered to each worker. Empty if the departures failed.
+    /// The number of legs offered to each worker. Empty if the outcome sink failed.
     pub(crate) legs: Vec<u64>,
-    /// The greatest clock of the inputs and of the state before them, in ns. 0 if the departures failed.
+    /// The greatest clock of the starting state and of the inputs, in ns; 0 if the sink failed.
     pub(crate) clock: u64,
     pub(crate) ending: DispatchEnd<A, D>,
 }
 
-/// Dispatches inputs until their end or a fault, from a state of this clock, in ns. Their outcomes leave in the order of
-/// the inputs. Before a device is asked for an input, and at the end, every outcome has left and is settled.
+/// Dispatches the inputs until their end or a fault, from a state with this clock, in ns. Writes
+/// the outcomes in input order; all are flushed at the end and before a device is read.
 pub(crate) fn dispatch_to<R: Wait, G: Gate, A: InputSource, D: OutcomeSink>(
     rt: &R,
     alloc: Global,
@@ -176,7 +180,7 @@ impl<A, D> DispatchEnd<A, D> {
     ghost use Rattle.std.specs.Prelude.{◌≡◌, MatchOption};
     ghost use Rattle.napt_dispatch.specs.declared.dispatcher.DispatchEnd.TheVariants.{Whole, Arrival};
 
-    /// The ending of a run whose arrivals ended, or failed with this fault.
+    /// Returns the ending of a run whose inputs ended, or whose input source failed with `fault`.
     fn from_result(fault: Option<A>) -> DispatchEnd<A, D>
         ensures { MatchOption fault (result ≡ Whole) (λ fault. result ≡ Arrival fault) }
     {
@@ -187,8 +191,8 @@ impl<A, D> DispatchEnd<A, D> {
     }
 }
 
-/// Returns the number of legs that are offered in one message where none waits for another reason, less one: 32, or the
-/// greatest power of 2 in a quarter of the ring where that is less.
+/// Returns one less than the number of held legs at which a message is due: 32, or if that is less,
+/// the greatest power of two that is at most a quarter of `ring`, or 1 if `ring` is below 8.
 fn mask_of(ring: usize) -> usize {
     match ring / 4 {
         0 | 1 => 0,

@@ -1,4 +1,4 @@
-//! Why a run from arrivals to departures ended early.
+//! The faults with which a run from an input source to an outcome sink ends early.
 
 ghost use Rattle.std.specs.Prelude.{◌≡◌};
 ghost use Rattle.napt_pool.specs.declared.fault.PoolFault.TheVariants.{Ring};
@@ -9,14 +9,14 @@ ghost use Rattle.napt_dispatch.specs.declared.faults.DispatchFault.TheVariants a
 use napt_pool::PoolFault;
 use napt_sequential::RunFault;
 
-/// Why a run ended before its arrivals did, or before every outcome had left.
+/// The reason why a run ended before its inputs did, or before every outcome was written.
 #[derive(Drop)]
 pub enum PassFault<A, D> {
     /// The run itself failed.
     Run(RunFault),
-    /// The arrivals failed.
+    /// The input source failed.
     Arrival(A),
-    /// The departures failed.
+    /// The outcome sink failed.
     Departure(D),
 }
 
@@ -28,7 +28,7 @@ impl<A, D> From<RunFault> for PassFault<A, D> {
     }
 }
 
-/// An answer, or a number of answers, that no worker gives. It is reported as `RunFault::Pool(PoolFault::Ring)`.
+/// An answer that no worker gives, or too many. Reported as `RunFault::Pool(PoolFault::Ring)`.
 #[derive(Clone, Copy)]
 pub(crate) struct ImpossibleAnswer;
 
@@ -40,11 +40,11 @@ impl From<ImpossibleAnswer> for RunFault {
     }
 }
 
-/// Why dispatching ended before every outcome had left.
+/// The reason why dispatching ended before every outcome was written.
 #[derive(Drop)]
 pub(crate) enum DispatchFault<D> {
     Run(RunFault),
-    /// The departures failed.
+    /// The outcome sink failed.
     Departure(D),
 }
 

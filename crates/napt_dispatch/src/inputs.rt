@@ -1,4 +1,4 @@
-//! Lists of inputs.
+//! Functions on lists of inputs.
 
 ghost use Rattle.std.specs.Prelude.{◌≡◌, IfOk};
 ghost use Rattle.napt_rules.specs.Sequential as model;
@@ -7,7 +7,7 @@ use napt_sequential::Input;
 use std::alloc::{AllocError, Global};
 use std::collections::VecDeque;
 
-/// Copies an input with its bytes.
+/// Returns a copy of an input and its bytes.
 fn copy_of(alloc: Global, input: &Input) -> Result<Input, AllocError>
     ensures { IfOk result (λ copy. copy ≡ input.now) }
 {
@@ -19,7 +19,7 @@ fn copy_of(alloc: Global, input: &Input) -> Result<Input, AllocError>
     })
 }
 
-/// Copies all inputs.
+/// Returns copies of all inputs, in the same order.
 pub(crate) fn copies(alloc: Global, inputs: &[Input]) -> Result<VecDeque<Input>, AllocError>
     ensures { IfOk result (λ made. made.items ≡ inputs.now) }
 {
@@ -30,7 +30,7 @@ pub(crate) fn copies(alloc: Global, inputs: &[Input]) -> Result<VecDeque<Input>,
     Ok(VecDeque::from(made))
 }
 
-/// Returns the greatest clock of the inputs, in ns. 0 if there are none.
+/// Returns the greatest clock of the inputs, in ns, or 0 if there are none.
 pub(crate) fn last_clock(inputs: &[Input]) -> u64
     ensures { result ≡ model.last_clock 0 inputs.now }
 {

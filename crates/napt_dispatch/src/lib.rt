@@ -1,7 +1,7 @@
-//! A run over workers, each on a thread of its own, one for each external address.
+//! Runs a translation over worker threads, one for each external address.
 //!
-//! [`dispatch`] offers the legs of all inputs to a pool of workers and takes their answers. [`run_workers`] starts the pool,
-//! dispatches, joins the workers, and returns what the sequential run returns.
+//! [`dispatch`] offers the legs of all inputs to a pool of workers and takes their answers.
+//! [`run_workers`] starts the pool, dispatches, joins the workers, and returns the sequential run.
 #![tactic(auto)]
 
 mod dispatcher;

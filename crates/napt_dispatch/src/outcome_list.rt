@@ -1,4 +1,4 @@
-//! The outcomes of a run, kept in memory.
+//! An outcome sink in memory.
 
 ghost use Rattle.std.specs.Prelude.{◌≡◌, [], IfOk};
 
@@ -6,14 +6,14 @@ use crate::outcome_sink::{InputResult, OutcomeSink};
 use napt_sequential::{NoTrace, Outcome};
 use std::alloc::{AllocError, Global};
 
-/// The outcomes of a run, one for each input.
+/// The outcomes of a run, one for each input, in input order.
 #[derive(Drop)]
 pub(crate) struct OutcomeList {
     pub(crate) outcomes: Vec<Outcome>,
 }
 
 impl OutcomeList {
-    /// No outcomes, with memory reserved for a number of inputs.
+    /// Returns an empty list with memory reserved for `inputs` outcomes.
     pub(crate) fn with_capacity(alloc: Global, inputs: usize) -> Result<OutcomeList, AllocError>
         ensures outcomes { IfOk result (λ none. none.outcomes.items ≡ []) }
     {

@@ -1,40 +1,40 @@
-//! Where the outcomes of a run go.
+//! Where the outcomes of a run are written.
 
 ghost use Rattle.std.specs.Prelude.{◌≡◌, ◌∷◌, ◌++◌, [], ℕ, List, MatchResult};
 ghost use Rattle.napt_dispatch.specs.declared.outcome_sink.InputResult.{InputResult as KnownDeparted};
 
 use napt_sequential::{LegTrace, Outcome};
 
-/// What an input came to.
+/// The result of one input.
 #[derive(Drop)]
 pub struct InputResult<P> {
     pub outcome: Outcome,
     /// The time of its legs, in ns.
     pub now: u64,
-    /// What is told of its first leg, and of its second.
+    /// The records of its first and of its second leg.
     pub first: P,
     pub second: P,
 }
 
-/// Takes the outcomes of a run, one at a time, in the order of the inputs, each with what is told of the legs of its input.
+/// A sink that accepts the results of a run one at a time, in the order of the inputs.
 pub trait OutcomeSink {
-    /// Why no more outcomes can be taken.
+    /// The reason why no more outcomes can be written.
     type Fault: Drop;
 
-    /// What the workers tell of each leg besides its answer.
+    /// What the workers record of each leg in addition to its answer.
     type Told: LegTrace;
 
-    // From a state to a later one these outcomes were taken in this order, each with the arrival time of its input.
+    // Between the two states these results, each with its arrival time, were written in this order.
     ghost takes: { Self → List (ℕ × KnownDeparted Self.Told) → Self → Type 0 };
 
-    // From a state to a later one taking these outcomes ended in this fault.
+    // Between the two states writing these results ended with this fault.
     ghost fails: { Self → List (ℕ × KnownDeparted Self.Told) → Self.Fault → Self → Type 0 };
 
-    // Every outcome taken is at its destination.
+    // Every outcome written has reached its destination.
     ghost is_settled: { Self → Type 0 };
 
-    /// Takes the outcome of the next input, which arrived at a time in ns. Returns the buffer of its packet unless it keeps
-    /// that: an input to come uses it.
+    /// Writes the result of the next input, which arrived at `time`, in ns. Returns the buffer of
+    /// its packet, which a later input uses again, unless the sink still needs it.
     fn write(
         &mut self,
         time: u64,
@@ -43,7 +43,7 @@ pub trait OutcomeSink {
         ensures { MatchResult result (λ _. takes self.old ((time, departed) ∷ []) self.new)
             (λ fault. fails self.old ((time, departed) ∷ []) fault self.new) };
 
-    /// Brings every outcome taken to its destination: a flush.
+    /// Flushes the sink: every outcome written reaches its destination.
     fn settle(&mut self) -> Result<(), Self::Fault>
         ensures { MatchResult result (λ _. takes self.old [] self.new × is_settled self.new)
             (λ fault. fails self.old [] fault self.new) };

@@ -10,11 +10,11 @@ use napt_translate::{Leg, Translator};
 use std::alloc::{AllocError, Global};
 use std::marker::{Model, PhantomData};
 
-/// Answers legs with a translator. Contracts see the state of the translator.
+/// A machine that answers legs with a translator. Contracts see the state of the translator.
 #[derive(Drop)]
 pub struct Worker<P> {
     pub translator: Translator,
-    /// What it tells of its legs.
+    /// What the worker records of its legs.
     pub told: PhantomData<P>,
 }
 
@@ -27,14 +27,14 @@ impl<P> Model for Worker<P> {
 }
 
 impl<P: LegTrace> Worker<P> {
-    /// Returns the bindings that are live at a time, in ns.
+    /// Returns the bindings that are live at `now`, in ns.
     pub(crate) fn bindings(&self, alloc: Global, now: u64) -> Result<Vec<Row>, AllocError>
         ensures { IfOk result (λ made. made.items ≡ rows_after now self.now) }
     {
         self.translator.bindings(alloc, now)
     }
 
-    /// Its translator.
+    /// Returns the translator.
     pub(crate) fn into_translator(self) -> Translator
         ensures { result ≡ self }
     {

@@ -26,7 +26,7 @@ use std::marker::PhantomData;
 use std::sync::{Arc, Wait};
 use std::thread::Threads;
 
-/// Makes the workers of all external addresses in a state, in the order of the pool.
+/// Returns a worker for each external address, in pool order, with the state's bindings.
 fn workers<P: LegTrace>(
     alloc: Global,
     config: &Config,
@@ -50,7 +50,7 @@ fn workers<P: LegTrace>(
     Ok(made)
 }
 
-/// Returns the bindings that are live at a time, in ns, address by address.
+/// Returns the bindings that are live at `now`, in ns, in the order of the external addresses.
 fn bindings<P: LegTrace>(
     alloc: Global,
     ended: &[Ended<Worker<P>>],
@@ -67,7 +67,7 @@ fn bindings<P: LegTrace>(
     Ok(made)
 }
 
-/// Starts a worker in a state on a thread of its own for each external address.
+/// Starts a worker with the state's bindings on a thread of its own for each external address.
 fn start<
     P: LegTrace,
     R: Threads + Wait + Copy + Send + 'static,
@@ -82,15 +82,17 @@ fn start<
     requires { TakesState config.now state.now }
     ensures started { IfOk result (λ pool. initial_machines pool ≡ started_from config.now
         (with_redirects config.now state.now) (length config.now.pool)) }
-    ensures unoffered { IfOk result (λ pool. accepted_items pool ≡ replicate (length config.now.pool) []) }
-    ensures untaken { IfOk result (λ pool. taken_answers pool ≡ replicate (length config.now.pool) []) }
+    ensures unoffered { IfOk result (λ pool. accepted_items pool
+        ≡ replicate (length config.now.pool) []) }
+    ensures untaken { IfOk result (λ pool. taken_answers pool
+        ≡ replicate (length config.now.pool) []) }
     ensures fault { IfErr result (IsFaultUnder G.is_open) }
 {
     let machines = workers::<P>(alloc, config, state)?;
     Ok(Pool::start(rt, alloc, machines, config.ring(), gate)?)
 }
 
-/// Joins the results of dispatching and of closing. A fault of dispatching is reported before one of the pool.
+/// Combines the results of dispatching and closing. A dispatching fault precedes the pool's.
 fn first_fault<P: LegTrace, D: Drop>(
     dispatched: Result<D, RunFault>,
     closed: Result<Vec<Ended<Worker<P>>>, PoolFault>,
@@ -101,8 +103,8 @@ fn first_fault<P: LegTrace, D: Drop>(
     Ok((dispatched, closed?))
 }
 
-/// Closes the pool, also if dispatching failed. Returns the result of dispatching and the workers as they ended. A fault of
-/// dispatching is reported before one of the pool.
+/// Closes the pool, even if dispatching failed, and returns the result of dispatching and the ended
+/// workers. A fault of dispatching takes precedence over one of the pool.
 fn close<P: LegTrace, R: Threads, G: Gate, D: Drop>(
     rt: &R,
     alloc: Global,
@@ -125,12 +127,12 @@ fn close<P: LegTrace, R: Threads, G: Gate, D: Drop>(
     first_fault(dispatched, closed)
 }
 
-/// Runs over the inputs with a worker on a thread of its own for each external address. Returns exactly what `run_plain`
-/// returns, whatever the gate, the size of the rings and the schedule. Each worker asks the gate before each leg.
+/// Runs the inputs with a worker thread for each external address. Returns exactly what `run_plain`
+/// does, whatever the gate, ring size and schedule. A worker asks the gate before each leg.
 ///
-/// Fails with `RunFault::TooMany` exactly if there are more than 4,294,967,295 inputs. `RunFault::Pool` says why a worker
-/// stopped or could not be started; `GateShut` never comes under a gate that promises to stay open. The workers are closed
-/// and joined before an error is returned.
+/// Fails with `RunFault::TooMany` exactly if there are more than 4,294,967,295 inputs.
+/// `RunFault::Pool` says why a worker stopped or did not start. It is never `GateShut` for a gate
+/// that promises to stay open. The workers are closed and joined before an error is returned.
 pub fn run_workers<
     R: Threads + Wait + Copy + Send + 'static,
     G: Gate + Send + Sync + Drop + 'static,
@@ -142,7 +144,7 @@ pub fn run_workers<
     ensures gate { G.is_open ≡ true → IfErr result (λ fault. is_run_gate_fault fault ≡ false) }
 {
     runs_are_sound();
-    // called for its clause alone: a configuration keeps its rules
+    // called for its clause alone: a configuration's rules are valid
     let _pool = config.pool();
     if inputs.len() > MOST_INPUTS {
         return Err(RunFault::TooMany);
@@ -162,14 +164,14 @@ pub fn run_workers<
     })
 }
 
-/// The result of a run, besides the outcomes of its inputs.
+/// The result of a run, apart from the outcomes of its inputs.
 #[derive(Drop)]
 pub struct RunSummary {
     /// The bindings that are live at the last clock, in the order of `Run`.
     pub bindings: Vec<Row>,
-    /// The number of legs that acted at each external address, in the order of the pool.
+    /// The number of legs at each external address, in the order of the pool.
     pub legs: Vec<u64>,
-    /// The translators as the run left them, in the order of the pool.
+    /// The translators as they are after the run, in the order of the pool.
     pub translators: Vec<Translator>,
     /// The last clock, in ns.
     pub clock: u64,
@@ -180,8 +182,8 @@ impl RunSummary {
     ghost use Rattle.napt_rules.specs.Prelude.{IsStateInOrder, State};
     ghost use Rattle.napt_dispatch.specs.RunsThrough.{LeavesState};
 
-    /// The state that the run leaves: its bindings that are live or held at the last clock, by external address in the order
-    /// of the pool, then by protocol (ICMP, TCP, UDP) and external number.
+    /// Returns the state after the run: the bindings that are live or held at the last clock, by
+    /// external address in pool order, then by protocol (ICMP, TCP, UDP) and external number.
     pub fn final_bindings(&self, alloc: Global) -> Result<State, AllocError>
         ensures { (rules : Rules) (state : State) → LeavesState rules state self.now →
             IfOk result (IsStateInOrder rules state) }
@@ -197,7 +199,7 @@ impl RunSummary {
     }
 }
 
-/// Takes the translators out of the workers.
+/// Returns the translators of the workers.
 fn translators<P: LegTrace>(
     alloc: Global,
     ended: Vec<Ended<Worker<P>>>,
@@ -211,7 +213,7 @@ fn translators<P: LegTrace>(
     Ok(made)
 }
 
-/// The result of a run whose workers ended so.
+/// Returns the result of a run with these ended workers; `clock` is the last clock, in ns.
 fn result_of<P: LegTrace>(
     alloc: Global,
     ended: Vec<Ended<Worker<P>>>,
@@ -234,14 +236,14 @@ fn result_of<P: LegTrace>(
     })
 }
 
-/// The run of `run_workers` from a state that the configuration takes, over inputs that come one at a time until their end
-/// or a fault. It begins with the configuration's redirects, and then the state's other bindings. The outcomes leave in the
-/// order of the inputs, each as soon as it is known. At most 131,072 inputs and 65,536 legs are kept.
+/// Runs the inputs that `arrivals` supplies until their end or a fault, as `run_workers` does, from
+/// a state that the configuration accepts: its redirects, then the state's other bindings. Outcomes
+/// are written in input order, each once it is known. Holds at most 131,072 inputs and 65,536 legs.
 ///
-/// Before a device is asked for an input, the outcome of every input before it has left and is settled. The same holds at
-/// the end, and if the arrivals fail. The workers are closed and joined before an error is returned. A fault of the run is
-/// reported before one of the departures, and that before one of the arrivals. After either, the outcomes that left are the
-/// first of the run over the inputs that came.
+/// Before a device is read, at the end, and if the source fails, every outcome so far is written
+/// and flushed. The workers are joined before an error is returned. A fault of the run precedes one
+/// of the sink, and that one of the source. After a fault of the run or the sink, the outcomes
+/// written are the first ones of the run over the inputs that came.
 pub fn run_through<
     R: Threads + Wait + Copy + Send + 'static,
     G: Gate + Send + Sync + Drop + 'static,
@@ -257,7 +259,8 @@ pub fn run_through<
     gate: Arc<G>,
 ) -> Result<RunSummary, PassFault<A::Fault, D::Fault>>
     requires { TakesState config.now state.now }
-    ensures passes { RunThroughPost D.Told.tells config.now (with_redirects config.now state.now) A.hands A.ends
+    ensures passes { RunThroughPost D.Told.tells config.now (with_redirects config.now state.now)
+        A.hands A.ends
         D.takes D.fails D.is_settled arrivals.old departures.old arrivals.new departures.new result }
     ensures fault { IfErr result (IsStoppedUnder G.is_open) }
 {

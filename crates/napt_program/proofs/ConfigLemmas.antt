@@ -1,8 +1,8 @@
--- What is read of a configuration's file.
+-- The text that is read of a configuration's file.
 use Rattle.std.proofs.{lemmas.{Grind.common_steps, Bool.Decides.nat_tests}, Common.{◌≡◌, ◌≤◌, ◌+◌, ℕ, List, [], ◌++◌, length, take, arith}}
 use Rattle.std.{specs.Prelude.{Option, IfSome, option_map}, proofs.lemmas.List.{length-take, take_all}}
 
--- a text that is shorter than what was asked for is all that was told
+-- A text that is shorter than the limit of its read is all of the reader's bytes.
 short_is_whole : (bytes text : List ℕ) (most : ℕ) → length text ≤ most → text ≡ take (most + 1) bytes → text ≡ bytes
 short_is_whole bytes text most short is = grind (arith, common_steps, nat_tests, length-take, take_all)
 

@@ -1,4 +1,4 @@
--- Which option comes first, with the log behind all others.
+-- The first option of which a condition holds, where the log comes after all others.
 use native.Mathlib.Omega.{arith}
 use Rattle.std.proofs.lemmas.{Grind.common_steps, Bool.Decides.nat_tests}
 use Rattle.std.proofs.Common.{◌≡◌, ◌&&◌, ◌||◌, ℕ, List, option_map, Bool, true, false, not, is_some, Option, Some, None, if◌then◌else◌}
@@ -6,7 +6,7 @@ use Rattle.napt_program.specs.{CommandLine.{CommandLineFiles, files_of, files_wi
 use Rattle.napt_program.specs.{Streams.closed_stream, declared.{options_with_log.OptionsWithLog.OptionsWithLog, role.FileRole.FileRole, streams.StandardStreams.StandardStreams}}
 use Rattle.napt_program.specs.declared.role.FileRole.TheVariants as role
 
--- the role of the first condition that holds, or what comes behind them all
+-- The role of the first condition that holds, or `behind` if none does.
 abbrev pub first_role : (a b c d e f : Bool) (j k l m n o : FileRole) → Option FileRole → Option FileRole
 first_role a b c d e f j k l m n o behind =
     if a then Some j
@@ -14,17 +14,17 @@ first_role a b c d e f j k l m n o behind =
     else (if c then Some l
     else (if d then Some m else (if e then Some n else (if f then Some o else behind)))))
 
--- what is behind changes nothing where one holds
+-- If a condition holds, `behind` has no effect.
 pub first_kept : (a b c d e f : Bool) (j k l m n o found : FileRole) (behind : Option FileRole)
     → first_role a b c d e f j k l m n o None ≡ Some found → first_role a b c d e f j k l m n o behind ≡ Some found
 first_kept a b c d e f j k l m n o found behind is = grind (arith, common_steps, nat_tests)
 
--- and is all where none does
+-- If no condition holds, the result is `behind`.
 pub first_behind : (a b c d e f : Bool) (j k l m n o : FileRole) (behind : Option FileRole)
     → first_role a b c d e f j k l m n o None ≡ None → first_role a b c d e f j k l m n o behind ≡ behind
 first_behind a b c d e f j k l m n o behind is = grind (arith, common_steps, nat_tests)
 
--- the conditions of `standard_again`, in its order
+-- The conditions of `standard_again`, in their order.
 abbrev config_by_default : CommandLineFiles → Bool
 config_by_default n = is_stream n role.Config && not (is_some n.inside)
 
@@ -43,7 +43,7 @@ report_too n = is_stream n role.Report && (is_stream n role.ToInside || is_stand
 abbrev log_if : Bool → Option FileRole
 log_if asked = if asked then Some role.Log else None
 
--- an option before the log that wants a standard stream which another has is the first
+-- An option before the log whose standard stream another one already uses is the first.
 pub again_kept : (o : OptionsWithLog) (found : FileRole) → standard_again (files_of o.files) ≡ Some found
     → standard_again (files_with_log o) ≡ Some found
 again_kept o found is =
@@ -52,17 +52,18 @@ again_kept o found is =
     role.Log role.Config role.Inside role.Outside role.ToInside role.Report found
     (log_if (is_log_again (files_with_log o))) is
 
--- and the log is, if there is none and it wants one
+-- If there is no such option, the log is the first if its stream is already in use.
 pub again_behind : (o : OptionsWithLog) → standard_again (files_of o.files) ≡ None
     → is_log_again (files_with_log o) ≡ true → standard_again (files_with_log o) ≡ Some role.Log
 again_behind o none wants = grind (arith, common_steps, nat_tests, first_behind)
 
--- a closed stream that stands for an option before the log is the first
-pub closed_kept : (s : StandardStreams) (o : OptionsWithLog) (found : FileRole) → closed_stream s (files_of o.files) ≡ Some found
+-- A closed stream that an option before the log needs is the first.
+pub closed_kept : (s : StandardStreams) (o : OptionsWithLog) (found : FileRole) →
+    closed_stream s (files_of o.files) ≡ Some found
     → closed_stream s (files_with_log o) ≡ Some found
 closed_kept s o found is = grind (arith, common_steps, nat_tests, first_kept)
 
--- a log is open if it is named
+-- A log is open if it is named.
 pub log_is_there : {A B : Type 0} (opened : Option A) (is : A → Bool) (named : Option B) (text : B → List ℕ)
     (dash : List ℕ → Bool) → option_map is opened ≡ option_map dash (option_map text named)
     → is_some opened ≡ is_some named

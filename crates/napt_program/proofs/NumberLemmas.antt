@@ -16,7 +16,7 @@ seconds_read text n read = grind (arith, common_steps, nat_tests, digits_model, 
 pub seconds_unread : (text : List ℕ) (e : ParseIntError) → ParsesUnsigned 32 10 text (Err e) → 0 ≡ seconds_of text
 seconds_unread text e refused = grind (arith, common_steps, nat_tests, digits_model, parse_digits)
 
--- a number above 0 begins with a digit from 1 to 9
+-- A number above 0 begins with a digit from 1 to 9.
 first_digit : (text : List ℕ) (n : ℕ) → 0 < n → n < 2 ^ 64 → text ≡ decimal n
     → (48 < slice_index text 0) × (slice_index text 0 ≤ 57)
 first_digit text n some small is =
@@ -25,7 +25,7 @@ first_digit text n some small is =
       (digit_at (decimal n) 0 (decimal_is_IsNumeral n small).0.1 (decimal_nonempty n small)).1,
     )
 
--- what `parse` reads of a text that begins so is what the text says in decimal
+-- The number that `parse` reads from a text that begins so is the text's number in decimal.
 pub number_read : (text : List ℕ) (n : ℕ) → ParsesUnsigned {E = ParseIntError} 64 10 text (Ok n)
     → 48 < slice_index text 0 → slice_index text 0 < 58 → text ≡ decimal n
 number_read text n read low high =
@@ -33,7 +33,7 @@ number_read text n read low high =
     sym (decimal-digits_value digits_model text digits.0.0 digits.0.1 (λ e. absurd (omega (arith, low, e))) digits.0.2)
     ∙ ap decimal (sym digits.1)
 
--- and each number in decimal is read
+-- Each number in decimal is read.
 pub number_again : (text : List ℕ) (n m : ℕ) → m < 2 ^ 64 → text ≡ decimal m
     → ParsesUnsigned {E = ParseIntError} 64 10 text (Ok n) → n ≡ m
 number_again text n m small is read =

@@ -1,4 +1,4 @@
--- A parse of a simple command with no subcommand fails by one kind at most.
+-- A parse of a simple command without subcommands fails with at most one kind.
 use Rattle.std.proofs.Common.{◌≡◌, ◌≤◌, ℕ, zero, suc, Bool, true, false, ◌&&◌, ◌||◌, not, List, [], ◌∷◌, length, min, ◌+◌, Option, Some, None, is_some, refl, arith, if◌then◌else◌, ◌==◌, nat_lt, drop}
 use Rattle.std.specs.{Prelude.{encode_utf8, slice_get}, Str.{bytes_eq, chars}, Option.option_map_or, List.list_any}
 use Rattle.clap.specs.{Lexer.{long_of, short_of}, Matches.count_text, Values.refused_kind, ValueTests.accepts, Takes.is_given}
@@ -223,7 +223,7 @@ one-level s leaf h words sub below p =
     (one-or_else filling checking (one-defaults (settled s.rules end).rows s.rules)
     (one-check s (finished s.rules end) sub))))
 
--- a command with no subcommand enters none
+-- A command without subcommands enters none.
 one-entered : (a : App) → a.subs ≡ [] → (stop : Option (Text × List Text)) → IsOne (entered_fault a stop)
 one-entered a none None = one_none
 one-entered a none (Some p) = rw none one_none
@@ -235,7 +235,7 @@ one-built a leaf none h words =
     let stop = (walk a.top.rules [] h words).stopped in
     rw names (one-level a.top leaf h words (is_some (entered a stop)) (entered_fault a stop) (one-entered a none stop))
 
--- so a kind among those of a command with no subcommand is the only one
+-- A kind among those of a command without subcommands is therefore the only one.
 pub one_fault : (a : App) → (built a).top.is_leaf ≡ true → (built a).subs ≡ [] → (words : List Text) →
     length (fault_of a words) ≤ 1
 one_fault a leaf none words = one-built (built a) leaf none nothing_held (argument_words a words)

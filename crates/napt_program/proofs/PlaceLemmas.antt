@@ -6,7 +6,7 @@ use Rattle.napt_program.specs.{CommandLine.files_of, FileLocations.{AreLocations
 use Rattle.napt_program.specs.declared.{options.RunOptions.RunOptions, file_locations.FileLocations.FileLocations, role.FileRole.FileRole}
 use Rattle.napt_program.specs.declared.role.FileRole.TheVariants as role
 
--- what has a text is there
+-- A value is present if its text is.
 has_text : {A : Type 0} (text : A → List ℕ) (a : Option A) → is_some a ≡ true → is_some (option_map text a) ≡ true
 has_text text None is = is
 has_text text (Some a) is = refl

@@ -1,4 +1,4 @@
--- Why a text gives no state.
+-- The reasons for which a text gives no state.
 use Rattle.std.proofs.{lemmas.{Grind.common_steps, Bool.Decides.nat_tests}, Common.{◌≡◌, [], Bool, true, false, Option, Some, None, IfSome, is_some, refl, sym, subst, arith}}
 use Rattle.clap.specs.Words.{Text}
 use Rattle.napt_program.specs.{CommandLine.{files_of, files_with_log}, Command.IsRunStop, State.{IsNewStop, IsSaveStop}}
@@ -7,7 +7,7 @@ use Rattle.napt_account.specs.ResumedLogRuns.{LogStateModel, IsFew}
 use Rattle.napt_state.specs.declared.state_contents.LogPosition.{LogPosition}
 use Rattle.napt_state.specs.{StateContents.unless_for, declared.fault.StateReason.{StateReason, TheVariants.{Unread, NotUtf8, Memory}}}
 
--- what would hold if a text was read, but does not, was not read
+-- A text was not read if what would hold after reading it does not hold.
 pub unread : (reason : StateReason) (fact : Type 0) (told : Bool) → (fact → ⊥) → unless_for reason fact
     → (unless_for reason ⊥ → told ≡ false) → told ≡ false
 unread (Unread error) fact told not is told_so = told_so is
@@ -15,17 +15,19 @@ unread NotUtf8 fact told not is told_so = told_so is
 unread Memory fact told not is told_so = told_so is
 unread other fact told not is told_so = told_so (not is)
 
--- what stops the making of the new file stops a run
-pub new_stop : (s : StandardStreams) (o : RunOptions) (log : Option Text) (stop : Stop) → IsNewStop (is_some o.save) stop
+-- A stop by creating the new file is a stop of the run.
+pub new_stop : (s : StandardStreams) (o : RunOptions) (log : Option Text) (stop : Stop) →
+    IsNewStop (is_some o.save) stop
     → IsRunStop s (record (files_of o) { log = log }) stop
 new_stop s o log stop is = grind (arith, common_steps, nat_tests)
 
--- what stops the saving of a state stops a run that saves it
-pub save_stop : (s : StandardStreams) (o : OptionsWithLog) (stop : Stop) → is_some o.files.save ≡ true → IsSaveStop stop →
+-- A stop by saving a state is a stop of a run that saves one.
+pub save_stop : (s : StandardStreams) (o : OptionsWithLog) (stop : Stop) → is_some o.files.save ≡ true →
+    IsSaveStop stop →
     IsRunStop s (files_with_log o) stop
 save_stop s o stop named is = grind (arith, common_steps, nat_tests)
 
--- of a state whose log a run can count on, what is kept of it is one, and nothing is where it has none
+-- If the counts of a state's log are small enough, so are those that are kept, and there are none without a log.
 pub few_kept : (log : Option LogPosition) (kept : LogStateModel) → IfSome log (λ it. IsFew it.log) →
     IfSome log (λ it. kept ≡ it.log) → (log ≡ None → kept ≡ record { made = 0; living = [] }) → IsFew kept
 few_kept None kept few is none = subst IsFew (sym (none refl)) (record { made = omega arith; packets = tt })

@@ -1,4 +1,4 @@
--- What stops a program: its arguments, what it opens, or its run.
+-- The stops of a program: by its arguments, by what it opens, or by its run.
 use Rattle.std.specs.Prelude.{◌≡◌, ◌||◌, Bool, true, false, not, is_some, if◌then◌else◌}
 use Rattle.napt_program.specs.{CommandLine.{CommandLineFiles, CommandLineMeaning, files, help, mistake, version}, Standard.names_file, declared.role.FileRole.FileRole}
 use Rattle.napt_program.specs.declared.{stop.{Stop.Stop, TheConstants.MEMORY}, streams.StandardStreams.StandardStreams}
@@ -9,24 +9,24 @@ use Rattle.napt_program.specs.declared.stop.Stop.TheVariants as stop
 use Rattle.napt_records.specs.{Faults.is_shut_gate_fault, declared.Fault.{Fault, TheVariants.Capture}}
 use Rattle.napt_wire.specs.declared.Side.TheVariants.{Outside}
 
--- what may fail as a file: one that is named, or a closed standard stream
+-- A file of this role can fail: it is named, or its standard stream is closed.
 abbrev pub can_fail : StandardStreams → CommandLineFiles → FileRole → Bool
 can_fail streams named role.Inside = is_some named.inside || not streams.input
 can_fail streams named role.ToOutside = is_some named.to_outside || not streams.output
 can_fail streams named other = names_file named other
 
--- a fault of the outside capture comes of one that is named
+-- A fault of the outside capture requires that one is named.
 abbrev pub IsOfGiven : CommandLineFiles → Fault → Type 0
 IsOfGiven named (Capture Outside fault) = is_some named.outside ≡ true
 IsOfGiven named other = Unit {0}
 
--- what a fault of a run over these files is told as: what stands for an outside capture that is not named has none, so
--- memory was refused
+-- The stop after a fault of a run over these files. The device in place of an outside capture that is not named has no
+-- fault of its own, so memory was refused.
 abbrev pub stop_after : CommandLineFiles → Fault → Stop
 stop_after named (Capture Outside fault) = if is_some named.outside then stop.Run (Capture Outside fault) else MEMORY
 stop_after named fault = stop.Run fault
 
--- what stops a run over these files, under a gate that always opens
+-- The stop may come from a run over these files, under a gate that is always open.
 abbrev pub IsRunStop : StandardStreams → CommandLineFiles → Stop → Type 0
 IsRunStop streams named stop.LineMemory = Unit {0}
 IsRunStop streams named (stop.Config fault) = Unit {0}
@@ -38,7 +38,7 @@ IsRunStop streams named stop.Save = is_some named.save ≡ true
 IsRunStop streams named (stop.Run fault) = (is_shut_gate_fault fault ≡ false) × IsOfGiven named fault
 IsRunStop streams named other = ⊥
 
--- the text of the help or the version could not be made or written
+-- The text of the help or the version could not be made or printed.
 abbrev pub IsHelpStop : Stop → Type 0
 IsHelpStop stop.LineMemory = Unit {0}
 IsHelpStop stop.Help = Unit {0}
@@ -49,32 +49,32 @@ IsUsageStop stop.LineMemory = Unit {0}
 IsUsageStop stop.Usage = Unit {0}
 IsUsageStop other = ⊥
 
--- help or the version was asked for
+-- Help or the version was requested.
 abbrev pub HelpIsAsked : LineFault → Type 0
 HelpIsAsked (fault.Help text) = Unit {0}
 HelpIsAsked (fault.Version text) = Unit {0}
 HelpIsAsked other = ⊥
 
--- what stops the program where a command line names no run
+-- The stop of the program if the command line does not request a run.
 abbrev pub IsLineAnswer : LineFault → Stop → Type 0
 IsLineAnswer (fault.Help text) s = s ≡ stop.Help
 IsLineAnswer (fault.Version text) s = s ≡ stop.Help
 IsLineAnswer fault.Usage s = s ≡ stop.Usage
 IsLineAnswer fault.Memory s = s ≡ stop.LineMemory
 
--- what stops the program on a command line
+-- The stop may come from this command line.
 abbrev pub IsLineStop : StandardStreams → CommandLineMeaning → Stop → Type 0
 IsLineStop streams (files named) s = IsRunStop streams named s
 IsLineStop streams help s = IsHelpStop s
 IsLineStop streams version s = IsHelpStop s
 IsLineStop streams mistake s = IsUsageStop s
 
--- the arguments were understood
+-- The arguments were understood.
 abbrev pub LineIsTaken : CommandLineMeaning → Type 0
 LineIsTaken mistake = ⊥
 LineIsTaken other = Unit {0}
 
--- no shut gate
+-- The stop is not that of a shut gate.
 abbrev pub IsStopUnderOpenGate : Stop → Type 0
 IsStopUnderOpenGate (stop.Run fault) = is_shut_gate_fault fault ≡ false
 IsStopUnderOpenGate other = Unit {0}

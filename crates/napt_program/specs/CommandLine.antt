@@ -1,4 +1,4 @@
--- What a command line means, by clap's own specification.
+-- The meaning of a command line, by the specification of clap.
 use Rattle.std.specs.Prelude.{◌||◌, ◌&&◌, ◌==◌, ◌^◌, ℕ, List, [], ◌∷◌, length, nat_lt, Bool, true, false, Option, Some, None, bytes_eq, codes, option_map, string_bytes, if◌then◌else◌}
 use Rattle.std.specs.{Char.is_ascii_digit, List.list_all, Str.Parse.{digits_value, without_leading_plus}}
 use Rattle.std.specs.Int.NonZero.{non_zero_u32_get}
@@ -8,12 +8,12 @@ use Rattle.napt_program.specs.declared.{options.{RunOptions.RunOptions, LineFaul
 use Rattle.napt_program.specs.declared.{options.LineFault.TheVariants.{Help, Version}, role.FileRole.FileRole}
 use Rattle.napt_program.specs.declared.role.FileRole.TheVariants as role
 
--- `--name FILE`: a plain option that takes one value, the name of a file or other words
+-- The option `--name FILE`: a plain option that takes one value, the name of a file or another text.
 abbrev pub file_option : Text → Rule
 file_option name =
     record (new_rule name) { long = Some name; action = Some Set; value_names = 1 }
 
--- the command with an option for each name
+-- The command with an option for each name.
 abbrev pub with_options : App → List Text → App
 with_options a [] = a
 with_options a (name ∷ more) = with_options (with_rule a (file_option name)) more
@@ -22,18 +22,18 @@ abbrev pub option_names : List Text
 option_names = codes "config" ∷ codes "resume" ∷ codes "inside" ∷ codes "outside" ∷ codes "to-outside"
     ∷ codes "to-inside" ∷ codes "report" ∷ codes "save" ∷ []
 
--- the program's command, with a version; clap adds `-h` and `--help`, `-V` and `--version` to it
+-- The program's command, with a version. clap adds `-h` and `--help`, `-V` and `--version` to it.
 abbrev pub napt_app : App
 napt_app =
     let bare : App = new_app (codes "napt") in
     with_options (record bare { top = record bare.top { has_version = true } }) option_names
 
--- the same of a program that takes `--log` and `--log-each` too, or does not
+-- The command of a program that has `--log` and `--log-each` too, or does not.
 abbrev pub app_for : Bool → App
 app_for false = napt_app
 app_for true = with_options napt_app (codes "log" ∷ codes "log-each" ∷ [])
 
--- the file that each option names, and the seconds of each piece of the log
+-- The file that each option names, and the seconds of each piece of the log.
 pub record CommandLineFiles : Type 0 where
   pub config : Option Text
   pub resume : Option Text
@@ -66,24 +66,24 @@ files_with_log o = record (files_of o.files) {
   log_each = option_map non_zero_u32_get o.log_each;
 }
 
--- the value of `--log`, if the program takes it
+-- The value of `--log`, if the program has that option.
 abbrev pub log_in : Bool → List Row → Option Text
 log_in false rows = None
 log_in true rows = first_of (codes "log") rows
 
--- a whole number below 2 ^ 32, in decimal digits, with or without a plus before them; 0 if the text is none
+-- The whole number below 2 ^ 32 that the text is in decimal digits, with or without a plus sign; 0 if it is none.
 abbrev pub seconds_of : Text → ℕ
 seconds_of text =
     let digits = without_leading_plus text in
     let number = digits_value 10 digits in
     if (nat_lt 0 (length digits) && list_all is_ascii_digit digits) && nat_lt number (2 ^ 32) then number else 0
 
--- the value of `--log-each`, if the program takes it
+-- The value of `--log-each` in seconds, if the program has that option.
 abbrev pub seconds_in : Bool → List Row → Option ℕ
 seconds_in false rows = None
 seconds_in true rows = option_map seconds_of (first_of (codes "log-each") rows)
 
--- the values in clap's matches
+-- The values in clap's matches.
 abbrev pub files_in : Bool → List Row → CommandLineFiles
 files_in takes_log rows = record {
   config = first_of (codes "config") rows;
@@ -98,14 +98,14 @@ files_in takes_log rows = record {
   log_each = seconds_in takes_log rows;
 }
 
--- what a command line means: files, a request for help or for the version, or a mistake
+-- The meaning of a command line: files, a request for help or for the version, or a mistake.
 pub data CommandLineMeaning : Type 0 where
   files : CommandLineFiles → CommandLineMeaning
   help : CommandLineMeaning
   version : CommandLineMeaning
   mistake : CommandLineMeaning
 
--- `-` is no file, but a standard stream
+-- The path is `-`, which is not a file but a standard stream.
 abbrev pub is_dash : Text → Bool
 is_dash path = bytes_eq path (codes "-")
 
@@ -113,11 +113,11 @@ abbrev pub is_dash_given : Option Text → Bool
 is_dash_given None = false
 is_dash_given (Some path) = is_dash path
 
--- a state is given as `-`
+-- The file of a state is given as `-`.
 abbrev pub misuses_state : CommandLineFiles → Bool
 misuses_state named = is_dash_given named.resume || is_dash_given named.save
 
--- pieces are asked for of a log that is no file, or each of no second
+-- Pieces are requested of a log that is not a file, or of 0 seconds each.
 abbrev pub misuses_pieces : Option Text → Option ℕ → Bool
 misuses_pieces log None = false
 misuses_pieces None (Some seconds) = true
@@ -126,14 +126,14 @@ misuses_pieces (Some path) (Some seconds) = seconds == 0 || is_dash path
 abbrev pub is_misused : CommandLineFiles → Bool
 is_misused named = misuses_state named || misuses_pieces named.log named.log_each
 
--- clap finds no fault in arguments that it accepts, and reports help and the version as faults of those kinds
+-- clap finds no fault in arguments that it accepts, and reports help and the version as faults of those kinds.
 abbrev pub line_by : Kinds → CommandLineFiles → CommandLineMeaning
 line_by [] named = if is_misused named then mistake else files named
 line_by (DisplayHelp ∷ more) named = help
 line_by (DisplayVersion ∷ more) named = version
 line_by (other ∷ more) named = mistake
 
--- what a command line means to a program that takes a log, or does not; the arguments begin with the program's name
+-- The meaning of a command line to a program with or without a log. The first argument is the program's name.
 unfoldable pub line_for : Bool → List Text → CommandLineMeaning
 line_for takes_log words =
     line_by (fault_of (app_for takes_log) words) (files_in takes_log (matches_of (app_for takes_log) words))
@@ -144,7 +144,7 @@ line_of_words words = line_for false words
 abbrev pub line_with_log : List Text → CommandLineMeaning
 line_with_log words = line_for true words
 
--- the name of the file's option
+-- The name of the file's option, without its dashes.
 abbrev pub role_name : FileRole → Text
 role_name role.Config = codes "config"
 role_name role.Resume = codes "resume"

@@ -5,19 +5,19 @@ use Rattle.napt_program.specs.declared.role.FileRole.TheVariants as role
 use Rattle.napt_program.specs.declared.stop.Stop.{Stop}
 use Rattle.napt_program.specs.declared.stop.Stop.TheVariants as stop
 
--- a fault of the configuration, or of its file if one is named
+-- The stop is a fault of the configuration, or of its file if one is named.
 abbrev pub IsConfigStop : Bool → Stop → Type 0
 IsConfigStop named (stop.Config fault) = Unit {0}
 IsConfigStop named (stop.File role.Config) = named ≡ true
 IsConfigStop named other = ⊥
 
--- the file of the configuration was not read: memory ran out, or the file failed
+-- The file of the configuration was not read: memory was refused, or reading failed.
 abbrev pub ConfigIsUnread : Stop → Type 0
 ConfigIsUnread (stop.Config Memory) = Unit {0}
 ConfigIsUnread (stop.File role.Config) = Unit {0}
 ConfigIsUnread other = ⊥
 
--- the result for a text: its configuration or its own fault, unless it was not read or memory ran out
+-- The result for a text is its configuration or its own fault, unless it was not read or memory was refused.
 abbrev pub IsReadingOf : List ℕ → Result Rules Stop → Type 0
 IsReadingOf text (Ok config) = configuration_of text ≡ Ok config
 IsReadingOf text (Err (stop.Config fault)) = fault ≢ Memory → configuration_of text ≡ Err fault

@@ -1,31 +1,31 @@
--- What contracts see of the devices that are made over files.
+-- The devices that are made for files, as contracts see them.
 use Rattle.std.specs.{Prelude.{◌≡◌, ℕ, List, Option, IfSome, option_map}, Io.Buffered.{reader_remaining, writer_contents}, declared.io.buffered.BufReader.BufReader}
 use Rattle.std.specs.declared.io.buffered.BufWriter.{BufWriter}
 use Rattle.either.specs.{Either.{either, left}, declared.Either.Either}
 use Rattle.napt_capture.specs.{Watched.{device_of, failed_of}, declared.watched.Watched.Watched}
 use Rattle.napt_program.specs.declared.{devices.{RunDevices.RunDevices, OutputDevices.OutputDevices}, files.RunFiles.RunFiles, log_file.LogOutput.LogOutput}
 
--- the bytes that a device has left to read, or shows as written
+-- The bytes that a device has left to read, or that were written to it, if they are known.
 abbrev pub Bytes : Type 0
 Bytes = Option (List ℕ)
 
--- the bytes that reads of the device will give, by those of the reader under it
+-- The bytes that reads of the device will return, from those of the reader in it.
 abbrev pub device_bytes_left : {D A : Type 0} → (D → Bytes) → Watched (BufReader D A) → Bytes
 device_bytes_left remaining made = reader_remaining remaining (device_of made)
 
--- the bytes that were written to the device, by those of the writer under it
+-- The bytes that were written to the device, from those of the writer in it.
 abbrev pub bytes_written : {D A : Type 0} → (D → Bytes) → Watched (BufWriter D A) → Bytes
 bytes_written contents made = writer_contents contents (device_of made)
 
--- the bytes that were written to the device of a log, by those of the writer under it or of its pieces
+-- The bytes that were written to the device of a log, from those of the writer in it or of its pieces.
 abbrev pub log_written : {D P A : Type 0} → (D → Bytes) → (P → Bytes) → Watched (Either (BufWriter D A) P) → Bytes
 log_written contents pieces made = either (writer_contents contents) pieces (device_of made)
 
--- how many calls of a device failed, or of what stands for it and never fails
+-- The number of failed calls of a device, or 0 for what replaces a device and never fails.
 abbrev pub failed_in : {D E : Type 0} → Either (Watched D) E → ℕ
 failed_in device = either failed_of (λ other. 0) device
 
--- no call of a device failed yet
+-- No call of a device has failed yet.
 abbrev pub AreOutputsFresh : {T F : Type 0} → OutputDevices T F → Type 0
 AreOutputsFresh outputs = (failed_of outputs.to_outside ≡ 0)
     × (failed_in outputs.to_inside ≡ 0)
@@ -36,12 +36,12 @@ AreFresh devices = (failed_of devices.inside ≡ 0)
     × (failed_in devices.outside ≡ 0)
     × AreOutputsFresh devices.outputs
 
--- nor of the log, if there is one
+-- No call of the log's device has failed yet, if there is a log.
 abbrev pub IsFreshLog : {D : Type 0} → Option (LogOutput (Watched D)) → Type 0
 IsFreshLog log = IfSome log (λ it. failed_of it.device ≡ 0)
 
--- each device tells or shows what its file does: by what standard input tells, standard output shows, and a file tells
--- and shows
+-- Each device reads or writes the bytes of its file, from the bytes of standard input and standard output, and those
+-- that a file has left to read and has written.
 abbrev pub AreOver : {S T F : Type 0} → (S → Bytes) → (T → Bytes) → (F → Bytes) → (F → Bytes)
     → RunFiles S T F → RunDevices S T F → Type 0
 AreOver input output remaining contents files devices =

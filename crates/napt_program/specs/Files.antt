@@ -6,7 +6,7 @@ use Rattle.napt_program.specs.declared.{files.{FilesWithLog.FilesWithLog, RunFil
 use Rattle.napt_program.specs.declared.role.FileRole.TheVariants as role
 use Rattle.napt_program.specs.declared.stop.Stop.TheVariants as stop
 
--- exactly the files that are named are there, a standard stream for `-`, and in place of a capture that is not named
+-- Exactly the named files are open, with a standard stream for `-` and in place of a capture that is not named.
 abbrev pub AreOpen : {S T F : Type 0} → CommandLineFiles → RunFiles S T F → Type 0
 AreOpen named files = (is_left files.inside ≡ is_standard named role.Inside)
     × (option_map is_left files.outside ≡ option_map is_dash named.outside)
@@ -14,30 +14,30 @@ AreOpen named files = (is_left files.inside ≡ is_standard named role.Inside)
     × (option_map is_left files.to_inside ≡ option_map is_dash named.to_inside)
     × (option_map is_left files.report ≡ option_map is_dash named.report)
 
--- the device of a log is a standard stream, and no file or pieces
+-- The device of a log is a standard stream, not a file or pieces.
 abbrev pub is_stream_log : {T F P : Type 0} → Either (Either T F) P → Bool
 is_stream_log device = either is_left (λ pieces. false) device
 
--- the same with a log, in pieces if they are asked for
+-- The same with a log, which is in pieces if they are requested.
 abbrev pub AreOpenWithLog : {S T F P : Type 0} → CommandLineFiles → FilesWithLog S T F P → Type 0
 AreOpenWithLog named opened =
     AreOpen named opened.files
     × (option_map (λ log. is_stream_log log.device) opened.log ≡ option_map is_dash named.log)
     × IfSome opened.log (λ log. is_left log.device ≡ not (has_pieces named))
 
--- the same of the captures alone
+-- The same of the captures alone.
 abbrev pub AreInputsOpen : {S F : Type 0} → CommandLineFiles → InputFiles S F → Type 0
 AreInputsOpen named files = (is_left files.inside ≡ is_standard named role.Inside)
     × (option_map is_left files.outside ≡ option_map is_dash named.outside)
 
--- a fault of a file that is named
+-- The stop is a fault of a file that is named.
 abbrev pub IsFileStop : CommandLineFiles → Stop → Type 0
 IsFileStop named (stop.File role) = names_file named role ≡ true
 IsFileStop named (stop.LogFile why) = names_file named role.Log ≡ true
 IsFileStop named other = ⊥
 
--- the same, or memory was refused to the reader of standard input, which a capture comes from, to the path of the new
--- file of a state, or to the end of a log
+-- The same, or memory was refused to the reader of standard input for a capture, to the path of a state's new file, or
+-- to the end of a log.
 abbrev pub IsOpenStop : CommandLineFiles → Stop → Type 0
 IsOpenStop named s = ((s ≡ MEMORY)
     × ((is_standard named role.Inside || is_stream named role.Outside || names_file named role.Save

@@ -1,11 +1,11 @@
--- Which options are standard input or standard output, and which wants one that another has.
+-- The options that are standard input or standard output, and the one whose stream another option already uses.
 use Rattle.std.specs.Prelude.{◌&&◌, ◌||◌, Bool, not, Option, Some, None, is_some, if◌then◌else◌}
 use Rattle.clap.specs.Words.{Text}
 use Rattle.napt_program.specs.{CommandLine.{CommandLineFiles, is_dash_given}, declared.role.FileRole.FileRole}
 pub use Rattle.napt_program.specs.CommandLine.{is_dash}
 use Rattle.napt_program.specs.declared.role.FileRole.TheVariants as role
 
--- the file that the option of a role names
+-- The file that the option of a role names.
 abbrev pub file_for : CommandLineFiles → FileRole → Option Text
 file_for named role.Config = named.config
 file_for named role.Resume = named.resume
@@ -23,21 +23,21 @@ names_file named r = is_some (file_for named r)
 abbrev pub is_stream : CommandLineFiles → FileRole → Bool
 is_stream named r = is_dash_given (file_for named r)
 
--- of the captures that are read and written without an option
+-- A capture that is read or written without an option uses its standard stream.
 abbrev pub is_standard : CommandLineFiles → FileRole → Bool
 is_standard named r = not (is_some (file_for named r)) || is_stream named r
 
--- the log is in pieces: seconds are given for each, and it is a file
+-- The log is in pieces: seconds are given for each, and it is a file.
 abbrev pub has_pieces : CommandLineFiles → Bool
 has_pieces named = is_some named.log_each && not (is_stream named role.Log)
 
--- the log wants standard output, which an output has
+-- The log needs standard output, which an output already uses.
 abbrev pub is_log_again : CommandLineFiles → Bool
 is_log_again named =
     is_stream named role.Log && (is_stream named role.Report || is_stream named role.ToInside
     || is_standard named role.ToOutside)
 
--- the first output that wants standard output after another; the log is the last
+-- The first output whose standard output is already in use. The log is the last.
 abbrev pub output_again : CommandLineFiles → Option FileRole
 output_again named =
     if is_stream named role.ToInside && is_standard named role.ToOutside then Some role.ToInside
@@ -45,8 +45,8 @@ output_again named =
     then Some role.Report
     else (if is_log_again named then Some role.Log else None))
 
--- the first option that wants a standard stream which another has: that of the configuration, if the inside capture is
--- standard input by default
+-- The first option whose standard stream another one already uses. It is that of the configuration if the inside
+-- capture is standard input by default.
 abbrev pub standard_again : CommandLineFiles → Option FileRole
 standard_again named =
     if is_stream named role.Config && not (is_some named.inside) then Some role.Config

@@ -1,4 +1,4 @@
-//! How a program was called, and what it tells people at a terminal.
+//! How a program was called, and the messages that it prints at a terminal.
 
 ghost use Rattle.std.specs.{Prelude.{◌≡◌, ◌⊎◌, IfErr, OnOk}, Process.exit_status};
 ghost use Rattle.napt_program.specs.{Command.{HelpIsAsked, IsLineAnswer}, Stop.status_at_end};
@@ -19,9 +19,9 @@ use std::io::IsTerminal;
 use std::path::Path;
 use std::process::ExitCode;
 
-/// Writes the help or the version to standard output, if it was asked for.
+/// Prints the help or the version on standard output, if it was requested.
 ///
-/// Fails with `Stop::Help` if it cannot be written, and if the arguments are not understood or memory ran out for them.
+/// Fails with `Stop::Help` if printing fails, and if the arguments are wrong or memory is refused.
 pub fn answer_line(rt: &impl Print, fault: LineFault) -> Result<(), Stop>
     ensures asked { OnOk result (HelpIsAsked fault) }
     ensures stop { IfErr result (IsLineAnswer fault) }
@@ -33,8 +33,8 @@ pub fn answer_line(rt: &impl Print, fault: LineFault) -> Result<(), Stop>
     }
 }
 
-/// Says on standard error that the log of a program begins a new entry for each binding of the state, at its clock, in ns. Fails
-/// only if memory runs out.
+/// Prints on standard error that the log begins a new entry for each binding of the state, at the
+/// state's clock, in ns. Fails only if memory is refused.
 pub fn print_new_entries(
     rt: &impl Eprint,
     alloc: Global,
@@ -52,16 +52,16 @@ pub fn print_new_entries(
 /// How a program was called.
 #[derive(Clone, Copy, Debug)]
 pub struct ProgramCall {
-    /// What it is called.
+    /// The name of the program.
     pub name: &'static str,
     /// Whether standard error is open.
     pub is_heard: bool,
-    /// Whether people read it: it is a terminal too.
+    /// Whether standard error is open and is a terminal.
     pub at_terminal: bool,
 }
 
 impl ProgramCall {
-    /// That of the program with this name.
+    /// Returns the call of the program with this name.
     pub fn of(rt: &HostRuntime, streams: StandardStreams, name: &'static str) -> ProgramCall {
         ProgramCall {
             name,
@@ -70,8 +70,8 @@ impl ProgramCall {
         }
     }
 
-    /// Ends the program: writes the fault line, if there is one and standard error is open, for which no memory is taken,
-    /// tells people what to do about it, and returns the exit status.
+    /// Ends the program: prints the fault line, without taking memory, and advice, if there is a
+    /// fault and standard error is open. Returns the exit status.
     pub fn ended(self, rt: &impl Eprint, answer: &Result<(), Stop>) -> ExitCode
         ensures { exit_status result ≡ status_at_end answer.now }
     {
@@ -84,7 +84,7 @@ impl ProgramCall {
         ExitCode::from(status_at_end(answer))
     }
 
-    /// The same by the name that it is installed under, if it was called so. Fails as `words` does.
+    /// Returns the call with the name `installed`, if it was called so. Fails as `words` does.
     pub fn as_called<R: Env + AllocGlobal>(
         self,
         rt: &R,
@@ -101,7 +101,7 @@ impl ProgramCall {
         Ok(ProgramCall { name, ..self })
     }
 
-    /// The help of the program as it was called, of that by its own name and that by the other.
+    /// Returns the help of the name by which the program was called, of `own` and `installed`.
     pub fn manual(self, own: Manual, installed: Manual) -> Manual {
         if self.name == installed.name {
             installed
@@ -110,8 +110,8 @@ impl ProgramCall {
         }
     }
 
-    /// Tells people at a terminal what to do about a stop, in a line behind its fault line; of a log that is refused whoever
-    /// reads.
+    /// Prints advice on a stop in a line after its fault line, at a terminal; on a refused log it
+    /// is printed wherever standard error goes.
     fn print_advice(self, rt: &impl Eprint, stop: Stop) {
         if self.at_terminal || (self.is_heard && matches!(stop, Stop::LogFile(_))) {
             let _ = rt.eprintln(Advice {
@@ -121,8 +121,8 @@ impl ProgramCall {
         }
     }
 
-    /// Tells that the entries of the log that the state has are not those of its bindings, so that new ones begin at its
-    /// clock, in ns. Fails only if memory runs out.
+    /// Warns that the saved entries of the log do not match the state's bindings, so that new
+    /// entries begin at the state's clock, in ns. Fails only if memory is refused.
     pub fn print_new_entries(
         self,
         rt: &impl Eprint,
@@ -135,7 +135,7 @@ impl ProgramCall {
         Ok(())
     }
 
-    /// Tells people at a terminal which captures end inside a record.
+    /// Prints at a terminal which captures end inside a record.
     pub fn print_cuts<S, Q>(
         self,
         rt: &impl Eprint,
@@ -160,7 +160,7 @@ impl ProgramCall {
     }
 }
 
-/// Whether the first of the words, the program's name, ends so.
+/// Returns whether the program's name, the first word, has `name` as its file name.
 fn is_called(words: &[String], name: &str) -> bool {
     match words.first() {
         Some(word) => Path::new(word.as_str()).file_name() == Some(name),
@@ -168,7 +168,7 @@ fn is_called(words: &[String], name: &str) -> bool {
     }
 }
 
-/// What to do about a stop: where `explain` knows more of its cause, `explain`, and else the help.
+/// The advice on a stop: `explain`, if it knows more of the cause, or else the help.
 #[derive(Clone, Copy, Debug)]
 struct Advice {
     name: &'static str,

@@ -30,7 +30,7 @@ use std::io::{ErrorKind, Printer, Write};
 use std::rt::Files;
 use std::{env, io};
 
-/// The command line's arguments. Fails with `Stop::Usage` if one is not UTF-8.
+/// Returns the arguments. Fails with `Stop::Usage` if one is not UTF-8, or without memory.
 pub fn words<R: Env + AllocGlobal>(rt: &R) -> Result<Vec<String>, Stop>
     ensures { IfErr result (λ stop. (stop ≡ Stop.Usage) ⊎ (stop ≡ Stop.LineMemory)) }
 {
@@ -40,7 +40,7 @@ pub fn words<R: Env + AllocGlobal>(rt: &R) -> Result<Vec<String>, Stop>
     }
 }
 
-/// Why the arguments could not be read: memory ran out, or one is not UTF-8.
+/// Returns why the arguments could not be read: memory was refused, or one is not UTF-8.
 fn unread_words(error: &io::Error) -> Stop
     ensures memory { error_kind error.now ≡ ErrorKind.OutOfMemory → result ≡ Stop.LineMemory }
     ensures usage { error_kind error.now ≢ ErrorKind.OutOfMemory → result ≡ Stop.Usage }
@@ -52,26 +52,26 @@ fn unread_words(error: &io::Error) -> Stop
     }
 }
 
-/// Everything that a run needs. `S` reads standard input, `T` writes standard output, `F` is a file, and `P` are pieces of a log.
+/// All that a run needs: `S` is standard input, `T` standard output, `F` a file, `P` log pieces.
 #[derive(Drop)]
 pub struct RunResources<S, T: Write + Drop, F: Write + Drop, P> {
     pub config: Config,
-    /// The state from which the run goes on.
+    /// The state from which the run starts.
     pub state: State,
-    /// What was kept of its log; without entries, if there was none.
+    /// The saved entries of its log, or none if there was no log.
     pub kept: SavedLogState,
     pub devices: RunDevices<S, T, F>,
     /// The log, if one is named.
     pub log: Option<LogOutput<LogDevice<Either<T, F>, P>>>,
-    /// The file of the state that the run leaves, if it is saved.
+    /// The file of the state after the run, if it is saved.
     pub save: Option<StateFile<F>>,
 }
 
-/// Opens the files of the options, or the standard streams in their place: first the configuration and the state, then the
-/// captures, the outputs and the log, each behind a buffer, and the new file of a state last.
+/// Opens the files of the options, or the standard streams in their place: configuration, state,
+/// captures, outputs and log, each with a buffer, and last the new file of a state.
 ///
-/// Before anything is opened, fails with the role of a needed standard stream that is closed, and then with that of an option
-/// that wants a standard stream which another has; then if the configuration or the state is refused, or as `open_files` does.
+/// Before that, fails with the role of a needed standard stream that is closed, or that another
+/// option uses; then if the configuration or state is refused, or as `open_files` does.
 pub fn open<'r, R: Files + Input + Print + AllocGlobal>(
     rt: &'r R,
     streams: StandardStreams,
@@ -110,7 +110,7 @@ pub fn open<'r, R: Files + Input + Print + AllocGlobal>(
     })
 }
 
-/// How many bytes a state tells of its log; 0 if it has none.
+/// Returns the length in bytes that a state records of its log, or 0 if it has none.
 fn announced_bytes(log: &Option<LogPosition>) -> u64
     ensures some { IfSome log.now (λ log. result ≡ log.length) }
     ensures none { log.now ≡ None → result ≡ 0 }
@@ -121,7 +121,7 @@ fn announced_bytes(log: &Option<LogPosition>) -> u64
     }
 }
 
-/// The entries that were kept of a log, none if there is none.
+/// Returns the saved entries of a log, or none if there is no log.
 fn entries_of(alloc: Global, log: Option<LogPosition>) -> SavedLogState
     ensures kept { IfSome log (λ log. result ≡ log.log) }
     ensures none { log ≡ None → result ≡ record { made = 0; living = [] } }
@@ -132,11 +132,12 @@ fn entries_of(alloc: Global, log: Option<LogPosition>) -> SavedLogState
     }
 }
 
-/// Why a program stops after a fault of its run. What stands for an outside capture that was not given has no fault: if it
-/// could not be read, memory was refused to the run.
+/// Returns why a program stops after a fault of its run. The device in place of a missing outside
+/// capture has no fault of its own: if it could not be read, the run was refused memory.
 pub fn stop_of_run(options: &OptionsWithLog, fault: Fault) -> Stop
     requires { is_shut_gate_fault fault ≡ false }
-    ensures stop { (streams : StandardStreams) → IsRunStop streams (files_with_log options.now) result }
+    ensures stop { (streams : StandardStreams) →
+        IsRunStop streams (files_with_log options.now) result }
     ensures exact { result ≡ stop_after (files_with_log options.now) fault }
 {
     match fault {

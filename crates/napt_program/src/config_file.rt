@@ -1,4 +1,4 @@
-//! The configuration in a file.
+//! Reads the configuration from a file.
 
 ghost use Rattle.std.specs.{Prelude.{◌≡◌, ◌≢◌, ◌≤◌, IfErr, IfOk, IfSome, None, OnOk, is_some, length, true, vec_len}, IoError.error_kind};
 ghost use Rattle.napt_config.specs.Configured.{built_in};
@@ -16,11 +16,11 @@ use std::io;
 use std::io::{ErrorKind, Read};
 use std::rt::Files;
 
-/// The most bytes that a configuration may have, 64 MiB: an endless file is not read further.
+/// The largest size of a configuration in bytes, 64 MiB. An endless file is not read further.
 pub const MOST_BYTES: u64 = 67_108_864;
 
-/// The configuration in the file, that on standard input for `-`, or the built-in one if no file is named. Fails as `config_from` does, and with the file's
-/// role if it cannot be opened.
+/// Returns the configuration in the file, on standard input for `-`, or the built-in one for
+/// `None`. Fails as `config_from` does, and with the file's role if the file cannot be opened.
 pub fn configuration<R: Files + Input + AllocGlobal>(
     rt: &R,
     path: Option<&String>,
@@ -34,8 +34,8 @@ pub fn configuration<R: Files + Input + AllocGlobal>(
     config_from(rt.alloc(), open_config(rt, path)?)
 }
 
-/// Opens a configuration for reading, or standard input for `-`. Fails with its role, or with `ConfigFault::Memory` if memory
-/// ran out.
+/// Opens a configuration for reading, or standard input for `-`. Fails with its role, or with
+/// `ConfigFault::Memory` if memory is refused.
 pub fn open_config<R: Files + Input>(rt: &R, path: &str) -> Result<Either<R::Reader, R::File>, Stop>
     ensures stream { IfOk result (λ device. is_left device ≡ is_dash path.now) }
     ensures refused { IfErr result ConfigIsUnread }
@@ -47,10 +47,10 @@ pub fn open_config<R: Files + Input>(rt: &R, path: &str) -> Result<Either<R::Rea
     Ok(Right(file))
 }
 
-/// Reads a configuration to the reader's end.
+/// Reads a configuration from a reader to its end.
 ///
-/// Fails with `Stop::Config` if the text is refused, with `ConfigFault::Memory` if memory runs out, and with the file's role
-/// if the reader fails or has more than `MOST_BYTES`.
+/// Fails with `Stop::Config` if the text is refused, with `ConfigFault::Memory` if memory is, and
+/// with the file's role if the reader fails or has more than `MOST_BYTES`.
 pub fn config_from<D: Read + Drop>(alloc: Global, device: D) -> Result<Config, Stop>
     ensures read { IfSome (D.remaining device) (λ text. IsReadingOf text result) }
     ensures bounded { OnOk result (IfSome (D.remaining device) (λ text. length text ≤ MOST_BYTES)) }
@@ -60,9 +60,9 @@ pub fn config_from<D: Read + Drop>(alloc: Global, device: D) -> Result<Config, S
     Ok(Config::read(alloc, &text)?)
 }
 
-/// All bytes of the reader, at most `MOST_BYTES`.
+/// Returns all bytes of the reader, at most `MOST_BYTES`.
 ///
-/// Fails with the file's role if the reader fails or has more, and with `ConfigFault::Memory` if memory runs out.
+/// Fails with the file's role if reading fails or there are more, or with `ConfigFault::Memory`.
 pub fn config_text<D: Read + Drop>(alloc: Global, device: D) -> Result<Vec<u8>, Stop>
     ensures told { IfOk result (λ text. IfSome (D.remaining device) (λ bytes. text.items ≡ bytes)) }
     ensures bounded { IfOk result (λ text. vec_len text ≤ MOST_BYTES) }
@@ -76,11 +76,12 @@ pub fn config_text<D: Read + Drop>(alloc: Global, device: D) -> Result<Vec<u8>, 
     }
 }
 
-/// Why a configuration was not read: memory ran out, or its file failed.
+/// Returns why a configuration was not read: memory was refused, or reading its file failed.
 pub fn unread_config(error: &io::Error) -> Stop
     ensures memory { error_kind error.now ≡ ErrorKind.OutOfMemory
         → result ≡ Stop.Config ConfigFault.Memory }
-    ensures file { error_kind error.now ≢ ErrorKind.OutOfMemory → result ≡ Stop.File FileRole.Config }
+    ensures file { error_kind error.now ≢ ErrorKind.OutOfMemory →
+        result ≡ Stop.File FileRole.Config }
     ensures unread { ConfigIsUnread result }
 {
     match error.kind() {

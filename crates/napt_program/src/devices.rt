@@ -1,4 +1,4 @@
-//! The devices of a run: its files behind buffers, with failed calls counted.
+//! The devices of a run: its files with buffers, which count failed calls.
 
 ghost use Rattle.std.specs.{Prelude.{◌≡◌, IfErr, IfOk, is_some, option_map}, Io.Buffered.{reader_remaining, writer_contents}};
 ghost use Rattle.either.specs.Either.{either, is_left, left};
@@ -13,15 +13,15 @@ use napt_capture::{EmptySource, NullSink, Watched};
 use std::alloc::Global;
 use std::io::{BufReader, BufWriter, Read, Write};
 
-/// How many bytes a buffer holds.
+/// The size of a buffer, in bytes.
 pub(crate) const BUFFERED: usize = 65_536;
 
-/// How many bytes the buffer of an output holds beside a log. No more come between two flushes, since they are what was read
-/// ahead of both captures (`ROOM`); so nothing of it is written before the log was flushed.
+/// The size of an output's buffer in bytes if there is a log. Between two flushes no more bytes
+/// come than both captures read ahead (`ROOM`), so none is written before the log has been flushed.
 pub(crate) const HELD: usize = 2_097_152;
 
-/// A device for each file of a run, as `RunFiles` names them; `EmptySource` stands for a capture that was not given, and
-/// `NullSink` for an output that nobody asked for.
+/// A device for each file of a run, as `RunFiles` names them. `EmptySource` stands for a capture
+/// that was not given, and `NullSink` for an output that was not requested.
 #[derive(Drop)]
 pub struct RunDevices<S, T: Write + Drop, F: Write + Drop> {
     pub inside: Watched<BufReader<Either<S, F>>>,
@@ -29,7 +29,7 @@ pub struct RunDevices<S, T: Write + Drop, F: Write + Drop> {
     pub outputs: OutputDevices<T, F>,
 }
 
-/// Those that are written.
+/// The devices that are written.
 #[derive(Drop)]
 pub struct OutputDevices<T: Write + Drop, F: Write + Drop> {
     pub to_outside: Watched<BufWriter<Either<T, F>>>,
@@ -37,11 +37,11 @@ pub struct OutputDevices<T: Write + Drop, F: Write + Drop> {
     pub report: Either<Watched<BufWriter<Either<T, F>>>, NullSink>,
 }
 
-/// The device of a log: `D` behind a buffer, or its pieces, `P`.
+/// The device of a log: `D` with a buffer, or its pieces, `P`.
 pub type LogDevice<D, P> = Watched<Either<BufWriter<D>, P>>;
 
-/// Puts the files behind buffers; those of captures that are written hold `held` bytes. Each device reads what its file reads,
-/// or writes what its file writes. Fails, as a run does, if memory runs out.
+/// Wraps the files of a run in buffers; those of output captures have `held` bytes. Each device
+/// reads or writes what its file does. Fails with `MEMORY` if memory is refused.
 pub fn buffered<S: Read + Drop, T: Write + Drop, F: Read + Write + Drop>(
     alloc: Global,
     files: RunFiles<S, T, F>,
@@ -63,7 +63,7 @@ pub fn buffered<S: Read + Drop, T: Write + Drop, F: Read + Write + Drop>(
     })
 }
 
-/// The device over a reader. Fails, as a run does, if memory runs out.
+/// Returns the device for a reader. Fails with `MEMORY` if memory is refused.
 fn source<D: Read + Drop>(alloc: Global, device: D) -> Result<Watched<BufReader<D>>, Stop>
     ensures fresh { IfOk result (λ made. failed_of made ≡ 0) }
     ensures tells { IfOk result (λ made. device_bytes_left D.remaining made ≡ D.remaining device) }
@@ -72,7 +72,7 @@ fn source<D: Read + Drop>(alloc: Global, device: D) -> Result<Watched<BufReader<
     Ok(Watched::new(reader(alloc, device)?))
 }
 
-/// The reader behind a buffer. Fails, as a run does, if memory runs out.
+/// Wraps a reader in a buffer. Fails with `MEMORY` if memory is refused.
 pub(crate) fn reader<D: Read + Drop>(alloc: Global, device: D) -> Result<BufReader<D>, Stop>
     ensures tells { IfOk result (λ made. reader_remaining D.remaining made ≡ D.remaining device) }
     ensures refused { IfErr result (λ stop. stop ≡ MEMORY) }
@@ -80,7 +80,7 @@ pub(crate) fn reader<D: Read + Drop>(alloc: Global, device: D) -> Result<BufRead
     BufReader::with_capacity(alloc, BUFFERED, device).map_err(|_| MEMORY)
 }
 
-/// The same, or without a reader a capture without packets.
+/// Returns the device for a reader or, without one, a capture without packets.
 fn source_over<D: Read + Drop>(
     alloc: Global,
     device: Option<D>,
@@ -97,7 +97,7 @@ fn source_over<D: Read + Drop>(
     }
 }
 
-/// The device over a writer, behind a buffer of so many bytes. Fails, as a run does, if memory runs out.
+/// Returns the device for a writer, with a buffer of `held` bytes. Fails if memory is refused.
 fn sink<D: Write + Drop>(
     alloc: Global,
     device: D,
@@ -110,7 +110,7 @@ fn sink<D: Write + Drop>(
     Ok(Watched::new(writer(alloc, device, held)?))
 }
 
-/// The writer behind a buffer of so many bytes. Fails, as a run does, if memory runs out.
+/// Wraps a writer in a buffer of `held` bytes. Fails with `MEMORY` if memory is refused.
 pub(crate) fn writer<D: Write + Drop>(
     alloc: Global,
     device: D,
@@ -122,7 +122,7 @@ pub(crate) fn writer<D: Write + Drop>(
     BufWriter::with_capacity(alloc, held, device).map_err(|_| MEMORY)
 }
 
-/// The log behind a buffer, if there is one; pieces have their own. Fails, as a run does, if memory runs out.
+/// Wraps the log, if any, in a buffer; pieces have their own. Fails if memory is refused.
 pub(crate) fn buffered_log<D: Write + Drop, P: Write + Drop>(
     alloc: Global,
     log: Option<LogOutput<Either<D, P>>>,
@@ -149,7 +149,7 @@ pub(crate) fn buffered_log<D: Write + Drop, P: Write + Drop>(
     }))
 }
 
-/// The same, or without a writer one that discards everything.
+/// Returns the device for a writer or, without one, a sink that discards everything.
 fn sink_over<D: Write + Drop>(
     alloc: Global,
     device: Option<D>,

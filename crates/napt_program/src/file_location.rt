@@ -8,32 +8,32 @@ use std::os::unix::fs::MetadataExt;
 use std::path::Path;
 use std::rt::Files;
 
-/// A file or a folder, as the system identifies it: its device, and its inode number there, which is not 0.
+/// The identity of a file or folder: its device, and its inode number there, which is not 0.
 #[derive(Clone, Copy, Debug)]
 pub struct FileId {
     pub device: u64,
     pub number: u64,
 }
 
-/// What is known of where a file is.
+/// What is known of the location of a file.
 #[derive(Clone, Copy, Debug)]
 pub enum FileLocation<'a> {
     /// An existing file.
     There(FileId),
-    /// A file that does not exist yet: the folder it would be created in, and its name there.
+    /// A file that does not exist yet: the folder in which it would be created, and its name there.
     New(FileId, &'a str),
-    /// Nothing is known: just its path.
+    /// Only the path is known.
     Words(&'a str),
-    /// A device, a pipe or a folder: writing to it destroys nothing.
+    /// A device, a pipe or a folder, to which writing destroys nothing.
     Aside,
 }
 
-/// The node, if the system gives one.
+/// Returns the identity of a file, if the system has one.
 fn node_of(known: &Metadata) -> Option<FileId> {
     node_at(known.dev(), known.ino())
 }
 
-/// The node of a device and an inode number, which is 0 if the system has none.
+/// Returns the identity for a device and an inode number, which is 0 if the system has none.
 fn node_at(device: u64, number: u64) -> Option<FileId>
     ensures { result ≡ (if number == 0 then None
         else Some (record { device = device; number = number })) }
@@ -45,7 +45,7 @@ fn node_at(device: u64, number: u64) -> Option<FileId>
     }
 }
 
-/// The place of the file at this path. Links are followed, except one to a file that does not exist yet.
+/// Returns the location of the file at `path`. Follows links, except to a file that does not exist.
 pub fn place_of<'a, R: Files>(rt: &R, path: &'a str) -> FileLocation<'a>
     ensures { IsOfPath path.now result }
 {
@@ -55,7 +55,7 @@ pub fn place_of<'a, R: Files>(rt: &R, path: &'a str) -> FileLocation<'a>
     }
 }
 
-/// The place of what exists at this path.
+/// Returns the location of the existing file or folder at `path`.
 fn place_there<'a>(known: &Metadata, path: &'a str) -> FileLocation<'a>
     ensures path { IsOfPath path.now result }
     ensures kind { IsOfKind (file_type known.now) result }
@@ -67,7 +67,7 @@ fn place_there<'a>(known: &Metadata, path: &'a str) -> FileLocation<'a>
     }
 }
 
-/// The place where a file of this path would be created.
+/// Returns the location at which a file with this path would be created.
 fn place_of_new<'a, R: Files>(rt: &R, path: &'a str) -> FileLocation<'a>
     ensures { IsOfPath path.now result }
 {
@@ -83,7 +83,7 @@ fn place_of_new<'a, R: Files>(rt: &R, path: &'a str) -> FileLocation<'a>
     }
 }
 
-/// The folder of a path, `.` if the path is a name alone; `None` if it has no folder.
+/// Returns the folder of a path, `.` if the path is only a name, or `None` if it has no folder.
 pub(crate) fn folder_of<'a>(path: &'a str) -> Option<Path<'a>>
     ensures { option_map path_bytes result ≡ folder_of path.now }
 {
@@ -95,7 +95,7 @@ pub(crate) fn folder_of<'a>(path: &'a str) -> Option<Path<'a>>
     }
 }
 
-/// Whether what is known is of the file at this path; so it is if the system does not tell one file from another.
+/// Returns whether `known` is of the file at `path`; also if the system cannot tell files apart.
 pub(crate) fn is_at<R: Files>(rt: &R, known: &Metadata, path: &str) -> bool {
     let Ok(there) = fs::metadata(rt, path) else {
         return false;
@@ -112,7 +112,7 @@ fn is_same_node(a: FileId, b: FileId) -> bool
     a.device == b.device && a.number == b.number
 }
 
-/// Whether both are one file. `Aside` is the same as nothing.
+/// Returns whether both locations are of one file. `Aside` is the same as nothing.
 pub fn is_same(a: FileLocation<'_>, b: FileLocation<'_>) -> bool
     ensures { result ≡ is_same a.entry b.entry }
 {

@@ -16,7 +16,7 @@ const INPUT: &str = "/dev/stdin";
 
 const OUTPUT: &str = "/dev/stdout";
 
-/// The place of the file of each option, and of the standard streams for `-` and in place of absent options.
+/// The location of each option's file, and of the standard streams for `-` or absent options.
 #[derive(Clone, Copy, Debug)]
 struct FileLocations<'a> {
     config: Option<FileLocation<'a>>,
@@ -31,16 +31,16 @@ struct FileLocations<'a> {
     save: Option<SaveLocations<'a>>,
 }
 
-/// Where a state is saved.
+/// The locations of a state that is saved.
 #[derive(Clone, Copy, Debug)]
 struct SaveLocations<'a> {
     file: FileLocation<'a>,
-    /// That of the new file beside it.
+    /// The location of the new file, which is written first.
     new: FileLocation<'a>,
 }
 
-/// The role of the first output, in the order of the options, that is a file which an earlier option also names. A state may
-/// be saved to the file from which the run goes on. Fails if memory runs out, which is only taken for a state that is saved.
+/// Returns the role of the first output whose file an earlier option also names. A state may be
+/// saved to the file that was read. Fails if memory is refused, which only a saved state needs.
 pub fn lost_file<R: Files>(
     rt: &R,
     alloc: Global,
@@ -54,7 +54,7 @@ pub fn lost_file<R: Files>(
     Ok(lost_beside(rt, options, new.as_ref()))
 }
 
-/// The path of the new file of a state, if one is saved. Fails if memory runs out.
+/// Returns the path of the new file of a state, if one is saved. Fails if memory is refused.
 fn path_of_new(alloc: Global, options: &RunOptions) -> Result<Option<String>, AllocError>
     ensures new { IfOk result (λ new. is_some new ≡ is_some options.now.save) }
     ensures memory { IfErr result (λ _. is_some options.now.save ≡ true) }
@@ -65,15 +65,15 @@ fn path_of_new(alloc: Global, options: &RunOptions) -> Result<Option<String>, Al
     }
 }
 
-/// The same as `lost_file`, given the path of the new file if a state is saved.
+/// Returns the same as `lost_file`, given the path of the new file if a state is saved.
 fn lost_beside<R: Files>(rt: &R, options: &RunOptions, new: Option<&String>) -> Option<FileRole>
     ensures { IfSome result (λ role. names_file (files_of options.now) role ≡ true) }
 {
     output_named_again(&places_of(rt, options, new))
 }
 
-/// Whether the log is a file that another option also names, or a standard stream. Fails if memory runs out, which is only
-/// taken for a state that is saved.
+/// Returns whether the log is a file that another option also names, or a standard stream. Fails if
+/// memory is refused, which is only needed if a state is saved.
 pub fn is_log_lost<R: Files>(
     rt: &R,
     alloc: Global,
@@ -87,7 +87,7 @@ pub fn is_log_lost<R: Files>(
     Ok(is_log_named_again(&places_of(rt, &options.files, new.as_ref()), log))
 }
 
-/// The places of the files of the options, given the path of the new file if a state is saved.
+/// Returns the locations of the options' files, given the new file's path if a state is saved.
 fn places_of<'a, R: Files>(
     rt: &R,
     options: &'a RunOptions,
@@ -115,7 +115,7 @@ fn places_of<'a, R: Files>(
     }
 }
 
-/// The place of an option's file, or of the standard stream for `-`.
+/// Returns the location of an option's file, or of the standard stream for `-`.
 fn place_at<'a, R: Files>(
     rt: &R,
     path: Option<&'a String>,
@@ -130,7 +130,7 @@ fn place_at<'a, R: Files>(
     }
 }
 
-/// The place of the standard stream in place of an absent option.
+/// Returns the location of the standard stream that replaces an absent option.
 fn place_of_stream<'a, R: Files>(
     rt: &R,
     path: Option<&'a String>,
@@ -144,7 +144,7 @@ fn place_of_stream<'a, R: Files>(
     }
 }
 
-/// The first output that is the same file as an earlier option.
+/// Returns the first output that is the same file as an earlier option.
 fn output_named_again(places: &FileLocations<'_>) -> Option<FileRole>
     ensures first { result ≡ output_named_again places.now }
     ensures named { IfSome result (λ role. is_placed places.now role ≡ true) }
@@ -163,7 +163,7 @@ fn output_named_again(places: &FileLocations<'_>) -> Option<FileRole>
     }
 }
 
-/// Whether a state is saved to what is no file, or to a file of another option but `resume`, or its new file is either.
+/// Returns whether the state's file or new file is no file, another option's, or replaces `resume`.
 fn is_save_lost(places: &FileLocations<'_>) -> bool
     ensures again { result ≡ is_save_lost places.now places.now.save }
     ensures placed { result ≡ true → is_some places.now.save ≡ true }
@@ -180,14 +180,14 @@ fn is_save_lost(places: &FileLocations<'_>) -> bool
     }
 }
 
-/// Whether it is a device, a pipe or a folder, which no new file may replace.
+/// Returns whether it is a device, a pipe or a folder, which no new file may replace.
 fn is_aside(place: FileLocation<'_>) -> bool
     ensures { result ≡ is_aside place.entry }
 {
     matches!(place, FileLocation::Aside)
 }
 
-/// Whether a file is one that is read, but for the state, or written, but for the state.
+/// Returns whether a file is another input or output, apart from the files of states.
 fn is_taken(places: &FileLocations<'_>, file: FileLocation<'_>) -> bool
     ensures { result ≡ is_taken places.now file.entry }
 {
@@ -197,7 +197,7 @@ fn is_taken(places: &FileLocations<'_>, file: FileLocation<'_>) -> bool
         || is_there(file, places.report)
 }
 
-/// Whether the log is a file of another option, or a standard stream.
+/// Returns whether the log is a file of another option, or a standard stream.
 fn is_log_named_again(places: &FileLocations<'_>, log: Option<FileLocation<'_>>) -> bool
     ensures { result ≡ is_log_named_again places.now log.entry }
 {
@@ -211,7 +211,7 @@ fn is_log_named_again(places: &FileLocations<'_>, log: Option<FileLocation<'_>>)
     }
 }
 
-/// Whether a state is saved to this file, or by way of it.
+/// Returns whether this file is the one to which a state is saved, or the new file for it.
 fn is_saved_there(places: &FileLocations<'_>, file: FileLocation<'_>) -> bool
     ensures { result ≡ is_saved_there file.entry places.now.save }
 {
@@ -221,7 +221,7 @@ fn is_saved_there(places: &FileLocations<'_>, file: FileLocation<'_>) -> bool
     }
 }
 
-/// Whether a file is an input, a state, a standard stream or one of two other outputs.
+/// Returns whether a file is an input, a state, a standard stream or one of two other outputs.
 fn is_again(
     places: &FileLocations<'_>,
     file: Option<FileLocation<'_>>,
@@ -251,7 +251,7 @@ fn is_input(places: &FileLocations<'_>, file: FileLocation<'_>) -> bool
         || is_there(file, places.outside)
 }
 
-/// Whether the place, if there is one, is this file.
+/// Returns whether `place`, if there is one, is this file.
 fn is_there(file: FileLocation<'_>, place: Option<FileLocation<'_>>) -> bool
     ensures { result ≡ is_there file.entry place.entry }
 {

@@ -1,4 +1,4 @@
-//! The files of a run, opened in a fixed order.
+//! The files of a run, which are opened in a fixed order.
 
 ghost use Rattle.std.specs.Prelude.{◌≡◌, IfErr, IfOk, IsSome, None, false, option_map, string_bytes, true};
 ghost use Rattle.either.specs.Either.{is_left};
@@ -18,32 +18,32 @@ use std::io;
 use std::io::Printer;
 use std::rt::Files;
 
-/// The open files of a run: those that are named, and the standard streams for `-`, and in place of captures that are not
-/// named. `S` reads standard input, `T` writes standard output, and `F` is a file.
+/// The open files of a run: those that are named, and the standard streams for `-` and for captures
+/// that are not named. `S` reads standard input, `T` writes standard output, and `F` is a file.
 #[derive(Drop)]
 pub struct RunFiles<S, T, F> {
     /// The capture of what inside hosts send.
     pub inside: Either<S, F>,
     /// The capture of what comes from the outside.
     pub outside: Option<Either<S, F>>,
-    /// The capture that goes to the outside.
+    /// The capture of what goes to the outside.
     pub to_outside: Either<T, F>,
-    /// The capture that goes to inside hosts.
+    /// The capture of what goes to inside hosts.
     pub to_inside: Option<Either<T, F>>,
     /// The report.
     pub report: Option<Either<T, F>>,
 }
 
-/// The open files of a run with a log. `P` are the pieces of a log.
+/// The open files of a run with a log. `P` is the type of the pieces of a log.
 #[derive(Drop)]
 pub struct FilesWithLog<S, T, F, P> {
-    /// All but the log.
+    /// All files other than the log.
     pub files: RunFiles<S, T, F>,
     /// The log, if it is named.
     pub log: Option<LogOutput<Either<Either<T, F>, P>>>,
 }
 
-/// Those of a runtime.
+/// The open files of a run on the runtime `R`.
 pub type OpenFiles<'r, R> = FilesWithLog<
     Box<<R as Input>::Reader>,
     Printer<'r, R>,
@@ -51,8 +51,8 @@ pub type OpenFiles<'r, R> = FilesWithLog<
     LogPieces<'r, R>,
 >;
 
-/// The open captures of a run: those that are named, and standard input for `-`, and in place of an inside capture that is
-/// not named.
+/// The open captures of a run: those that are named, and standard input for `-` and for an inside
+/// capture that is not named.
 #[derive(Drop)]
 pub struct InputFiles<S, F> {
     /// The capture of what inside hosts send.
@@ -61,11 +61,11 @@ pub struct InputFiles<S, F> {
     pub outside: Option<Either<S, F>>,
 }
 
-/// Opens the captures, the inside first; then creates or empties the outputs: to the outside, to the inside, the report;
-/// the log last, of which a state tells so many bytes if the run goes on from one.
+/// Opens the captures, the inside first, then creates or empties the outputs: to the outside, to
+/// the inside, the report, the log. `told` is the log's length by the state, if there is one.
 ///
-/// Fails with the role of a file that cannot be opened or created, and, before any output is touched, with the role of one
-/// that an earlier option also names, and then if the run may not go on with the log; and, as a run does, if memory runs out.
+/// Fails with the role of a file that cannot be opened or created. Before any output is touched,
+/// fails for one that an earlier option names, or if the log or memory is refused.
 pub fn open_files<'r, R: Files + Input + Print + AllocGlobal>(
     rt: &'r R,
     options: &OptionsWithLog,
@@ -88,14 +88,15 @@ pub fn open_files<'r, R: Files + Input + Print + AllocGlobal>(
     Ok(FilesWithLog { files, log })
 }
 
-/// How many bytes the log keeps of its text, or the number of its last piece. Changes nothing. Fails with its role if another
-/// option names its file, and as `bytes_to_keep` and `last_piece` do.
+/// Returns how many bytes the log keeps, or the number of its last piece. Changes nothing.
+/// Fails with its role if another option names it, and as `bytes_to_keep` and `last_piece` do.
 fn kept_of_log<R: Files + AllocGlobal>(
     rt: &R,
     options: &OptionsWithLog,
     told: Option<u64>,
 ) -> Result<u64, Stop>
-    ensures kept { has_pieces (files_with_log options.now) ≡ false → IfOk result (LogTextIsKept told) }
+    ensures kept { has_pieces (files_with_log options.now) ≡ false →
+        IfOk result (LogTextIsKept told) }
     ensures anew { told ≡ None → IfOk result (λ kept. kept ≡ 0) }
     ensures refused { IfErr result (IsOpenStop (files_with_log options.now)) }
 {
@@ -111,7 +112,7 @@ fn kept_of_log<R: Files + AllocGlobal>(
     bytes_to_keep(rt, path, told)
 }
 
-/// Creates or empties the outputs of a run whose captures are open. Fails with the role of one that cannot be created.
+/// Creates or empties the outputs of a run. Fails with the role of one that cannot be created.
 fn with_outputs<'r, R: Files + Input + Print>(
     rt: &'r R,
     options: &RunOptions,
@@ -137,8 +138,8 @@ fn with_outputs<'r, R: Files + Input + Print>(
 
 /// Opens the captures, the inside first. Creates and empties nothing.
 ///
-/// Fails with the role of a capture that cannot be opened, then with that of an output that an earlier option also names;
-/// and, as a run does, if memory runs out for standard input.
+/// Fails with the role of a capture that cannot be opened, then with that of an output that an
+/// earlier option also names, and with `MEMORY` if memory is refused.
 pub fn open_inputs<R: Files + Input + AllocGlobal>(
     rt: &R,
     options: &RunOptions,
@@ -158,7 +159,7 @@ pub fn open_inputs<R: Files + Input + AllocGlobal>(
     Ok(InputFiles { inside, outside })
 }
 
-/// Fails with the role of the first output that an earlier option also names; and, as a run does, if memory runs out.
+/// Fails with the role of the first output that an earlier option also names, or with `MEMORY`.
 fn refuse_lost_file<R: Files + AllocGlobal>(rt: &R, options: &RunOptions) -> Result<(), Stop>
     ensures { IfErr result (IsOpenStop (files_of options.now)) }
 {
@@ -168,8 +169,8 @@ fn refuse_lost_file<R: Files + AllocGlobal>(rt: &R, options: &RunOptions) -> Res
     }
 }
 
-/// Opens a file for reading, or standard input for `-`. Fails with its role, or, as a run does, if memory runs out for
-/// standard input.
+/// Opens a file for reading, or standard input for `-`. Fails with its role, or with `MEMORY` if
+/// memory for standard input is refused.
 fn opened<R: Files + Input + AllocGlobal>(
     rt: &R,
     path: &str,
@@ -186,15 +187,15 @@ fn opened<R: Files + Input + AllocGlobal>(
     Ok(Right(file))
 }
 
-/// The reader of standard input. It has a buffer of 8 KiB, so it stands on the heap: where it is moved, a stack that cannot
-/// grow would end the program without a word. Fails, as a run does, if memory runs out.
+/// Returns the reader of standard input. Its buffer of 8 KiB is on the heap: moved on a stack that
+/// cannot grow, it could end the program silently. Fails with `MEMORY` if memory is refused.
 fn standard_input<R: Input + AllocGlobal>(rt: &R) -> Result<Box<R::Reader>, Stop>
     ensures { IfErr result (λ stop. stop ≡ MEMORY) }
 {
     Box::new(rt.alloc(), rt.reader()).map_err(|_| MEMORY)
 }
 
-/// Creates or empties a file for writing; for `-` it is standard output. Fails with its role.
+/// Creates or empties a file for writing, or returns standard output for `-`. Fails with its role.
 fn created<'r, R: Files + Print>(
     rt: &'r R,
     path: &str,
@@ -210,7 +211,7 @@ fn created<'r, R: Files + Print>(
     Ok(Right(file))
 }
 
-/// The same, if there is a path.
+/// Creates or empties a file as `created` does, if there is a path.
 fn created_at<'r, R: Files + Print>(
     rt: &'r R,
     path: Option<&String>,

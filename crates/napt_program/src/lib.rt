@@ -1,5 +1,5 @@
-//! What the programs share beside their runs: the command line, the files it names, the configuration, the standard streams,
-//! and why a program stops.
+//! What the programs share apart from their runs: the command line and its files, the
+//! configuration, the standard streams, and the reasons for which a program stops.
 #![tactic(auto)]
 
 mod call;

@@ -1,4 +1,4 @@
-//! The file of a log, which begins with the run, or goes on where another run left it. A log in pieces goes on in the next.
+//! The file of a log, which is new or continues that of an earlier run. A log may be in pieces.
 
 ghost use Rattle.std.specs.Prelude.{◌≡◌, ◌==◌, ◌⊎◌, IfErr, IfOk, false, true};
 ghost use Rattle.either.specs.Either.{is_left};
@@ -15,22 +15,22 @@ use std::io::{Printer, Read, Seek, SeekFrom, Write};
 use std::rt::Files;
 use std::{fs, io};
 
-/// More bytes than a row has: what is behind the last whole row is a part of one if it is shorter.
+/// An upper bound for a row in bytes: fewer bytes after the last whole row may be a partial row.
 const MOST_TORN: usize = 4_096;
 
-/// A log that is open.
+/// A log that is open for writing.
 #[derive(Drop)]
 pub struct LogOutput<D> {
     pub device: D,
-    /// Whether it has no text yet.
+    /// Whether the log has no text yet.
     pub is_new: bool,
 }
 
-/// How many bytes of its text the log at a path keeps. `told` is how many the state says that it has, `None` if the run
-/// begins anew. 0 if there is no text, or no file. Changes nothing.
+/// Returns how many bytes of its text the log at `path` keeps, or 0 if it has no text. `told` is
+/// the length that the state records, or `None` if the run starts without a state. Changes nothing.
 ///
-/// Fails with `Stop::LogFile` if the run may not go on with the text, with the file's role if it cannot be read, and, as a run
-/// does, if memory runs out.
+/// Fails with `Stop::LogFile` if the run must not append to the text, with the file's role if it
+/// cannot be read, and with `MEMORY` if memory is refused.
 pub(crate) fn bytes_to_keep<R: Files + AllocGlobal>(
     rt: &R,
     path: &str,
@@ -54,7 +54,7 @@ pub(crate) fn bytes_to_keep<R: Files + AllocGlobal>(
     }
 }
 
-/// How many bytes the file at a path has; 0 if none is there.
+/// Returns the number of bytes of the file at `path`, or 0 if there is no file.
 fn bytes_at<R: Files>(rt: &R, path: &str) -> u64 {
     match fs::metadata(rt, path) {
         Ok(known) if known.is_file() => known.len(),
@@ -62,7 +62,7 @@ fn bytes_at<R: Files>(rt: &R, path: &str) -> u64 {
     }
 }
 
-/// The bytes of a file from a place on, not many more than a row has. Fails as `bytes_to_keep` does.
+/// Returns up to `MOST_TORN` + 1 bytes of a file from `place` on. Fails as `bytes_to_keep` does.
 fn end_at<R: Files + AllocGlobal>(rt: &R, path: &str, place: u64) -> Result<Vec<u8>, Stop>
     ensures { IfErr result IsLogStop }
 {
@@ -76,8 +76,8 @@ fn end_at<R: Files + AllocGlobal>(rt: &R, path: &str, place: u64) -> Result<Vec<
     Ok(end)
 }
 
-/// Why a run may not go on with this log, if it may not. `end` are its bytes from the last of the `told` ones on: that byte
-/// has to end a row, and less than a row may stand behind it.
+/// Returns why a run must not append to this log, if so. `end` has its bytes from the last of the
+/// `told` ones on: that byte must end a row, and at most a partial row may follow it.
 fn refusal_at(told: u64, end: &[u8]) -> Option<LogRefusal>
     ensures { result ≡ refusal_at told end.now }
 {
@@ -88,8 +88,8 @@ fn refusal_at(told: u64, end: &[u8]) -> Option<LogRefusal>
     }
 }
 
-/// Opens the file of a log behind the bytes that it keeps, without those behind them, or creates it; for `-` it is standard
-/// output. Fails with its role.
+/// Opens the file of a log for appending after the bytes that it keeps, and removes those after
+/// them, or creates it. For `-`, returns standard output. Fails with the file's role.
 pub(crate) fn open_log<'r, R: Files + Print, P>(
     rt: &'r R,
     path: &str,
@@ -123,8 +123,8 @@ pub(crate) fn open_log<'r, R: Files + Print, P>(
 impl<'r, T: Write + Drop, F: Write + OpenFile + Drop, R: Files + AllocGlobal> LogOutput<
     LogDevice<Either<T, F>, LogPieces<'r, R>>,
 > {
-    /// How many bytes the file, or the last piece, has once the run has ended, and the system keeps them; 0 for what is no
-    /// file. Fails with `Stop::Log`.
+    /// Syncs the file, or the last piece, after the run. Returns its length in bytes, or 0 if it is
+    /// not a regular file. Fails with `Stop::Log`.
     pub fn synced_length(self) -> Result<u64, Stop>
         ensures { IfErr result (λ stop. stop ≡ Stop.Log) }
     {
@@ -140,7 +140,7 @@ impl<'r, T: Write + Drop, F: Write + OpenFile + Drop, R: Files + AllocGlobal> Lo
     }
 }
 
-/// How many bytes a file has, which the system keeps from then on; 0 for what is no file.
+/// Syncs a file and returns its length in bytes, or returns 0 if it is not a regular file.
 fn synced_bytes<F: OpenFile>(file: &F) -> io::Result<u64> {
     let known = file.metadata()?;
     if !known.is_file() {

@@ -1,4 +1,4 @@
-//! The log in pieces: the files FILE.1, FILE.2 and so on, each of which begins with the header.
+//! A log in pieces: the files FILE.1, FILE.2 and so on, each of which begins with the header.
 
 ghost use Rattle.std.specs.{Prelude.{◌≡◌, ℕ, ◌<◌, ◌^◌, ◌&&◌, IfErr, IfOk, IfSome, None, decimal, false, nat_lt, slice_index, string_bytes, true}, Io.{KnownBytes.WriteAppends, WritesAtMost}};
 ghost use Rattle.napt_program.specs.LogFiles.{IsLogStop, IsOfNoPiece, needs_new_piece, piece_name, piece_of};
@@ -14,11 +14,11 @@ use std::io::{BufWriter, ErrorKind, Write};
 use std::rt::Files;
 use std::{fs, io};
 
-/// The file of the piece that is written. The pieces before it stay as they are, and the system keeps them.
+/// The piece that is being written. Earlier pieces are unchanged and have been synced.
 #[derive(Drop)]
 pub struct LogPieces<'r, R: Files> {
     rt: &'r R,
-    /// The path of the log, which the number of a piece follows.
+    /// The path of the log. A dot and the number of a piece follow it.
     path: String,
     number: u64,
     piece: BufWriter<R::File>,
@@ -27,8 +27,8 @@ pub struct LogPieces<'r, R: Files> {
 }
 
 impl<'r, R: Files + AllocGlobal> LogPieces<'r, R> {
-    /// Creates the next piece of the log at a path behind the one of this number. Fails with the log's role, and, as a run
-    /// does, if memory runs out.
+    /// Creates the next piece after number `last` of the log at `path`. Fails with the log's role,
+    /// or with `MEMORY` if memory is refused.
     pub(crate) fn behind(rt: &'r R, path: &str, last: u64) -> Result<LogPieces<'r, R>, Stop>
         ensures number { IfOk result (λ pieces. last < piece_of pieces) }
         ensures stop { IfErr result IsLogStop }
@@ -47,14 +47,14 @@ impl<'r, R: Files + AllocGlobal> LogPieces<'r, R> {
         })
     }
 
-    /// Whether these bytes begin a new piece: they begin with the header, and the piece has text.
+    /// Returns whether these bytes begin a new piece: with the header, and the piece has text.
     fn needs_new_piece(&self, bytes: &[u8]) -> bool
         ensures { result ≡ needs_new_piece self.now bytes.now }
     {
         self.has_text && bytes.starts_with(header().as_bytes())
     }
 
-    /// Makes the system keep the piece, and creates the next.
+    /// Syncs the piece, and creates the next one.
     fn advance(&mut self) -> io::Result<()>
         ensures { IfOk result (λ _. piece_of self.old < piece_of self.new) }
     {
@@ -67,7 +67,7 @@ impl<'r, R: Files + AllocGlobal> LogPieces<'r, R> {
         Ok(())
     }
 
-    /// How many bytes the last piece has once the run has ended, and the system keeps them.
+    /// Syncs the last piece after the run. Returns its length in bytes.
     pub(crate) fn synced_length(mut self) -> io::Result<u64> {
         self.piece.flush()?;
         let file = self.piece.get_ref();
@@ -101,7 +101,7 @@ impl<'r, R: Files + AllocGlobal> Write for LogPieces<'r, R> {
     }
 }
 
-/// Creates the first piece behind a number that is not there, and returns its number too.
+/// Creates the first piece after number `last` that does not exist. Returns its number too.
 fn piece_behind<R: Files + AllocGlobal>(
     rt: &R,
     path: &str,
@@ -130,12 +130,12 @@ fn name_of(alloc: Global, path: &str, number: u64) -> Result<String, AllocError>
     format!(in alloc; "{path}.{number}")
 }
 
-/// The greatest number of a piece that is there of the log at a path, 0 if there is none. `told` is how many bytes the state says
-/// that the last one has, `None` if the run begins anew. Changes nothing.
+/// Returns the greatest number of an existing piece of the log at `path`, or 0 if there is none.
+/// `told` is the last one's length by the state, or `None` without a state. Changes nothing.
 ///
-/// Fails with the log's role if the state is to be saved in the place of a piece, with `Stop::LogFile` if the run begins anew where
-/// a piece is, or may not go on with the last one, with the log's role if that or its folder cannot be read, and, as a run does, if
-/// memory runs out.
+/// Fails with the log's role if the state would be saved as a piece, or if the last piece or its
+/// folder cannot be read; with `Stop::LogFile` if there is a piece but no state, or if the run must
+/// not append to the last one; and with `MEMORY` if memory is refused.
 pub(crate) fn last_piece<R: Files + AllocGlobal>(
     rt: &R,
     path: &str,
@@ -163,7 +163,7 @@ pub(crate) fn last_piece<R: Files + AllocGlobal>(
     Ok(last)
 }
 
-/// The greatest number of a piece in the folder of the log. Fails if that cannot be read, or the path has no name.
+/// Returns the greatest number of a piece in the log's folder. Fails if that is unreadable.
 fn greatest_number<R: Files + AllocGlobal>(rt: &R, path: &str) -> io::Result<u64> {
     let (folder, name) = path.rsplit_once('/').unwrap_or((".", path));
     if name.is_empty() {
@@ -174,7 +174,7 @@ fn greatest_number<R: Files + AllocGlobal>(rt: &R, path: &str) -> io::Result<u64
     for entry in fs::read_dir(&rt, folder)? {
         match entry {
             Ok(entry) => greatest = number_in(entry.file_name(), name).max(greatest),
-            // a name that is not UTF-8 is none of a piece
+            // a name that is not UTF-8 is not the name of a piece
             Err(error) if error.kind() == ErrorKind::InvalidFilename => {}
             Err(error) => return Err(error),
         }
@@ -182,7 +182,7 @@ fn greatest_number<R: Files + AllocGlobal>(rt: &R, path: &str) -> io::Result<u64
     Ok(greatest)
 }
 
-/// The number in the name of a piece of the log, 0 if it is the name of none.
+/// Returns the number in the name of a piece of the log, or 0 if it is not such a name.
 fn number_in(piece: &str, log: &str) -> u64
     ensures is { 0 < result → piece.now ≡ piece_name log.now result }
     ensures each { (number : ℕ) → 0 < number → number < 2 ^ 64
@@ -197,7 +197,7 @@ fn number_in(piece: &str, log: &str) -> u64
     }
 }
 
-/// The number in decimal digits without a sign or zeros before it, 0 if the text is none.
+/// Returns a decimal number without a sign or leading zeros, or 0 if the text is not one.
 fn number_of(text: &str) -> u64
     ensures is { 0 < result → text.now ≡ decimal result }
     ensures each { (number : ℕ) → 0 < number → number < 2 ^ 64 → text.now ≡ decimal number

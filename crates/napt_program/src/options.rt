@@ -1,4 +1,4 @@
-//! The command line: which files a program reads and writes.
+//! The command line, which names the files that a program reads and writes.
 ghost use Rattle.std.specs.Prelude.{◌≡◌, ◌≢◌, IfErr, IfOk, IfSome, None, false, map, option_map, string_bytes, true};
 ghost use Rattle.std.specs.Int.NonZero.{non_zero_u32_get};
 ghost use Rattle.clap.specs.Words.{app_of, first_value, found_of, kind_of, rows_of, rule_of};
@@ -12,17 +12,17 @@ use clap::{Arg, ArgAction, ArgMatches, Command, Error};
 use std::alloc::{AllocError, Global};
 use std::num::NonZeroU32;
 
-/// What a program says of itself with `--version`, behind its name: the number of its version, and on a line of its own what
-/// was proved of it, and with which kit.
+/// The text after the program's name in the answer to `--version`: the number of the version, and
+/// on a line of its own what was proved of the program, and with which kit.
 pub const VERSION: &str = "0.1.0
 proved with rattle-kit-13f logic dac8208d650f15bf: each function of its sources meets its contract";
 
-/// A program that takes these options, with the texts of its help.
+/// The texts of the help of a program that has these options.
 #[derive(Clone, Copy, Debug)]
 pub struct Manual {
-    /// What the program is called.
+    /// The name of the program.
     pub name: &'static str,
-    /// What it does, in a paragraph.
+    /// What the program does, in one paragraph.
     pub about: &'static str,
     /// The text after the options.
     pub notes: &'static str,
@@ -48,7 +48,7 @@ Examples:
        --to-outside to-outside.pcap --to-inside to-inside.pcap --report report.txt
 
 Exit status, and the line on standard error that says why (explain with the same
-words tells where in a file, and what to do):
+words prints where in a file, and what to do):
   0  done, without a line
   2  napt: usage
        an unknown option, one that stands twice, or one without its file
@@ -100,7 +100,7 @@ words tells where in a file, and what to do):
        writing failed; help goes where to-outside goes by default, so that help
        which could not be written to standard output is write to-outside
   8  napt: state WORD
-       bad-line N       line N is none of a state there, or it is missing
+       bad-line N       line N is not a line of a state, or is missing
        not-utf-8 N      line N is not UTF-8
        not-inside       the host of a binding is in no prefix of inside
        not-paired       its external address is not the one of its host
@@ -110,7 +110,7 @@ words tells where in a file, and what to do):
        redirected       a redirect has its inside or its external endpoint
        shared           another binding has one of them";
 
-// The options of files, each with its meaning, in the order of the help text.
+// The options that name files, each with its meaning, in the order of the help text.
 const OPTIONS: [(&str, &str); 8] = [
     (
         "config",
@@ -118,7 +118,7 @@ const OPTIONS: [(&str, &str); 8] = [
     ),
     (
         "resume",
-        "State from which the run goes on, as --save wrote it [default: the run begins anew]",
+        "State from which the run goes on, as written by --save [default: the run begins anew]",
     ),
     (
         "inside",
@@ -142,41 +142,41 @@ const OPTIONS: [(&str, &str); 8] = [
     ),
     (
         "save",
-        "State that the run leaves, written last [default: not written]",
+        "State at the end of the run, written last [default: not written]",
     ),
 ];
 
-// What the options of a program that takes a log too mean.
+// The meanings of the options that only a program with a log has.
 const LOG: &str =
-    "Log of the bindings as CSV, written as they begin and end; with --resume it goes on in the same file [default: not written]";
+    "Log of the bindings as CSV, written as they begin and end; with --resume it is continued in the same file [default: not written]";
 
 const LOG_EACH: &str =
-    "Writes the log to FILE.1, FILE.2, ..: a new file where the clock of the run passes a multiple of SECONDS; each stands by \
-itself [default: one file, FILE]";
+    "Writes the log to FILE.1, FILE.2, ..: a new file when the clock of the run passes a multiple of SECONDS; each can be \
+read by itself [default: one file, FILE]";
 
-/// The file that each option names, `None` where the option is absent.
+/// The file that each option names, `None` if the option is absent.
 #[derive(Debug, PartialEq, Eq, Drop)]
 pub struct RunOptions {
-    /// The configuration; absent, the built-in one.
+    /// The configuration. If absent, it is the built-in one.
     pub config: Option<String>,
-    /// The state from which the run goes on; absent, the run begins anew.
+    /// The state from which the run starts. If absent, the run starts without a state.
     pub resume: Option<String>,
-    /// The capture of what inside hosts send; absent, standard input.
+    /// The capture of what inside hosts send. If absent, it is standard input.
     pub inside: Option<String>,
-    /// The capture of what comes from the outside; absent, no packets.
+    /// The capture of what comes from the outside. If absent, there are no packets.
     pub outside: Option<String>,
-    /// The capture that goes to the outside; absent, standard output.
+    /// The capture of what goes to the outside. If absent, it is standard output.
     pub to_outside: Option<String>,
-    /// The capture that goes to inside hosts; absent, it is not written.
+    /// The capture of what goes to inside hosts. If absent, it is not written.
     pub to_inside: Option<String>,
-    /// The report; absent, it is not written.
+    /// The report. If absent, it is not written.
     pub report: Option<String>,
-    /// The state that the run leaves; absent, it is not written.
+    /// The state after the run. If absent, it is not written.
     pub save: Option<String>,
 }
 
 impl RunOptions {
-    /// The file that the option of a role names.
+    /// Returns the file that the option of this role names.
     fn file_for(&self, role: FileRole) -> Option<&String>
         ensures { option_map (λ path. string_bytes path.now) result
             ≡ file_for (files_of self.now) role }
@@ -194,7 +194,7 @@ impl RunOptions {
         }
     }
 
-    /// Whether the option of a role is given as `-`, which is standard input or standard output.
+    /// Returns whether the option of this role is `-`, which is standard input or standard output.
     pub fn is_stream(&self, role: FileRole) -> bool
         ensures stream { result ≡ is_stream (files_of self.now) role }
         ensures named { result ≡ true → names_file (files_of self.now) role ≡ true }
@@ -205,14 +205,14 @@ impl RunOptions {
         }
     }
 
-    /// Whether a capture stands on its standard stream: its option is absent, or given as `-`.
+    /// Returns whether a capture uses a standard stream: its option is absent or `-`.
     pub fn is_standard(&self, role: FileRole) -> bool
         ensures { result ≡ is_standard (files_of self.now) role }
     {
         self.file_for(role).is_none() || self.is_stream(role)
     }
 
-    /// The role of the first option, captures before outputs, that wants a standard stream which another has.
+    /// Returns the first role, captures before outputs, whose standard stream is already in use.
     pub fn standard_again(&self) -> Option<FileRole>
         ensures again { result ≡ standard_again (files_of self.now) }
         ensures named { IfSome result (λ role. names_file (files_of self.now) role ≡ true) }
@@ -231,14 +231,14 @@ impl RunOptions {
         }
     }
 
-    /// Whether a state is given as `-`.
+    /// Returns whether the file of a state is given as `-`.
     fn misuses_state(&self) -> bool
         ensures { result ≡ misuses_state (files_of self.now) }
     {
         self.is_stream(FileRole::Resume) || self.is_stream(FileRole::Save)
     }
 
-    /// The same among the outputs.
+    /// Returns the first such role among the outputs to the inside and the report.
     fn output_again(&self) -> Option<FileRole>
         ensures again { result ≡ output_again (files_of self.now) }
         ensures named { IfSome result (λ role. names_file (files_of self.now) role ≡ true) }
@@ -257,23 +257,23 @@ impl RunOptions {
     }
 }
 
-/// Whether a file is given as `-`.
+/// Returns whether a file is given as `-`.
 pub(crate) fn is_dash(path: &str) -> bool
     ensures { result ≡ is_dash path.now }
 {
     path == "-"
 }
 
-/// Why a command line was not accepted.
+/// The reason why a command line was not accepted.
 #[derive(Debug, PartialEq, Eq, Drop)]
 pub enum LineFault {
-    /// Help was requested: its text, for standard output, with status 0.
+    /// Help was requested. Holds its text for standard output; the exit status is 0.
     Help(String),
-    /// The version was requested: its text, for the same.
+    /// The version was requested. Holds its text for standard output; the exit status is 0.
     Version(String),
     /// The arguments are not understood.
     Usage,
-    /// Memory ran out.
+    /// Memory was refused.
     Memory,
 }
 
@@ -287,11 +287,11 @@ impl From<AllocError> for LineFault {
     }
 }
 
-/// Parses the arguments of `napt`, the program's name first, as `clap` does.
+/// Parses the arguments of `napt`, the first of which is the program's name, as `clap` does.
 ///
-/// Each option is a long one with one value, in the next argument or after `=`, and may be given once. A value begins with
-/// `-` only if it is `-` itself, or follows `=`. The file of a state is not `-`. `-h` and `--help` ask for help, `-V` and `--version` for the version. `Memory`
-/// may be returned in place of any other result.
+/// Each option is long and has one value, in the next argument or after `=`, at most once. A value
+/// starts with `-` only if it is `-` (never for a state) or follows `=`. `-h` and `--help` request
+/// help, `-V` and `--version` the version. `Memory` may come in place of any other result.
 pub fn parse_words(alloc: Global, words: Vec<String>) -> Result<RunOptions, LineFault>
     ensures ok { IfOk result (λ o. line_of_words (map string_bytes words.items)
         ≡ files (files_of o)) }
@@ -305,7 +305,7 @@ pub fn parse_words(alloc: Global, words: Vec<String>) -> Result<RunOptions, Line
     parse_words_of(alloc, NAPT, words)
 }
 
-/// The same for a program with this help text and the same options.
+/// Parses the arguments of a program with this help text and the same options.
 pub fn parse_words_of(
     alloc: Global,
     manual: Manual,
@@ -323,7 +323,7 @@ pub fn parse_words_of(
     Ok(parse_words_for(alloc, manual, false, words)?.files)
 }
 
-/// The same for a program that takes the log's option too, or does not.
+/// Parses the arguments of a program with this help text, which has the log's options or not.
 pub(crate) fn parse_words_for(
     alloc: Global,
     manual: Manual,
@@ -359,7 +359,7 @@ pub(crate) fn parse_words_for(
     }
 }
 
-/// The values of all options but the log's.
+/// Returns the values of all options other than the log's.
 fn options_in(alloc: Global, matches: &ArgMatches<'_>) -> Result<RunOptions, AllocError>
     ensures { IfOk result (λ o. files_of o
         ≡ files_in false (rows_of (found_of matches.now))) }
@@ -376,7 +376,7 @@ fn options_in(alloc: Global, matches: &ArgMatches<'_>) -> Result<RunOptions, All
     })
 }
 
-/// The value of the log's option, if the program takes it.
+/// Returns the value of the log's option, if the program has it.
 fn log_in(
     alloc: Global,
     matches: &ArgMatches<'_>,
@@ -393,8 +393,8 @@ fn log_in(
     }
 }
 
-/// The seconds after which the log goes on in a new piece, if they are given and the program takes them; 0 if the value is
-/// no number of them.
+/// Returns the seconds after which the log continues in a new piece, if they are given and the
+/// program has that option. Returns 0 if the value is not a number of seconds below 2^32.
 fn seconds_in(matches: &ArgMatches<'_>, takes_log: bool) -> Option<u32>
     ensures value { result ≡ seconds_in takes_log (rows_of (found_of matches.now)) }
     ensures none { takes_log ≡ false → result ≡ None }
@@ -406,7 +406,7 @@ fn seconds_in(matches: &ArgMatches<'_>, takes_log: bool) -> Option<u32>
     }
 }
 
-/// The number in a text, 0 if there is none below 2^32.
+/// Returns the number in a text, or 0 if there is none below 2^32.
 fn seconds_of(text: &str) -> u32
     ensures { result ≡ seconds_of text.now }
 {
@@ -416,7 +416,7 @@ fn seconds_of(text: &str) -> u32
     }
 }
 
-/// Whether a state is given as `-`, or the pieces of the log are misused.
+/// Returns whether the file of a state is given as `-`, or the pieces of the log are misused.
 fn is_misused(files: &RunOptions, log: &Option<String>, seconds: Option<u32>) -> bool
     ensures { result ≡ is_misused (record (files_of files.now) {
       log = option_map string_bytes log.now;
@@ -426,7 +426,7 @@ fn is_misused(files: &RunOptions, log: &Option<String>, seconds: Option<u32>) ->
     files.misuses_state() || misuses_pieces(log, seconds)
 }
 
-/// Whether pieces are asked for of a log that is no file, or each of no second.
+/// Returns whether pieces are requested of a log that is not a file, or of 0 seconds each.
 fn misuses_pieces(log: &Option<String>, seconds: Option<u32>) -> bool
     ensures { result ≡ misuses_pieces (option_map string_bytes log.now) seconds }
 {
@@ -437,7 +437,7 @@ fn misuses_pieces(log: &Option<String>, seconds: Option<u32>) -> bool
     }
 }
 
-/// A number that is not 0.
+/// Returns a number that is not 0, or `None`.
 fn above_zero(number: Option<u32>) -> Option<NonZeroU32>
     ensures same { number ≢ Some 0 → option_map non_zero_u32_get result ≡ number }
     ensures none { number ≡ None → result ≡ None }
@@ -445,7 +445,7 @@ fn above_zero(number: Option<u32>) -> Option<NonZeroU32>
     NonZeroU32::new(number?)
 }
 
-/// The command, with the log's options or without.
+/// Returns the command, with or without the log's options.
 fn command_for<'a>(
     alloc: Global,
     manual: Manual,
@@ -463,7 +463,7 @@ fn command_for<'a>(
     }
 }
 
-/// The command without the log's option. A program's name changes only its help.
+/// Returns the command without the log's options. A program's name changes only its help.
 fn command_of<'a>(alloc: Global, manual: Manual) -> Result<Command<'a>, AllocError>
     ensures { IfOk result (λ command. app_of command ≡ napt_app) }
 {
@@ -479,7 +479,7 @@ fn command_of<'a>(alloc: Global, manual: Manual) -> Result<Command<'a>, AllocErr
     Ok(command)
 }
 
-// A plain option that takes a value, the name of a file or another.
+// Returns a long option that takes one value, such as the name of a file.
 fn plain_arg<'a>(alloc: Global, name: &'a str, value: &'a str, meaning: &'a str) -> Arg<'a>
     ensures rule { rule_of result ≡ file_option name.entry.now }
     ensures local { result.global ≡ false }
@@ -510,7 +510,8 @@ fn fault_of(alloc: Global, error: &Error) -> Result<LineFault, AllocError>
     ensures version { IfOk result (λ fault. IsVersion fault
         → kind_of error.now ≡ ErrorKind.DisplayVersion) }
     ensures usage { result ≡ Ok LineFault.Usage → (kind_of error.now ≢ ErrorKind.DisplayHelp)
-        × (kind_of error.now ≢ ErrorKind.DisplayVersion) × (kind_of error.now ≢ ErrorKind.OutOfMemory) }
+        × (kind_of error.now ≢ ErrorKind.DisplayVersion) ×
+        (kind_of error.now ≢ ErrorKind.OutOfMemory) }
     ensures memory { result ≡ Ok LineFault.Memory → kind_of error.now ≡ ErrorKind.OutOfMemory }
 {
     match error.kind() {

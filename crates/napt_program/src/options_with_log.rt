@@ -1,4 +1,4 @@
-//! The command line of a program that takes a log too.
+//! The command line of a program with a log.
 
 ghost use Rattle.std.specs.Prelude.{◌≡◌, IfErr, IfOk, IfSome, is_some, map, string_bytes, true};
 ghost use Rattle.napt_program.specs.CommandLine.{IsHelp, IsVersion, files, files_with_log, help, line_with_log, mistake, version};
@@ -9,19 +9,19 @@ use crate::role::FileRole;
 use std::alloc::Global;
 use std::num::NonZeroU32;
 
-/// The file that each option names, with the log's.
+/// The file that each option names, including the log.
 #[derive(Debug, PartialEq, Eq, Drop)]
 pub struct OptionsWithLog {
-    /// All but the log.
+    /// All files other than the log.
     pub files: RunOptions,
-    /// The log of the bindings; absent, it is not written.
+    /// The log of the bindings. If absent, it is not written.
     pub log: Option<String>,
-    /// The seconds after which the log goes on in a new file; absent, it is one file.
+    /// The seconds after which the log continues in a new file. If absent, it is one file.
     pub log_each: Option<NonZeroU32>,
 }
 
 impl OptionsWithLog {
-    /// Whether the log is given as `-`, which is standard output.
+    /// Returns whether the log is given as `-`, which is standard output.
     pub fn is_log_stream(&self) -> bool
         ensures stream { result ≡ is_stream (files_with_log self.now) FileRole.Log }
         ensures named { result ≡ true → is_some self.now.log ≡ true }
@@ -32,15 +32,15 @@ impl OptionsWithLog {
         }
     }
 
-    /// Whether the log is in pieces: seconds are given for each, and it is a file.
+    /// Returns whether the log is in pieces: seconds are given for each, and it is a file.
     pub fn has_pieces(&self) -> bool
         ensures { result ≡ has_pieces (files_with_log self.now) }
     {
         self.log_each.is_some() && !self.is_log_stream()
     }
 
-    /// The role of the first option, captures before outputs and the log last, that wants a standard stream which another
-    /// has.
+    /// Returns the first role, captures before outputs and the log last, whose standard stream is
+    /// already in use.
     pub fn standard_again(&self) -> Option<FileRole>
         ensures again { result ≡ standard_again (files_with_log self.now) }
         ensures named { IfSome result (λ role. names_file (files_with_log self.now) role ≡ true) }
@@ -52,7 +52,7 @@ impl OptionsWithLog {
         }
     }
 
-    /// Whether the log wants standard output, which an output has.
+    /// Returns whether the log needs standard output, which an output already uses.
     fn is_log_again(&self) -> bool
         ensures again { result ≡ is_log_again (files_with_log self.now) }
         ensures named { result ≡ true → is_some self.now.log ≡ true }
@@ -64,8 +64,8 @@ impl OptionsWithLog {
     }
 }
 
-/// Parses the arguments of a program with this help text and the options of `parse_words`, as that does, and of the log's
-/// options, which are like them. Seconds are a whole number from 1 to 4294967295, and the log is a file then.
+/// Parses the arguments of a program with this help text, like `parse_words`, but with the log's
+/// options. Seconds are a whole number from 1 to 4,294,967,295; the log must then be a file.
 pub fn parse_words_with_log(
     alloc: Global,
     manual: Manual,

@@ -14,8 +14,8 @@ use std::path::Path;
 use std::rt::Files;
 use std::{fs, io};
 
-/// Fails, with its role, on the first output in the order of the options that cannot be created or emptied, as far as
-/// `unmade` knows. Creates and changes nothing.
+/// Fails with the role of the first output, in the order of the options, that cannot be created or
+/// emptied, as far as `unmade` can know. Creates and changes nothing.
 pub fn refuse_unmade<R: Files>(rt: &R, options: &RunOptions) -> Result<(), Stop>
     ensures { IfErr result (IsFileStop (files_of options.now)) }
 {
@@ -28,7 +28,7 @@ pub fn refuse_unmade<R: Files>(rt: &R, options: &RunOptions) -> Result<(), Stop>
     }
 }
 
-/// Whether a path names a file in a folder that is there: what is beside it can be put into its place.
+/// Returns whether `path` names a file in an existing folder, so that a new file can replace it.
 fn has_folder<R: Files>(rt: &R, path: &str) -> bool {
     let Some(folder) = folder_of(path) else {
         return false;
@@ -37,7 +37,7 @@ fn has_folder<R: Files>(rt: &R, path: &str) -> bool {
     is_name && fs::metadata(rt, folder).is_ok_and(|known| known.is_dir())
 }
 
-/// Fails, with its role, on a file that cannot be created or emptied.
+/// Fails with the role of a file that cannot be created or emptied.
 fn refuse_unmade_file<R: Files>(rt: &R, path: Option<&String>, role: FileRole) -> Result<(), Stop>
     ensures refused { IfErr result (λ stop. stop ≡ Stop.File role) }
     ensures path { IfErr result (λ stop. IsSome path.entry) }
@@ -48,11 +48,11 @@ fn refuse_unmade_file<R: Files>(rt: &R, path: Option<&String>, role: FileRole) -
     }
 }
 
-/// Why the file cannot be created or emptied, as far as that can be known without touching it.
+/// Returns why the file cannot be created or emptied, as far as that is known without touching it.
 ///
-/// `-` is standard output, and is not opened. An existing file is opened for writing, which changes nothing; a device or a pipe is not opened. If there is no file, its
-/// folder must exist. Unknown beforehand: whether the folder takes a new file, whether a link leads to a missing folder, and
-/// what only writing shows, such as a full disk.
+/// Opens an existing file for writing, which changes nothing, but not `-`, a device or a pipe. A
+/// new file needs an existing folder. Not known beforehand: whether the folder accepts a file,
+/// whether a link leads to a missing folder, and what only writing shows, such as a full disk.
 pub fn unmade<R: Files>(rt: &R, path: &str) -> Option<io::Error> {
     if is_dash(path) {
         return None;
@@ -65,12 +65,12 @@ pub fn unmade<R: Files>(rt: &R, path: &str) -> Option<io::Error> {
     }
 }
 
-/// Whether it is a device or a pipe.
+/// Returns whether it is a device or a pipe.
 fn is_aside(kind: FileType) -> bool {
     kind.is_fifo() || kind.is_char_device() || kind.is_block_device()
 }
 
-/// Why a missing file cannot be created: it has no name, as this error says, or its folder is missing.
+/// Returns why a missing file cannot be created: `error` if it has no name, or a missing folder.
 fn missing_folder<R: Files>(rt: &R, path: &str, error: io::Error) -> Option<io::Error> {
     if path.is_empty() || path.ends_with('/') {
         return Some(error);

@@ -1,12 +1,12 @@
-//! What the programs ask of the system.
+//! The capabilities that the programs need of the system.
 
 use std::env::Env;
 use std::rt::Files;
 use std::sync::Wait;
 use std::thread::Threads;
 
-/// What a program that runs over captures asks of the system: its arguments, files and standard streams, memory, and threads
-/// for the workers.
+/// The capabilities that a program that runs over captures needs: its arguments, files and standard
+/// streams, memory, and threads for the workers.
 pub trait ProgramHost: Env
     + Files
     + Input

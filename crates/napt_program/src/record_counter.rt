@@ -1,36 +1,36 @@
-//! The records of a capture, counted in its bytes as they pass by.
+//! Counts the records of a capture in its bytes as they are read.
 ghost use Rattle.std.specs.Prelude.{◌≡◌};
 
 use napt_capture::{DeviceFault, Source};
 
-/// What the next bytes of a capture are.
+/// The part of a capture to which its next bytes belong.
 #[derive(Clone, Copy)]
 enum CounterState {
-    /// The first four bytes, which give the byte order of the rest.
+    /// The magic number, four bytes that give the byte order of the rest.
     Magic,
-    /// The rest of the capture's header.
+    /// The rest of the file header.
     FileHeader,
     /// The time of a record.
     Time,
-    /// Its captured length.
+    /// The captured length of a record.
     Captured,
-    /// Its original length and its bytes.
+    /// The original length of a record and its bytes.
     Record,
 }
 
-/// Finds the records of a capture in its bytes as they pass by.
+/// Finds the records of a capture in its bytes as they are read.
 #[derive(Clone, Copy)]
 struct RecordCounter {
     part: CounterState,
-    /// How many bytes of the part are still to come.
+    /// The number of bytes of this part that are still to come.
     left: u64,
-    /// The last four bytes of a magic or a length, as a little-endian number.
+    /// The last four bytes of the magic number or a length, as a little-endian number.
     word: u32,
     is_big: bool,
 }
 
 impl RecordCounter {
-    /// Before the first byte of a capture.
+    /// The state before the first byte of a capture.
     const BEGIN: RecordCounter = RecordCounter {
         part: CounterState::Magic,
         left: 4,
@@ -38,11 +38,11 @@ impl RecordCounter {
         is_big: false,
     };
 
-    /// Takes the next bytes, and returns how many records end in them.
+    /// Reads the next bytes of a capture. Returns the number of records that end in them.
     fn pass(&mut self, bytes: &[u8]) -> u64 {
         let mut records = 0u64;
         let mut rest = bytes;
-        // each turn takes a byte at least
+        // each turn consumes at least one byte
         for _ in 0..bytes.len() {
             let Some(byte) = rest.first() else {
                 return records;
@@ -63,7 +63,7 @@ impl RecordCounter {
         records
     }
 
-    /// Goes on to the next part, and returns whether a record has ended.
+    /// Moves on to the next part. Returns whether a record has ended.
     fn next_part(&mut self) -> bool {
         let has_ended = matches!(self.part, CounterState::Record);
         (self.part, self.left) = match self.part {
@@ -78,12 +78,12 @@ impl RecordCounter {
         has_ended
     }
 
-    /// Whether a record, or the capture's header, has begun and not ended.
+    /// Returns whether a record or the file header has begun and has not ended.
     fn is_within(self) -> bool {
         !matches!(self.part, CounterState::Time) || self.left != 8
     }
 
-    /// The length in the last four bytes.
+    /// Returns the captured length in the last four bytes, in the capture's byte order.
     fn captured(self) -> u32 {
         if self.is_big {
             self.word.swap_bytes()
@@ -93,10 +93,10 @@ impl RecordCounter {
     }
 }
 
-/// The device of a capture. Its records are counted as they are read, if that is asked for.
+/// The device of a capture, whose records are counted as they are read, if that is asked for.
 #[derive(Drop)]
 pub struct CountedSource<S> {
-    /// The device under it.
+    /// The device that is read.
     pub device: S,
     is_on: bool,
     tally: RecordCounter,
@@ -104,7 +104,7 @@ pub struct CountedSource<S> {
 }
 
 impl<S> CountedSource<S> {
-    /// Over a device, before anything is read. If not `is_on`, nothing is counted.
+    /// Wraps a device before anything is read. If `is_on` is `false`, nothing is counted.
     pub fn over(device: S, is_on: bool) -> CountedSource<S>
         ensures { result.device ≡ device }
     {
@@ -116,12 +116,12 @@ impl<S> CountedSource<S> {
         }
     }
 
-    /// How many records were read whole.
+    /// Returns the number of records that were read completely.
     pub fn records(&self) -> u64 {
         self.records
     }
 
-    /// Whether what was read ends inside a record. Of what is not counted it is not known, and so not said.
+    /// Returns whether the bytes read end inside a record; `false` if records are not counted.
     pub fn is_cut(&self) -> bool {
         self.is_on && self.tally.is_within()
     }

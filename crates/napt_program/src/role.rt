@@ -8,26 +8,26 @@ ghost use Rattle.napt_program.specs.CommandLine.{role_name};
 pub enum FileRole {
     /// The configuration.
     Config,
-    /// The state from which the run goes on.
+    /// The state from which the run starts.
     Resume,
     /// The capture of what inside hosts send.
     Inside,
     /// The capture of what comes from the outside.
     Outside,
-    /// The capture that goes to the outside.
+    /// The capture of what goes to the outside.
     ToOutside,
-    /// The capture that goes to inside hosts.
+    /// The capture of what goes to inside hosts.
     ToInside,
-    /// The text that counts what became of the packets.
+    /// The report, which counts the packets by outcome.
     Report,
-    /// The state that the run leaves.
+    /// The state after the run.
     Save,
-    /// The log of the bindings, which a program may take beside these.
+    /// The log of the bindings, which only some programs have.
     Log,
 }
 
 impl FileRole {
-    /// The name of the file's option, without its dashes.
+    /// Returns the name of the file's option, without its dashes.
     pub fn name(self) -> &'static str
         ensures { result.now ≡ role_name self }
     {

@@ -1,4 +1,4 @@
-//! The file of a state that is saved: a new file beside it, which takes its place once it is written.
+//! The file of a saved state: a new file is written, and then renamed to replace the old one.
 
 ghost use Rattle.std.specs.{Prelude.{◌≡◌, ◌++◌, IfErr, IfOk, IfSome, codes, is_some, string_bytes}, Io.KnownBytes.Appends, Option.option_copied};
 ghost use Rattle.napt_state.specs.StateText.{saved_text};
@@ -21,17 +21,17 @@ use std::{fs, io};
 #[derive(Drop)]
 pub struct StateFile<F> {
     file: F,
-    /// Where it is.
+    /// The path of the new file.
     new: String,
-    /// Where it is wanted.
+    /// The path that it gets at the end.
     path: String,
 }
 
 impl<F: Write + OpenFile + Drop> StateFile<F> {
-    /// Writes the state, and its log if it has one, makes the system keep the text, and puts the file, which is returned, into
-    /// its place. That is the last step, and the system does it at once: so there is always the state that was there before
-    /// or this one, whole. Fails with `Stop::Save`, which leaves the one before, also if another run has put its own new file
-    /// there since; or, as a run does, if memory runs out.
+    /// Writes the state and its log position, if any, syncs the file, and renames it to its path.
+    /// The rename is the last step and is atomic, so that the path has the old state or the new
+    /// one, whole. Fails with `Stop::Save` and keeps the old one, also if another run has replaced
+    /// the new file since; or with `MEMORY` if memory is refused. Returns the file.
     pub fn finish<R: Files>(
         self,
         rt: &R,
@@ -66,9 +66,9 @@ fn unsaved(error: &io::Error) -> Stop
     }
 }
 
-/// Creates the new file for a state, if one is to be saved. One of that name, which a run left that broke off or another run
-/// still has, loses its name first: so no two runs write to one file. Fails with its role, or, as a run does, if memory runs
-/// out.
+/// Creates the new file for a state, if one is to be saved. An existing file of that name, left by
+/// a run that broke off or used by another run, is unlinked first, so that no two runs write to one
+/// file. Fails with its role, or with `MEMORY` if memory is refused.
 pub(crate) fn state_file<R: Files + AllocGlobal>(
     rt: &R,
     options: &RunOptions,
@@ -95,7 +95,7 @@ pub(crate) fn state_file<R: Files + AllocGlobal>(
     Ok(Some(StateFile { file, new, path }))
 }
 
-/// The path of the new file beside the file of a state that is saved. Fails only if memory runs out.
+/// Returns the path of the new file for a state that is saved. Fails only if memory is refused.
 pub fn new_path(alloc: Global, path: &str) -> Result<String, AllocError>
     ensures { IfOk result (λ new. string_bytes new ≡ path.now ++ codes ".new") }
 {

@@ -1,4 +1,4 @@
-//! The state from which a run goes on, and the log beside it.
+//! Reads the state from which a run starts, and its log position.
 
 ghost use Rattle.std.specs.Prelude.{◌≡◌, IfErr, IfOk, IfSome, None, Some, false, is_some, true};
 ghost use Rattle.napt_rules.specs.Prelude.{TakesState};
@@ -16,8 +16,8 @@ use std::fs::File;
 use std::io::Read;
 use std::rt::Files;
 
-/// The state in the file, as the configuration takes it up, or one without bindings and without a log if no file is named.
-/// Fails as `state_from` does, and with the file's role if it cannot be opened.
+/// Returns the state in the file as the configuration accepts it, or one without bindings or log
+/// for `None`. Fails as `state_from` does, and with the file's role if the file cannot be opened.
 pub fn state_at<R: Files + AllocGlobal>(
     rt: &R,
     config: &Config,
@@ -39,11 +39,11 @@ pub fn state_at<R: Files + AllocGlobal>(
     state_from(rt.alloc(), config, file)
 }
 
-/// Reads a state to the reader's end, and leaves out what counts for nothing under the configuration: redirects, and what has
-/// gone by the state's clock. The log beside it stays as it is.
+/// Reads a state from a reader to its end. Leaves out what has no effect under the configuration,
+/// redirects and what has expired by the state's clock, but nothing of the log.
 ///
-/// Fails with `Stop::State` if the text is refused or a binding is not taken, and with the file's role if the reader fails;
-/// and, as a run does, if memory runs out.
+/// Fails with `Stop::State` if the text is refused or a binding is not accepted, with the file's
+/// role if the reader fails, and with `MEMORY` if memory is refused.
 pub fn state_from<D: Read + Drop>(
     alloc: Global,
     config: &Config,
@@ -67,7 +67,7 @@ pub fn state_from<D: Read + Drop>(
     }
 }
 
-/// Why a text gave no state: its file failed, memory ran out, or a line is none of a state.
+/// Returns why a text gave no state: its file failed, memory was refused, or a line is malformed.
 pub fn stop_of_state(fault: &StateFault) -> Stop
     ensures line { unless_for fault.now.reason
         (result ≡ Stop.State (StateRefusal.Line fault.now.line)) }

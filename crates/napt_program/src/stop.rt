@@ -1,4 +1,4 @@
-//! Why a program stops early: the fault line for standard error, and the exit status.
+//! The reasons for which a program stops early, each with a fault line and an exit status.
 ghost use Rattle.std.specs.{Prelude.{◌≡◌, ◌≢◌, ◌⊎◌, Some, option_map}, IoError.error_kind};
 ghost use Rattle.napt_program.specs.Stop.{capture_name, config_name, fault_text, line_at_end, line_of, misfit_name, output_role, run_name, side_name, state_name, status_at_end, status_of, status_of_fault, stop_text};
 
@@ -14,56 +14,56 @@ use std::alloc::AllocError;
 use std::io::ErrorKind;
 use std::{fmt, io};
 
-/// Why a program stops with a status other than 0.
+/// The reason why a program stops with a status other than 0.
 #[derive(Clone, Copy, Debug, PartialEq, Eq)]
 pub enum Stop {
     /// The command line is not understood.
     Usage,
-    /// Memory ran out while parsing the command line.
+    /// Memory was refused while the command line was parsed.
     LineMemory,
     /// The help text could not be written to standard output.
     Help,
     /// The configuration is refused.
     Config(ConfigFault),
-    /// The file cannot be opened or created, or the configuration cannot be read.
+    /// The file could not be opened or created, or the configuration could not be read.
     File(FileRole),
-    /// The file of the log has text that the run may not go on with. Nothing was created or changed.
+    /// The log's file has text to which the run must not append. Nothing was created or changed.
     LogFile(LogRefusal),
     /// The run failed.
     Run(Fault),
     /// The log could not be written.
     Log,
-    /// The state from which the run should go on is refused.
+    /// The state from which the run was to start is refused.
     State(StateRefusal),
-    /// The state that the run leaves could not be written. The file of its option is as it was.
+    /// The state after the run could not be written. The file of its option is unchanged.
     Save,
 }
 
-/// Why a run may not write to the file of its log, which has text.
+/// The reason why a run must not write to the file of its log, which has text.
 #[derive(Clone, Copy, Debug, PartialEq, Eq)]
 pub enum LogRefusal {
-    /// The run begins anew: there is text, or a piece.
+    /// The run starts without a state, and there is text or a piece.
     Anew,
-    /// The state was left without a log, or with one in no file.
+    /// The state was saved without a log, or with a log that was not in a file.
     Untold,
-    /// It is not the log that the state tells of, which has so many bytes: it has fewer, or no row ends there.
+    /// It is not the state's log, of this length in bytes: it is shorter, or no row ends there.
     Another(u64),
-    /// More than a part of a row stands behind so many bytes, those that the state tells of.
+    /// More than a partial row follows the first bytes, whose number the state records.
     Longer(u64),
 }
 
-/// Why a state is refused.
+/// The reason why a state is refused.
 #[derive(Clone, Copy, Debug, PartialEq, Eq)]
 pub enum StateRefusal {
-    /// The line of this number, from 1, is none of a state there, or the text ends before it.
+    /// The line with this number, from 1, is not one of a state, or the text ends before it.
     Line(u64),
-    /// The line of this number, from 1, is not UTF-8.
+    /// The line with this number, from 1, is not UTF-8.
     NotUtf8(u64),
-    /// The configuration does not take a binding of it.
+    /// The configuration does not accept a binding of the state.
     Binding(Misfit),
 }
 
-/// Memory ran out before the run.
+/// The stop for memory that was refused before the run.
 pub const MEMORY: Stop = Stop::Run(Fault::Run(RunFault::Memory));
 
 impl From<AllocError> for Stop {
@@ -86,7 +86,7 @@ impl From<ConfigFault> for Stop {
     }
 }
 
-/// Why the file of a role was not read: memory ran out, or the file failed.
+/// Returns why the file of a role was not read: memory was refused, or the file failed.
 pub(crate) fn unread(error: &io::Error, role: FileRole) -> Stop
     ensures memory { error_kind error.now ≡ ErrorKind.OutOfMemory → result ≡ MEMORY }
     ensures file { error_kind error.now ≢ ErrorKind.OutOfMemory → result ≡ Stop.File role }
@@ -98,8 +98,8 @@ pub(crate) fn unread(error: &io::Error, role: FileRole) -> Stop
     }
 }
 
-/// The exit status: 2 for the command line, 3 for the configuration, 4 for a capture, 5 for a run
-/// that fails, 6 for a file, and 8 for a state.
+/// Returns the exit status: 2 for the command line, 3 for the configuration, 4 for a capture, 5 for
+/// a run that fails or memory, 6 for a file, and 8 for a state.
 pub fn stop_status(stop: &Stop) -> u8
     ensures { result ≡ status_of stop.now }
 {
@@ -115,7 +115,7 @@ pub fn stop_status(stop: &Stop) -> u8
     }
 }
 
-/// The exit status of a run: 0 if it was done, else the stop's.
+/// Returns the exit status of a program: 0 after success, or that of the stop.
 pub fn status_at_end(answer: &Result<(), Stop>) -> u8
     ensures { result ≡ status_at_end answer.now }
 {
@@ -125,8 +125,8 @@ pub fn status_at_end(answer: &Result<(), Stop>) -> u8
     }
 }
 
-/// The line that a run of the program with this name prints on standard error, if that is open: none if it was done, else
-/// the stop's.
+/// Returns the line that the program `name` prints on standard error: none after success or if
+/// standard error is closed, otherwise the fault line of the stop.
 pub fn line_at_end(name: &'static str, is_open: bool, answer: &Result<(), Stop>) -> Option<StopLine>
     ensures { option_map (λ line. line_of line.name.now line.stop) result
         ≡ line_at_end name.now is_open answer.now }
@@ -147,10 +147,10 @@ fn status_of_run(fault: Fault) -> u8
     }
 }
 
-/// The fault line of a stop, without its line feed. Printing it takes no memory, so that it can say that memory ran out.
+/// The fault line of a stop, without its line feed. Printing it allocates no memory.
 #[derive(Clone, Copy, Debug)]
 pub struct StopLine {
-    /// What the program is called.
+    /// The name of the program.
     pub name: &'static str,
     pub stop: Stop,
 }
@@ -164,7 +164,7 @@ impl fmt::Display for StopLine {
     }
 }
 
-/// The fault line after the program's name, such as `config timer-too-short`.
+/// Prints the fault line after the program's name, such as `config timer-too-short`.
 impl fmt::Display for Stop {
     ghost output = { λ stop. Some (stop_text stop) };
 
@@ -205,7 +205,7 @@ impl fmt::Display for Stop {
     }
 }
 
-/// The fault of a run, printed as its line after the program's name, such as `capture inside bad-fraction 3`.
+/// Prints the fault of a run after the program's name, such as `capture inside bad-fraction 3`.
 #[derive(Clone, Copy)]
 struct FaultText(Fault);
 
@@ -240,7 +240,7 @@ fn name_of_side(side: Side) -> &'static str
     }
 }
 
-/// A run's fault, printed as its name, with the worker's number if a gate was shut.
+/// Prints the name of a run's fault, with the worker's number if a gate was shut.
 #[derive(Clone, Copy)]
 struct RunFaultName(RunFault);
 
@@ -258,7 +258,7 @@ impl fmt::Display for RunFaultName {
     }
 }
 
-/// The file that an output is written to.
+/// Returns the role of the file to which an output is written.
 fn role_of(which: Which) -> FileRole
     ensures { result ≡ output_role which }
 {
@@ -269,7 +269,7 @@ fn role_of(which: Which) -> FileRole
     }
 }
 
-/// A capture's fault, printed as its name, with its record's number if it has one.
+/// Prints the name of a capture's fault, with the number of its record if it has one.
 #[derive(Clone, Copy, Debug)]
 pub struct CaptureFaultName(pub CaptureFault);
 
@@ -291,7 +291,7 @@ impl fmt::Display for CaptureFaultName {
     }
 }
 
-/// Why a state is refused, printed as its name, with the line's number if it has one.
+/// Prints the name of a state's refusal, with the number of its line if it has one.
 #[derive(Clone, Copy, Debug)]
 pub struct StateRefusalName(pub StateRefusal);
 
@@ -321,7 +321,7 @@ fn name_of_misfit(misfit: Misfit) -> &'static str
     }
 }
 
-/// The name of a configuration's fault.
+/// Returns the name of a configuration's fault.
 pub fn name_of_config_fault(fault: ConfigFault) -> &'static str
     ensures { result.now ≡ config_name fault }
 {

@@ -1,4 +1,4 @@
-//! The standard streams that the program was started with.
+//! The standard streams with which the program was started.
 
 ghost use Rattle.std.specs.Prelude.{◌≡◌, IfSome, true};
 ghost use Rattle.napt_program.specs.{Command.can_fail, CommandLine.{files_of, files_with_log}, Streams.{closed_output, closed_stream}};
@@ -11,8 +11,8 @@ use std::os::fd::AsFd;
 /// The system's error for a descriptor that is not open: EBADF of errno(3).
 const NOT_OPEN: i32 = 9;
 
-/// Which standard streams were open at startup. The next file opened gets the descriptor of a closed one, so a stream that
-/// was closed is neither read nor written.
+/// Which standard streams were open at startup. The next file that is opened gets the descriptor of
+/// a closed one, so a stream that was closed is neither read nor written.
 #[derive(Clone, Copy, Debug, PartialEq, Eq)]
 pub struct StandardStreams {
     pub input: bool,
@@ -21,7 +21,7 @@ pub struct StandardStreams {
 }
 
 impl StandardStreams {
-    /// The streams open now. Call at startup, before opening any file.
+    /// Returns the streams that are open now. To be called at startup, before any file is opened.
     pub fn open_now(rt: &HostRuntime) -> StandardStreams {
         StandardStreams {
             input: is_open(&rt.stdin()),
@@ -31,7 +31,7 @@ impl StandardStreams {
     }
 }
 
-/// Whether the stream is open: a closed one cannot be duplicated.
+/// Returns whether the stream is open: a closed one cannot be duplicated.
 fn is_open(stream: &impl AsFd) -> bool {
     match stream.as_fd().try_clone_to_owned() {
         Ok(_) => true,
@@ -39,8 +39,8 @@ fn is_open(stream: &impl AsFd) -> bool {
     }
 }
 
-/// The role of the first standard stream that is needed, because its option is `-` or no file is named for the role, and is
-/// closed.
+/// Returns the role of the first standard stream that is closed but needed, since its option is `-`
+/// or no file is named for a role that uses it by default.
 pub fn closed_stream(streams: StandardStreams, options: &RunOptions) -> Option<FileRole>
     ensures first { result ≡ closed_stream streams (files_of options.now) }
     ensures needed { IfSome result (λ role. can_fail streams (files_of options.now) role ≡ true) }
@@ -56,7 +56,7 @@ pub fn closed_stream(streams: StandardStreams, options: &RunOptions) -> Option<F
     }
 }
 
-/// The role of the first output that needs standard output, if that is closed.
+/// Returns the role of the first output that needs standard output, if that is closed.
 fn closed_output(streams: StandardStreams, options: &RunOptions) -> Option<FileRole>
     ensures first { result ≡ closed_output streams (files_of options.now) }
     ensures needed { IfSome result (λ role. can_fail streams (files_of options.now) role ≡ true) }
@@ -72,7 +72,7 @@ fn closed_output(streams: StandardStreams, options: &RunOptions) -> Option<FileR
     }
 }
 
-/// The same with the log, which comes last.
+/// Returns the same for options with a log, which comes last.
 pub fn closed_stream_with_log(
     streams: StandardStreams,
     options: &OptionsWithLog,

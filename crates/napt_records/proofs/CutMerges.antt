@@ -1,4 +1,4 @@
--- Where the merged list is cut, the captures are cut too.
+-- If the merged list is cut, the captures can be cut accordingly.
 use Rattle.std.proofs.lemmas.{Grind.common_steps, Bool.Decides.nat_tests}
 use Rattle.std.proofs.Common.{◌≡◌, ℕ, zero, suc, ◌≤◌, max, true, false, List, [], ◌∷◌, ◌++◌, length, refl, sym, ◌∙◌, ap, arith}
 use Rattle.napt_capture.specs.Contents.{RecordModel}
@@ -6,7 +6,7 @@ use Rattle.napt_rules.specs.Prelude.{Arrival, Inside, Outside, inputs_from_clock
 use Rattle.napt_records.specs.{MergeLaws.CapturesCanBeCut, RecordMerging.{input_of, is_outside_next, merged_inputs, merged_from}}
 use Rattle.napt_records.proofs.Merges.{Steps, hands, of_merged}
 
--- a cut behind so many, from a clock on
+-- A cut after `count` inputs, with clocks from `clock` on, in ns.
 record CutFrom (ins : List RecordModel) (clock : ℕ) (outs : List RecordModel) (xs : List Arrival)
     (count : ℕ) : Type 0 where
   pub ins_first : List RecordModel
@@ -37,7 +37,7 @@ cut_at_once ins clock outs xs all = record {
   whole = all;
 }
 
--- the parts take what the whole takes
+-- The next record of the first parts is that of the whole captures.
 inside_next : (entry : RecordModel) (ins outs first some rest : List RecordModel) → outs ≡ some ++ rest →
     is_outside_next (entry ∷ ins) outs ≡ false → is_outside_next (entry ∷ first) some ≡ false
 inside_next entry ins outs first [] rest is next = refl
@@ -48,7 +48,7 @@ outside_next : (entry : RecordModel) (ins outs first some rest : List RecordMode
 outside_next entry ins outs first [] rest is next = refl
 outside_next entry ins outs first (other ∷ some) rest is next = grind (arith, common_steps, nat_tests)
 
--- one more in front
+-- One more input comes first.
 more_whole : (clock time : ℕ) (one : Arrival) (rest : ℕ → List Arrival) (all first xs : List Arrival) →
     one.clock ≡ max clock time → all ≡ one ∷ first → xs ≡ first ++ rest (last_clock (max clock time) first) →
     one ∷ xs ≡ all ++ rest (last_clock clock all)

@@ -1,4 +1,4 @@
--- What is taken of the records that were read is what merging takes of all that is left.
+-- Merging the records that were read returns the first of the inputs that merging returns of all that is left.
 use native.Mathlib.Omega.{arith}
 use Rattle.std.{proofs.lemmas.{Grind.common_steps, Bool.Decides.nat_tests}, specs.Option.option_map}
 use Rattle.std.proofs.Common.{◌≡◌, ℕ, Bool, true, false, All, List, [], ◌∷◌, ◌++◌, Option, None, Some, IfSome, IsSome, option_to_list, unwrap_or, Result, Ok, Err, refl, sym, subst, subst₂, append-nil}
@@ -12,7 +12,7 @@ use Rattle.napt_records.specs.RecordMerging.{MergedInputs, TakesRecord, at_fault
 use Rattle.napt_sequential.specs.Inputs.{NextInputPost}
 use Rattle.napt_rules.specs.Prelude.{Arrival, Side, Inside, Outside}
 
--- ---- more records behind those that were read
+-- MORE RECORDS AFTER THOSE THAT WERE READ
 
 inside_next : (entry : RecordModel) (ins outs others more : List RecordModel) → (outs ≡ [] → more ≡ []) →
     is_outside_next (entry ∷ ins) outs ≡ false → is_outside_next (entry ∷ others) (outs ++ more) ≡ false
@@ -28,7 +28,7 @@ takes_more : (ins outs ins_left outs_left more others : List RecordModel) (side 
 takes_more ins outs ins_left outs_left more others side entry next shown other_shown =
     grind (arith, common_steps, nat_tests, inside_next, outside_next)
 
--- ---- what a side holds behind the records that were read
+-- WHAT IS LEFT OF A SIDE AFTER THE RECORDS THAT WERE READ
 
 record More (first : Option RecordModel) (later : Option RecordModel → Option CaptureReading)
     (held : CaptureReading) : Type 0 where
@@ -51,7 +51,8 @@ more_by : (cut : Option Bool) (records : RecordReader) (text : Option (List ℕ)
     (held : CaptureReading) →
     (first ≡ None → IsSome cut)
     → holds_by cut (option_to_list first) (option_map (reader_rest records (option_to_list first)) text) ≡ Some held
-    → More first (λ left. holds_by cut (option_to_list left) (option_map (reader_rest records (option_to_list left)) text))
+    → More first (λ left. holds_by cut (option_to_list left)
+    (option_map (reader_rest records (option_to_list left)) text))
     held
 more_by cut records text first held told is = grind (arith, common_steps, nat_tests, option_to_list, more_ended)
 
@@ -69,14 +70,15 @@ module _ {R : Type 0} {G : Ghosts R} where
       ≡ Some (record { records = []; end = Ok (cut_of stream) })
   told_holds stream some = grind (arith, common_steps, nat_tests, told_by)
 
--- ---- both sides
+-- BOTH SIDES
 
 stays_both : (c : ℕ) (a b : Option CaptureReading) (d : ℕ) (x y : Option CaptureReading) → d ≡ c → KnownStays a x →
     KnownStays b y →
     KnownStays (merger_rest c a b) (merger_rest d x y)
 stays_both c a b d x y clock p q = grind (arith, common_steps, nat_tests)
 
-follows_after : (x y z : Option MergedInputs) (xs : List Arrival) → KnownStays x y → InputsCameFirst y xs z → InputsCameFirst x xs z
+follows_after : (x y z : Option MergedInputs) (xs : List Arrival) → KnownStays x y → InputsCameFirst y xs z →
+    InputsCameFirst x xs z
 follows_after x y z xs stays follows = grind (arith, common_steps, nat_tests)
 
 stays_is : {X : Type 0} (x y : Option X) (a : X) → KnownStays x y → y ≡ Some a → IfSome x (λ b. b ≡ a)
@@ -176,6 +178,7 @@ module _ {R Q : Type 0} {G : Ghosts R} {H : Ghosts Q} where
   pub Hands-any : (old mid new : StreamMerger R Q G H) (taken : Option Arrival) → AreSame old mid →
       (IsMergerLive old → LookPost old mid)
       → TakesAny mid.inside_first mid.outside_first mid.clock taken new.inside_first new.outside_first new.clock
-      → new.inside ≡ mid.inside → new.outside ≡ mid.outside → NextInputPost HandsOutInputs MergeEndsWith old (Ok taken) new
+      → new.inside ≡ mid.inside → new.outside ≡ mid.outside →
+      NextInputPost HandsOutInputs MergeEndsWith old (Ok taken) new
   Hands-any old mid new taken same looks h6 ins outs =
       grind (arith, common_steps, nat_tests, EndsWith-none, HandsOut-one)

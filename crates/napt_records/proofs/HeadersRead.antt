@@ -1,4 +1,4 @@
--- What came of two captures of which only the headers were read, by all that they hold.
+-- The result of two captures of which only the headers were read, from all of their bytes.
 use native.Mathlib.Omega.{arith}
 use Rattle.std.{proofs.lemmas.{Grind.common_steps, Bool.Decides.nat_tests, List.Elements.All-nil}, specs.{Prelude.IfSome, Option.option_map}}
 use Rattle.std.proofs.Common.{◌≡◌, ℕ, ◌+◌, All, List, [], ◌++◌, take, drop, Option, Some, None, Ok, Err, sym, ap, ◌∙◌, append-nil}
@@ -10,10 +10,11 @@ use Rattle.napt_records.specs.{declared.{stream.RecordStream.RecordStream, strea
 use Rattle.napt_records.specs.{StreamMergers.{IsMergerLive, AreSame, CountsFailures, MergeEndsWith, HandsOutInputs, NoneFailed, cut_of, failed_by}, Output.IsTimely}
 use Rattle.napt_records.{specs.{UnreadInputs.{InputsCameFirst, reader_rest, holds_by, inputs_of, stream_holds}, RecordMerging.{MergedInputs, at_end, inputs_until}}, proofs.ReaderRests.StopsBy-then}
 
--- ---- what is left behind the header is all that the capture holds
+-- WHAT IS LEFT AFTER THE HEADER is all records of the capture
 
 left_behind : (records : RecordReader) (left : Option (List ℕ)) (bytes : List ℕ) →
-    LeavesBytes (Some bytes) left (λ bytes left. (format_in (take 24 bytes) ≡ Ok records.spelling) × (left ≡ drop 24 bytes))
+    LeavesBytes (Some bytes) left (λ bytes left. (format_in (take 24 bytes) ≡ Ok records.spelling) ×
+    (left ≡ drop 24 bytes))
     → records.ahead ≡ [] → records.number ≡ 1
     → option_map (reader_rest records []) (remaining_text records left) ≡ Some (capture_of_bytes bytes)
 left_behind records None bytes header ahead number = absurd header
@@ -28,19 +29,21 @@ module _ {R : Type 0} {G : Ghosts R} where
       (G.remaining stream.live.source.now)))) p.cut
       ∙ left_behind stream.records (G.remaining stream.live.source.now) bytes p.header p.ahead p.number
 
--- ---- what came
+-- THE INPUTS THAT CAME
 
 came_to : (all : MergedInputs) (later : Option MergedInputs) (arrivals : List Arrival) (last : MergedInputs) →
     InputsCameFirst (Some all) arrivals later → IfSome later (λ inputs. inputs ≡ last)
     → all ≡ record { arrivals = arrivals ++ last.arrivals; end = last.end }
 came_to all later arrivals last follows is = grind (arith, common_steps, nat_tests)
 
-some_later : (all : MergedInputs) (later : Option MergedInputs) (arrivals : List Arrival) → InputsCameFirst (Some all) arrivals later →
+some_later : (all : MergedInputs) (later : Option MergedInputs) (arrivals : List Arrival) →
+    InputsCameFirst (Some all) arrivals later →
     (left : List Arrival) × (all.arrivals ≡ arrivals ++ left)
 some_later all later arrivals follows = grind (arith, common_steps, nat_tests)
 
 module _ {R Q : Type 0} {G : Ghosts R} {H : Ghosts Q} where
-  pub begun_live : (begin : StreamMerger R Q G H) (bytes others : List ℕ) → IsMergerNew begin bytes others → IsMergerLive begin
+  pub begun_live : (begin : StreamMerger R Q G H) (bytes others : List ℕ) → IsMergerNew begin bytes others →
+      IsMergerLive begin
   begun_live begin bytes others p = grind (arith, common_steps, nat_tests, All-nil)
 
   begun_inputs : (begin : StreamMerger R Q G H) (bytes others : List ℕ) → IsMergerNew begin bytes others
@@ -60,17 +63,19 @@ module _ {R Q : Type 0} {G : Ghosts R} {H : Ghosts Q} where
 
   pub handed_front : (begin mid : StreamMerger R Q G H) (bytes others : List ℕ) (inputs : List Arrival)
       → IsMergerNew begin bytes others → Handed begin inputs mid
-      → (left : List Arrival) × ((inputs_until (capture_of_bytes bytes) (capture_of_bytes others)).arrivals ≡ inputs ++ left)
+      → (left : List Arrival) × ((inputs_until (capture_of_bytes bytes) (capture_of_bytes others)).arrivals ≡ inputs
+      ++ left)
   handed_front begin mid bytes others inputs p handed = grind (arith, common_steps, nat_tests, some_later, followed)
 
-  -- whether or not the bytes are known
+  -- The times fit, whether or not the bytes are known.
   pub handed_timely : (begin mid : StreamMerger R Q G H) (inputs : List Arrival) → IsMergerLive begin →
       Handed begin inputs mid → All IsTimely inputs
   handed_timely begin mid inputs live handed = (handed.1 live).timely
 
-  -- THE EQUATION
+  -- If both captures ended, the inputs that came are the result of merging.
   pub came_whole : (begin end : StreamMerger R Q G H) (bytes others : List ℕ) (inputs : List Arrival)
-      → IsMergerNew begin bytes others → CameOf begin inputs None end → inputs_until (capture_of_bytes bytes) (capture_of_bytes others)
+      → IsMergerNew begin bytes others → CameOf begin inputs None end →
+      inputs_until (capture_of_bytes bytes) (capture_of_bytes others)
       ≡ record { arrivals = inputs; end = Ok (record { inside = cut_of end.inside; outside = cut_of end.outside }) }
   came_whole begin end bytes others inputs p came =
       let live = (came.handed.1 (begun_live begin bytes others p)).live in
@@ -82,9 +87,10 @@ module _ {R Q : Type 0} {G : Ghosts R} {H : Ghosts Q} where
       })
       (append-nil inputs)
 
-  -- and of a fault, unless the device or memory failed
+  -- The same holds of a fault, unless the device or memory failed.
   pub came_fault : (begin end : StreamMerger R Q G H) (bytes others : List ℕ)
-      (inputs : List Arrival) (fault : SideFault) → IsMergerNew begin bytes others → CameOf begin inputs (Some fault) end
+      (inputs : List Arrival) (fault : SideFault) → IsMergerNew begin bytes others →
+      CameOf begin inputs (Some fault) end
       → IsReadFault fault.fault
       (inputs_until (capture_of_bytes bytes) (capture_of_bytes others) ≡ record { arrivals = inputs; end = Err fault })
   came_fault begin end bytes others inputs fault p came =
@@ -105,7 +111,9 @@ module _ {R Q : Type 0} {G : Ghosts R} {H : Ghosts Q} where
       CameOf begin inputs None end → NoneFailed begin.inside end.inside × NoneFailed begin.outside end.outside
   came_counts begin end inputs live came = grind (arith, common_steps, nat_tests)
 
-  pub came_failed : (begin end : StreamMerger R Q G H) (inputs : List Arrival) (fault : SideFault) → IsMergerLive begin →
-      CameOf begin inputs (Some fault) end → CountsFailures begin.inside (failed_by Inside fault.side fault.fault) end.inside
+  pub came_failed : (begin end : StreamMerger R Q G H) (inputs : List Arrival) (fault : SideFault) →
+      IsMergerLive begin →
+      CameOf begin inputs (Some fault) end → CountsFailures begin.inside (failed_by Inside fault.side fault.fault)
+      end.inside
       × CountsFailures begin.outside (failed_by Outside fault.side fault.fault) end.outside
   came_failed begin end inputs fault live came = grind (arith, common_steps, nat_tests)

@@ -1,4 +1,4 @@
--- What holds of merging holds step by step: its laws, its order and its clocks.
+-- The laws, the order and the clocks of merging, each proved by induction on its steps.
 use Rattle.std.proofs.lemmas.{Grind.common_steps, Bool.Decides.nat_tests, List.Elements.{All-nil, All-cons, All-head, All-tail}}
 use Rattle.std.proofs.Common.{◌≡◌, ℕ, zero, suc, ◌+◌, ◌<◌, ◌≤◌, max, Bool, true, false, ◌↔◌, List, [], ◌∷◌, ◌++◌, append-nil, length, map, take, All, Option, Some, None, Result, Ok, Err, refl, sym, ◌∙◌, ap, subst, arith}
 use Rattle.std.{specs.Prelude.{filter, slice_get}, proofs.lemmas.{Bool.{ltb-false, ltb-true, cases_Bool}, List.length-map}}
@@ -12,7 +12,7 @@ use Rattle.napt_records.specs.Merge.{of_record, of_input, is_from, latest, clock
 
 -- THE UNFOLDING LAWS
 
--- where a capture has no record left, it ended without a fault
+-- If a capture has no record left, it ended without a fault.
 abbrev pub IsKnown : List RecordModel → Result Bool CaptureFault → Type 0
 IsKnown [] (Ok cut) = Unit {0}
 IsKnown [] (Err fault) = ⊥
@@ -32,7 +32,8 @@ outside_first a b entry ins outs clock known next = grind (arith, common_steps, 
 
 pub hands_until : (a b : Result Bool CaptureFault) (ins outs ins_left outs_left : List RecordModel) (clock : ℕ)
     (side : Side)
-    (entry : RecordModel) → IsKnown ins a → IsKnown outs b → TakesRecord ins outs (Some (side, entry)) ins_left outs_left
+    (entry : RecordModel) → IsKnown ins a → IsKnown outs b →
+    TakesRecord ins outs (Some (side, entry)) ins_left outs_left
     → inputs_from a b ins clock outs ≡ outside_before (input_of side (max clock entry.time) entry)
     (inputs_from a b ins_left (max clock entry.time) outs_left)
 hands_until a b ins outs ins_left outs_left clock side entry in_known out_known taken =
@@ -46,13 +47,13 @@ pub hands : (ins outs ins_left outs_left : List RecordModel) (clock : ℕ) (side
     ≡ input_of side (max clock entry.time) entry ∷ merged_from ins_left (max clock entry.time) outs_left
 hands ins outs ins_left outs_left clock side entry taken = grind (arith, common_steps, nat_tests, hands_until, no_fault)
 
--- where none is left
+-- No record is left of either capture.
 pub none_from : (a b : Bool) (clock : ℕ) → inputs_from (Ok a) (Ok b) [] clock [] ≡ at_end a (Ok b)
 none_from a b clock = refl
 
 -- INDUCTION BY STEPS
 
--- what holds where merging ends, and of one more inside or outside record before what it holds of
+-- A property that holds at each end of merging, and of one more inside or outside record if it holds of the rest.
 record StepsUntil (a b : Result Bool CaptureFault) (P : List RecordModel → ℕ → List RecordModel → MergedInputs →
     Type 0) : Type 0 where
   ends : (x y : Bool) (clock : ℕ) → a ≡ Ok x → b ≡ Ok y → P [] clock [] (at_end x (Ok y))
@@ -104,7 +105,7 @@ module _ (a b : Result Bool CaptureFault) (P : List RecordModel → ℕ → List
   of_inputs [] outs clock = of_none a outs clock refl
   of_inputs (first ∷ ins) outs clock = of_until first ins outs clock (λ now left. of_inputs ins left now)
 
--- the same of the merged list
+-- The same for the merged list.
 pub record Steps (P : List RecordModel → ℕ → List RecordModel → List Arrival → Type 0) : Type 0 where
   pub none : (clock : ℕ) → P [] clock [] []
   pub inside : (entry : RecordModel) (ins outs : List RecordModel) (clock : ℕ) (xs : List Arrival) →
@@ -128,7 +129,7 @@ of_merged P steps = of_inputs (Ok false) (Ok false) (λ ins clock outs inputs. P
 
 -- A FAULT ENDS IT EARLY
 
--- what is handed out is a front of these, and all if there is no fault
+-- The inputs that merging returns are a prefix of these, and all of them if there is no fault.
 record IsFront (inputs : MergedInputs) (all : List Arrival) : Type 0 where
   pub left : List Arrival
   pub is : all ≡ inputs.arrivals ++ left
@@ -164,7 +165,7 @@ merges_whole inside outside cuts is =
     sym (p.is ∙ ap (λ l. (inputs_until inside outside).arrivals ++ l) (p.whole cuts is)
     ∙ append-nil (inputs_until inside outside).arrivals)
 
--- how both captures ended
+-- If merging met no fault, both captures ended as the flags say.
 abbrev EndAs : Result Bool CaptureFault → Result Bool CaptureFault → MergedInputs → Type 0
 EndAs a b inputs = (cuts : CutFlags) → inputs.end ≡ Ok cuts → (a ≡ Ok cuts.inside) × (b ≡ Ok cuts.outside)
 
@@ -184,7 +185,7 @@ ends_from a b = of_inputs a b (λ ins clock outs inputs. EndAs a b inputs) (reco
 pub merge_ends : MergeEnds
 merge_ends inside outside cuts is = ends_from inside.end outside.end inside.records outside.records 0 cuts is
 
--- WHAT PRECEDES A FAULT
+-- THE INPUTS BEFORE A FAULT
 
 abbrev end_of : Side → Result Bool CaptureFault → Result Bool CaptureFault → Result Bool CaptureFault
 end_of Inside a b = a
@@ -194,7 +195,7 @@ abbrev records_of : Side → List RecordModel → List RecordModel → List Reco
 records_of Inside ins outs = ins
 records_of Outside ins outs = outs
 
--- how many of these are of a side
+-- The number of these inputs that are of a side.
 abbrev count : Side → List Arrival → ℕ
 count side inputs = length (filter (is_from side) inputs)
 
@@ -216,7 +217,7 @@ fault_is : (side : Side) (fault : CaptureFault) (f : SideFault) → (at_fault si
     (let at : SideFault = record { side = side; fault = fault } in at ≡ f)
 fault_is side fault f same = cc
 
--- merging hands out nothing
+-- Merging returns no input.
 at_once : (a b : Result Bool CaptureFault) (ins outs : List RecordModel) (side : Side) (fault : CaptureFault) →
     end_of side a b ≡ Err fault → records_of side ins outs ≡ []
     → ((its : CaptureFault) → side ≡ Outside → a ≡ Err its → 0 < length ins)
@@ -228,7 +229,7 @@ some_left : (entries : List RecordModel) (end : Result Bool CaptureFault) (fault
     end ≡ Err fault → 0 < length entries
 some_left entries end fault known is = grind (arith, common_steps, nat_tests)
 
--- behind one more inside record
+-- One more inside record comes first.
 module _ (a b : Result Bool CaptureFault) (entry : RecordModel) (ins outs : List RecordModel) (inputs : MergedInputs)
     (now : ℕ) where
   all_in : (side : Side) → HasAllOf side ins outs inputs.arrivals →
@@ -244,7 +245,7 @@ module _ (a b : Result Bool CaptureFault) (entry : RecordModel) (ins outs : List
       IsBefore a b (entry ∷ ins) outs (outside_before (input_of Inside now entry) inputs)
   before_in known p = grind (arith, common_steps, nat_tests, all_in, least_in)
 
-  -- and outside record
+  -- One more outside record comes first.
   all_out : (side : Side) → HasAllOf side ins outs inputs.arrivals →
       HasAllOf side ins (entry ∷ outs) (input_of Outside now entry ∷ inputs.arrivals)
   all_out side has = grind (arith, common_steps, nat_tests)
@@ -288,7 +289,7 @@ merge_meets inside outside fault is =
     held_end_of fault.side inside outside
     ∙ (before_from inside.end outside.end inside.records outside.records 0).meets fault is
 
--- where all of a side's records were handed out, there are as many
+-- If all records of a side were returned, there are as many inputs of that side.
 all_counted : (side : Side) (inside outside : CaptureReading) (inputs : List Arrival) →
     HaveAll side inside outside inputs →
     count side inputs ≡ length (records_of side inside.records outside.records)
@@ -311,7 +312,7 @@ tells_inside_first inside outside fault its is also have =
     let few = p.first fault its is also in
     omega (arith, few, all_counted Inside inside outside (inputs_until inside outside).arrivals have)
 
--- HOW MANY
+-- THE NUMBER OF INPUTS
 
 pub as_many : (ins outs : List RecordModel) (clock : ℕ) →
     length (merged_from ins clock outs) ≡ length ins + length outs
@@ -321,7 +322,7 @@ as_many = of_merged (λ ins clock outs xs. length xs ≡ length ins + length out
   outside = λ entry ins outs clock xs next long. omega (arith, long);
 })
 
--- TIMES THAT A CAPTURE HAS ROOM FOR
+-- TIMES THAT FIT A CAPTURE
 
 pub timely_from : (ins outs : List RecordModel) (clock : ℕ) → All IsWritable ins → All IsWritable outs →
     All IsTimely (merged_from ins clock outs)
@@ -367,13 +368,13 @@ clock_more : (place : ℕ) (x : Arrival) (xs : List Arrival) → clock_at (suc p
     ≡ max x.time (clock_at place xs)
 clock_more place x xs = ap latest (take_more place x xs)
 
--- the first of these is no later than this
+-- The first of these records is not later than this time.
 abbrev IsFloor : List RecordModel → ℕ → Type 0
 IsFloor [] time = ⊥
 IsFloor (entry ∷ entries) time = entry.time ≤ time
 
--- inside records were taken up to this time, and outside ones up to before that one; then the next inside record, and
--- the next outside one
+-- Inside records were returned up to this time, and outside ones up to before that time. An inside record may follow,
+-- and likewise an outside one.
 abbrev MayIn : ℕ → ℕ → List RecordModel → Type 0
 MayIn m q [] = Unit {0}
 MayIn m q (entry ∷ entries) = q ≤ max m entry.time
@@ -388,7 +389,7 @@ in_reaches m q time ins may floor = grind (arith, common_steps, nat_tests)
 out_reaches : (m q time : ℕ) (outs : List RecordModel) → MayOut m q outs → IsFloor outs time → m < max q (suc time)
 out_reaches m q time outs may floor = grind (arith, common_steps, nat_tests)
 
--- after an inside record
+-- An inside record follows an inside one.
 in_in : (m q time : ℕ) (ins : List RecordModel) → q ≤ max m time → MayIn (max m time) q ins
 in_in m q time ins may = grind (arith, common_steps, nat_tests)
 
@@ -397,7 +398,7 @@ in_out : (m q : ℕ) (entry : RecordModel) (ins outs : List RecordModel) →
     MayOut m q outs → MayOut (max m entry.time) q outs
 in_out m q entry ins outs next may = grind (arith, common_steps, nat_tests, ltb-false)
 
--- after an outside record
+-- An outside record follows an outside one.
 out_out : (m q time : ℕ) (outs : List RecordModel) → m < max q (suc time) → MayOut m (max q (suc time)) outs
 out_out m q time outs may = grind (arith, common_steps, nat_tests)
 
@@ -476,7 +477,7 @@ clocks_more : (side : Side) (clock : ℕ) (entry : RecordModel) (xs : List Arriv
     ClocksFrom clock (input_of side (max clock entry.time) entry ∷ xs)
 clocks_more side clock entry xs clocks = grind (arith, common_steps, nat_tests, clock_more)
 
--- what the merged list of some records is
+-- The properties of the merged list of some records.
 record IsGood (ins : List RecordModel) (clock : ℕ) (outs : List RecordModel) (xs : List Arrival) : Type 0 where
   inside : map of_input (filter (is_from Inside) xs) ≡ map of_record ins
   outside : map of_input (filter (is_from Outside) xs) ≡ map of_record outs
@@ -544,7 +545,7 @@ merged_good ins outs =
       clock = λ place a at. omega (arith, p.clocks place a at);
     }
 
--- where nothing was handed out, nothing is left
+-- If no input was returned, none was left.
 pub none_left : (before after : List Arrival) (handed : Option Arrival) → ((x : Arrival) → handed ≡ Some x → ⊥) →
     InputIsTaken before handed after → before ≡ []
 none_left before after handed never is = grind (arith, common_steps, nat_tests)

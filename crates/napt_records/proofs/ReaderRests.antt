@@ -1,4 +1,4 @@
--- What a reader tells is the first of what it holds.
+-- The record that a reader returns is the first of what it has left.
 use native.Mathlib.Omega.{arith}
 use Rattle.std.{proofs.lemmas.{Grind.common_steps, Bool.Decides.nat_tests}, specs.{Prelude.{is_some, IfSome}, Option.option_map}}
 use Rattle.std.proofs.Common.{◌≡◌, ℕ, false, Bool, List, [], ◌∷◌, Option, None, Some, Ok, Err}
@@ -8,15 +8,18 @@ use Rattle.napt_capture.{specs.{Reading.{LeavesBytes, IsReadResult, IsReadFault}
 use Rattle.napt_records.specs.UnreadInputs.{KnownStays, reader_rest}
 
 pub held_whole : (old new : RecordReader) (a b : Option (List ℕ)) (entry : RecordModel) →
-    LeavesBytes a b (HandsOutNext old (Ok (Whole entry))) → new.number ≡ number_behind old.number → new.spelling ≡ old.spelling
+    LeavesBytes a b (HandsOutNext old (Ok (Whole entry))) → new.number ≡ number_behind old.number →
+    new.spelling ≡ old.spelling
     → KnownStays (option_map (reader_rest old []) a) (option_map (reader_rest new (entry ∷ [])) b)
 held_whole old new a b entry told number spelling = grind (arith, common_steps, nat_tests, held_record)
 
-pub held_told : (old : RecordReader) (a b : Option (List ℕ)) (cut : Bool) → LeavesBytes a b (HandsOutNext old (Ok (End cut))) →
+pub held_told : (old : RecordReader) (a b : Option (List ℕ)) (cut : Bool) →
+    LeavesBytes a b (HandsOutNext old (Ok (End cut))) →
     KnownStays (option_map (reader_rest old []) a) (Some (record { records = []; end = Ok cut }))
 held_told old a b cut told = grind (arith, common_steps, nat_tests, held_end)
 
-pub held_refused : (old : RecordReader) (a b : Option (List ℕ)) (fault : CaptureFault) → LeavesBytes a b (HandsOutNext old (Err fault)) →
+pub held_refused : (old : RecordReader) (a b : Option (List ℕ)) (fault : CaptureFault) →
+    LeavesBytes a b (HandsOutNext old (Err fault)) →
     IfSome (option_map (reader_rest old []) a) (λ held. held ≡ record { records = []; end = Err fault })
 held_refused old None b fault told = tt
 held_refused old (Some text) None fault told = absurd told

@@ -15,7 +15,7 @@ pub four_pieces : (old a b c d first second third fourth : List ℕ) → first �
 four_pieces old a b c d first second third fourth is then after last =
     two_pieces old ((a ++ b) ++ c) d third fourth (three_pieces old a b c first second third is then after) last
 
--- texts of pieces that are the same one by one
+-- Texts whose pieces are equal one by one are equal.
 pub same_pieces : {X : Type 0} (f g : X → List ℕ) → ((x : X) → f x ≡ g x) → (xs : List X) → flat_map f xs
     ≡ flat_map g xs
 same_pieces f g same [] = refl

@@ -1,4 +1,4 @@
--- Handing out nothing changes nothing, and inputs handed out in two parts are handed out in one.
+-- Returning no input changes nothing, and inputs that are returned in two parts are returned in one.
 use Rattle.std.{specs.Prelude.{List, [], ◌++◌, Option, None, Some}, proofs.Common.{refl, sym, ap, ◌∙◌, append_assoc}}
 use Rattle.std.proofs.lemmas.List.Elements.{All-append, All-nil}
 use Rattle.napt_capture.specs.declared.device.Source.{Ghosts}
@@ -9,7 +9,8 @@ follows_none : (x : Option MergedInputs) → InputsCameFirst x [] x
 follows_none None = tt
 follows_none (Some x) = refl
 
-follows_more : (x y z : Option MergedInputs) (xs ys : List Arrival) → InputsCameFirst x xs y → InputsCameFirst y ys z → InputsCameFirst x (xs ++ ys) z
+follows_more : (x y z : Option MergedInputs) (xs ys : List Arrival) → InputsCameFirst x xs y →
+    InputsCameFirst y ys z → InputsCameFirst x (xs ++ ys) z
 follows_more None y z xs ys first second = tt
 follows_more (Some x) None z xs ys first second = absurd first
 follows_more (Some x) (Some y) None xs ys first second = absurd second
@@ -30,7 +31,8 @@ module _ {R Q : Type 0} {G : Ghosts R} {H : Ghosts Q} where
     },
   )
 
-  pub HandsOut-more : (x y z : StreamMerger R Q G H) (xs ys : List Arrival) → HandsOutInputs x xs y → HandsOutInputs y ys z →
+  pub HandsOut-more : (x y z : StreamMerger R Q G H) (xs ys : List Arrival) → HandsOutInputs x xs y →
+      HandsOutInputs y ys z →
       HandsOutInputs x (xs ++ ys) z
   HandsOut-more x y z xs ys first second = (
     (second.0.0 ∙ first.0.0, second.0.1 ∙ first.0.1),

@@ -1,25 +1,26 @@
--- What merging two captures makes of their records.
+-- The laws of merging two captures.
 use Rattle.std.specs.Prelude.{◌≡◌, ℕ, ◌<◌, ◌≤◌, List, ◌++◌, length, map, filter, take, Ok, Err}
 use Rattle.napt_capture.specs.{declared.fault.CaptureFault.CaptureFault, Contents.RecordModel, Capture.CaptureReading}
 use Rattle.napt_rules.specs.Prelude.{Arrival, Side, Inside, Outside, inputs_from_clock, last_clock}
 use Rattle.napt_records.specs.{declared.stream_merger.{CutFlags.CutFlags, SideFault.SideFault}, Merge.{IsMerged, is_from, of_input, of_record}}
 use Rattle.napt_records.specs.RecordMerging.{inputs_until, merged_inputs}
 
--- the merged list has each side's records in order, the sides in order, and the clocks
+-- The merged list has each side's records in order, the sides in order, and the clocks.
 abbrev pub MergeIsInOrder : Type 0
 MergeIsInOrder = (insides outsides : List RecordModel) → IsMerged insides outsides (merged_inputs insides outsides)
 
--- what merging hands out is a front of it
+-- The inputs that merging returns are a prefix of the merged list.
 abbrev pub MergesFront : Type 0
 MergesFront = (inside outside : CaptureReading) →
-    (left : List Arrival) × (merged_inputs inside.records outside.records ≡ (inputs_until inside outside).arrivals ++ left)
+    (left : List Arrival) × (merged_inputs inside.records outside.records ≡ (inputs_until inside outside).arrivals
+    ++ left)
 
--- and all of it, if it meets no fault
+-- If merging meets no fault, they are all of the merged list.
 abbrev pub MergesWhole : Type 0
 MergesWhole = (inside outside : CaptureReading) (cuts : CutFlags) → (inputs_until inside outside).end ≡ Ok cuts →
     (inputs_until inside outside).arrivals ≡ merged_inputs inside.records outside.records
 
--- it meets none if neither has one
+-- If merging meets no fault, neither capture has one, and the flags say which of them end inside a record.
 abbrev pub MergeEnds : Type 0
 MergeEnds = (inside outside : CaptureReading) (cuts : CutFlags) → (inputs_until inside outside).end ≡ Ok cuts →
     (inside.end ≡ Ok cuts.inside) × (outside.end ≡ Ok cuts.outside)
@@ -28,18 +29,18 @@ abbrev pub held_of : Side → CaptureReading → CaptureReading → CaptureReadi
 held_of Inside inside outside = inside
 held_of Outside inside outside = outside
 
--- a fault that it meets is that of its side
+-- A fault that merging meets is that of the capture of its side.
 abbrev pub MergeMeets : Type 0
 MergeMeets = (inside outside : CaptureReading) (fault : SideFault) → (inputs_until inside outside).end ≡ Err fault →
     (held_of fault.side inside outside).end ≡ Err fault.fault
 
--- these inputs have all records of a side
+-- These inputs include all records of a side.
 abbrev pub HaveAll : Side → CaptureReading → CaptureReading → List Arrival → Type 0
 HaveAll side inside outside inputs =
     map of_input (filter (is_from side) inputs) ≡ map of_record (held_of side inside outside).records
 
--- then it hands out the shortest front that has all records of a side with a fault, and that side is this one: merging
--- needs what follows them
+-- Before a fault, merging returns the shortest prefix that has all records of a side whose capture has a fault, and
+-- the fault is of that side: merging needs what follows them.
 abbrev pub MergesBefore : Type 0
 MergesBefore = (inside outside : CaptureReading) (fault : SideFault) → (inputs_until inside outside).end ≡ Err fault →
     HaveAll fault.side inside outside (inputs_until inside outside).arrivals
@@ -47,14 +48,14 @@ MergesBefore = (inside outside : CaptureReading) (fault : SideFault) → (inputs
     (held_of other inside outside).end ≡ Err its
     → ¬ HaveAll other inside outside (take k (inputs_until inside outside).arrivals))
 
--- and if both sides have a fault next, the inside's ends it
+-- If the captures of both sides have a fault next, merging ends with that of the inside.
 abbrev pub ReportsInsideFirst : Type 0
 ReportsInsideFirst = (inside outside : CaptureReading) (fault its : CaptureFault) →
     (inputs_until inside outside).end ≡ Err (record { side = Outside; fault = fault }) → inside.end ≡ Err its
     → ¬ HaveAll Inside inside outside (inputs_until inside outside).arrivals
 
--- where the captures are cut so that the first parts give so many inputs of the merged list, the rests give the others,
--- with clocks that go on
+-- The captures are cut such that merging the first parts gives the first `count` inputs of the merged list, and merging
+-- the rest gives the others, with earlier clocks raised to the last clock of the first inputs.
 pub record AreCapturesCut (insides outsides : List RecordModel) (count : ℕ) : Type 0 where
   pub inside_first : List RecordModel
   pub inside_rest : List RecordModel
@@ -64,9 +65,10 @@ pub record AreCapturesCut (insides outsides : List RecordModel) (count : ℕ) : 
   pub outside : outsides ≡ outside_first ++ outside_rest
   pub many : length (merged_inputs inside_first outside_first) ≡ count
   pub whole : merged_inputs insides outsides ≡ merged_inputs inside_first outside_first
-      ++ inputs_from_clock (last_clock 0 (merged_inputs inside_first outside_first)) (merged_inputs inside_rest outside_rest)
+      ++ inputs_from_clock (last_clock 0 (merged_inputs inside_first outside_first))
+      (merged_inputs inside_rest outside_rest)
 
--- so they can be cut behind each front
+-- The captures can be cut after each prefix of the merged list.
 abbrev pub CapturesCanBeCut : Type 0
 CapturesCanBeCut = (insides outsides : List RecordModel) (count : ℕ) → count ≤ length (merged_inputs insides outsides) →
     AreCapturesCut insides outsides count

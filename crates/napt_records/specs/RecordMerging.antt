@@ -1,16 +1,16 @@
--- What a step of a merge takes: the earlier of the two first records; on a tie, the inside one.
+-- A step of merging: it removes the earlier of the two first records; on a tie, the inside one.
 use Rattle.std.specs.Prelude.{◌≡◌, ℕ, max, Bool, true, false, cond, nat_lt, List, [], ◌∷◌, Option, Some, None, Result, Ok, Err}
 use Rattle.napt_capture.specs.{declared.fault.CaptureFault.CaptureFault, Contents.RecordModel, Capture.CaptureReading}
 use Rattle.napt_records.specs.declared.stream_merger.{CutFlags.CutFlags, SideFault.SideFault}
 use Rattle.napt_rules.specs.Prelude.{Arrival, Side, Inside, Outside}
 
--- whether an outside record is next
+-- Returns whether an outside record is next.
 abbrev pub is_outside_next : List RecordModel → List RecordModel → Bool
 is_outside_next [] outs = true
 is_outside_next (first ∷ ins) [] = false
 is_outside_next (first ∷ ins) (other ∷ outs) = nat_lt other.time first.time
 
--- the record that is taken, and what is left on each side
+-- The record that is removed, and the records that are left on each side.
 abbrev pub TakesRecord : List RecordModel → List RecordModel → Option (Side × RecordModel) → List RecordModel →
     List RecordModel → Type 0
 TakesRecord ins outs None ins_left outs_left = ((ins ≡ []) × (outs ≡ [])) × ((ins_left ≡ []) × (outs_left ≡ []))
@@ -19,13 +19,13 @@ TakesRecord ins outs (Some (Inside, entry)) ins_left outs_left = (ins ≡ entry 
 TakesRecord ins outs (Some (Outside, entry)) ins_left outs_left = (outs ≡ entry ∷ outs_left) × (ins ≡ ins_left)
     × (is_outside_next ins outs ≡ true)
 
--- the input that a record becomes
+-- The input that a record becomes.
 abbrev pub input_of : Side → ℕ → RecordModel → Arrival
 input_of side clock entry = record { side = side; time = entry.time; clock = clock; bytes = entry.bytes }
 
--- WHAT MERGING HANDS OUT OF TWO CAPTURES
+-- THE RESULT OF MERGING TWO CAPTURES
 
--- the inputs, and why merging ended: each capture ended, perhaps inside a record, or the next record of one has a fault
+-- The inputs, and the end of merging: both captures ended, perhaps inside a record, or the next record has a fault.
 pub record MergedInputs : Type 0 where
   pub arrivals : List Arrival
   pub end : Result CutFlags SideFault
@@ -40,7 +40,7 @@ abbrev pub at_end : Bool → Result Bool CaptureFault → MergedInputs
 at_end cut (Ok other) = record { arrivals = []; end = Ok (record { inside = cut; outside = other }) }
 at_end cut (Err fault) = at_fault Outside fault
 
--- the outside records, from a clock on, where the inside ended
+-- The inputs from the outside records once the inside capture has ended, where the clock, in ns, is that before them.
 abbrev pub outside_alone : Bool → Result Bool CaptureFault → ℕ → List RecordModel → MergedInputs
 outside_alone cut other clock [] = at_end cut other
 outside_alone cut other clock (entry ∷ entries) =
@@ -51,8 +51,8 @@ abbrev pub unless_fault : Result Bool CaptureFault → MergedInputs → MergedIn
 unless_fault (Ok cut) more = more
 unless_fault (Err fault) more = at_fault Outside fault
 
--- the outside records up to the first that is not earlier than this inside record, then the inside record, and then the
--- others
+-- The outside records that are earlier than the next inside record, up to the first that is not, then that inside
+-- record, and then the others.
 abbrev pub outside_until : Result Bool CaptureFault → RecordModel → (ℕ → List RecordModel → MergedInputs) → ℕ →
     List RecordModel → MergedInputs
 outside_until other first others clock [] =
@@ -60,20 +60,21 @@ outside_until other first others clock [] =
     unless_fault other (outside_before (input_of Inside now first) (others now []))
 outside_until other first others clock (entry ∷ outs) =
     cond (nat_lt entry.time first.time)
-    (let now : ℕ = max clock entry.time in outside_before (input_of Outside now entry) (outside_until other first others now outs))
+    (let now : ℕ = max clock entry.time in outside_before (input_of Outside now entry)
+    (outside_until other first others now outs))
     (let now : ℕ = max clock first.time in outside_before (input_of Inside now first) (others now (entry ∷ outs)))
 
 abbrev pub alone_by : Result Bool CaptureFault → Result Bool CaptureFault → ℕ → List RecordModel → MergedInputs
 alone_by (Ok cut) other clock outs = outside_alone cut other clock outs
 alone_by (Err fault) other clock outs = at_fault Inside fault
 
--- by how the captures end, and the records that are left of each
+-- The inputs from the ends of both captures and the records that are left of each, where the clock is in ns.
 abbrev pub inputs_from : Result Bool CaptureFault → Result Bool CaptureFault → List RecordModel → ℕ →
     List RecordModel → MergedInputs
 inputs_from end other [] clock outs = alone_by end other clock outs
 inputs_from end other (first ∷ ins) clock outs = outside_until other first (inputs_from end other ins) clock outs
 
--- what merging hands out of what two captures hold
+-- The result of merging two captures, from the start.
 abbrev pub inputs_until : CaptureReading → CaptureReading → MergedInputs
 inputs_until inside outside = inputs_from inside.end outside.end inside.records 0 outside.records
 

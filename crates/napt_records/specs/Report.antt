@@ -1,5 +1,5 @@
--- The report of a run, a line for each fact: how many packets arrived and what became of them, which captures were cut,
--- and the bindings (this product's format).
+-- The report of a run has a line for each fact: the number of packets and of those with each outcome, the captures that
+-- end inside a record, and the bindings (a format of this product).
 use Rattle.std.specs.Prelude.{ℕ, Bool, true, false, List, [], ◌∷◌, ◌++◌, length, codes, count_by, decimal, flat_map}
 use denote.Enum.Bare.{sameb}
 use Rattle.napt_wire.specs.{contracts.Cause.the_type, declared.Cause.Cause}
@@ -22,7 +22,7 @@ abbrev pub is_to_inside : Outcome → Bool
 is_to_inside (ToInside packet) = true
 is_to_inside other = false
 
--- the causes, in the order of their lines
+-- The causes, in the order of their lines.
 abbrev pub causes : List Cause
 causes =
     Truncated ∷ NotIpv4 ∷ BadHeader ∷ BadChecksum ∷ Fragment ∷ Unsupported ∷ BadInner ∷ BadPort ∷ Spoofed ∷ NotOurs
@@ -45,7 +45,7 @@ cause_name Filtered = codes "filtered"
 cause_name OverQuota = codes "over-quota"
 cause_name NoPort = codes "no-port"
 
--- a packet that was dropped for this cause
+-- The outcome is a packet that was dropped for this cause.
 abbrev pub is_dropped : Cause → Outcome → Bool
 is_dropped cause (Dropped given) = sameb the_type given cause
 is_dropped cause other = false
@@ -66,7 +66,7 @@ protocol_name Icmp = codes "icmp"
 protocol_name Tcp = codes "tcp"
 protocol_name Udp = codes "udp"
 
--- the address and the number, even the 0 of an echo's other end
+-- The address and the number of an endpoint. The number is printed even if it is the 0 of an echo's remote endpoint.
 abbrev pub endpoint_text : Endpoint → ReportText
 endpoint_text endpoint = address_text endpoint.address ++ codes ":" ++ decimal endpoint.number
 
@@ -80,7 +80,7 @@ row_line row =
     ++ fixed_text row.fixed
     ++ codes "\n"
 
--- ALL
+-- THE WHOLE REPORT
 
 abbrev pub counts_text : List Outcome → ReportText
 counts_text outcomes =

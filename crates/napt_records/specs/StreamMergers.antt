@@ -1,4 +1,4 @@
--- What two captures hand out as they arrive.
+-- The inputs from two captures that are merged as they arrive.
 use Rattle.std.specs.Prelude.{◌≡◌, ◌⊎◌, ℕ, ◌+◌, max, Bool, false, All, List, Option, option_to_list, None, Some, IfSome, IsSome, unwrap_or, Result, Ok, Err}
 use Rattle.napt_capture.specs.{declared.{device.Source.Ghosts, fault.CaptureFault.CaptureFault}, Contents.RecordModel, Text.IsWritable, Capture.failed_reads}
 use Rattle.napt_capture.specs.{Reading.IsReadFault, RecordReaders.RecordsAskSource}
@@ -8,38 +8,38 @@ use Rattle.napt_rules.specs.Prelude.{Arrival, Side, Inside, Outside}
 
 -- ONE STREAM
 
--- no read of it failed
+-- No read of the stream failed.
 abbrev pub IsStreamLive : {R : Type 0} {G : Ghosts R} → RecordStream R G → Type 0
 IsStreamLive stream = stream.live.fault ≡ None
 
--- it reads from the same reference
+-- The stream still reads from the same reference.
 abbrev pub HasSameSource : {R : Type 0} {G : Ghosts R} → RecordStream R G → RecordStream R G → Type 0
 HasSameSource old new = new.live.source.ghost_name ≡ old.live.source.ghost_name
 
--- this many more reads failed
+-- The number of failed reads of the stream grew by `more`.
 abbrev pub CountsFailures : {R : Type 0} {G : Ghosts R} → RecordStream R G → ℕ → RecordStream R G → Type 0
 CountsFailures {R} {G} old more new = G.failed new.live.source.now ≡ G.failed old.live.source.now + more
 
--- no more
+-- No further read of the stream failed.
 abbrev pub NoneFailed : {R : Type 0} {G : Ghosts R} → RecordStream R G → RecordStream R G → Type 0
 NoneFailed {R} {G} old new = G.failed new.live.source.now ≡ G.failed old.live.source.now
 
--- whether it ends inside a record
+-- Whether the capture is known to end inside a record.
 abbrev pub cut_of : {R : Type 0} {G : Ghosts R} → RecordStream R G → Bool
 cut_of stream = unwrap_or stream.cut false
 
--- WHO IS ASKED
+-- READS OF THE SOURCE
 
--- the next record is not known, so the source is read
+-- The next record of the stream is not known, so that its source is read.
 abbrev pub AsksSource : {R : Type 0} {G : Ghosts R} → RecordStream R G → Option RecordModel → Type 0
 AsksSource stream first = ((first ≡ None) × (stream.cut ≡ None)) × RecordsAskSource stream.records
 
 abbrev pub AsksDevice : {R Q : Type 0} {G : Ghosts R} {H : Ghosts Q} → StreamMerger R Q G H → Type 0
 AsksDevice both = AsksSource both.inside both.inside_first ⊎ AsksSource both.outside both.outside_first
 
--- BOTH
+-- BOTH STREAMS
 
--- no read failed, and the records that were read but not handed out can be written
+-- No read failed, and the records that were read but not returned can be written.
 abbrev pub IsMergerLive : {R Q : Type 0} {G : Ghosts R} {H : Ghosts Q} → StreamMerger R Q G H → Type 0
 IsMergerLive both = (IsStreamLive both.inside × IsStreamLive both.outside)
     × (All IsWritable (option_to_list both.inside_first) × All IsWritable (option_to_list both.outside_first))
@@ -48,7 +48,7 @@ abbrev pub AreSame : {R Q : Type 0} {G : Ghosts R} {H : Ghosts Q} → StreamMerg
     Type 0
 AreSame old new = HasSameSource old.inside new.inside × HasSameSource old.outside new.outside
 
--- a look at both leaves what is left unchanged, and makes what is next known
+-- After a look at both streams, the unread inputs are unchanged, and the next record of each is known or its end is.
 pub record LookPost {R Q : Type 0} {G : Ghosts R} {H : Ghosts Q} (old new : StreamMerger R Q G H) : Type 0 where
   pub live : IsMergerLive new
   pub inside_count : NoneFailed old.inside new.inside
@@ -57,15 +57,16 @@ pub record LookPost {R Q : Type 0} {G : Ghosts R} {H : Ghosts Q} (old new : Stre
   pub inside_told : new.inside_first ≡ None → IsSome new.inside.cut
   pub outside_told : new.outside_first ≡ None → IsSome new.outside.cut
   pub inside_stays : KnownStays (stream_holds old.inside old.inside_first) (stream_holds new.inside new.inside_first)
-  pub outside_stays : KnownStays (stream_holds old.outside old.outside_first) (stream_holds new.outside new.outside_first)
+  pub outside_stays : KnownStays (stream_holds old.outside old.outside_first)
+      (stream_holds new.outside new.outside_first)
 
--- how many reads of a side failed, by the fault and its side
+-- The number of reads of a side that failed, from a fault and the side of the fault.
 abbrev pub failed_by : Side → Side → CaptureFault → ℕ
 failed_by Inside Inside fault = let answer : Result (Unit {0}) CaptureFault = Err fault in failed_reads answer
 failed_by Outside Outside fault = let answer : Result (Unit {0}) CaptureFault = Err fault in failed_reads answer
 failed_by side other fault = 0
 
--- what is next has a fault
+-- The next record has this fault, or it could not be read.
 pub record NextFault {R Q : Type 0} {G : Ghosts R} {H : Ghosts Q} (old : StreamMerger R Q G H) (fault : SideFault)
     (new : StreamMerger R Q G H) : Type 0 where
   pub inside_count : CountsFailures old.inside (failed_by Inside fault.side fault.fault) new.inside
@@ -77,7 +78,7 @@ abbrev pub LooksOrMeets : {R Q : Type 0} {G : Ghosts R} {H : Ghosts Q} → Strea
 LooksOrMeets old (Ok done) new = LookPost old new
 LooksOrMeets old (Err fault) new = NextFault old fault new
 
--- the next of the records that were read became an input
+-- The next of the records that were read became an input.
 pub record NextOk (first other : Option RecordModel) (clock : ℕ) (input : Arrival)
     (first_left other_left : Option RecordModel)
     (now : ℕ) : Type 0 where
@@ -94,7 +95,7 @@ TakesAny first other clock None first_left other_left now = (first ≡ None) × 
 TakesAny first other clock (Some input) first_left other_left now =
     NextOk first other clock input first_left other_left now
 
--- WHAT IS HANDED OUT
+-- THE INPUTS THAT ARE RETURNED
 
 pub record Goes {R Q : Type 0} {G : Ghosts R} {H : Ghosts Q} (old : StreamMerger R Q G H) (inputs : List Arrival)
     (new : StreamMerger R Q G H) : Type 0 where
@@ -104,18 +105,18 @@ pub record Goes {R Q : Type 0} {G : Ghosts R} {H : Ghosts Q} (old : StreamMerger
   pub timely : All IsTimely inputs
   pub takes : InputsCameFirst (inputs_of old) inputs (inputs_of new)
 
--- these inputs were handed out
+-- The merger returned these inputs.
 abbrev pub HandsOutInputs : {R Q : Type 0} {G : Ghosts R} {H : Ghosts Q} → StreamMerger R Q G H → List Arrival →
     StreamMerger R Q G H → Type 0
 HandsOutInputs old inputs new = AreSame old new × (IsMergerLive old → Goes old inputs new)
 
--- the end was reached: nothing is left
+-- The end of both captures was reached, and no input is left.
 pub record NextEnd {R Q : Type 0} {G : Ghosts R} {H : Ghosts Q} (old new : StreamMerger R Q G H) : Type 0 where
   pub inside_count : NoneFailed old.inside new.inside
   pub outside_count : NoneFailed old.outside new.outside
   pub stops : IfSome (inputs_of old) (λ inputs. inputs ≡ at_end (cut_of new.inside) (Ok (cut_of new.outside)))
 
--- the end was reached, or a fault was returned
+-- The merger reported the end, or a fault.
 abbrev pub MergeEndsWith : {R Q : Type 0} {G : Ghosts R} {H : Ghosts Q} → StreamMerger R Q G H → Option SideFault →
     StreamMerger R Q G H → Type 0
 MergeEndsWith old None new = AreSame old new × (IsMergerLive old → NextEnd old new)

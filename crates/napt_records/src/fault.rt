@@ -1,4 +1,4 @@
-//! Why a run over captures ends early.
+//! The faults of a run over captures.
 
 ghost use Rattle.std.specs.Prelude.{◌≡◌};
 ghost use Rattle.napt_records.specs.declared.fault.Fault.TheVariants.{Run};
@@ -10,23 +10,23 @@ use napt_wire::Side;
 /// The outputs of a run over captures, in the order in which they are written.
 #[derive(Clone, Copy, Debug, PartialEq, Eq)]
 pub enum Which {
-    /// The capture that goes to the outside.
+    /// The capture of the packets that go to the outside.
     Outside,
-    /// The capture that goes to inside hosts.
+    /// The capture of the packets that go to inside hosts.
     Inside,
     /// The report.
     Report,
 }
 
-/// Why a run over captures ended early. After a fault of a capture or of the run, `run_captures` of `napt_run` has
-/// written nothing; the docs of `run_streams` say what it has written.
+/// The reason why a run over captures ended early. After a fault of a capture or of the run,
+/// `run_captures` has written nothing; `run_streams` documents what it has written.
 #[derive(Clone, Copy, Debug, PartialEq, Eq)]
 pub enum Fault {
-    /// This side's capture was refused or could not be read.
+    /// The capture of this side is malformed or could not be read.
     Capture(Side, CaptureFault),
-    /// The run failed, or memory ran out for its inputs or outputs.
+    /// The run failed, or memory for its inputs or outputs was refused.
     Run(RunFault),
-    /// This output could not be written. After `run_captures`, those before it are complete and those after it empty.
+    /// Writing this output failed. After `run_captures` earlier ones are whole, later ones empty.
     Write(Which, WriteFault),
 }
 

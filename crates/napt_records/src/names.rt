@@ -1,4 +1,4 @@
-//! The names of causes, protocols and endpoints, in the report and in other accounts of a run.
+//! The names of causes, protocols and endpoints, as the report and other texts have them.
 ghost use Rattle.std.specs.Prelude.{◌≡◌, Some};
 ghost use Rattle.napt_records.specs.Report as model;
 
@@ -6,7 +6,7 @@ use napt_config::Address;
 use napt_wire::{Cause, Endpoint, Protocol};
 use std::fmt;
 
-/// The name of a cause, as `no-binding`.
+/// Returns the name of a cause, such as `no-binding`.
 pub fn cause_name(cause: Cause) -> &'static str
     ensures { result.now ≡ model.cause_name cause }
 {
@@ -28,7 +28,7 @@ pub fn cause_name(cause: Cause) -> &'static str
     }
 }
 
-/// The name of a protocol, as `udp`.
+/// Returns the name of a protocol, such as `udp`.
 pub fn protocol_name(protocol: Protocol) -> &'static str
     ensures { result.now ≡ model.protocol_name protocol }
 {
@@ -39,7 +39,7 @@ pub fn protocol_name(protocol: Protocol) -> &'static str
     }
 }
 
-/// An endpoint, shown as `10.0.0.2:5000`.
+/// An endpoint that is displayed as in `10.0.0.2:5000`.
 #[derive(Clone, Copy, Debug)]
 pub struct EndpointText(pub Endpoint);
 

@@ -1,4 +1,4 @@
-//! The inputs of a run: the records of both captures, merged by arrival time.
+//! Merges the records of both captures by arrival time into the inputs of a run.
 ghost use Rattle.std.specs.Prelude.{◌≡◌, ◌++◌, [], length, All, IfOk};
 ghost use Rattle.napt_capture.specs.Text.{IsWritable};
 ghost use Rattle.napt_sequential.specs.Inputs.{InputIsTaken};
@@ -11,7 +11,7 @@ use std::alloc::{AllocError, Global};
 use std::collections::VecDeque;
 use std::marker::Model;
 
-/// Whether the next record is the outside one: the earlier goes first, and on a tie the inside one.
+/// Returns whether the next record is the outside one: the earlier; the inside one on a tie.
 fn is_outside_next(inside: &VecDeque<Record>, outside: &VecDeque<Record>) -> bool
     ensures { result ≡ is_outside_next inside.now.items outside.now.items }
 {
@@ -24,12 +24,13 @@ fn is_outside_next(inside: &VecDeque<Record>, outside: &VecDeque<Record>) -> boo
     other.time < first.time
 }
 
-/// Takes the next record, with its side; `None` once both sides are empty.
+/// Removes and returns the next record with its side, or `None` if both sides are empty.
 fn take_next(
     inside: &mut VecDeque<Record>,
     outside: &mut VecDeque<Record>,
 ) -> Option<(Side, Record)>
-    ensures { TakesRecord inside.old.items outside.old.items result inside.new.items outside.new.items }
+    ensures { TakesRecord inside.old.items outside.old.items result inside.new.items
+        outside.new.items }
 {
     if is_outside_next(inside, outside) {
         let record = outside.pop_front()?;
@@ -39,8 +40,8 @@ fn take_next(
     Some((Side::Inside, record))
 }
 
-/// Merges the records of both captures into inputs as the run asks for them. Captures need not be sorted: each keeps its
-/// own order. On a tie the inside record goes first.
+/// The records of both captures, which are merged as a run reads them. Captures need not be sorted:
+/// each keeps its own order. If two records have the same time, the inside one comes first.
 #[derive(Drop)]
 pub struct RecordMerger {
     inside: VecDeque<Record>,
@@ -60,7 +61,7 @@ impl Model for RecordMerger {
 }
 
 impl RecordMerger {
-    /// Merges the records of both captures. Their bytes move.
+    /// Returns a merger of the records of both captures. Their bytes are moved.
     pub fn new(inside: Vec<Record>, outside: Vec<Record>) -> RecordMerger
         ensures merged { result ≡ merged_inputs inside.items outside.items }
         ensures timely { All IsWritable inside.items → All IsWritable outside.items →
@@ -75,14 +76,14 @@ impl RecordMerger {
 }
 
 impl RecordMerger {
-    /// How many inputs are still to come.
+    /// Returns the number of inputs that are left.
     fn count(&self) -> usize
         ensures { result ≡ length self.now }
     {
         self.inside.len() + self.outside.len()
     }
 
-    /// The next input; none at the end.
+    /// Removes and returns the next input, or `None` at the end.
     fn pop(&mut self) -> Option<Input>
         ensures { InputIsTaken self.old result self.new }
     {
@@ -124,8 +125,8 @@ impl InputSource for RecordMerger {
     }
 }
 
-/// Merges the records of both captures by arrival time into the inputs of a run, in the order of [`RecordMerger`]. The bytes are
-/// moved, not copied. Fails only if memory runs out.
+/// Merges the records of both captures into the inputs of a run, in the order of [`RecordMerger`].
+/// Moves the bytes without copying them. Fails only if memory is refused.
 pub fn merge(
     alloc: Global,
     inside: Vec<Record>,

@@ -1,4 +1,4 @@
-//! The report: how many packets arrived and what became of them, which captures were cut, and the bindings.
+//! The report counts the packets by outcome, names cut captures and lists the bindings.
 ghost use Rattle.std.specs.Prelude.{◌≡◌, ◌-◌, ◌^◌, ◌<◌, ◌++◌, ◌∷◌, [], List, IfOk, OnOk, codes, count_by, flat_map, length, slice_index, string_bytes};
 ghost use Rattle.napt_rules.specs.declared.Outcome.{Outcome};
 ghost use Rattle.napt_records.specs.Counts.{AreCountsOf, cause_place};
@@ -10,18 +10,18 @@ use napt_table::Row;
 use napt_wire::Cause;
 use std::alloc::{AllocError, Global};
 
-/// How many inputs arrived, and what became of them.
+/// The number of inputs, and the number with each outcome.
 #[derive(Clone, Copy)]
 pub struct OutcomeCounts {
     packets: u64,
     to_outside: u64,
     to_inside: u64,
-    /// How many were dropped for each cause, in the order in which `Cause` declares them.
+    /// The number of packets dropped for each cause, in the order in which `Cause` declares them.
     dropped: [u64; 14],
 }
 
 impl OutcomeCounts {
-    /// The counts of no inputs.
+    /// Returns the counts of no inputs.
     pub fn new() -> OutcomeCounts
         ensures { AreCountsOf [] result }
     {
@@ -33,7 +33,7 @@ impl OutcomeCounts {
         }
     }
 
-    /// How many inputs arrived.
+    /// Returns the number of inputs.
     pub fn packets(&self) -> u64
         ensures { (outcomes : List Outcome) → AreCountsOf outcomes self.now →
             result ≡ length outcomes }
@@ -41,7 +41,7 @@ impl OutcomeCounts {
         self.packets
     }
 
-    /// How many left to the outside.
+    /// Returns the number of packets that went to the outside.
     pub fn to_outside(&self) -> u64
         ensures { (outcomes : List Outcome) → AreCountsOf outcomes self.now →
             result ≡ count_by model.is_to_outside outcomes }
@@ -49,7 +49,7 @@ impl OutcomeCounts {
         self.to_outside
     }
 
-    /// How many left to the inside.
+    /// Returns the number of packets that went to the inside.
     pub fn to_inside(&self) -> u64
         ensures { (outcomes : List Outcome) → AreCountsOf outcomes self.now →
             result ≡ count_by model.is_to_inside outcomes }
@@ -57,7 +57,7 @@ impl OutcomeCounts {
         self.to_inside
     }
 
-    /// How many were dropped for a cause.
+    /// Returns the number of packets that were dropped for this cause.
     pub fn dropped(&self, cause: Cause) -> u64
         ensures { (outcomes : List Outcome) → AreCountsOf outcomes self.now →
             result ≡ count_by (model.is_dropped cause) outcomes }
@@ -65,7 +65,7 @@ impl OutcomeCounts {
         self.dropped[cause as usize]
     }
 
-    /// Counts one more input by its outcome. Each count saturates.
+    /// Counts one more input by its outcome. Each count saturates at 2^64 - 1.
     pub fn count(&mut self, outcome: &Outcome)
         ensures { (outcomes : List Outcome) → length outcomes < 2 ^ 64 - 1 →
             AreCountsOf outcomes self.old → AreCountsOf (outcomes ++ outcome.now ∷ []) self.new }
@@ -92,7 +92,7 @@ fn counts_of(outcomes: &[Outcome]) -> OutcomeCounts
     counts
 }
 
-/// Adds a line with a name and a count.
+/// Appends a line with a name and a count.
 fn push_count(alloc: Global, report: &mut String, name: &str, count: u64) -> Result<(), AllocError>
     ensures { OnOk result (string_bytes report.new ≡ string_bytes report.old
         ++ model.count_line name.now count) }
@@ -101,7 +101,7 @@ fn push_count(alloc: Global, report: &mut String, name: &str, count: u64) -> Res
     report.push_str(&line)
 }
 
-/// Adds a line for each cause: how many packets were dropped for it.
+/// Appends a line for each cause with the number of packets that were dropped for it.
 fn push_drops(
     alloc: Global,
     report: &mut String,
@@ -119,7 +119,7 @@ fn push_drops(
     Ok(())
 }
 
-/// Adds the line of a binding.
+/// Appends the line of a binding.
 fn push_row(alloc: Global, report: &mut String, row: Row) -> Result<(), AllocError>
     ensures { OnOk result (string_bytes report.new ≡ string_bytes report.old
         ++ model.row_line row) }
@@ -132,7 +132,7 @@ fn push_row(alloc: Global, report: &mut String, row: Row) -> Result<(), AllocErr
     report.push_str(&line)
 }
 
-/// Adds the lines of the bindings.
+/// Appends the lines of the bindings.
 fn push_rows(alloc: Global, report: &mut String, rows: &[Row]) -> Result<(), AllocError>
     ensures { OnOk result (string_bytes report.new ≡ string_bytes report.old
         ++ flat_map model.row_line rows.now) }
@@ -143,7 +143,7 @@ fn push_rows(alloc: Global, report: &mut String, rows: &[Row]) -> Result<(), All
     Ok(())
 }
 
-/// Adds the lines that count the packets.
+/// Appends the lines that count the packets.
 fn push_counts(alloc: Global, report: &mut String, counts: &OutcomeCounts) -> Result<(), AllocError>
     ensures { (outcomes : List Outcome) → AreCountsOf outcomes counts.now → OnOk result
         (string_bytes report.new ≡ string_bytes report.old ++ model.counts_text outcomes) }
@@ -155,7 +155,7 @@ fn push_counts(alloc: Global, report: &mut String, counts: &OutcomeCounts) -> Re
     Ok(())
 }
 
-/// Adds a line for each capture that was cut.
+/// Appends a line for each capture that ends inside a record.
 fn push_cuts(report: &mut String, cut_inside: bool, cut_outside: bool) -> Result<(), AllocError>
     ensures { OnOk result (string_bytes report.new ≡ string_bytes report.old
         ++ model.cuts_text cut_inside cut_outside) }
@@ -169,11 +169,11 @@ fn push_cuts(report: &mut String, cut_inside: bool, cut_outside: bool) -> Result
     Ok(())
 }
 
-/// The report over these counts: how many packets arrived and what became of them, which captures end inside a record, and
-/// the bindings.
+/// Returns the report: the number of packets, the numbers with each outcome, a line for each
+/// capture that ends inside a record, and the bindings.
 ///
-/// Each line ends with a line feed. Bindings are listed in order, as `udp 10.0.0.2:5000 203.0.113.1:5000`, with ` fixed`
-/// after a redirect. Fails only if memory runs out.
+/// Each line ends with a line feed. A binding is printed as `udp 10.0.0.2:5000 203.0.113.1:5000`,
+/// followed by ` fixed` if it is a redirect. Fails only if memory is refused.
 pub fn report_of(
     alloc: Global,
     counts: &OutcomeCounts,
@@ -192,7 +192,7 @@ pub fn report_of(
     Ok(report)
 }
 
-/// The report of a run: [`report_of`] over the counts of its outcomes. Fails only if memory runs out.
+/// Returns the report of a run, by [`report_of`]. Fails only if memory is refused.
 #[tactic(auto, unfolding(crate::specs::Report::report_text))]
 pub fn report_text(
     alloc: Global,

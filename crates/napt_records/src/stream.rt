@@ -5,11 +5,11 @@ use napt_capture::{CaptureFault, NextRead, Record, RecordReader, Source};
 use std::alloc::Global;
 use std::mem;
 
-/// The source of a capture, and the fault that ended reading it.
+/// The source of a capture, and the fault that ended the reading, if there was one.
 #[derive(Drop)]
 struct OpenCapture<'a, R: Source> {
     source: &'a mut R,
-    /// Why reading ended early, if it did.
+    /// The fault with which reading ended early, if it did.
     fault: Option<CaptureFault>,
     ghost can_fail: { fault ≡ None → R.failed source.now < 2 ^ 64 - 1 },
 }
@@ -19,7 +19,7 @@ struct OpenCapture<'a, R: Source> {
 pub struct RecordStream<'a, R: Source> {
     live: OpenCapture<'a, R>,
     records: RecordReader,
-    /// Whether it ends inside a record, once its end is reached.
+    /// Whether the capture ends inside a record; `None` until its end is reached.
     cut: Option<bool>,
 }
 
@@ -39,7 +39,8 @@ impl<'a, R: Source> OpenCapture<'a, R> {
         ensures name { self.new.source.ghost_name ≡ self.old.source.ghost_name }
         ensures next { self.old.fault ≡ None → IsReadResult result (LeavesBytes
             (remaining_text records.old (R.remaining self.old.source.now))
-            (remaining_text records.new (R.remaining self.new.source.now)) (HandsOutNext records.old result)) }
+            (remaining_text records.new (R.remaining self.new.source.now))
+            (HandsOutNext records.old result)) }
         ensures good { OnOk result (self.old.fault ≡ None) }
         ensures number { self.old.fault ≡ None →
             IfOk result (λ next. records.new.number ≡ next_number next records.old.number) }
@@ -51,7 +52,8 @@ impl<'a, R: Source> OpenCapture<'a, R> {
         ensures writable { IfOk result IsWritableNext }
         ensures count { self.old.fault ≡ None →
             R.failed self.new.source.now ≡ R.failed self.old.source.now + failed_reads result }
-        ensures asks { (¬ RecordsAskSource records.old) → self.new.source.now ≡ self.old.source.now }
+        ensures asks { (¬ RecordsAskSource records.old) →
+            self.new.source.now ≡ self.old.source.now }
     {
         if let Some(fault) = self.fault {
             return Err(fault);
@@ -75,7 +77,7 @@ impl<'a, R: Source> RecordStream<'a, R> {
     ghost use Rattle.napt_records.specs.StreamMergers.{AsksSource, CountsFailures, IsStreamLive, HasSameSource};
     ghost use Rattle.napt_records.specs.UnreadInputs.{KnownStays, stream_holds};
 
-    /// The capture of a source whose header has been read.
+    /// Returns the capture of a source from which the header has already been read.
     pub fn new(source: &'a mut R, records: RecordReader) -> RecordStream<'a, R>
         requires { R.failed source.old < 2 ^ 64 - 1 }
         ensures name { result.live.source.ghost_name ≡ source.entry.ghost_name }
@@ -94,8 +96,8 @@ impl<'a, R: Source> RecordStream<'a, R> {
         }
     }
 
-    /// Reads the next record, unless there is one or the end was reached. It takes over the spare vector, which a new one
-    /// replaces. A fault loses nothing of the rest.
+    /// Reads the next record into `first`, unless it holds one or the end was reached. The record
+    /// takes `spare`, which a new vector replaces. After a fault, nothing of the rest is lost.
     #[inline(always)]
     pub fn look(
         &mut self,
@@ -118,8 +120,9 @@ impl<'a, R: Source> RecordStream<'a, R> {
             × (first.new ≡ first.old)) }
         ensures writable { OnOk result (All IsWritable (option_to_list first.old) →
             All IsWritable (option_to_list first.new)) }
-        ensures count { IsStreamLive self.old → CountsFailures self.old (failed_reads result) self.new }
-        // The source is read only if the next record isn't known without it.
+        ensures count { IsStreamLive self.old →
+            CountsFailures self.old (failed_reads result) self.new }
+        // The source is read only if the next record is not known without it.
         ensures asks { (¬ AsksSource self.old first.old) →
             self.new.live.source.now ≡ self.old.live.source.now }
     {
@@ -134,7 +137,7 @@ impl<'a, R: Source> RecordStream<'a, R> {
         Ok(())
     }
 
-    /// Whether `look` would read the source.
+    /// Returns whether `look` would read the source.
     pub fn asks_device(&self, first: &Option<Record>) -> bool
         ensures quiet { result ≡ false → ¬ AsksSource self.now first.now }
         ensures needed { result ≡ true → AsksSource self.now first.now }
@@ -142,14 +145,14 @@ impl<'a, R: Source> RecordStream<'a, R> {
         first.is_none() && self.cut.is_none() && !self.records.has_whole()
     }
 
-    /// Whether the capture ends inside a record; `None` until its end is reached.
+    /// Returns whether the capture ends inside a record, or `None` until its end is reached.
     pub fn cut(&self) -> Option<bool>
         ensures { result ≡ self.now.cut }
     {
         self.cut
     }
 
-    /// Gives the source back.
+    /// Returns the source.
     pub fn into_source(self) -> &'a mut R
         ensures name { result.ghost_name ≡ self.entry.live.source.ghost_name }
         ensures value { result.now ≡ self.entry.live.source.now }

@@ -8,21 +8,21 @@ use napt_sequential::{Input, InputSource};
 use napt_wire::Side;
 use std::alloc::Global;
 
-/// A side's capture has a fault or could not be read.
+/// A fault of one side's capture, which is malformed or could not be read.
 #[derive(Clone, Copy, Debug, PartialEq, Eq)]
 pub struct SideFault {
     pub side: Side,
     pub fault: CaptureFault,
 }
 
-/// Whether each capture ends inside a record.
+/// For each capture, whether it ends inside a record.
 #[derive(Clone, Copy, Debug, PartialEq, Eq)]
 pub struct CutFlags {
     pub inside: bool,
     pub outside: bool,
 }
 
-/// Takes the earlier of two records, with its side; on a tie, the inside one.
+/// Removes and returns the earlier of two records with its side; on a tie, the inside one.
 #[inline(always)]
 fn take_first(inside: &mut Option<Record>, outside: &mut Option<Record>) -> Option<(Side, Record)>
     ensures { TakesRecord (option_to_list inside.old) (option_to_list outside.old) result
@@ -39,14 +39,14 @@ fn take_first(inside: &mut Option<Record>, outside: &mut Option<Record>) -> Opti
     }
 }
 
-/// Merges two captures into the inputs of a run while they arrive. Once the next record of each side is known, the earlier
-/// one is handed out; on a tie, the inside one.
+/// Two captures that are merged into the inputs of a run while they arrive. Once the next record of
+/// each side is known, the earlier one is returned; on a tie, the inside one.
 #[derive(Drop)]
 pub struct StreamMerger<'a, 'b, R: Source, Q: Source> {
     alloc: Global,
     inside: RecordStream<'a, R>,
     outside: RecordStream<'b, Q>,
-    /// The record of each side that was read but not handed out.
+    /// The record of each side that was read and has not been returned.
     inside_first: Option<Record>,
     outside_first: Option<Record>,
     /// The latest arrival time so far, in ns.
@@ -57,7 +57,7 @@ impl<'a, 'b, R: Source, Q: Source> StreamMerger<'a, 'b, R, Q> {
     ghost use Rattle.std.specs.Prelude.{◌≡◌, None};
     ghost use Rattle.napt_records.specs.StreamMergers.{IsMergerLive, AreSame, LooksOrMeets, TakesAny, cut_of};
 
-    /// Merges these captures, whose headers have been read.
+    /// Returns a merger of these captures, whose headers have been read.
     pub fn new(
         alloc: Global,
         inside: RecordStream<'a, R>,
@@ -79,7 +79,7 @@ impl<'a, 'b, R: Source, Q: Source> StreamMerger<'a, 'b, R, Q> {
         }
     }
 
-    /// Whether each capture ends inside a record; false until its end is reached.
+    /// Returns for each capture whether it ends inside a record; `false` until its end is reached.
     pub fn cuts(&self) -> CutFlags
         ensures inside { result.inside ≡ cut_of self.now.inside }
         ensures outside { result.outside ≡ cut_of self.now.outside }
@@ -90,7 +90,7 @@ impl<'a, 'b, R: Source, Q: Source> StreamMerger<'a, 'b, R, Q> {
         }
     }
 
-    /// Gives the captures back.
+    /// Returns the captures.
     pub fn into_streams(self) -> (RecordStream<'a, R>, RecordStream<'b, Q>)
         ensures inside { result.0 ≡ self.entry.inside }
         ensures outside { result.1 ≡ self.entry.outside }
@@ -98,7 +98,7 @@ impl<'a, 'b, R: Source, Q: Source> StreamMerger<'a, 'b, R, Q> {
         (self.inside, self.outside)
     }
 
-    /// Reads until the next record of each side is known. The first record read reuses the spare vector.
+    /// Reads until the next record of each side is known. The first record read reuses `spare`.
     #[inline(always)]
     fn look(&mut self, spare: &mut Vec<u8>) -> Result<(), SideFault>
         ensures same { AreSame self.old self.new }
@@ -122,7 +122,7 @@ impl<'a, 'b, R: Source, Q: Source> StreamMerger<'a, 'b, R, Q> {
         }
     }
 
-    /// Takes the next record, of those that were read.
+    /// Removes and returns the next input from the records that were read.
     #[inline(always)]
     fn pop(&mut self) -> Option<Input>
         ensures takes { TakesAny self.old.inside_first self.old.outside_first self.old.clock

@@ -1,4 +1,4 @@
--- Words on lists against one another.
+-- Lemmas about `list_any`, `filter` and `Each`.
 use Rattle.std.{proofs.Common.{◌≡◌, Bool, true, false, cond, List, [], ◌∷◌, refl, ◌∙◌, ap, arith, filter}, specs.List.list_any}
 use Rattle.napt_rules.specs.Prelude.{Each}
 

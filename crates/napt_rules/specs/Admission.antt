@@ -1,10 +1,10 @@
--- What an input comes to before any leg: the packet that it is, or why it is refused.
+-- What becomes of an input before any leg: it is admitted as a packet, or refused with a cause.
 use Rattle.std.specs.Prelude.{ℕ, List, Option, Some, None, Result, Ok, Err}
 use Rattle.napt_wire.specs.{declared.{Cause.Cause, Side.Side}, Reading.reading}
 use Rattle.napt_config.specs.Rules.{Rules}
 use Rattle.napt_rules.specs.{Sides.side_refusal, Inputs.Arrival}
 
--- the packet that an input is, or why it is refused
+-- Returns the packet, or the cause for which its side refuses it.
 abbrev pub admission_from : List ℕ → Option Cause → Result (List ℕ) Cause
 admission_from packet (Some cause) = Err cause
 admission_from packet None = Ok packet

@@ -1,7 +1,7 @@
 -- What one packet does to one binding and its flows.
 --
--- RFC 4787, REQ-6, and RFC 5382, REQ-5: UDP and echo are refreshed by outbound packets, UDP by inbound ones too where
--- the configuration says so, a TCP flow by its segments in both directions.
+-- RFC 4787, REQ-6, and RFC 5382, REQ-5: outbound packets refresh the bindings of UDP and echoes, inbound packets those
+-- of UDP if the configuration says so, and segments in both directions refresh a TCP flow.
 use Rattle.std.specs.{Prelude.{ℕ, Bool, false, not, ◌&&◌, cond, List, [], ◌∷◌, ◌++◌}, List.list_any}
 use Rattle.napt_wire.specs.declared.{Protocol.Protocol, Way.{Way, TheVariants.{Outgoing, Incoming}}, Endpoint.Endpoint, Flags.Flags}
 use Rattle.napt_config.specs.declared.settings.MappingRefresh.{MappingRefresh, TheVariants.{Outbound, Both}}
@@ -13,7 +13,7 @@ use Rattle.napt_rules.specs.Marks.{no_marks, marked}
 abbrev pub is_flow_of : Endpoint → Flow → Bool
 is_flow_of remote flow = same_endpoint flow.remote remote
 
--- used now, and in TCP marked
+-- The flow after a packet: it was last used now and, if it is of TCP, has the marks of the segment.
 abbrev pub flow_after : Protocol → Way → Flags → ℕ → Flow → Flow
 flow_after protocol way flags now flow = record {
   remote = flow.remote;
@@ -21,7 +21,7 @@ flow_after protocol way flags now flow = record {
   last = now;
 }
 
--- the flows with one of the remote, which is appended without marks where there is none
+-- Returns the flows; if none of them is of the remote endpoint, one without marks is appended.
 abbrev pub with_flow : Endpoint → ℕ → List Flow → List Flow
 with_flow remote now flows = cond (list_any (is_flow_of remote) flows) flows (flows ++ record {
   remote = remote;
@@ -31,7 +31,7 @@ with_flow remote now flows = cond (list_any (is_flow_of remote) flows) flows (fl
 
 -- BINDINGS
 
--- a binding after a packet went out through it: a redirect stays as it is
+-- The binding after a packet went out through it. A redirect does not change.
 abbrev pub sent_through : Endpoint → Flags → ℕ → Binding → Binding
 sent_through remote flags now binding =
     let row : Row = binding.row in
@@ -42,12 +42,12 @@ sent_through remote flags now binding =
           (with_flow remote now binding.flows));
     }
 
--- whether packets that come in keep the binding alive (RFC 4787, REQ-6): UDP's, where the configuration says so
+-- Returns whether inbound packets refresh the binding (RFC 4787, REQ-6): under `Both`, one of UDP that is no redirect.
 abbrev pub refreshes : MappingRefresh → Row → Bool
 refreshes Outbound row = false
 refreshes Both row = is_udp row.protocol && not row.fixed
 
--- a binding after a packet came in through it: a TCP flow that stands is marked and refreshed
+-- The binding after a packet came in through it. An existing TCP flow of the remote is marked and refreshed.
 abbrev pub received_through : InboundRules → Endpoint → Flags → ℕ → Binding → Binding
 received_through inbound remote flags now binding =
     let row : Row = binding.row in

@@ -1,4 +1,4 @@
--- A translator by its list and its time: a leg before that time acts at that time, and an error moves neither.
+-- A translator's list and its time. A leg with an earlier time acts at that time; an ICMP error changes neither.
 use Rattle.std.specs.{Prelude.{ℕ, max, List}, List.{fold, scan}}
 use Rattle.napt_wire.specs.{declared.Kind.{Kind, TheVariants.ErrorOf}, Fields.kind}
 use Rattle.napt_config.specs.Rules.{Rules}

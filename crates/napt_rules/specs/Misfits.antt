@@ -1,8 +1,8 @@
--- Which states a configuration takes, and a state as it goes on under one.
+-- Which states a configuration takes, and how a run under it begins with a state.
 --
--- It may be another configuration than that under which the state was left. What has gone under its timers is not
--- looked at, and a host keeps what it has, also over the quota. Where hosts have no blocks a number of any class is
--- kept, so that blocks can be given up without cutting connections.
+-- The configuration may differ from the one under which the state was saved. Bindings that are neither live nor held
+-- under its timers are not checked, and a host keeps its bindings even if they exceed the quota. Where hosts have no
+-- blocks, a number of any class is accepted, so that blocks can be given up without cutting connections.
 use Rattle.std.specs.{Prelude.{ℕ, ◌==◌, nat_lt, Bool, true, false, not, ◌&&◌, ◌||◌, cond, List, [], ◌∷◌, ◌++◌, filter, Option, Some, None}, List.list_any}
 use Rattle.napt_wire.specs.declared.Protocol.{Protocol, TheVariants.Icmp}
 use Rattle.napt_config.specs.{Rules.{Rules, pair_of, block_of, is_inside, block_has_number}, declared.settings.PortBlock.PortBlock}
@@ -11,21 +11,21 @@ use Rattle.napt_rules.specs.declared.{Flow.Flow, Row.Row, Misfit.{Misfit, TheVar
 
 -- UNDER A CONFIGURATION
 
--- the bindings of a state that live or are held at its clock and are no redirects
+-- The bindings of a state that are live or held at its clock and are not redirects.
 abbrev pub dynamic_bindings : Rules → State → List Binding
 dynamic_bindings rules state = filter (λ b. not b.row.fixed) (taken_at_clock rules state).list
 
--- behind the redirects of the configuration
+-- The state as a run begins with it: the redirects of the configuration, and then those bindings.
 abbrev pub with_redirects : Rules → State → State
 with_redirects rules state = record state { list = opening rules ++ dynamic_bindings rules state }
 
 -- ONE BINDING
 
--- a number of UDP or TCP is not 0
+-- Returns whether a number is valid for its protocol: a port of UDP or TCP is not 0.
 abbrev pub is_number : Protocol → ℕ → Bool
 is_number protocol number = same_protocol protocol Icmp || nat_lt 0 number
 
--- a number of the host's block, where the host has one
+-- Returns whether a number is in the host's block, or the host has no block.
 abbrev pub is_its_number : Option PortBlock → ℕ → Bool
 is_its_number None number = true
 is_its_number (Some block) number = block_has_number block number
@@ -35,7 +35,7 @@ is_numbered rules row =
     is_number row.protocol row.inside.number && (is_number row.protocol row.external.number
     && is_its_number (block_of rules row.inside.address) row.external.number)
 
--- it, or one of its flows
+-- Returns whether the binding, or one of its flows, was last used after the clock.
 abbrev pub is_used_after : ℕ → Binding → Bool
 is_used_after clock binding =
     nat_lt clock binding.last || list_any (λ flow. nat_lt clock flow.last) binding.flows
@@ -44,7 +44,7 @@ abbrev pub flows_share : List Flow → Bool
 flows_share [] = false
 flows_share (flow ∷ flows) = list_any (is_flow_of flow.remote) flows || flows_share flows
 
--- rows of one protocol with one external or one inside endpoint
+-- Returns whether two rows of one protocol have the same external endpoint or the same inside endpoint.
 abbrev pub clashes : Row → Row → Bool
 clashes row other =
     same_protocol row.protocol other.protocol
@@ -53,7 +53,7 @@ clashes row other =
 abbrev pub clashes_with_any : Row → List Binding → Bool
 clashes_with_any row list = list_any (λ b. clashes row b.row) list
 
--- the first reason against a binding of a state, with those behind it
+-- Returns the first reason why a binding does not fit, given the bindings after it in the state, or none if it fits.
 abbrev pub misfit_of : Rules → ℕ → Binding → List Binding → Option Misfit
 misfit_of rules clock binding rest =
     let row : Row = binding.row in
@@ -65,7 +65,7 @@ misfit_of rules clock binding rest =
     (cond (clashes_with_any row (opening rules)) (Some Redirected)
     (cond (clashes_with_any row rest) (Some Shared) None))))))
 
--- ALL
+-- ALL BINDINGS
 
 abbrev pub misfit_or : Row → Option Misfit → Option (Row × Misfit) → Option (Row × Misfit)
 misfit_or row (Some why) others = Some (row, why)
@@ -76,6 +76,6 @@ misfit_in rules clock [] = None
 misfit_in rules clock (binding ∷ rest) =
     misfit_or binding.row (misfit_of rules clock binding rest) (misfit_in rules clock rest)
 
--- the first binding of a state that does not fit, and why
+-- Returns the row of the first binding of a state that does not fit, with the reason, or none if all fit.
 abbrev pub misfit : Rules → State → Option (Row × Misfit)
 misfit rules state = misfit_in rules state.clock (dynamic_bindings rules state)

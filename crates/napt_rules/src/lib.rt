@@ -1,14 +1,14 @@
-//! The rules of a run: all that its theorem says, and no code.
+//! The rules of a run: everything that the theorem about a run refers to, and no code.
 //!
-//! `specs/` has the definition in reading order, with a legend on its first page, `Lib`; here are the plain structs that it speaks of.
-//! The sources are RFC 3022, RFC 4787, RFC 5382, RFC 5508 and RFC 6888; each file names its sections.
+//! `specs/` has the definition in reading order, with a legend on its first page, `Lib`; here are the plain structs
+//! that it uses. The sources are RFC 3022, RFC 4787, RFC 5382, RFC 5508 and RFC 6888; each file names its sections.
 #![tactic(auto)]
 
 use napt_config::{Filter, MappingRefresh, NumberAssignment, PortBlock};
 use napt_wire::{Cause, Endpoint, Flags, Packet, Protocol, Way};
 use std::marker::Model;
 
-/// What a TCP flow was seen to do: a SYN and a FIN of each side, and a reset (RFC 5382, REQ-2 and REQ-5).
+/// What a TCP flow has seen: a SYN and a FIN from each side, and a reset (RFC 5382, REQ-2, REQ-5).
 #[derive(Clone, Copy, Debug, PartialEq, Eq)]
 pub struct SessionMarks {
     pub syn_out: bool,
@@ -18,45 +18,45 @@ pub struct SessionMarks {
     pub reset: bool,
 }
 
-/// The packets between a binding's inside endpoint and one remote endpoint.
+/// The packets between the inside endpoint of a binding and one remote endpoint.
 #[derive(Clone, Copy, Debug, PartialEq, Eq)]
 pub struct Flow {
     pub remote: Endpoint,
-    /// Outside TCP there are none.
+    /// What the flow has seen; outside TCP no mark is set.
     pub marks: SessionMarks,
-    /// The time at which it was last used, in ns.
+    /// The time at which the flow was last used, in ns.
     pub last: u64,
 }
 
-/// An inside endpoint and the external endpoint that stands for it under one protocol (RFC 3022, section 2.2): what a table tells of
-/// a binding, and what no packet changes.
+/// An inside endpoint and the external endpoint that replaces it under one protocol (RFC 3022,
+/// section 2.2): what is reported of a binding, and what no packet changes.
 #[derive(Clone, Copy, Debug, PartialEq, Eq)]
 pub struct Row {
     pub protocol: Protocol,
     pub inside: Endpoint,
     pub external: Endpoint,
-    /// A static redirect: it never expires, passes every remote and keeps no flows.
+    /// Whether it is a static redirect, which never expires, lets in every remote and has no flows.
     pub fixed: bool,
 }
 
-/// A row, kept in an `R`, and what packets did last, with its flows kept in an `F`; contracts see a `Row` and a list.
+/// A binding with its row in an `R` and its flows in an `F`; contracts see a `Row` and a list.
 #[derive(Drop)]
 pub struct StoredBinding<R, F> {
     pub row: R,
-    /// The time of the last outgoing packet (of UDP under `refresh = "both"`, of the last that went through it), in ns;
-    /// 0 for a redirect.
+    /// The time of the last outgoing packet, in ns; for UDP under `refresh = "both"`, of the last
+    /// packet in either direction. It is 0 for a redirect.
     pub last: u64,
-    /// One for each remote endpoint to which a packet went out.
+    /// One flow for each remote endpoint to which a packet went out.
     pub flows: F,
 }
 
-/// A binding of a state: contracts see it with the list of its flows.
+/// A binding of a state. Contracts see its flows as a list.
 #[derive(Drop)]
 pub struct StateBinding {
     pub row: Row,
-    /// As that of a `StoredBinding`, in ns.
+    /// The time of the last use, in ns, as in a `StoredBinding`.
     pub last: u64,
-    /// In the order in which they began.
+    /// The flows in the order in which they began.
     pub flows: Vec<Flow>,
 }
 
@@ -68,10 +68,10 @@ impl Model for StateBinding {
     ghost view = { λ it. record { row = it.row; last = it.last; flows = it.flows.items } };
 }
 
-/// A state from which a run goes on.
+/// A state from which a run is resumed.
 #[derive(Drop)]
 pub struct State {
-    /// The latest clock of the run that left it, in ns.
+    /// The latest clock of the run that saved it, in ns.
     pub clock: u64,
     /// The bindings of all external addresses.
     pub list: Vec<StateBinding>,
@@ -85,63 +85,63 @@ impl Model for State {
     ghost view = { λ it. record { clock = it.clock; list = it.list.items } };
 }
 
-/// How many bindings an inside host may have (RFC 6888, REQ-4), and how the number of a new one is chosen.
+/// The quota of bindings for an inside host (RFC 6888, REQ-4), and how a new number is chosen.
 #[derive(Clone, Copy)]
 pub struct AssignmentRules {
-    /// Over all protocols, without redirects; `None` if there is no limit.
+    /// The limit over all protocols, without redirects; `None` if there is no limit.
     pub quota: Option<u16>,
     pub choosing: NumberAssignment,
 }
 
-/// Whom a binding lets in, and which of those packets keep it alive (RFC 4787, REQ-8 and REQ-6).
+/// Which remotes a binding lets in (RFC 4787, REQ-8), and which packets refresh it (REQ-6).
 #[derive(Clone, Copy, Debug, PartialEq, Eq)]
 pub struct InboundRules {
     pub filter: Filter,
     pub refresh: MappingRefresh,
 }
 
-/// A packet that goes out, and when.
+/// An outgoing packet and its time.
 #[derive(Clone, Copy)]
 pub struct OutboundPacket {
     pub protocol: Protocol,
-    /// Its source.
+    /// The source of the packet.
     pub inside: Endpoint,
-    /// Its destination.
+    /// The destination of the packet.
     pub remote: Endpoint,
-    /// Outside TCP they do not count.
+    /// The TCP flags; under other protocols they are ignored.
     pub flags: Flags,
-    /// The time, in ns.
+    /// The time of the packet, in ns.
     pub now: u64,
-    /// The external numbers that are for its host alone, where the configuration gives each host some (RFC 7422, section 2).
+    /// The host's port block, if the configuration gives each host one (RFC 7422, section 2).
     pub block: Option<PortBlock>,
 }
 
-/// A packet that comes in, and when.
+/// An incoming packet and its time.
 #[derive(Clone, Copy)]
 pub struct InboundPacket {
     pub protocol: Protocol,
-    /// The external number to which it goes.
+    /// The external number to which the packet is sent.
     pub number: u16,
-    /// Its source.
+    /// The source of the packet.
     pub remote: Endpoint,
-    /// Outside TCP they do not count.
+    /// The TCP flags; under other protocols they are ignored.
     pub flags: Flags,
-    /// The time, in ns.
+    /// The time of the packet, in ns.
     pub now: u64,
 }
 
-/// One packet on one way through the bindings of an external address.
+/// One translation of one packet, outgoing or incoming, at one external address.
 #[derive(Drop)]
 pub struct Leg {
-    /// What the answer is known by.
+    /// The number of the leg, which its answer repeats.
     pub number: u64,
-    /// The time, in ns.
+    /// The time of the leg, in ns.
     pub now: u64,
     pub way: Way,
     pub packet: Packet,
 }
 
-/// What becomes of a leg's packet.
+/// The answer to a leg: what becomes of its packet.
 #[derive(Drop)]
 pub struct Answer {
     /// The number of the leg.
@@ -152,11 +152,11 @@ pub struct Answer {
 /// How a leg ends.
 #[derive(Drop)]
 pub enum End {
-    /// The packet leaves to the outside.
+    /// The packet goes to the outside.
     ToOutside(Packet),
     /// The packet goes to an inside host.
     ToInside(Packet),
-    /// The packet went out to the external address at this place of the pool, from 0: there it comes in again.
+    /// The packet went to the external address at this place of the pool, and comes in there.
     Onward(u32, Packet),
     Dropped(Cause),
 }
@@ -164,7 +164,7 @@ pub enum End {
 /// What became of an input.
 #[derive(Drop)]
 pub enum Outcome {
-    /// The packet leaves to the outside.
+    /// The packet goes to the outside.
     ToOutside(Packet),
     /// The packet goes to an inside host.
     ToInside(Packet),
@@ -174,18 +174,18 @@ pub enum Outcome {
 /// Why a configuration does not take a binding of a state, in the order of the checks.
 #[derive(Clone, Copy, Debug, PartialEq, Eq)]
 pub enum Misfit {
-    /// Its host is not inside.
+    /// Its inside address is not that of an inside host.
     NotInside,
-    /// Its external address is not that of its host's pairing.
+    /// Its external address is not the one paired with its host.
     NotPaired,
-    /// A number of it is 0 under UDP or TCP, or its external number is not of its host's block, where the host has one.
+    /// One of its ports is 0, or its external number is not in the block of its host.
     NotItsNumber,
-    /// It, or one of its flows, was last used after the clock of the state.
+    /// The binding, or one of its flows, was last used after the clock of the state.
     UsedLater,
-    /// Two of its flows are of one remote endpoint.
+    /// Two of its flows have the same remote endpoint.
     FlowsShare,
-    /// A redirect of the configuration has one of its endpoints.
+    /// It shares an endpoint with a redirect of the configuration.
     Redirected,
-    /// A binding behind it has one of its endpoints.
+    /// It shares an endpoint with a later binding of the state.
     Shared,
 }

@@ -1,4 +1,4 @@
-//! Captures of one packet, to the byte.
+//! Captures of one packet, byte for byte.
 
 /// A capture of `UDP_QUERY` at 1.5 s, in microseconds and little-endian order.
 pub const ONE_PACKET: [u8; 70] = [
@@ -14,7 +14,7 @@ pub const ONE_PACKET: [u8; 70] = [
     0x13, 0x88, 0, 53, 0, 10, 0x4f, 0x77, 0x68, 0x69, // ports, length, checksum, payload
 ];
 
-/// What is written where that packet leaves from 203.0.113.1:5000.
+/// The capture that is written when that packet leaves from 203.0.113.1:5000.
 pub const WRITTEN: [u8; 70] = [
     0x4d, 0x3c, 0xb2, 0xa1, // nanoseconds, little-endian
     2, 0, 4, 0, // version 2.4

@@ -1,5 +1,5 @@
-//! What the tests of several crates share: hosts, packets, captures and the texts of configurations. All values
-//! are from outside: nothing here is computed by the libraries, which the tests compare with it. Only tests list this crate.
+//! Values that the tests of several crates share: hosts, packets, captures and configurations. No
+//! library computes them: tests compare them with its results. Only tests list this crate.
 #![tactic(auto)]
 
 pub mod captures;

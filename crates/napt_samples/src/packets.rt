@@ -1,7 +1,7 @@
-//! Packets as they are on the wire, with right checksums. The first row of each is version 4 and a header of 5 words, the total
-//! length, the identification, offset 0, the lifetime 64, the protocol and the header's checksum (RFC 791).
+//! Packets as on the wire, with correct checksums. The first row of each has version 4, 5 words,
+//! total length, identification, offset 0, time to live 64, protocol, header checksum (RFC 791).
 
-/// From inside, UDP 10.0.0.2:5000 > 198.51.100.7:53.
+/// From inside: a UDP packet from 10.0.0.2:5000 to 198.51.100.7:53.
 pub const UDP_QUERY: [u8; 30] = [
     0x45, 0, 0, 30, 0, 1, 0, 0, 64, 17, 0x46, 0x92, // IPv4, length, identification, UDP, checksum
     10, 0, 0, 2, 198, 51, 100, 7, // source, destination

@@ -1,4 +1,4 @@
--- The translators after a leg, at its address and at the others.
+-- The translators after a leg: the one at its address, and the others.
 use Rattle.std.proofs.lemmas.{Grind.common_steps, Bool.Decides.nat_tests, Option.{slice_get_within, slice_get-get_or, get_or_from_slice_get, same_Some}}
 use Rattle.std.proofs.Common.{◌≡◌, ◌≢◌, ℕ, ◌+◌, ◌≤◌, true, false, List, [], ◌∷◌, ◌++◌, map, length, cond, Some, refl, sym, ◌∙◌, ap, subst, arith, eqb, eq-eqb, append-nil, get_or, set}
 use Rattle.std.{specs.List.slice_get, proofs.lemmas.{Bool.{ne_eqb, eqb-true, eqb-false}, List.{length-set, Elements.filter-append}}}
@@ -9,8 +9,9 @@ use Rattle.napt_sequential.{specs.declared.counted_translator.CountedTranslator.
 use Rattle.napt_sequential.specs.CountedTranslators.{SequentialRunModel, IsCountedTranslator, AreCountedTranslators, act_of, act_there, traced_act, traced_answer, state_after, counted_after}
 use Rattle.napt_laws.proofs.RunsLocal.{leg_at_once, other_at_once}
 
--- one leg more, at its address and at another
-legs_more : (address : ℕ) (acts : List LegAct) (a : LegAct) → a.address ≡ address → length (legs_at address (acts ++ a ∷ []))
+-- One more leg, at its own address and at another one.
+legs_more : (address : ℕ) (acts : List LegAct) (a : LegAct) → a.address ≡ address →
+    length (legs_at address (acts ++ a ∷ []))
     ≡ length (legs_at address acts) + 1
 legs_more address [] a here = ap (λ v. length (map (λ (x : LegAct). x.leg) (cond v (a ∷ []) [])))
     (eq-eqb a.address address here)
@@ -27,13 +28,14 @@ legs_other address acts a differ = grind (arith, common_steps, nat_tests, filter
 module _ (rules : Rules) (place address : ℕ) (at : get_or rules.pool place 0 ≡ address) (state : SequentialRunModel)
     (counted : CountedTranslator) (is : IsCountedTranslator rules place address state counted) (leg : Leg)
     (later : state.clock ≤ leg.now) where
-  -- the translator of the address
+  -- The translator of the leg's address.
   pub own_told : traced_answer (λ passage. passage) leg counted.translator
       ≡ traced_act (λ passage. passage) rules.timers (act_of address leg (act rules address leg state.list))
   own_told =
       ap (traced_answer (λ passage. passage) leg) is.translator
       ∙ (ap (λ (a : ℕ). traced_act (λ passage. passage) rules.timers (act_there rules a leg is.own)) at
-      ∙ acts_same (traced_act (λ passage. passage) rules.timers) rules address state.clock is.own state.list is.at_once leg
+      ∙ acts_same (traced_act (λ passage. passage) rules.timers) rules address state.clock is.own state.list
+      is.at_once leg
       later)
 
   pub own_counted : IsCountedTranslator rules place address (state_after rules address leg state)
@@ -50,7 +52,7 @@ module _ (rules : Rules) (place address : ℕ) (at : get_or rules.pool place 0 �
         ap (λ n. n + 1) is.legs ∙ sym one;
   }
 
--- the translator of another address
+-- The translator of another address.
 pub other_counted : (rules : Rules) (place address : ℕ) (state : SequentialRunModel) (counted : CountedTranslator) →
     IsCountedTranslator rules place address state counted → (at : ℕ) → address ≢ at → (leg : Leg) →
     state.clock ≤ leg.now → IsCountedTranslator rules place address (state_after rules at leg state) counted
@@ -65,18 +67,19 @@ other_counted rules place address state counted is at differ leg later = record 
 
 -- ALL TRANSLATORS
 
--- an address has one place
+-- No two places of the pool have the same address.
 apart_places : (rules : Rules) → RulesInvariant rules → (i j a b : ℕ) → slice_get rules.pool i ≡ Some a →
     slice_get rules.pool j ≡ Some b → j ≢ i → b ≢ a
 apart_places rules keeps i j a b at_i at_j ne = λ e.
     ne (keeps.pool.distinct j i (slice_get_within rules.pool j b at_j) (slice_get_within rules.pool i a at_i)
     (get_or_from_slice_get rules.pool j b 0 at_j ∙ (e ∙ sym (get_or_from_slice_get rules.pool i a 0 at_i))))
 
-module _ (rules : Rules) (keeps : RulesInvariant rules) (state : SequentialRunModel) (translators : List CountedTranslator)
+module _ (rules : Rules) (keeps : RulesInvariant rules) (state : SequentialRunModel)
+    (translators : List CountedTranslator)
     (are : AreCountedTranslators rules state translators) (place address : ℕ)
     (at : slice_get rules.pool place ≡ Some address) (leg : Leg) (later : state.clock ≤ leg.now)
     (default : CountedTranslator) where
-  -- the translator of the place
+  -- The translator of the place.
   abbrev counted : CountedTranslator
   counted = get_or translators place default
 

@@ -7,7 +7,7 @@ use Rattle.napt_translate.specs.Translators.{initial_translator, with_local_stat
 use Rattle.napt_sequential.specs.{declared.counted_translator.CountedTranslator.CountedTranslator, CountedTranslators.{AreCountedTranslators, state_from}}
 use Rattle.napt_sequential.proofs.Lists.{get_before, get_last}
 
--- at a place of the pool, with the bindings of a state
+-- The translator at a place of the pool, with the bindings of a state.
 abbrev pub fresh : Rules → State → ℕ → CountedTranslator
 fresh rules state place = record {
   translator = with_local_state (initial_translator place rules)
@@ -15,7 +15,7 @@ fresh rules state place = record {
   legs = 0;
 }
 
--- each is as it begins
+-- Each translator is as it was before any leg.
 abbrev pub AreFresh : Rules → State → List CountedTranslator → Type 0
 AreFresh rules state translators = (place : ℕ) (counted : CountedTranslator) →
     slice_get translators place ≡ Some counted → counted ≡ fresh rules state place
@@ -50,7 +50,8 @@ begin_translators rules state translators many are = record {
         translator =
             let is : counted ≡ fresh rules state place = are place counted is_there in
             ap (λ (s : CountedTranslator). s.translator) is
-            ∙ ap (λ (a : ℕ). with_local_state (initial_translator place rules) (record { list = bindings_at a state.list; at = state.clock })) here;
+            ∙ ap (λ (a : ℕ). with_local_state (initial_translator place rules)
+            (record { list = bindings_at a state.list; at = state.clock })) here;
         at_once = record { agrees = record { same = refl; taken = refl }; past = omega arith };
         legs = ap (λ (s : CountedTranslator). s.legs) (are place counted is_there);
       };

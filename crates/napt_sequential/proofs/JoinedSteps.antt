@@ -1,4 +1,4 @@
--- The steps of a run: one for each input, and what they begin with.
+-- The steps of a run: one for each input, in their order.
 use Rattle.std.proofs.lemmas.{Grind.common_steps, Bool.Decides.nat_tests}
 use Rattle.std.{proofs.Common.{◌≡◌, ℕ, zero, suc, ◌+◌, max, List, [], ◌∷◌, ◌++◌, length, map, Some, Err, refl, sym, ◌∙◌, ap, arith}, specs.List.slice_get}
 use Rattle.napt_wire.specs.declared.Cause.{Cause}
@@ -17,7 +17,8 @@ joined_get (x ∷ os) [] n o t h g = cc
 joined_get (x ∷ os) (y ∷ ts) zero o t h g = grind (arith, common_steps, nat_tests)
 joined_get (x ∷ os) (y ∷ ts) (suc n) o t h g = joined_get os ts n o t h g
 
-joined_long : (os : List Outcome) (ts : List Trace) (n : ℕ) → length os ≡ n → length ts ≡ n → length (steps_joined os ts) ≡ n
+joined_long : (os : List Outcome) (ts : List Trace) (n : ℕ) → length os ≡ n → length ts ≡ n →
+    length (steps_joined os ts) ≡ n
 joined_long [] ts n h g = h
 joined_long (o ∷ os) [] n h g = absurd (omega arith)
 joined_long (o ∷ os) (t ∷ ts) zero h g = absurd (omega arith)
@@ -69,7 +70,7 @@ pub steps_get : (rules : Rules) (state : State) (inputs : List Arrival) (n : ℕ
 steps_get rules state inputs n o t = joined_get (effect_from rules state inputs).outcomes
     (traces_of rules state inputs) n o t
 
--- the trace of an input that is refused
+-- The trace of an input that is dropped before any leg.
 pub refused_trace : (rules : Rules) (state : State) (done rest : List Arrival) (input : Arrival) (number now : ℕ) →
     length done ≡ number → max (last_clock state.clock done) input.clock ≡ now → (cause : Cause) →
     admission rules input ≡ Err cause → slice_get (traces_of rules state ((done ++ input ∷ []) ++ rest)) number
@@ -90,13 +91,14 @@ pub input_there : (done rest : List Arrival) (input : Arrival) (number : ℕ) �
     slice_get ((done ++ input ∷ []) ++ rest) number ≡ Some input
 input_there done rest input number long = get_at done input rest number long
 
-joined_traces : (os : List Outcome) (ts : List Trace) → length os ≡ length ts → map (λ s. s.trace) (steps_joined os ts) ≡ ts
+joined_traces : (os : List Outcome) (ts : List Trace) → length os ≡ length ts →
+    map (λ s. s.trace) (steps_joined os ts) ≡ ts
 joined_traces [] [] e = refl
 joined_traces [] (t ∷ ts) e = absurd (omega arith)
 joined_traces (o ∷ os) [] e = absurd (omega arith)
 joined_traces (o ∷ os) (t ∷ ts) e = ap (λ (l : List Trace). t ∷ l) (joined_traces os ts (omega arith))
 
--- and its traces
+-- The traces of the steps are those of the run.
 pub steps_traces : (rules : Rules) (state : State) (inputs : List Arrival) →
     map (λ s. s.trace) (steps_of rules state inputs) ≡ traces_of rules state inputs
 steps_traces rules state inputs = grind (arith, common_steps, nat_tests, joined_traces, outcomes_long, traces_long)

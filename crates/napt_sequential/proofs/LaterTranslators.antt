@@ -1,4 +1,4 @@
--- The translators at a later time, at which what has ended may have been removed.
+-- The translators at a later time, when bindings that have ended may have been removed.
 use Rattle.std.{proofs.Common.{◌≡◌, ℕ, ◌≤◌, true, false, max, List, Some, refl, sym, ◌∙◌, ap, subst, arith, eqb, set}, specs.List.slice_get}
 use Rattle.std.proofs.lemmas.{Bool.{eqb-true, eqb-false}, List.length-set, Option.{slice_get_within, same_Some}}
 use Rattle.napt_config.specs.Rules.{Rules}
@@ -9,7 +9,7 @@ use Rattle.napt_sequential.specs.declared.counted_translator.CountedTranslator.{
 use Rattle.napt_sequential.specs.CountedTranslators.{SequentialRunModel, IsCountedTranslator, AreCountedTranslators, state_at_time, StaysCounted, StayCounted}
 use Rattle.napt_sequential.proofs.Lists.{get_set, get_set_other}
 
--- ONE
+-- ONE TRANSLATOR
 
 pub unchanged : (now : ℕ) (counted : CountedTranslator) → StaysCounted now counted counted
 unchanged now counted rules place address state later is = record {
@@ -23,7 +23,7 @@ unchanged now counted rules place address state later is = record {
   legs = is.legs;
 }
 
--- without what had ended the hold before
+-- The translator without the bindings that are neither live nor held at `now`.
 abbrev pub purged : ℕ → TranslatorModel → TranslatorModel
 purged now state = with_local_state state (record {
   list = live_and_held state.rules.timers (max now state.table.at) state.table.list;
@@ -40,7 +40,8 @@ without_ended now counted after after_is rules place address state later is =
     record {
       own = next;
       translator = after_is ∙ ap (purged now) is.translator
-          ∙ ap (λ (t : ℕ). with_local_state (initial_translator place rules) (record { list = live_and_held rules.timers t own.list; at = t }))
+          ∙ ap (λ (t : ℕ). with_local_state (initial_translator place rules)
+          (record { list = live_and_held rules.timers t own.list; at = t }))
           (latest now own.at (omega arith));
       at_once = record {
         agrees = agree rules address now next.list state.list
@@ -51,7 +52,7 @@ without_ended now counted after after_is rules place address state later is =
       legs = is.legs;
     }
 
--- ALL
+-- ALL TRANSLATORS
 
 module _ (rules : Rules) (now : ℕ) (translators : List CountedTranslator) where
   pub all_unchanged : StayCounted rules now translators translators
@@ -75,7 +76,8 @@ module _ (rules : Rules) (now : ℕ) (translators : List CountedTranslator) wher
               (sym (ap (slice_get (set translators place after)) (sym here) ∙ other_is_there)
               ∙ get_set translators place after (slice_get_within translators place counted is_there)) in
               let there : slice_get translators other ≡ Some counted = ap (slice_get translators) here ∙ is_there in
-              subst (λ (x : CountedTranslator). IsCountedTranslator rules other address (state_at_time now state) x) (sym new)
+              subst (λ (x : CountedTranslator). IsCountedTranslator rules other address (state_at_time now state) x)
+              (sym new)
               (stays rules other address state later (are.each other address counted at there))
           | false ↦ λ e.
               let before : slice_get translators other ≡ Some s =

@@ -1,4 +1,4 @@
--- What the translators are left with, one after another.
+-- The bindings of all translators after a run, one translator after another.
 use Rattle.std.proofs.lemmas.{Grind.{flat_map-append}, Bool.{cases_lt}, List.length_push, Option.{slice_get_within, slice_get_cases, same_Some}}
 use Rattle.std.{proofs.Common.{◌≡◌, ℕ, max, List, [], ◌∷◌, ◌++◌, length, refl, sym, ◌∙◌, ap, subst, arith, inl, inr, append-nil}, specs.{Prelude.flat_map}}
 use Rattle.napt_config.specs.Rules.{Rules}
@@ -10,7 +10,8 @@ use Rattle.napt_laws.proofs.{Purges.of_purge, RunsLocal.latest}
 
 abbrev IsLeftOf : ℕ → CountedTranslator → List Binding → Type 0
 IsLeftOf now counted part =
-    AreBindingsLeft counted.translator.rules.timers (max now counted.translator.table.at) (bindings_left_at now counted) part
+    AreBindingsLeft counted.translator.rules.timers (max now counted.translator.table.at)
+    (bindings_left_at now counted) part
 
 pub none_left : (now : ℕ) → AreBindingsOfAll now [] []
 none_left now = record { parts = []; list = refl; many = refl; each = λ place counted part at is_there. cc }
@@ -41,17 +42,21 @@ one_left now translators counted made part left ordered = record {
   ];
 }
 
--- a counted translator is left with the bindings of the state at its address
+-- A counted translator has the bindings of the state at its address.
 left_there : (rules : Rules) (state : State) (inputs : List Arrival) (place address : ℕ) (counted : CountedTranslator) →
     IsCountedTranslator rules place address (state_from rules state inputs) counted → (part : List Binding) →
     (let now : ℕ = last_clock state.clock inputs in
-    IsLeftOf now counted part → AreBindingsLeft rules.timers now (bindings_at address (next_state rules state inputs).list) part)
+    IsLeftOf now counted part → AreBindingsLeft rules.timers now
+    (bindings_at address (next_state rules state inputs).list) part)
 left_there rules state inputs place address counted is part left =
     let now : ℕ = last_clock state.clock inputs in
     let list : List Binding = (effect_from rules state inputs).list in
     let held : live_and_held rules.timers now is.own.list ≡ bindings_at address (live_and_held rules.timers now list) =
     is.at_once.agrees.taken ∙ sym (of_purge rules.timers (hold_ago rules.timers now) address list) in
-    let here : IsLeftOf now (record { translator = with_local_state (initial_translator place rules) is.own; legs = counted.legs }) part =
+    let here : IsLeftOf now (record {
+      translator = with_local_state (initial_translator place rules) is.own;
+      legs = counted.legs;
+    }) part =
     subst (λ (t : TranslatorModel). IsLeftOf now (record { translator = t; legs = counted.legs }) part) is.translator
     left
     in

@@ -1,4 +1,4 @@
--- Lists: what is at a place.
+-- Lists: the element at an index.
 use Rattle.std.{proofs.Common.{◌≡◌, ◌≢◌, ℕ, zero, suc, ◌<◌, List, [], ◌∷◌, ◌++◌, length, map, Some, refl, ◌∙◌, ap, arith, set}, specs.Prelude.flat_map}
 use Rattle.std.specs.List.{slice_get}
 
@@ -26,7 +26,7 @@ get_set_other (x ∷ xs) zero (suc j) y ne = refl
 get_set_other (x ∷ xs) (suc i) zero y ne = refl
 get_set_other (x ∷ xs) (suc i) (suc j) y ne = get_set_other xs i j y (λ e. ne (ap suc e))
 
--- LISTS OF ONE LENGTH, PLACE BY PLACE
+-- LISTS OF THE SAME LENGTH, BY INDEX
 
 abbrev pub SameAt : {X Y Z : Type 0} → (X → Z) → (Y → Z) → List X → List Y → Type 0
 SameAt f g xs ys = (i : ℕ) (x : _) (y : _) → slice_get xs i ≡ Some x → slice_get ys i ≡ Some y → f x ≡ g y

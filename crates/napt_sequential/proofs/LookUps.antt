@@ -1,4 +1,4 @@
--- Look-ups after a leg find the binding that it went through.
+-- Look-ups after a leg find the binding that its packet used.
 use Rattle.std.{proofs.Common.{◌≡◌, ℕ, max, List, Option, Some, None, Result, Ok, Err, refl, sym, ◌∙◌, ap, arith}, specs.Option.option_map}
 use Rattle.napt_wire.specs.declared.{Protocol.Protocol, Way.{Way, TheVariants.{Outgoing, Incoming}}, Cause.Cause, Endpoint.Endpoint, Flags.Flags, Kind.Kind}
 use Rattle.napt_wire.specs.{declared.Kind.TheVariants.{Udp, Tcp, Echo, ErrorOf}, Fields.{source, destination, kind}}
@@ -55,7 +55,8 @@ module _ (rules : Rules) (t : AreTimers rules.timers) (address : ℕ) (leg : Leg
       let acted : LegEffect = act_by rules address leg list way k in
       found (packet_carried k) acted.list acted.end ≡ said way (packet_carried k) acted.end acted.through
 
-  goes : (protocol : Protocol) (flags : Flags) → (let acted : LegEffect = act_out rules address leg list protocol flags in
+  goes : (protocol : Protocol) (flags : Flags) → (let acted : LegEffect =
+      act_out rules address leg list protocol flags in
       found (Some protocol) acted.list acted.end ≡ said Outgoing (Some protocol) acted.end acted.through)
   goes protocol flags =
       let packet : OutboundPacket = outbound_packet rules protocol flags leg.now leg.packet in
@@ -63,7 +64,8 @@ module _ (rules : Rules) (t : AreTimers rules.timers) (address : ℕ) (leg : Leg
       found_out protocol (by_inside rules.timers address leg.now protocol packet.inside list) out.list out.through
       out.number (out_says_its_binding rules.timers t (assignment_rules rules) address packet list)
 
-  comes : (protocol : Protocol) (flags : Flags) → (let acted : LegEffect = act_in rules address leg list protocol flags in
+  comes : (protocol : Protocol) (flags : Flags) → (let acted : LegEffect =
+      act_in rules address leg list protocol flags in
       found (Some protocol) acted.list acted.end ≡ said Incoming (Some protocol) acted.end acted.through)
   comes protocol flags =
       let packet : InboundPacket = inbound_packet protocol flags leg.now leg.packet in
@@ -81,7 +83,7 @@ module _ (rules : Rules) (t : AreTimers rules.timers) (address : ℕ) (leg : Leg
   found_act Incoming Echo = comes protocols.Icmp no_flags
   found_act Incoming (ErrorOf inner) = refl
 
--- AT A TRANSLATOR, whose time is that of the leg then, but for an error, which goes through none
+-- AT A TRANSLATOR, whose time is that of the leg then, except after an ICMP error, which uses no binding
 
 module _ (rules : Rules) (address : ℕ) (leg : Leg) (at : ℕ) (left : List Binding) (end : End) where
   abbrev found_at : Kind → ℕ → Passage

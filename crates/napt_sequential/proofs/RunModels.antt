@@ -1,4 +1,4 @@
--- The translators after all inputs have the bindings and counts of the run.
+-- The translators after all inputs have the bindings of the run and the numbers of its legs.
 use Rattle.std.{proofs.{lemmas.{Grind.common_steps, Bool.Decides.nat_tests}, Common.{◌≡◌, ℕ, List, length, map, refl, ◌∙◌, ap, arith}}, specs.Prelude.flat_map}
 use Rattle.napt_config.specs.Rules.{Rules}
 use Rattle.napt_rules.specs.{declared.{Row.Row, Outcome.Outcome}, Prelude.{bindings_at, Arrival, rows, last_clock, legs_at, RunResult, State, effect_from, run_result_from}}
@@ -16,7 +16,8 @@ pub run_shown : (rules : Rules) (state : State) (inputs : List Arrival) (outcome
     outcomes ≡ (effect_from rules state inputs).outcomes → last ≡ last_clock state.clock inputs →
     AreCountedTranslators rules (state_from rules state inputs) translators →
     bindings ≡ flat_map (rows_at last) translators → legs ≡ map (λ (s : CountedTranslator). s.legs) translators →
-    (let r : RunResult = record { outcomes = outcomes; bindings = bindings; legs = legs } in r ≡ run_result_from rules state inputs)
+    (let r : RunResult = record { outcomes = outcomes; bindings = bindings; legs = legs } in r
+    ≡ run_result_from rules state inputs)
 run_shown rules state inputs outcomes last translators bindings legs told clock are shown legs_are =
     let after : SequentialRunModel = state_from rules state inputs in
     let all : flat_map (rows_at last) translators ≡ flat_map (λ (address : ℕ). rows rules.timers

@@ -1,4 +1,4 @@
--- A run at the translators so far, and after one more input.
+-- A run with the translators so far, and after one more input.
 use Rattle.std.proofs.Common.{◌≡◌, ℕ, max, List, [], ◌∷◌, ◌++◌, length, sym, ◌∙◌, ap, subst, arith}
 use Rattle.napt_config.specs.Rules.{Rules}
 use Rattle.napt_rules.specs.{Prelude.{Arrival, RunEffect, effect_then, step, last_clock, State, effect_from}, declared.Outcome.Outcome}
@@ -8,7 +8,7 @@ use Rattle.napt_laws.proofs.OneMoreInput.{grows, clock_more}
 
 -- ONE MORE INPUT
 
--- a run so far: its clock, its outcomes, and the translators of its state
+-- A run so far: its clock, its outcomes, and the translators of its state.
 pub record RunSoFar (rules : Rules) (state : State) (done : List Arrival) (now : ℕ) (told : List Outcome)
     (left : List CountedTranslator) : Type 0 where
   pub clock : now ≡ last_clock state.clock done

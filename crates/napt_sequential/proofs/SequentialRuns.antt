@@ -1,4 +1,4 @@
--- A run whose inputs come one at a time: one more of them, and what is left after all.
+-- A run that gets one input at a time: one more input, and the state after all inputs.
 use Rattle.std.proofs.lemmas.{Grind.common_steps, Bool.Decides.nat_tests}
 use Rattle.std.{proofs.Common.{◌≡◌, ℕ, ◌+◌, ◌^◌, ◌<◌, ◌≤◌, max, List, [], ◌∷◌, ◌++◌, length, map, refl, ◌∙◌, ap, arith}, specs.Prelude.flat_map}
 use Rattle.napt_config.specs.Rules.{Rules}
@@ -32,7 +32,7 @@ module _ (rules : Rules) (state : State) (before : List Arrival) (input : Arriva
     pub tells_last : StepPost rules state before input told
     tells_last = grind (arith, common_steps, nat_tests, goes_on, traces_grow, at)
 
--- AFTER ALL
+-- AFTER ALL INPUTS
 
 module _ (rules : Rules) (state : State) (inputs : List Arrival) (it : SequentialRun)
     (stands : SequentialRunInvariant rules state inputs it) where
@@ -48,5 +48,6 @@ pub is_ran : (rules : Rules) (state : State) (inputs : List Arrival) (outcomes :
     (legs : List ℕ) →
     outcomes ≡ (effect_from rules state inputs).outcomes → bindings ≡ (run_result_from rules state inputs).bindings →
     legs ≡ (run_result_from rules state inputs).legs →
-    (let r : RunResult = record { outcomes = outcomes; bindings = bindings; legs = legs } in r ≡ run_result_from rules state inputs)
+    (let r : RunResult = record { outcomes = outcomes; bindings = bindings; legs = legs } in r
+    ≡ run_result_from rules state inputs)
 is_ran rules state inputs outcomes bindings legs told shown counts = rw (told, shown, counts) refl

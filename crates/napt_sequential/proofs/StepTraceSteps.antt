@@ -1,4 +1,4 @@
--- The traces of one more input, and what a step tells.
+-- The traces with one more input, and the result of a step.
 use Rattle.std.{proofs.lemmas.{Grind.common_steps, Bool.Decides.nat_tests, Option.slice_get-get_or}, specs.List.slice_get}
 use Rattle.std.proofs.Common.{◌≡◌, ℕ, ◌+◌, ◌<◌, ◌≤◌, ◌^◌, max, List, [], ◌∷◌, ◌++◌, length, get_or, Some, sym, ◌∙◌, ap, subst, arith, length-append}
 use Rattle.napt_wire.specs.{declared.{Cause.Cause, Way.TheVariants.Incoming}, Fields.destination}
@@ -32,7 +32,7 @@ traces_grow rules number clock (i ∷ inputs) input list at e =
 
 -- STEPS
 
--- where a first leg goes onward, the translators after it can take the second, at the address that it goes to
+-- If a first leg goes onward, the translators after it can translate the second leg at the address that it goes to.
 pub goes_onward : (rules : Rules) (place : ℕ) (leg : Leg) (before after : List CountedTranslator)
     (passed : TracedAnswer Passage) → place < length rules.pool → CanTake rules leg.now 2 before →
     TracesLeg rules place leg before after passed → (to : ℕ) (packet : List ℕ) → passed.answer.end ≡ Onward to packet →
@@ -51,8 +51,9 @@ goes_onward rules place leg before after passed within can_take takes to packet 
       stands_at rules.pool (destination packet).address to (onward_place rules address leg state.list to packet acted),
     )
 
--- a first leg that ended so, as the last one of its input
-pub steps_once : (rules : Rules) (address : ℕ) (leg : Leg) (state : SequentialRunModel) (translators : List CountedTranslator)
+-- A first leg with this end, which is the only leg of its input.
+pub steps_once : (rules : Rules) (address : ℕ) (leg : Leg) (state : SequentialRunModel)
+    (translators : List CountedTranslator)
     (passed : TracedAnswer Passage) (last : End) →
     passed ≡ traced_act (λ passage. passage) rules.timers (act_of address leg (act rules address leg state.list)) →
     passed.answer.end ≡ last → with_second_leg rules address leg (act rules address leg state.list) last
@@ -64,7 +65,8 @@ pub steps_once : (rules : Rules) (address : ℕ) (leg : Leg) (state : Sequential
 steps_once rules address leg state translators passed last passes is alone are stepped told trace =
     grind (arith, common_steps, nat_tests, follows_once)
 
-pub steps_twice : (rules : Rules) (address : ℕ) (leg : Leg) (state : SequentialRunModel) (translators : List CountedTranslator)
+pub steps_twice : (rules : Rules) (address : ℕ) (leg : Leg) (state : SequentialRunModel)
+    (translators : List CountedTranslator)
     (place : ℕ) (packet : List ℕ) (passed : TracedAnswer Passage) →
     passed ≡ traced_act (λ passage. passage) rules.timers (act_of address leg (act rules address leg state.list)) →
     passed.answer.end ≡ Onward place packet →

@@ -1,4 +1,4 @@
--- A step at the translators: the legs of one input.
+-- A step of all translators: the legs of one input.
 use native.Mathlib.Omega.{arith}
 use Rattle.std.proofs.lemmas.{Grind.common_steps, Bool.Decides.nat_tests}
 use Rattle.std.proofs.Common.{◌≡◌, ℕ, ◌≤◌, List, length, Result, refl, sym, ap, subst, append-nil, append_assoc}
@@ -11,17 +11,20 @@ use Rattle.napt_sequential.specs.CountedTranslators.{SequentialRunModel, IsCount
 use Rattle.napt_sequential.specs.declared.input.Input.TheInside as fields
 use Rattle.napt_laws.proofs.RunsLocal.{later_at_once}
 
--- A FIRST LEG ALONE, OR TWO
+-- ONE LEG, OR TWO
 
-pub follows_once : (rules : Rules) (address : ℕ) (leg : Leg) (state : SequentialRunModel) (translators : List CountedTranslator)
+pub follows_once : (rules : Rules) (address : ℕ) (leg : Leg) (state : SequentialRunModel)
+    (translators : List CountedTranslator)
     (end : End) → (act rules address leg state.list).end ≡ end →
     with_second_leg rules address leg (act rules address leg state.list) end
     ≡ leg_effect address leg (act rules address leg state.list) →
     AreCountedTranslators rules (state_after rules address leg state) translators → (outcome : Outcome) →
-    outcome ≡ outcome_of end → StepFollows rules leg.now (admitted_effect rules address leg state.list) state translators outcome
+    outcome ≡ outcome_of end → StepFollows rules leg.now (admitted_effect rules address leg state.list) state
+    translators outcome
 follows_once rules address leg state translators end is alone are outcome told = grind (arith, common_steps, nat_tests)
 
-pub follows_twice : (rules : Rules) (address : ℕ) (leg : Leg) (state : SequentialRunModel) (translators : List CountedTranslator)
+pub follows_twice : (rules : Rules) (address : ℕ) (leg : Leg) (state : SequentialRunModel)
+    (translators : List CountedTranslator)
     (place : ℕ) (packet : List ℕ) → (act rules address leg state.list).end ≡ Onward place packet →
     (let next : Leg = record leg { way = Incoming; packet = packet } in
     let to : ℕ = (destination packet).address in
@@ -52,11 +55,11 @@ follows_none rules now state translators later are cause = (
   },
 )
 
--- what contracts see of an input, of its fields
+-- An input as contracts see it, from its fields.
 abbrev pub arrival_of : fields.Inside → Arrival
 arrival_of input = record { side = input.side; time = input.time; clock = input.clock; bytes = input.bytes.items }
 
--- a copy of the bytes reads as the input does
+-- A copy of the bytes reads as the input does.
 pub reads_as : (input copy : Arrival) (bytes : List ℕ) (read : Result (List ℕ) Cause) → copy ≡ input →
     bytes ≡ copy.bytes → reading copy.side bytes ≡ read → reading input.side input.bytes ≡ read
 reads_as input copy bytes read shown copied is = grind (arith, common_steps, nat_tests)

@@ -9,7 +9,7 @@ use Rattle.napt_laws.{specs.SecondLegs.{acts_of_number, all_but_first, second_le
 use Rattle.napt_laws.proofs.Lists.{each_weaker, each_append}
 use Rattle.napt_sequential.specs.{declared.passage.{Passage.TheVariants.Nothing, Trace.Trace}, Traces.{passage_of, trace_of, traces_from, traces_of}}
 
--- HOW AN ACT STANDS AMONG THOSE OF ITS INPUT, whose legs after the first are these
+-- THE POSITION OF AN ACT AMONG THOSE OF ITS INPUT, whose legs after the first are `seconds`
 
 pub record IsOnly (timers : Timers) (trace : Trace) (seconds : List Leg) (a : LegAct) : Type 0 where
   pub first : trace.first ≡ passage_of timers a
@@ -42,7 +42,8 @@ record IsHere (timers : Timers) (number now : ℕ) (course : RunEffect) (a : Leg
   pub now_is : a.leg.now ≡ now
   pub placed : IsPlaced timers (trace_of timers now course) (legs_behind course.acts) a
 
-follow_here : (rules : Rules) (address : ℕ) (leg : Leg) (through : Option BindingUse) (list : List Binding) (end : End) →
+follow_here : (rules : Rules) (address : ℕ) (leg : Leg) (through : Option BindingUse) (list : List Binding)
+    (end : End) →
     (let first : LegEffect = record { end = end; through = through; list = list } in
     let course : RunEffect = with_second_leg rules address leg first end in
     Each (IsHere rules.timers leg.number leg.now course) course.acts)
@@ -103,7 +104,8 @@ module _ (timers : Timers) (number now : ℕ) (first : RunEffect) (rests : List 
   first_from : (a : LegAct) → IsHere timers number now first a → IsFrom timers number (trace_here ∷ later) whole a
   first_from a h = grind (arith, common_steps, nat_tests, firsts_are)
 
-  rest_from : (a : LegAct) → IsFrom timers (number + 1) later rests a → IsFrom timers number (trace_here ∷ later) whole a
+  rest_from : (a : LegAct) → IsFrom timers (number + 1) later rests a →
+      IsFrom timers number (trace_here ∷ later) whole a
   rest_from a h = grind (arith, common_steps, nat_tests, rests_are)
 
   all_from : Each (IsFrom timers number (trace_here ∷ later) whole) whole
@@ -125,7 +127,7 @@ run_traced rules number clock (input ∷ inputs) list =
     (traces_from rules (number + 1) now inputs first.list) (step_here rules number now input list)
     (run_traced rules (number + 1) now inputs first.list)
 
--- the trace of a leg's input, and how the leg stands in it
+-- The trace of a leg's input, and whether the leg is the first or the second in it.
 pub record IsTraced (timers : Timers) (all : List Trace) (acts : List LegAct) (a : LegAct) : Type 0 where
   pub trace : Trace
   pub there : slice_get all a.leg.number ≡ Some trace
@@ -137,7 +139,7 @@ pub legs_traced : (rules : Rules) (state : State) (inputs : List Arrival) →
     Each (IsTraced rules.timers (traces_of rules state inputs) acts) acts)
 legs_traced rules state inputs = grind (arith, common_steps, nat_tests, each_weaker, run_traced)
 
--- AN INPUT FROM OUTSIDE HAS ONE LEG AT MOST
+-- AN INPUT FROM OUTSIDE HAS AT MOST ONE LEG
 
 single : (rules : Rules) (address : ℕ) (leg : Leg) (first : LegEffect) (e : End) → is_in_or_dropped e ≡ true →
     legs_behind (with_second_leg rules address leg first e).acts ≡ []

@@ -1,4 +1,4 @@
--- What a translator of one address tells of its legs is what the whole run has of them.
+-- The traced answers of one address's translator are those of the whole run.
 use Rattle.std.proofs.lemmas.{Grind.common_steps, Bool.{Decides.nat_tests, eqb-true, eqb-false}}
 use Rattle.std.proofs.Common.{◌≡◌, ℕ, ◌≤◌, true, false, cond, List, [], ◌∷◌, ◌++◌, map, refl, sym, ◌∙◌, ap, subst, arith, eqb, append_assoc}
 use Rattle.napt_config.specs.Rules.{Rules}
@@ -7,8 +7,9 @@ use Rattle.napt_laws.{specs.{LocalAgreement.IsTranslatorCurrent, Dispatching.IsF
 use Rattle.napt_laws.proofs.{RunsLocal.{on_time, leg_at_once, other_at_once}, Turns.{InTurn, run_turn}}
 use Rattle.napt_sequential.specs.{declared.{passage.Passage.Passage, leg_trace.TracedAnswer.TracedAnswer}, CountedTranslators.{act_of, act_there, traced_act}, Steps.traced_replies}
 
--- a leg acts there as in the run
-pub acts_same : {X : Type 0} (f : LegAct → X) (rules : Rules) (address clock : ℕ) (own : LocalState) (list : List Binding) →
+-- A leg acts at the translator as in the run.
+pub acts_same : {X : Type 0} (f : LegAct → X) (rules : Rules) (address clock : ℕ) (own : LocalState)
+    (list : List Binding) →
     IsTranslatorCurrent rules address clock own list → (leg : Leg) → clock ≤ leg.now →
     f (act_there rules address leg own) ≡ f (act_of address leg (act rules address leg list))
 acts_same f rules address clock own list once leg later = grind (arith, common_steps, nat_tests, on_time, alike)
@@ -37,10 +38,12 @@ module _ {P : Type 0} (tells : Passage → P) (rules : Rules) (address : ℕ) wh
             let stays = leg_at_once rules address clock own list once a.leg p.0.later in
             let rest = alone a.leg.now (local_after rules address a.leg own) acted.list acts last new stays.left
             (subst (λ (r : LegEffect). InTurn rules a.leg.now r.list acts last new) e p.1) in
-            ap (λ (t : TracedAnswer P). t ∷ traced_replies tells rules address (map (λ (b : LegAct). b.leg) (acts_at address acts))
+            ap (λ (t : TracedAnswer P). t ∷ traced_replies tells rules address
+            (map (λ (b : LegAct). b.leg) (acts_at address acts))
             (local_after rules address a.leg own))
             (acts_same (traced_act tells rules.timers) rules address clock own list once a.leg p.0.later
-            ∙ ap (traced_act tells rules.timers) is) ∙ ap (λ (ts : List (TracedAnswer P)). traced_act tells rules.timers a ∷ ts) rest
+            ∙ ap (traced_act tells rules.timers) is)
+            ∙ ap (λ (ts : List (TracedAnswer P)). traced_act tells rules.timers a ∷ ts) rest
         | false ↦ λ h.
             alone a.leg.now own (act rules a.address a.leg list).list acts last new
             (other_at_once rules address clock own list once a.address
@@ -59,7 +62,7 @@ module _ {P : Type 0} (tells : Passage → P) (rules : Rules) (address : ℕ) wh
       (record { agrees = record { same = refl; taken = refl }; past = omega arith })
       (run_turn rules 0 state.clock inputs state.list)
 
-  -- what is told of a front of the legs begins what is told of all
+  -- The traced answers to the first legs are the first of those to all legs.
   told_front : (xs rest : List Leg) (own : LocalState) →
       IsFrontOf (traced_replies tells rules address xs own) (traced_replies tells rules address (xs ++ rest) own)
   told_front [] rest own = (traced_replies tells rules address rest own, refl)
@@ -69,7 +72,7 @@ module _ {P : Type 0} (tells : Passage → P) (rules : Rules) (address : ℕ) wh
   front_front : {X : Type 0} (xs ys zs : List X) → IsFrontOf xs ys → IsFrontOf ys zs → IsFrontOf xs zs
   front_front xs ys zs h g = (h.0 ++ g.0, sym (append_assoc xs h.0 g.0) ∙ (ap (λ (l : List _). l ++ g.0) h.1 ∙ g.1))
 
-  -- where a translator was given a front of its address's legs, and told of some of them as it does, this is the run's
+  -- If a translator got the first legs of its address and some answers are right, they are the first ones of the run.
   pub right_told : (state : State) (inputs : List Arrival) (given : List Leg) (taken : List (TracedAnswer P)) →
       IsFrontOf given (legs_at address (effect_from rules state inputs).acts) →
       IsFrontOf taken (traced_replies tells rules address given (fresh_of state)) →

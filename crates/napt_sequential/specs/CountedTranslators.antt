@@ -1,5 +1,5 @@
--- The translators of a sequential run, one for each external address in the order of the pool, and the one list of
--- bindings that they split between them.
+-- The translators of a sequential run, one for each external address in the order of the pool. Together they hold the
+-- run's one list of bindings, each those of its address.
 use Rattle.std.specs.{Prelude.{◌≡◌, ℕ, ◌+◌, ◌<◌, ◌≤◌, ◌^◌, max, length, List, [], ◌∷◌, ◌++◌, flat_map, Option, Some, None}, Option.option_map, List.slice_get}
 use Rattle.napt_wire.specs.{declared.{Protocol.Protocol, Way.{Way, TheVariants.{Outgoing, Incoming}}}, Fields.{source, destination, kind}}
 use Rattle.napt_config.specs.{declared.settings.Timers.Timers, Rules.Rules}
@@ -13,13 +13,13 @@ use Rattle.napt_sequential.specs.declared.{passage.{Passage.TheVariants.{Nothing
 use Rattle.napt_sequential.specs.{declared.outcome.StepResult.StepResult, Traces.{gone_through, passage_of, trace_of}}
 use Rattle.napt_laws.specs.LocalAgreement.{IsTranslatorCurrent}
 
--- a run at some time: the time of the last leg, the legs that acted, and the bindings
+-- A run at some time: the time of its last leg in ns, the acts of its legs, and its bindings.
 pub record SequentialRunModel : Type 0 where
   pub clock : ℕ
   pub acts : List LegAct
   pub list : List Binding
 
--- the translator at a place of the pool, whose legs are counted
+-- The translator with this index in the pool, in this state of the run, and the number of its legs.
 pub record IsCountedTranslator (rules : Rules) (place address : ℕ) (state : SequentialRunModel)
     (counted : CountedTranslator) : Type 0 where
   pub own : LocalState
@@ -33,32 +33,32 @@ pub record AreCountedTranslators (rules : Rules) (state : SequentialRunModel)
   pub each : (place address : ℕ) (counted : CountedTranslator) → slice_get rules.pool place ≡ Some address →
       slice_get translators place ≡ Some counted → IsCountedTranslator rules place address state counted
 
--- a leg at an address, as it acted there
+-- The act of a leg at an external address.
 abbrev pub act_of : ℕ → Leg → LegEffect → LegAct
 act_of address leg acted = record { address = address; leg = leg; end = acted.end; through = acted.through }
 
--- after it
+-- The state of the run after this leg.
 abbrev pub state_after : Rules → ℕ → Leg → SequentialRunModel → SequentialRunModel
 state_after rules address leg state =
     let acted : LegEffect = act rules address leg state.list in
     record { clock = leg.now; acts = state.acts ++ act_of address leg acted ∷ []; list = acted.list }
 
--- what is told of a leg that acted: this of what it did
+-- The traced answer of a leg that acted; `tells` gives its record from what the leg did.
 abbrev pub traced_act : {P : Type 0} → (Passage → P) → Timers → LegAct → TracedAnswer P
 traced_act tells timers a = record { answer = answer_of a; passage = tells (passage_of timers a) }
 
--- at a place of the pool it told so, and took the translators of any state to those after it
+-- The translator at `place` gave this answer, and the translators of a state became those of the state after the leg.
 abbrev pub TracesLeg : Rules → ℕ → Leg → List CountedTranslator → List CountedTranslator → TracedAnswer Passage → Type 0
 TracesLeg rules place leg before after told = (state : SequentialRunModel) (address : ℕ) →
     AreCountedTranslators rules state before → state.clock ≤ leg.now → slice_get rules.pool place ≡ Some address →
     (told ≡ traced_act (λ passage. passage) rules.timers (act_of address leg (act rules address leg state.list)))
     × AreCountedTranslators rules (state_after rules address leg state) after
 
--- where nothing is told
+-- The record without content.
 abbrev pub no_trace : NoTrace
 no_trace = record {}
 
--- how a leg acts at a translator by its list and its time, and what it tells
+-- The act of a leg at a translator with these bindings and this time, and the traced answer to it.
 abbrev pub act_there : Rules → ℕ → Leg → LocalState → LegAct
 act_there rules address leg kept = act_of address leg (local_act rules address leg kept)
 
@@ -68,30 +68,31 @@ traced_by tells rules address leg kept = traced_act tells rules.timers (act_ther
 abbrev pub traced_answer : {P : Type 0} → (Passage → P) → Leg → TranslatorModel → TracedAnswer P
 traced_answer tells leg state = traced_by tells state.rules state.table.address leg (local_state state.table)
 
--- a counted translator after it
+-- A counted translator after a leg.
 abbrev pub counted_after : Leg → CountedTranslator → CountedTranslator
 counted_after leg counted = record { translator = translator_after leg counted.translator; legs = counted.legs + 1 }
 
--- the rows of a counted translator at a time
+-- The rows of a counted translator's bindings that are live at `now` or at its own time, whichever is later, in ns.
 abbrev pub rows_at : ℕ → CountedTranslator → List Row
 rows_at now counted = rows counted.translator.rules.timers (max now counted.translator.table.at)
     counted.translator.table.list
 
--- its bindings that are live or held at a time
+-- Its bindings that are live or held at `now` or at its own time, whichever is later, in ns.
 abbrev pub bindings_left_at : ℕ → CountedTranslator → List Binding
 bindings_left_at now counted = live_and_held counted.translator.rules.timers (max now counted.translator.table.at)
     counted.translator.table.list
 
--- those of all translators, one after another
+-- The list consists of the live and held bindings of each translator, in the order of the translators.
 pub record AreBindingsOfAll (now : ℕ) (translators : List CountedTranslator) (made : List Binding) : Type 0 where
   pub parts : List (List Binding)
   pub list : made ≡ flat_map (λ part. part) parts
   pub many : length parts ≡ length translators
   pub each : (place : ℕ) (counted : CountedTranslator) (part : List Binding) →
       slice_get translators place ≡ Some counted → slice_get parts place ≡ Some part →
-      AreBindingsLeft counted.translator.rules.timers (max now counted.translator.table.at) (bindings_left_at now counted) part
+      AreBindingsLeft counted.translator.rules.timers (max now counted.translator.table.at)
+      (bindings_left_at now counted) part
 
--- LOOK-UPS after a leg, by its packet before it and by how it ended
+-- LOOK-UPS after a leg, from its packet before the leg and from its end
 
 abbrev pub seen_of : List ℕ → PacketTuple
 seen_of packet =
@@ -104,7 +105,8 @@ gone_by way (Some row) = gone_through way row
 abbrev pub found_by : Timers → ℕ → List Binding → ℕ → PacketTuple → Option Protocol → End → Passage
 found_by timers now list address seen None end = Nothing
 found_by timers now list address seen (Some protocol) (ends.ToInside packet) =
-    gone_by Incoming (option_map (timed_row timers) (by_number timers address now protocol seen.destination.number list))
+    gone_by Incoming (option_map (timed_row timers)
+    (by_number timers address now protocol seen.destination.number list))
 found_by timers now list address seen (Some protocol) (ends.Dropped cause) =
     Dropped (record { protocol = protocol; host = seen.source.address; cause = cause })
 found_by timers now list address seen (Some protocol) _ =
@@ -116,11 +118,11 @@ passage_seen now seen end state =
 
 -- TIMES AND STEPS
 
--- it is a later time
+-- The same state at another time, in ns.
 abbrev pub state_at_time : ℕ → SequentialRunModel → SequentialRunModel
 state_at_time now state = record { clock = now; acts = state.acts; list = state.list }
 
--- a counted translator of a state is that of the state at a later time
+-- Each state whose counted translator is `before` has `after` as its counted translator at the later time `now`, in ns.
 abbrev pub StaysCounted : ℕ → CountedTranslator → CountedTranslator → Type 0
 StaysCounted now before after = (rules : Rules) (place address : ℕ) (state : SequentialRunModel) → state.clock ≤ now →
     IsCountedTranslator rules place address state before →
@@ -130,28 +132,28 @@ abbrev pub StayCounted : Rules → ℕ → List CountedTranslator → List Count
 StayCounted rules now before after = (state : SequentialRunModel) → state.clock ≤ now →
     AreCountedTranslators rules state before → AreCountedTranslators rules (state_at_time now state) after
 
--- the translators are those of some state up to a time, and this many more legs can be counted
+-- The translators are those of some state whose clock is at most `now`, in ns, and `more` further legs can be counted.
 abbrev pub CanTake : Rules → ℕ → ℕ → List CountedTranslator → Type 0
 CanTake rules now more translators = (state : SequentialRunModel) × AreCountedTranslators rules state translators
     × (state.clock ≤ now) × (length state.acts + more < 2 ^ 64)
 
--- the outcome is the one of a step at a time, and the translators are those of the state after it
+-- The outcome is that of a step at `now`, in ns, and the translators are those of the state after the step.
 abbrev pub StepFollows : Rules → ℕ → RunEffect → SequentialRunModel → List CountedTranslator → Outcome → Type 0
 StepFollows rules now course state translators outcome =
     let later : SequentialRunModel = record { clock = now; acts = state.acts ++ course.acts; list = course.list } in
     (course.outcomes ≡ outcome ∷ []) × AreCountedTranslators rules later translators
 
--- the same, and the trace is that of the step
+-- The same holds, and the trace is that of the step.
 abbrev pub StepTraces : Rules → ℕ → RunEffect → SequentialRunModel → List CountedTranslator → StepResult → Type 0
 StepTraces rules now course state translators stepped = StepFollows rules now course state translators stepped.outcome
     × (stepped.trace ≡ trace_of rules.timers now course)
 
--- after these inputs from a state, and before any
+-- The state of the run after these inputs from a starting state; for no inputs, before the first.
 abbrev pub state_from : Rules → State → List Arrival → SequentialRunModel
 state_from rules state inputs =
     let course : RunEffect = effect_from rules state inputs in
     record { clock = last_clock state.clock inputs; acts = course.acts; list = course.list }
 
--- from the bindings that the configuration opens with
+-- The state of the run after these inputs from the redirects of the configuration.
 abbrev pub state_of : Rules → List Arrival → SequentialRunModel
 state_of rules inputs = state_from rules (initial_state rules) inputs

@@ -1,17 +1,18 @@
--- A run whose inputs come one at a time.
+-- A run that gets one input at a time.
 use Rattle.std.specs.Prelude.{◌≡◌, List, [], ◌∷◌, ◌++◌, length}
 use Rattle.napt_config.specs.Rules.{Rules}
 use Rattle.napt_rules.specs.Prelude.{Arrival, last_clock, State, initial_state, effect_from}
 use Rattle.napt_sequential.specs.declared.{outcome.StepResult.StepResult, sequential_run.SequentialRun.SequentialRun}
 use Rattle.napt_sequential.specs.{CountedTranslators.{AreCountedTranslators, state_from}, Traces.traces_of}
 
--- from a state it took these inputs, and its translators are those after them
-pub record SequentialRunInvariant (rules : Rules) (state : State) (inputs : List Arrival) (it : SequentialRun) : Type 0 where
+-- The run had these inputs from a state, and its translators are those after them.
+pub record SequentialRunInvariant (rules : Rules) (state : State) (inputs : List Arrival) (it : SequentialRun) : Type
+    0 where
   pub many : it.many ≡ length inputs
   pub clock : it.clock ≡ last_clock state.clock inputs
   pub translators : AreCountedTranslators rules (state_from rules state inputs) it.translators.items
 
--- what it tells of an input after these: the last outcome of the run over all of them, the time, and the last trace
+-- The result of an input after these: the last outcome and the last trace of the run over all of them, and their time.
 pub record StepPost (rules : Rules) (state : State) (before : List Arrival) (input : Arrival)
     (told : StepResult) : Type 0 where
   pub outcome : (effect_from rules state (before ++ input ∷ [])).outcomes
@@ -19,7 +20,7 @@ pub record StepPost (rules : Rules) (state : State) (before : List Arrival) (inp
   pub time : told.trace.now ≡ last_clock state.clock (before ++ input ∷ [])
   pub trace : traces_of rules state (before ++ input ∷ []) ≡ traces_of rules state before ++ told.trace ∷ []
 
--- from the bindings that the configuration opens with
+-- The same for a run from the redirects of the configuration.
 abbrev pub IsRunFromOpening : Rules → List Arrival → SequentialRun → Type 0
 IsRunFromOpening rules inputs it = SequentialRunInvariant rules (initial_state rules) inputs it
 

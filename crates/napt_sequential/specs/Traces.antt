@@ -1,8 +1,8 @@
--- What each input of a run did to the bindings: which of them its packet went through, and when they expire if no
+-- What each input of a run did to the bindings: which of them its packet used, and when they expire unless another
 -- packet follows.
 --
--- RFC 3022, section 4: out through the binding of the source, which is made if there is none; in through that of the
--- destination. An ICMP error goes through none (RFC 5508, REQ-3 to REQ-6).
+-- An outgoing packet uses the binding of its source, which is made if there is none; an incoming one that of its
+-- destination (RFC 3022, section 4). An ICMP error uses none (RFC 5508, REQ-3 to REQ-6).
 use Rattle.std.specs.Prelude.{ℕ, ◌+◌, max, List, [], ◌∷◌, Option, Some, None}
 use Rattle.napt_wire.specs.{declared.{Protocol.Protocol, Way.{Way, TheVariants.{Outgoing, Incoming}}}, Fields.{source, kind}}
 use Rattle.napt_config.specs.{Rules.Rules, declared.settings.Timers.Timers}
@@ -14,12 +14,12 @@ use Rattle.napt_sequential.specs.declared.passage.{Passage.{Passage, TheVariants
 
 -- ONE LEG
 
--- through a binding, which the leg left so
+-- The passage in this direction through a binding, which was so after the leg.
 abbrev pub gone_through : Way → TimedRow → Passage
 gone_through Outgoing row = Out row
 gone_through Incoming row = In row
 
--- through none: a packet of a protocol, no error, from a host was dropped
+-- The passage of a leg that used no binding: a dropped packet other than an ICMP error, or nothing.
 abbrev pub loss_of : Option Protocol → ℕ → End → Passage
 loss_of (Some protocol) host (ends.Dropped cause) = Dropped (record { protocol = protocol; host = host; cause = cause })
 loss_of _ host _ = Nothing
@@ -29,10 +29,11 @@ passage_by timers way protocol host end (Some went) = gone_through way (timed_ro
 passage_by timers way protocol host end None = loss_of protocol host end
 
 abbrev pub passage_of : Timers → LegAct → Passage
-passage_of timers a = passage_by timers a.leg.way (packet_carried (kind a.leg.packet)) (source a.leg.packet).address a.end
+passage_of timers a = passage_by timers a.leg.way (packet_carried (kind a.leg.packet)) (source a.leg.packet).address
+    a.end
     a.through
 
--- ALL INPUTS, each with two legs at most
+-- ALL INPUTS, each of which has at most two legs
 abbrev pub first_passage : Timers → List LegAct → Passage
 first_passage timers [] = Nothing
 first_passage timers (a ∷ acts) = passage_of timers a
@@ -48,7 +49,7 @@ trace_of timers now course = record {
   second = second_passage timers course.acts;
 }
 
--- one for each input, from a number, a clock and a list on
+-- The traces of inputs, one for each. The first has this number; the clock, in ns, and the bindings are before it.
 abbrev pub traces_from : Rules → ℕ → ℕ → List Arrival → List Binding → List Trace
 traces_from rules number clock [] list = []
 traces_from rules number clock (input ∷ inputs) list =
@@ -56,10 +57,10 @@ traces_from rules number clock (input ∷ inputs) list =
     let course : RunEffect = step rules number now input list in
     trace_of rules.timers now course ∷ traces_from rules (number + 1) now inputs course.list
 
--- from a state
+-- The traces of a run from a state.
 abbrev pub traces_of : Rules → State → List Arrival → List Trace
 traces_of rules state inputs = traces_from rules 0 state.clock inputs state.list
 
--- from the bindings that the configuration opens with
+-- The traces of a run from the redirects of the configuration.
 abbrev pub traces : Rules → List Arrival → List Trace
 traces rules inputs = traces_of rules (initial_state rules) inputs

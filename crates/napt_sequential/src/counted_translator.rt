@@ -1,4 +1,4 @@
-//! The translators of a run, each with a count of its legs.
+//! The translators of a run, each with the number of its legs.
 
 ghost use Rattle.std.specs.Prelude.{◌≡◌, ◌-◌, ◌^◌, ◌<◌, max, IfOk, OnOk};
 
@@ -8,7 +8,7 @@ use napt_rules::{Leg, Row, StateBinding};
 use napt_translate::Translator;
 use std::alloc::{AllocError, Global};
 
-/// A translator of one external address, and how many legs acted there.
+/// A translator of one external address, and the number of legs that it has translated.
 #[derive(Drop)]
 pub(crate) struct CountedTranslator {
     pub(crate) translator: Translator,
@@ -19,7 +19,7 @@ impl CountedTranslator {
     ghost use Rattle.napt_sequential.specs.CountedTranslators.{traced_answer, counted_after, bindings_left_at, rows_at};
     ghost use Rattle.napt_rules.specs.Prelude.{AreBindingsLeft};
 
-    /// Translates and counts a leg; returns its answer and what it did.
+    /// Translates and counts a leg. Returns its answer and what the leg did to the bindings.
     pub(crate) fn translate(
         &mut self,
         alloc: Global,
@@ -35,14 +35,14 @@ impl CountedTranslator {
         Ok(told)
     }
 
-    /// The bindings that are live at a time, in ns.
+    /// Returns the bindings that are live at `now`, in ns.
     pub(crate) fn bindings(&self, alloc: Global, now: u64) -> Result<Vec<Row>, AllocError>
         ensures { IfOk result (λ made. made.items ≡ rows_at now self.now) }
     {
         self.translator.bindings(alloc, now)
     }
 
-    /// The bindings that are live or held at a time, in ns, in the order of their rows.
+    /// Returns the bindings that are live or held at `now`, in ns, in the order of their rows.
     pub(crate) fn final_bindings(
         &self,
         alloc: Global,

@@ -1,4 +1,4 @@
-//! Why a run over inputs fails.
+//! The faults of a run over inputs.
 
 ghost use Rattle.std.specs.Prelude.{◌≡◌};
 ghost use Rattle.napt_sequential.specs.declared.fault.RunFault.TheVariants.{Memory, Pool};
@@ -6,10 +6,10 @@ ghost use Rattle.napt_sequential.specs.declared.fault.RunFault.TheVariants.{Memo
 use napt_pool::PoolFault;
 use std::alloc::AllocError;
 
-/// Why a run over inputs fails.
+/// The reason why a run over inputs failed.
 #[derive(Clone, Copy, Debug, PartialEq, Eq)]
 pub enum RunFault {
-    /// Memory ran out.
+    /// Memory was refused.
     Memory,
     /// There are more than 4,294,967,295 inputs (`MOST_INPUTS`).
     TooMany,

@@ -3,16 +3,16 @@
 use napt_wire::Side;
 use std::marker::Model;
 
-/// The greatest number of inputs that a run takes; with more it fails with `RunFault::TooMany`.
+/// The largest number of inputs of a run. With more it fails with `RunFault::TooMany`.
 pub const MOST_INPUTS: usize = 4_294_967_295;
 
-/// A packet that arrived on either side. Its number is its place in the list of inputs, from 0.
+/// A packet that arrived from either side. Its number is its index in the list of inputs, from 0.
 #[derive(Debug, Drop)]
 pub struct Input {
     pub side: Side,
-    /// When it arrived, in nanoseconds since 1970-01-01 00:00:00 UTC.
+    /// The arrival time, in nanoseconds since 1970-01-01 00:00:00 UTC.
     pub time: u64,
-    /// The latest arrival time so far, including this input's, in nanoseconds.
+    /// The latest arrival time so far, including that of this input, in nanoseconds.
     pub clock: u64,
     pub bytes: Vec<u8>,
 }

@@ -7,26 +7,26 @@ ghost use Rattle.napt_sequential.specs.Inputs.{NextInputPost};
 use crate::input::Input;
 use std::collections::VecDeque;
 
-/// A source of inputs. A run takes them one at a time, until the end or the first fault.
+/// A source of inputs. A run reads them one at a time, until the end or the first fault.
 pub trait InputSource {
-    /// Why no more inputs can be had.
+    /// The reason why no more inputs can be read.
     type Fault: Drop;
 
-    // The first state hands out these inputs, in this order, and becomes the second.
+    // Between the two states the source returned these inputs, in this order.
     ghost hands: { Self → List Arrival → Self → Type 0 };
 
-    // The first state reports the end, or a fault, and becomes the second.
+    // Between the two states the source reported the end, or this fault.
     ghost ends: { Self → Option Self.Fault → Self → Type 0 };
 
     // The next call of `next` may have to wait for a device.
     ghost asks: { Self → Type 0 };
 
-    /// Whether the next call of `next` may have to wait for a device.
+    /// Returns whether the next call of `next` may have to wait for a device.
     fn asks_device(&self) -> bool
         ensures { result ≡ false → ¬ asks self.now };
 
-    /// The next input, or none at the end. Its bytes may reuse the allocation of the spare vector, whose contents are
-    /// dropped. A run does not call this again after the end or a fault.
+    /// Returns the next input, or `None` at the end. Its bytes may reuse the allocation of `spare`,
+    /// whose contents are dropped. A run does not call this again after the end or a fault.
     fn next(&mut self, spare: Vec<u8>) -> Result<Option<Input>, Self::Fault>
         ensures { NextInputPost hands ends self.old result self.new };
 
@@ -36,7 +36,7 @@ pub trait InputSource {
         hands x (xs ++ ys) z };
 }
 
-/// The fault of a source that never fails: it has no value.
+/// The fault of a source that never fails. It has no value.
 #[derive(Drop)]
 pub enum NoFault {}
 

@@ -1,4 +1,4 @@
-//! A leg at a translator, with what it did to the bindings.
+//! The translation of a leg, with a record of what the leg did to the bindings.
 
 ghost use Rattle.std.specs.Prelude.{◌≡◌, IfOk, OnOk, OnErr};
 ghost use Rattle.napt_sequential.specs.{CountedTranslators.{traced_answer, passage_seen}, declared.passage.Passage.Passage as KnownPassage};
@@ -11,24 +11,24 @@ use napt_translate::Translator;
 use napt_wire::Way;
 use std::alloc::{AllocError, Global};
 
-/// The answer to a leg, and what is told of the leg.
+/// The answer to a leg, and the record of the leg.
 #[derive(Drop)]
 pub struct TracedAnswer<P> {
     pub answer: Answer,
     pub passage: P,
 }
 
-/// What is told of a leg besides its answer. It is made of what the leg did to the bindings, of all or of nothing.
+/// What is recorded of a leg in addition to its answer: what it did to the bindings, or nothing.
 pub trait LegTrace: Copy + Drop + Send + 'static {
-    // What is told of a leg that did this.
+    // The record of a leg that did this to the bindings.
     ghost tells: { KnownPassage → Self };
 
-    /// What is told where there is no leg.
+    /// Returns the record for a leg that does not exist.
     fn none() -> Self
         ensures { result ≡ tells NoPassage };
 
-    /// Translates a leg, as `Translator::translate` does, and tells of it. If memory is refused nothing changes, and the leg is
-    /// lost.
+    /// Translates a leg, as `Translator::translate` does, and records it. If memory is refused, the
+    /// translator is unchanged and the leg is lost.
     fn translate_traced(
         alloc: Global,
         translator: &mut Translator,
@@ -39,7 +39,7 @@ pub trait LegTrace: Copy + Drop + Send + 'static {
         ensures refused { OnErr result (translator.new ≡ translator.old) };
 }
 
-/// Nothing is told. It has no bytes.
+/// A record without content, which takes no memory.
 #[derive(Clone, Copy, Drop)]
 pub struct NoTrace;
 
@@ -65,7 +65,7 @@ impl LegTrace for NoTrace {
     }
 }
 
-/// A leg tells through which binding its packet went, as the leg left it.
+/// The record of a leg is the binding that its packet used, as it was after the leg.
 impl LegTrace for Passage {
     ghost tells = { λ passage. passage };
 
@@ -78,7 +78,7 @@ impl LegTrace for Passage {
         translator: &mut Translator,
         leg: Leg,
     ) -> Result<TracedAnswer<Passage>, AllocError> {
-        // called for its clause alone: a translator keeps its rules
+        // called for its clause alone: the rules of a translator are valid
         translator.keep_rules();
         let now = leg.now;
         let seen = PacketTuple::from_packet(&leg.packet);
@@ -88,7 +88,7 @@ impl LegTrace for Passage {
     }
 }
 
-/// What a leg did, by its packet before it and how it ended. The end of its binding is as of `now`, in ns.
+/// Returns what a leg did, from its packet before the leg, and its end. `now` is in ns.
 fn passage(translator: &Translator, now: u64, seen: PacketTuple, end: &End) -> Passage
     ensures { result ≡ passage_seen now seen end.now translator.now }
 {

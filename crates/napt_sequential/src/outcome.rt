@@ -8,19 +8,19 @@ use std::marker::Model;
 #[derive(Drop)]
 pub struct StepResult {
     pub outcome: Outcome,
-    /// What its legs did.
+    /// What its legs did to the bindings.
     pub trace: Trace,
 }
 
 /// The result of a run over a list of inputs.
 #[derive(Drop)]
 pub struct Run {
-    /// One for each input, in their order.
+    /// The outcome of each input, in the order of the inputs.
     pub outcomes: Vec<Outcome>,
-    /// The bindings that are live at the last clock (0 if there is no input): by external address in the order of the
-    /// pool, then by protocol (ICMP, TCP, UDP) and external number.
+    /// The bindings that are live at the last clock, or at 0 if there is no input: by external
+    /// address in the order of the pool, then by protocol (ICMP, TCP, UDP) and external number.
     pub bindings: Vec<Row>,
-    /// How many legs acted at each external address, in the order of the pool.
+    /// The number of legs at each external address, in the order of the pool.
     pub legs: Vec<u64>,
 }
 

@@ -1,4 +1,4 @@
-//! A binding that a leg went through.
+//! A binding that a leg used.
 
 ghost use Rattle.std.specs.Prelude.{◌≡◌};
 
@@ -6,10 +6,10 @@ use napt_table::{Row, TimedRow};
 use napt_wire::{Endpoint, Protocol};
 use std::marker::Model;
 
-/// A binding that a leg went through, and its end, in half the bytes of the `TimedRow` that contracts see.
+/// A binding that a leg used, and its expiry, in half the bytes of the `TimedRow` of contracts.
 #[derive(Clone, Copy, Debug, PartialEq, Eq)]
 pub struct PackedTimedRow {
-    /// Its end in ns, in units of 2^64, and what is less than one.
+    /// The time at which it expires, in ns, divided by 2^64; `low` is the remainder.
     high: u64,
     low: u64,
     inside_address: u32,
@@ -18,7 +18,7 @@ pub struct PackedTimedRow {
     external_number: u16,
     protocol: Protocol,
     fixed: bool,
-    /// Whether it never ends; then its end is 0.
+    /// Whether it never expires. Both parts of the time are then 0.
     is_endless: bool,
 }
 
@@ -54,11 +54,11 @@ impl Model for PackedTimedRow {
     } };
 }
 
-/// 2^64.
+/// The unit of `high`, 2^64 ns.
 const UNIT: u128 = 18_446_744_073_709_551_616;
 
 impl PackedTimedRow {
-    /// Of this row and end.
+    /// Packs a row and its expiry, without loss.
     #[inline(always)]
     pub(crate) fn from_row(timed: TimedRow) -> PackedTimedRow
         ensures { result ≡ timed }
@@ -78,7 +78,7 @@ impl PackedTimedRow {
         }
     }
 
-    /// Its row and end.
+    /// Returns the row and its expiry.
     #[inline(always)]
     pub fn timed(self) -> TimedRow
         ensures { result ≡ self }

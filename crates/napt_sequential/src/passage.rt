@@ -10,39 +10,39 @@ use napt_wire::{Cause, Endpoint, Kind, Packet, Protocol, Way};
 /// What a leg did to the bindings of its external address.
 #[derive(Clone, Copy, Debug, PartialEq, Eq)]
 pub enum Passage {
-    /// There was no such leg, or its packet is an ICMP error, which goes through no binding.
+    /// There is no such leg, or its packet is an ICMP error, which uses no binding.
     Nothing,
-    /// It went out through the binding of its source.
+    /// The packet went out through the binding of its source.
     Out(PackedTimedRow),
-    /// It came in through the binding of its destination.
+    /// The packet came in through the binding of its destination.
     In(PackedTimedRow),
-    /// It was dropped.
+    /// The packet was dropped.
     Dropped(DroppedPacket),
 }
 
-/// A packet, not an ICMP error, that a leg dropped.
+/// A packet other than an ICMP error that was dropped by a leg.
 #[derive(Clone, Copy, Debug, PartialEq, Eq)]
 pub struct DroppedPacket {
     pub protocol: Protocol,
-    /// Its source address.
+    /// The source address of the packet.
     pub host: u32,
     pub cause: Cause,
 }
 
-/// What the legs of one input did. The end of a binding is that which the leg left it.
+/// What the legs of one input did. The expiry of a binding is as the leg left it.
 #[derive(Clone, Copy, Debug, PartialEq, Eq)]
 pub struct Trace {
     /// The time of the legs, in ns.
     pub now: u64,
     pub first: Passage,
-    /// That of the second leg, of a hairpin: a packet from inside to an external address (RFC 4787, REQ-9).
+    /// That of the second leg, which only a hairpin has (RFC 4787, REQ-9).
     pub second: Passage,
 }
 
-/// The protocol and endpoints of a packet before a leg changes it.
+/// The protocol and the endpoints of a packet before a leg changes it.
 #[derive(Clone, Copy)]
 pub(crate) struct PacketTuple {
-    /// `None` for an ICMP error.
+    /// The protocol, or `None` for an ICMP error.
     pub(crate) protocol: Option<Protocol>,
     pub(crate) source: Endpoint,
     pub(crate) destination: Endpoint,
@@ -68,7 +68,7 @@ impl PacketTuple {
     }
 }
 
-/// This way through the binding that was found.
+/// Returns the passage in direction `way` through the binding found, or `Nothing` without one.
 pub(crate) fn gone_by(way: Way, found: Option<TimedRow>) -> Passage
     ensures { result ≡ lookups.gone_by way found }
 {

@@ -1,4 +1,4 @@
-//! Replies that follow: each is sent to where its inside endpoint is at its time.
+//! Sends each reply to the external endpoint that its inside endpoint has at that time.
 
 ghost use Rattle.std.specs.{Prelude.{◌≡◌, ◌<◌, ◌≤◌, ◌^◌, ◌↔◌, ℕ, length, [], Some, Ok, Err, IfOk, IfErr, IfSome, OnOk}, Option.option_map, List.slice_get};
 ghost use Rattle.napt_wire.specs.{Fields.{kind, CanCarry}, Reading.reading};
@@ -16,7 +16,7 @@ use napt_config::Config;
 use napt_wire::{Endpoint, Kind, Packet, Protocol, Side, Way, packets_go_where_they_are_sent};
 use std::alloc::{AllocError, Global};
 
-/// The protocol of the binding that a packet comes in through.
+/// Returns the protocol of the binding through which a packet comes in.
 fn protocol_by(kind: Kind) -> Protocol
     ensures { result ≡ following.protocol_by kind }
 {
@@ -29,8 +29,8 @@ fn protocol_by(kind: Kind) -> Protocol
 }
 
 impl CountedTranslator {
-    /// The external number of an inside endpoint at a time, in ns; if it has none, the least one from 1 on that no live
-    /// binding has.
+    /// Returns the external number of an inside endpoint at `now`, in ns. If it has none, returns
+    /// the smallest number from 1 that no live binding has, or `None` if there is none.
     fn number(&mut self, now: u64, protocol: Protocol, inside: Endpoint) -> Option<u16>
         ensures value { result ≡ reply_number_in now protocol inside self.old }
         ensures named { IfSome result (IsNumber protocol) }
@@ -44,7 +44,7 @@ impl CountedTranslator {
     }
 }
 
-/// The number to which a reply is sent at the address of a place of the pool.
+/// Returns the number to which a reply is sent at the external address with pool index `place`.
 fn number(
     translators: &mut [CountedTranslator],
     place: u32,
@@ -63,7 +63,7 @@ fn number(
     translators[place as usize].number(now, protocol, inside)
 }
 
-/// The endpoint to which a reply is sent that names an inside endpoint.
+/// Returns the external endpoint to which a reply is sent that names this inside endpoint.
 fn target(
     config: &Config,
     translators: &mut [CountedTranslator],
@@ -88,7 +88,7 @@ fn target(
     Some(Endpoint { address, number })
 }
 
-/// Gives a packet another endpoint in place of the inside endpoint that it names.
+/// Replaces the inside endpoint that a packet names by `end`.
 fn readdress(packet: &mut Packet, end: Endpoint)
     requires { CanCarry (kind packet.old) end.number }
     ensures { packet.new ≡ following.readdressed (kind packet.old) end packet.old }
@@ -99,12 +99,13 @@ fn readdress(packet: &mut Packet, end: Endpoint)
     }
 }
 
-/// Sends a reply to where its inside endpoint is at a time, in ns.
+/// Readdresses a reply to the external endpoint of its inside endpoint at `now`, in ns.
 fn send(config: &Config, translators: &mut [CountedTranslator], now: u64, packet: &mut Packet)
     requires keeps { RulesInvariant config.now }
     requires many { length translators.old ≡ length config.now.pool }
     requires reads { reading sides.Outside packet.old ≡ Ok packet.old }
-    ensures value { (state : SequentialRunModel) → AreCountedTranslators config.now state translators.old →
+    ensures value { (state : SequentialRunModel) →
+        AreCountedTranslators config.now state translators.old →
         state.clock ≤ now →
         packet.new ≡ following.packet_followed config.now now state.list packet.old }
     ensures left { StayCounted config.now now translators.old translators.new }
@@ -121,11 +122,12 @@ fn send(config: &Config, translators: &mut [CountedTranslator], now: u64, packet
     readdress(packet, end);
 }
 
-/// The bytes of a reply, changed in place, that is sent to where its inside endpoint is at a time, in ns.
+/// Readdresses the bytes of a reply in place, as `send` does. Bytes that are no packet stay.
 fn sent(config: &Config, translators: &mut [CountedTranslator], now: u64, bytes: Vec<u8>) -> Vec<u8>
     requires keeps { RulesInvariant config.now }
     requires many { length translators.old ≡ length config.now.pool }
-    ensures value { (state : SequentialRunModel) → AreCountedTranslators config.now state translators.old →
+    ensures value { (state : SequentialRunModel) →
+        AreCountedTranslators config.now state translators.old →
         state.clock ≤ now →
         result.items ≡ following.following_as config.now now state.list bytes.items
         (reading sides.Outside bytes.items) }
@@ -140,11 +142,12 @@ fn sent(config: &Config, translators: &mut [CountedTranslator], now: u64, bytes:
     }
 }
 
-/// What the run gets of an input at a time, in ns.
+/// Returns the input that the run gets at `now`, in ns: only an input from outside changes.
 fn follow(config: &Config, translators: &mut [CountedTranslator], now: u64, input: Input) -> Input
     requires keeps { RulesInvariant config.now }
     requires many { length translators.old ≡ length config.now.pool }
-    ensures value { (state : SequentialRunModel) → AreCountedTranslators config.now state translators.old →
+    ensures value { (state : SequentialRunModel) →
+        AreCountedTranslators config.now state translators.old →
         state.clock ≤ now →
         result ≡ following.follow config.now now state.list input }
     ensures left { StayCounted config.now now translators.old translators.new }
@@ -169,7 +172,7 @@ fn follow(config: &Config, translators: &mut [CountedTranslator], now: u64, inpu
     }
 }
 
-/// What the run gets of each input; the run itself goes on beside it, and nothing of it is kept.
+/// Returns the inputs that the run gets. The run is made along with them, and then dropped.
 fn follow_all(
     alloc: Global,
     config: &Config,
@@ -194,13 +197,13 @@ fn follow_all(
     Ok(got)
 }
 
-/// What a run gets of inputs, of which those from outside are replies, packets as inside hosts got them: each reply is
-/// sent at its time to the external endpoint that the inside endpoint which it names has then, and so comes in as any
-/// packet from outside does. The run over what is returned is the run that the replies follow. Each input keeps its
-/// side and times; its bytes are not copied.
+/// Returns the inputs that a run gets if those from outside are replies: packets as inside hosts
+/// got them. Each reply is sent to the external endpoint that its inside endpoint has at that time,
+/// and comes in as any packet from outside does. A run over these inputs is the run that the
+/// replies follow. The side and the times of each input stay, and its bytes are not copied.
 ///
-/// Fails with `RunFault::TooMany` exactly if there are more than `MOST_INPUTS` inputs, with `RunFault::Memory` only if
-/// memory is refused, and never with `RunFault::Pool`.
+/// Fails with `RunFault::TooMany` exactly if there are more than `MOST_INPUTS` inputs, with
+/// `RunFault::Memory` only if memory is refused, and never with `RunFault::Pool`.
 pub fn followed(alloc: Global, config: &Config, inputs: Vec<Input>) -> Result<Vec<Input>, RunFault>
     ensures inputs { IfOk result (λ got. got.items ≡ following.followed config.now inputs.items) }
     ensures too_many { (result ≡ Err RunFault.TooMany) ↔ (2 ^ 32 ≤ length inputs.items) }

@@ -1,4 +1,4 @@
-//! A sequential run, one input at a time.
+//! A sequential run that gets one input at a time.
 
 ghost use Rattle.std.specs.Prelude.{◌≡◌, ◌↔◌, ◌+◌, ◌^◌, ◌<◌, ◌≤◌, ◌++◌, [], ◌∷◌, List, length, IfOk, IfErr, OnOk, Err};
 ghost use Rattle.napt_config.specs.Rules.{Rules, RulesInvariant};
@@ -15,22 +15,22 @@ use napt_config::Config;
 use napt_rules::{Row, State};
 use std::alloc::{AllocError, Global};
 
-/// A run on one thread after some inputs. It keeps the translators of all external addresses, and nothing of the
-/// inputs, so its memory is that of the bindings.
+/// A run on one thread after some inputs. It has the translators of all external addresses and
+/// stores no inputs, so its memory is that of the bindings.
 #[derive(Drop)]
 pub struct SequentialRun {
-    /// How many inputs it took.
+    /// The number of inputs so far.
     many: u64,
-    /// The latest clock so far, in ns; that of the state before the first input.
+    /// The latest clock so far, in ns. Before the first input it is that of the starting state.
     clock: u64,
-    /// In the order of the pool.
+    /// The translators, in the order of the pool.
     translators: Vec<CountedTranslator>,
 }
 
 impl SequentialRun {
     ghost use Rattle.napt_sequential.specs.SequentialRuns.{IsRunFromOpening, SequentialRunInvariant, StepPost};
 
-    /// A run before its first input, with the bindings that the configuration opens with.
+    /// Returns a run before its first input. Its bindings are the redirects of the configuration.
     pub fn from_config(alloc: Global, config: &Config) -> Result<SequentialRun, AllocError>
         ensures kept { RulesInvariant config.now }
         ensures begun { IfOk result (IsRunFromOpening config.now []) }
@@ -43,8 +43,8 @@ impl SequentialRun {
         })
     }
 
-    /// A run that goes on from a state, before its first input: with the redirects of the configuration, and then the
-    /// bindings of the state that live or are held at its clock. Its inputs are numbered from 0.
+    /// Returns a run that starts from a state, before its first input. It has the configuration's
+    /// redirects, then the state's bindings, live or held at its clock. Inputs are numbered from 0.
     pub fn resume(
         alloc: Global,
         config: &Config,
@@ -52,7 +52,8 @@ impl SequentialRun {
     ) -> Result<SequentialRun, AllocError>
         requires { TakesState config.now state.now }
         ensures kept { RulesInvariant config.now }
-        ensures begun { IfOk result (SequentialRunInvariant config.now (with_redirects config.now state.now) []) }
+        ensures begun { IfOk result (SequentialRunInvariant config.now
+            (with_redirects config.now state.now) []) }
     {
         let translators = resume(alloc, config, state)?;
         Ok(SequentialRun {
@@ -62,12 +63,12 @@ impl SequentialRun {
         })
     }
 
-    /// Passes the next input through the translators, at the latest clock so far, its own included; returns its outcome
-    /// and what its legs did. After each input these are the last of the run over all inputs so far. The bytes of the
-    /// input are copied once. After a fault the run does not go on.
+    /// Translates the next input at the latest clock so far, including its own. Returns its outcome
+    /// and what its legs did, which are the last ones of the run over all inputs so far. The bytes
+    /// of the input are copied once. After a fault the run must not be continued.
     ///
-    /// Fails with `RunFault::TooMany` exactly if it took `MOST_INPUTS` inputs before, with `RunFault::Memory` only if
-    /// memory is refused, and never with `RunFault::Pool`.
+    /// Fails with `RunFault::TooMany` exactly if there were `MOST_INPUTS` inputs before, with
+    /// `RunFault::Memory` only if memory is refused, and never with `RunFault::Pool`.
     pub fn step(
         &mut self,
         alloc: Global,
@@ -81,13 +82,14 @@ impl SequentialRun {
             IfOk result (StepPost config.now state before input.now) }
         ensures stands { (state : State) (before : List Arrival) →
             SequentialRunInvariant config.now state before self.old →
-            OnOk result (SequentialRunInvariant config.now state (before ++ input.now ∷ []) self.new) }
+            OnOk result (SequentialRunInvariant config.now state (before ++ input.now ∷ [])
+            self.new) }
         ensures too_many { (state : State) (before : List Arrival) →
             SequentialRunInvariant config.now state before self.old →
             (result ≡ Err RunFault.TooMany) ↔ (2 ^ 32 ≤ length before + 1) }
         ensures never_pool { IfErr result IsOneThreadFault }
     {
-        // called for its clause alone: a configuration keeps its rules
+        // called for its clause alone: the rules of a configuration are valid
         let _pool = config.pool();
         if self.many >= MOST_INPUTS as u64 {
             return Err(RunFault::TooMany);
@@ -95,7 +97,7 @@ impl SequentialRun {
         Ok(self.advance(alloc, config, input)?)
     }
 
-    /// Passes the next of at most `MOST_INPUTS` inputs through the translators.
+    /// Translates the next input, which is one of at most `MOST_INPUTS`.
     pub(crate) fn advance(
         &mut self,
         alloc: Global,
@@ -104,13 +106,15 @@ impl SequentialRun {
     ) -> Result<StepResult, AllocError>
         requires keeps { RulesInvariant config.now }
         requires few { (state : State) × ((before : List Arrival)
-            × SequentialRunInvariant config.now state before self.old × (length before + 1 < 2 ^ 32)) }
+            × SequentialRunInvariant config.now state before self.old ×
+            (length before + 1 < 2 ^ 32)) }
         ensures tells { (state : State) (before : List Arrival) →
             SequentialRunInvariant config.now state before self.old →
             IfOk result (StepPost config.now state before input.now) }
         ensures stands { (state : State) (before : List Arrival) →
             SequentialRunInvariant config.now state before self.old →
-            OnOk result (SequentialRunInvariant config.now state (before ++ input.now ∷ []) self.new) }
+            OnOk result (SequentialRunInvariant config.now state (before ++ input.now ∷ [])
+            self.new) }
     {
         let now = self.clock.max(input.clock);
         let stepped = step(alloc, config, &mut self.translators, self.many, now, input)?;
@@ -119,8 +123,8 @@ impl SequentialRun {
         Ok(stepped)
     }
 
-    /// The bindings that are live at the latest clock: by external address in the order of the pool, then by protocol
-    /// (ICMP, TCP, UDP) and external number.
+    /// Returns the bindings that are live at the latest clock: by external address in the order of
+    /// the pool, then by protocol (ICMP, TCP, UDP) and external number.
     pub fn bindings(&self, alloc: Global) -> Result<Vec<Row>, AllocError>
         ensures { (rules : Rules) (state : State) (inputs : List Arrival) →
             SequentialRunInvariant rules state inputs self.now →
@@ -129,7 +133,7 @@ impl SequentialRun {
         bindings(alloc, &self.translators, self.clock)
     }
 
-    /// How many legs acted at each external address, in the order of the pool.
+    /// Returns the number of legs at each external address, in the order of the pool.
     pub fn legs(&self, alloc: Global) -> Result<Vec<u64>, AllocError>
         ensures { (rules : Rules) (state : State) (inputs : List Arrival) →
             SequentialRunInvariant rules state inputs self.now →
@@ -138,8 +142,8 @@ impl SequentialRun {
         legs(alloc, &self.translators)
     }
 
-    /// The state that it leaves, from which a run goes on: the bindings that are live or held at the latest clock, in
-    /// the order of `bindings`.
+    /// Returns the state after the run, from which another run can start: the bindings that are
+    /// live or held at the latest clock, in the order of `bindings`.
     pub fn final_bindings(&self, alloc: Global) -> Result<State, AllocError>
         ensures { (rules : Rules) (state : State) (inputs : List Arrival) →
             SequentialRunInvariant rules state inputs self.now →

@@ -6,7 +6,7 @@ use napt_capture::{DeviceFault, Source};
 use napt_program::CountedSource;
 use std::time::Clock;
 
-/// The device of a capture, whose packets are reported as they are read.
+/// The device of a capture, whose packets are counted and reported as they are read.
 #[derive(Drop)]
 pub struct CountedDevice<'p, S, R> {
     device: CountedSource<S>,
@@ -14,7 +14,7 @@ pub struct CountedDevice<'p, S, R> {
 }
 
 impl<'p, S, R> CountedDevice<'p, S, R> {
-    /// Over a device, before anything is read.
+    /// Wraps a device before anything is read.
     pub fn over(device: S, progress: &'p ProgressReport<'p, R>) -> CountedDevice<'p, S, R>
         ensures { result.device.device ≡ device }
     {
@@ -24,7 +24,7 @@ impl<'p, S, R> CountedDevice<'p, S, R> {
         }
     }
 
-    /// The device whose records were counted.
+    /// Returns the device that counts the records.
     pub fn tallied(&self) -> &CountedSource<S> {
         &self.device
     }

@@ -1,25 +1,25 @@
-//! The gate of a run whose bindings are counted.
+//! The gate of a run, which counts the bindings.
 
 use napt_pool::Gate;
 use std::alloc::{AllocError, Global};
 use std::sync::atomic::{AtomicU64, Ordering};
 
-/// A count on a cache line of its own, so that workers do not slow one another down.
+/// A count on cache lines of its own, so that workers do not slow one another down.
 #[derive(Drop)]
 struct Count {
     many: AtomicU64,
     _rest: [u64; 15],
 }
 
-/// A gate that always says yes, and counts the bindings of all workers.
+/// A gate that is always open, and counts the bindings of all workers.
 #[derive(Drop)]
 pub struct CountingGate {
-    /// One for each worker.
+    /// The number of bindings of each worker.
     counts: Vec<Count>,
 }
 
 impl CountingGate {
-    /// For this many workers.
+    /// Returns a gate for `workers` workers. Fails if memory is refused.
     pub fn new(alloc: Global, workers: usize) -> Result<CountingGate, AllocError> {
         let mut counts = Vec::with_capacity(alloc, workers)?;
         for _ in 0..workers {
@@ -31,7 +31,7 @@ impl CountingGate {
         Ok(CountingGate { counts })
     }
 
-    /// How many bindings all workers hold, each after its latest packet.
+    /// Returns the number of bindings of all workers, each after its latest packet.
     pub fn bindings(&self) -> u64 {
         let mut many = 0u64;
         for count in &self.counts {

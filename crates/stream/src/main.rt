@@ -1,4 +1,4 @@
-//! The program `stream`: what `napt` does, but as the packets come in, and in bounded memory.
+//! The program `stream` does what `napt` does, but as the packets arrive, and in bounded memory.
 #![tactic(auto)]
 
 mod counted_device;

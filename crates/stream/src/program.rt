@@ -1,5 +1,5 @@
-//! What the program does: it reads its arguments and its configuration, opens the files in a fixed order, and runs over
-//! them.
+//! The program: it reads its arguments and its configuration, opens the files in a fixed order, and
+//! runs over them.
 
 ghost use Rattle.std.specs.Prelude.{◌≡◌, IfErr, OnOk, map, string_bytes};
 ghost use Rattle.napt_program.specs.{CommandLine.{files_with_log, line_with_log}, Command.{IsLineStop, IsRunStop, LineIsTaken, IsStopUnderOpenGate}};
@@ -17,12 +17,12 @@ use std::alloc::Global;
 use std::sync::Arc;
 use std::time::Clock;
 
-/// Does what the command line asks for: runs over the files that it names, with a worker thread for each external address,
-/// or writes help or the version to standard output. At a terminal it reports its progress, and which captures are cut.
+/// Does what the command line requests: runs over the files that it names, with a worker thread for
+/// each external address, or prints help or the version. A terminal gets progress and cut captures.
 ///
-/// Fails, before any capture is opened, if the arguments are not understood, if memory runs out for them, if a standard
-/// stream that stands for a file is closed, or if the configuration is refused; after that, if a file cannot be opened or
-/// created, or if the run fails. A shut gate is never reported.
+/// Before any capture is opened, fails if the arguments are not understood or memory for them is
+/// refused, if a needed standard stream is closed, or if the configuration is refused; after that,
+/// if a file cannot be opened or created, or if the run fails. A shut gate is never reported.
 pub fn serve<R: ProgramHost + Clock>(
     rt: &R,
     streams: StandardStreams,
@@ -33,8 +33,8 @@ pub fn serve<R: ProgramHost + Clock>(
     serve_words(rt, streams, call, words(rt)?)
 }
 
-/// The same for these arguments, the program's name first: if it succeeds, they were understood, and it fails only by
-/// what they name.
+/// Does what these arguments request; the first is the program's name. If it succeeds, they were
+/// understood, and it fails only by what they name.
 pub fn serve_words<R: ProgramHost + Clock>(
     rt: &R,
     streams: StandardStreams,
@@ -51,7 +51,7 @@ pub fn serve_words<R: ProgramHost + Clock>(
     }
 }
 
-/// Runs over all that the options name, and saves the state that the run leaves, if it is to be saved.
+/// Runs over the files that the options name, and saves the state after the run, if requested.
 fn run<R: ProgramHost + Clock>(
     rt: &R,
     streams: StandardStreams,
@@ -98,7 +98,7 @@ fn run<R: ProgramHost + Clock>(
     Ok(())
 }
 
-/// The gate of a run with this many workers, which watches them and always opens. Fails, as a run does, if memory runs out.
+/// Returns a gate for this many workers, which counts bindings and is always open, or `MEMORY`.
 fn gate(alloc: Global, workers: usize) -> Result<Arc<CountingGate>, Stop>
     ensures { IfErr result (λ stop. stop ≡ MEMORY) }
 {
@@ -106,7 +106,7 @@ fn gate(alloc: Global, workers: usize) -> Result<Arc<CountingGate>, Stop>
     Arc::new(alloc, counting).map_err(|_| MEMORY)
 }
 
-/// The same gate, for one more owner. Fails, as a run does, if memory runs out.
+/// Returns one more reference to the gate. Fails with `MEMORY` if memory is refused.
 fn again(gate: &Arc<CountingGate>) -> Result<Arc<CountingGate>, Stop>
     ensures { IfErr result (λ stop. stop ≡ MEMORY) }
 {

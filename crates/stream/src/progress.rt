@@ -1,4 +1,4 @@
-//! How far a run is, for people at a terminal.
+//! The progress of a run, which is printed at a terminal.
 
 use crate::counting_gate::CountingGate;
 use napt_program::ProgramCall;
@@ -6,13 +6,13 @@ use std::cell::Cell;
 use std::sync::Arc;
 use std::time::{Clock, Instant};
 
-/// A run shorter than this many milliseconds reports nothing.
+/// A run that is shorter than this many milliseconds prints no progress.
 const FIRST_AFTER: u64 = 2_000;
 
-/// The line is written again after this many milliseconds.
+/// The number of milliseconds after which the line is printed again.
 const EACH: u64 = 1_000;
 
-/// How many packets were read up to a time.
+/// The number of packets that were read up to a time, in milliseconds from the start of the run.
 #[derive(Clone, Copy)]
 struct ProgressMark {
     millis: u64,
@@ -20,13 +20,13 @@ struct ProgressMark {
 }
 
 impl ProgressMark {
-    /// Before the first packet.
+    /// The mark before the first packet.
     const BEGIN: ProgressMark = ProgressMark {
         millis: 0,
         packets: 0,
     };
 
-    /// How many packets a second were read since an earlier one.
+    /// Returns how many packets per second were read since an earlier mark.
     fn rate_since(self, earlier: ProgressMark) -> u64 {
         let packets = self.packets.saturating_sub(earlier.packets);
         let millis = self.millis.saturating_sub(earlier.millis);
@@ -34,28 +34,28 @@ impl ProgressMark {
     }
 }
 
-/// How far a run is, in one line on standard error that replaces the one before.
+/// The progress of a run, in one line on standard error that replaces the one before.
 #[derive(Drop)]
 pub struct ProgressReport<'r, R> {
     rt: &'r R,
     name: &'static str,
     gate: Arc<CountingGate>,
-    /// When the run began; none if progress is not reported.
+    /// The start of the run, or `None` if progress is not printed.
     began: Option<Instant>,
     packets: Cell<u64>,
-    /// What the last line said; the beginning if there was none.
+    /// The mark of the last line, or `ProgressMark::BEGIN` if there was none.
     told: Cell<ProgressMark>,
 }
 
 impl<'r, R> ProgressReport<'r, R> {
-    /// Whether progress is reported.
+    /// Returns whether progress is printed.
     pub fn is_told(&self) -> bool {
         self.began.is_some()
     }
 }
 
 impl<'r, R: Eprint + Clock> ProgressReport<'r, R> {
-    /// Of a run that begins now. If no terminal is there, nothing is reported.
+    /// Returns the progress of a run that starts now. Without a terminal, nothing is printed.
     pub fn of(rt: &'r R, gate: Arc<CountingGate>, call: ProgramCall) -> ProgressReport<'r, R> {
         let began = if call.at_terminal {
             Instant::now(rt).ok()
@@ -77,8 +77,8 @@ impl<'r, R: Eprint + Clock> ProgressReport<'r, R> {
         self.packets.set(self.packets.get().saturating_add(more));
     }
 
-    /// If it is time for another line, writes how many packets were read, how many a second since the last line, and how many
-    /// bindings there are.
+    /// If it is time for another line, prints the number of packets read, the packets per second
+    /// since the last line, and the number of bindings.
     pub fn print(&self) {
         let Some(now) = self.mark() else {
             return;
@@ -96,7 +96,7 @@ impl<'r, R: Eprint + Clock> ProgressReport<'r, R> {
         self.told.set(now);
     }
 
-    /// Ends the line, if there is one, with how many packets were read in the whole run, and how many bindings it leaves.
+    /// Replaces the line, if any, by the packets of the whole run and the bindings after it.
     pub fn print_end(&self) {
         if self.told.get().millis == 0 {
             return;
@@ -112,7 +112,7 @@ impl<'r, R: Eprint + Clock> ProgressReport<'r, R> {
         );
     }
 
-    /// How far the run is now; none if progress is not reported, or the clock fails.
+    /// Returns the mark of now, or `None` if progress is not printed or the clock fails.
     fn mark(&self) -> Option<ProgressMark> {
         let elapsed = self.began?.elapsed(self.rt).ok()?;
         Some(ProgressMark {

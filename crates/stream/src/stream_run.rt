@@ -27,35 +27,35 @@ use std::io::Write;
 use std::rt::Files;
 use std::sync::Arc;
 
-/// What a run goes on from.
+/// The configuration, state and log entries with which a run starts, and its gate.
 #[derive(Drop)]
 pub struct StreamRun<'a> {
     pub options: &'a OptionsWithLog,
     pub config: &'a Config,
     pub state: &'a State,
-    /// What was kept of its log.
+    /// The saved entries of its log.
     pub kept: &'a SavedLogState,
     pub gate: Arc<CountingGate>,
 }
 
-/// The devices that both captures are read from.
+/// The devices from which both captures are read.
 #[derive(Drop)]
 pub struct CaptureDevices<A, B> {
     pub inside: A,
     pub outside: B,
 }
 
-/// What a run leaves.
+/// The result of a run that succeeded.
 #[derive(Drop)]
 pub struct StreamRemainder {
     pub passed: RunSummary,
-    /// Its log, if it has one and the state is to be saved.
+    /// The position of its log, if it has one and the state is to be saved.
     pub log: Option<LogPosition>,
 }
 
 impl<'a> StreamRun<'a> {
-    /// Says on standard error if the log, where there is one, begins new entries for the bindings of the state, because those
-    /// that were kept are not theirs.
+    /// Warns on standard error if the saved entries do not match the state's bindings, so that the
+    /// log, if there is one, begins new entries for them. Fails with `MEMORY` if memory is refused.
     pub fn print_new_entries<R: Eprint + AllocGlobal>(
         &self,
         rt: &R,
@@ -75,8 +75,8 @@ impl<'a> StreamRun<'a> {
         Ok(())
     }
 
-    /// Runs over the captures into the outputs, and into the log if there is one. Fails as the run does, and if the log could
-    /// not be written.
+    /// Runs over the captures and writes the outputs, and the log if there is one. Fails as the run
+    /// does, and with `Stop::Log` if the log could not be written.
     pub fn over<R: ProgramHost, A: Source, B: Source, T: Write + Drop, F: Write + OpenFile + Drop>(
         self,
         rt: &R,
@@ -178,7 +178,7 @@ impl<'a> StreamRun<'a> {
         ended_with_log(self.options, answer)
     }
 
-    /// What the run goes on from, and its log, which has text or is new.
+    /// Returns the start of the run, and of its log, which is new or already has text.
     fn starts(&self, is_new: bool) -> (Start<'a>, LogStart<'a>)
         ensures config { result.0.config ≡ self.now.config }
         ensures state { result.0.state ≡ self.now.state }
@@ -201,7 +201,7 @@ impl<'a> StreamRun<'a> {
     }
 }
 
-/// What is kept of a log that was written, beside a state that is saved. Fails with `Stop::Log`.
+/// Returns a log's position if the state is to be saved. Fails with `Stop::Log` on a failed sync.
 fn kept_if_saved<T: Write + Drop, F: Write + OpenFile + Drop, R: Files + AllocGlobal>(
     is_saved: bool,
     left: SavedLogState,
@@ -218,7 +218,7 @@ fn kept_if_saved<T: Write + Drop, F: Write + OpenFile + Drop, R: Files + AllocGl
     Ok(Some(LogPosition { log: left, length }))
 }
 
-/// How the program ends after a run without a log.
+/// Returns the result of the program for that of a run without a log.
 fn ended(options: &OptionsWithLog, answer: Result<RunSummary, Fault>) -> Result<RunSummary, Stop>
     requires { IfErr answer (λ fault. IsStopUnderOpenGate (Stop.Run fault)) }
     ensures { (streams : StandardStreams) → IfErr result
@@ -230,7 +230,7 @@ fn ended(options: &OptionsWithLog, answer: Result<RunSummary, Fault>) -> Result<
     }
 }
 
-/// How the program ends after a run with a log.
+/// Returns the result of the program for that of a run with a log.
 fn ended_with_log(
     options: &OptionsWithLog,
     answer: Result<LoggedRunSummary, LogRunFault>,

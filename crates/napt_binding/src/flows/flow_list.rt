@@ -1,4 +1,4 @@
-//! Few flows, one after another.
+//! A list of few flows.
 
 ghost use Rattle.std.specs.Prelude.{◌≡◌, ◌==◌, ◌≤◌, ◌<◌, ◌^◌, ℕ, Bool, true, false, length, position, filter, vec_len, vec_capacity, OnOk, OnErr};
 ghost use Rattle.std.specs.List.{list_any};
@@ -16,7 +16,7 @@ use napt_rules::{Flow, OutboundPacket};
 use napt_wire::{Endpoint, Flags, Protocol, Way};
 use std::alloc::AllocError;
 
-/// The last moment at which one of these flows is live, or the greatest time if that is earlier; one is live now.
+/// Returns until when (ns) one of these flows is live, at most `u64::MAX`; one is at `now`.
 pub(super) fn last_moment_of(flows: &[Flow], timers: IdleTimers, now: u64) -> u64
     requires live { list_any (life.is_live_flow timers now) flows.now ≡ true }
     ensures later { now ≤ result }
@@ -31,7 +31,7 @@ pub(super) fn last_moment_of(flows: &[Flow], timers: IdleTimers, now: u64) -> u6
     last
 }
 
-/// When the last of these flows ends, in ns; 0 if there is none.
+/// Returns when the last of these flows ends, in ns, or 0 if there is none.
 pub(super) fn last_end(flows: &[Flow], timers: IdleTimers) -> u128
     ensures { result ≡ last_end timers flows.now }
 {
@@ -60,7 +60,7 @@ pub(super) fn standing_place(
         && is_flow_of(flow, sent.remote))
 }
 
-/// How many flows stand when the packet goes out.
+/// Returns how many flows stand when the packet goes out.
 pub(super) fn count_standing(flows: &[Flow], timers: IdleTimers, sent: OutboundPacket) -> usize
     ensures { result ≡ length (packets.standing_at timers sent flows.now) }
 {
@@ -70,7 +70,7 @@ pub(super) fn count_standing(flows: &[Flow], timers: IdleTimers, sent: OutboundP
         .count()
 }
 
-/// Removes the dead ones of these TCP flows.
+/// Removes the TCP flows that have expired at `now` (ns).
 pub(super) fn retain_live(flows: &mut Vec<Flow>, timers: IdleTimers, now: u64)
     ensures flows { flows.new.items ≡ filter (life.is_live_flow timers now) flows.old.items }
     ensures capacity { vec_capacity flows.new ≡ vec_capacity flows.old }
@@ -79,7 +79,7 @@ pub(super) fn retain_live(flows: &mut Vec<Flow>, timers: IdleTimers, now: u64)
     flows.retain(|flow| is_live_flow(flow, timers, now));
 }
 
-/// Removes the dead flows if they are TCP.
+/// Removes the flows that have expired at `now` (ns) if they are of TCP.
 pub(super) fn retain_standing(
     flows: &mut Vec<Flow>,
     timers: IdleTimers,
@@ -95,7 +95,7 @@ pub(super) fn retain_standing(
     }
 }
 
-/// Uses the flow of the packet's remote; if none is live, begins one and removes the dead ones.
+/// Uses the flow of the packet's remote; if none is live, removes expired ones and begins one.
 pub(super) fn use_flow(
     flows: &mut Vec<Flow>,
     timers: IdleTimers,
@@ -123,7 +123,7 @@ pub(super) fn use_flow(
     Ok(())
 }
 
-/// Marks the remote's flow, if any, as used now by an incoming segment.
+/// Marks the remote's flow, if there is one, as used now by an incoming segment.
 pub(super) fn refresh_flow(flows: &mut [Flow], now: u64, remote: Endpoint, flags: Flags)
     requires distinct { AreDistinct flows.old }
     ensures distinct { AreDistinct flows.new }

@@ -1,4 +1,4 @@
-//! Many flows, found through maps; all are walked only to drop dead ones and to give up their slots.
+//! Many flows, found through maps; all are visited only to remove expired ones and empty slots.
 
 ghost use Rattle.std.specs.Prelude.{◌≡◌, ◌==◌, ◌≤◌, ◌<◌, ◌++◌, ◌^◌, ℕ, Bool, true, false, None, Some, [], ◌∷◌, length, filter, slice_set, OnOk, OnErr, IfOk, IfSome};
 ghost use Rattle.std.specs.List.{list_any};
@@ -19,19 +19,19 @@ use napt_wire::{Endpoint, Flags, Protocol, Way};
 use std::alloc::{AllocError, Global};
 use std::collections::HashMap;
 
-/// Up to this many slots, empty ones stay.
+/// With at most this many slots, empty ones stay.
 const SPARSE: usize = 64;
 
 /// The flows of a binding that has many.
 #[derive(Drop)]
 pub(crate) struct FlowMaps {
     slots: FlowSlots,
-    /// The slot of a remote address and number.
+    /// The slot of the flow of a remote address and number.
     places: HashMap<(u32, u16), usize>,
     addresses: AddressCounts,
 }
 
-/// The flows with their places, the one that was used first going first.
+/// Returns the flows with their places, in ascending order of their last use.
 fn by_last_use(alloc: Global, flows: &[Flow]) -> Result<Vec<(usize, Flow)>, AllocError>
     ensures { IfOk result (λ entries. AreByLastUse flows.now entries.items) }
 {
@@ -46,7 +46,7 @@ fn by_last_use(alloc: Global, flows: &[Flow]) -> Result<Vec<(usize, Flow)>, Allo
 impl FlowMaps {
     ghost use Rattle.napt_binding.specs.FlowMapInvariants.{FlowMapsInvariant, FlowMapsHaveRoom, place_of_remote};
 
-    /// No flows.
+    /// Creates maps without flows.
     fn new(alloc: Global) -> Result<FlowMaps, AllocError>
         ensures many { IfOk result FlowMapsInvariant }
         ensures none { IfOk result (λ many. many.slots.slots ≡ []) }
@@ -111,7 +111,7 @@ impl FlowMaps {
         addresses.decrement(remote.address);
     }
 
-    /// Changes the flow in the slot, but not its remote.
+    /// Replaces the flow in the slot by one of the same remote.
     fn change(&mut self, place: usize, flow: Flow)
         requires many { FlowMapsInvariant self.old }
         requires stands { (was : Flow) × IsInSlot self.old.slots.slots place was
@@ -124,7 +124,7 @@ impl FlowMaps {
         slots.change(place, flow);
     }
 
-    /// Removes a dead TCP flow; returns whether there was one.
+    /// Removes an expired TCP flow, and returns whether there was one.
     fn drop_dead(&mut self, timers: IdleTimers, now: u64) -> bool
         requires many { FlowMapsInvariant self.old }
         ensures many { FlowMapsInvariant self.new }
@@ -144,7 +144,7 @@ impl FlowMaps {
         true
     }
 
-    /// Removes the dead TCP flows.
+    /// Removes the TCP flows that have expired at `now` (ns).
     pub(super) fn retain_live(&mut self, timers: IdleTimers, now: u64)
         requires many { FlowMapsInvariant self.old }
         ensures many { FlowMapsInvariant self.new }
@@ -156,7 +156,7 @@ impl FlowMaps {
         while self.drop_dead(timers, now) {}
     }
 
-    /// Removes the dead flows if they are TCP.
+    /// Removes the flows that have expired at `now` (ns) if they are of TCP.
     fn retain_standing(&mut self, timers: IdleTimers, now: u64, protocol: Protocol)
         requires many { FlowMapsInvariant self.old }
         ensures many { FlowMapsInvariant self.new }
@@ -170,23 +170,25 @@ impl FlowMaps {
         }
     }
 
-    /// The slot of the remote's flow.
+    /// Returns the slot of the remote's flow, if there is one.
     fn place_of(&self, remote: Endpoint) -> Option<usize>
         ensures { result ≡ place_of_remote self.now remote }
     {
         Some(*self.places.get(&(remote.address, remote.number))?)
     }
 
-    /// Whether one of the TCP flows is live.
+    /// Returns whether one of the TCP flows is live at `now` (ns).
     pub(super) fn has_live(&self, timers: IdleTimers, now: u64) -> bool
-        ensures { result ≡ list_any (life.is_live_flow timers now) (standing_flows self.now.slots.slots) }
+        ensures { result ≡ list_any (life.is_live_flow timers now)
+            (standing_flows self.now.slots.slots) }
     {
         self.slots.has_live(timers, now)
     }
 
-    /// The last moment at which one of these TCP flows is live, or the greatest time if that is earlier; one is live now.
+    /// Returns until when (ns) one of these TCP flows is live, at most `u64::MAX`; one is at `now`.
     pub(super) fn last_moment(&self, timers: IdleTimers, now: u64) -> u64
-        requires live { list_any (life.is_live_flow timers now) (standing_flows self.now.slots.slots)
+        requires live { list_any (life.is_live_flow timers now)
+            (standing_flows self.now.slots.slots)
             ≡ true }
         ensures later { now ≤ result }
         ensures lives { (t : ℕ) → t ≤ result → list_any (life.is_live_flow timers t)
@@ -197,14 +199,14 @@ impl FlowMaps {
         self.slots.last_moment(timers, now)
     }
 
-    /// When the last of these TCP flows ends, in ns; 0 if there is none.
+    /// Returns when the last of these TCP flows ends, in ns, or 0 if there is none.
     pub(super) fn last_end(&self, timers: IdleTimers) -> u128
         ensures { result ≡ last_end timers (standing_flows self.now.slots.slots) }
     {
         self.slots.last_end(timers)
     }
 
-    /// Whether a flow's remote has the address.
+    /// Returns whether a flow's remote has the address.
     pub(super) fn has_address(&self, address: u32) -> bool
         requires { FlowMapsInvariant self.now }
         ensures { result ≡ list_any (λ flow. flow.remote.address == address)
@@ -213,10 +215,11 @@ impl FlowMaps {
         self.addresses.has(address)
     }
 
-    /// Whether a flow is of the remote.
+    /// Returns whether a flow is of the remote.
     pub(super) fn has_remote(&self, remote: Endpoint) -> bool
         requires { FlowMapsInvariant self.now }
-        ensures { result ≡ list_any (traffic.is_flow_of remote) (standing_flows self.now.slots.slots) }
+        ensures { result ≡ list_any (traffic.is_flow_of remote)
+            (standing_flows self.now.slots.slots) }
     {
         self.place_of(remote).is_some()
     }
@@ -225,10 +228,10 @@ impl FlowMaps {
 impl FlowMaps {
     ghost use Rattle.napt_binding.specs.FlowMapInvariants.{FlowMapsInvariant, FlowMapsHaveRoom, is_sparse, most_slots, place_of_remote};
 
-    /// These flows, no two of one remote.
+    /// Creates the maps of these flows, no two of which are of one remote.
     ///
-    /// Each is put as if it had never been used. Then each gets its last use, the one that was used first going first, so
-    /// that no use is before the latest.
+    /// Each flow is inserted as if it had never been used. Then the flows get their last uses, in
+    /// ascending order, so that no use is before the latest.
     pub(super) fn from_flows(alloc: Global, flows: &[Flow]) -> Result<FlowMaps, AllocError>
         requires { AreDistinct flows.now }
         ensures many { IfOk result FlowMapsInvariant }
@@ -248,7 +251,7 @@ impl FlowMaps {
         Ok(many)
     }
 
-    /// A copy of the flows, oldest first.
+    /// Returns a copy of the flows, oldest first.
     pub(super) fn flows(&self, alloc: Global) -> Result<Vec<Flow>, AllocError>
         requires { FlowMapsInvariant self.now }
         ensures flows { IfOk result (λ made. made.items ≡ standing_flows self.now.slots.slots) }
@@ -263,11 +266,12 @@ impl FlowMaps {
         Ok(flows)
     }
 
-    /// The same flows, without empty slots.
+    /// Returns the same flows, without empty slots.
     fn compacted(&self, alloc: Global) -> Result<FlowMaps, AllocError>
         requires { FlowMapsInvariant self.now }
         ensures many { IfOk result FlowMapsInvariant }
-        ensures flows { IfOk result (λ many. standing_flows many.slots.slots ≡ standing_flows self.now.slots.slots) }
+        ensures flows { IfOk result (λ many. standing_flows many.slots.slots
+            ≡ standing_flows self.now.slots.slots) }
         ensures none_empty { IfOk result (λ many. length many.slots.slots
             ≡ length (standing_flows self.now.slots.slots)) }
     {
@@ -275,7 +279,7 @@ impl FlowMaps {
         FlowMaps::from_flows(alloc, &flows)
     }
 
-    /// Whether most slots are empty, of so many that it matters.
+    /// Returns whether there are more than `SPARSE` slots, and fewer than half of them have a flow.
     fn is_sparse(&self) -> bool
         requires { FlowMapsInvariant self.now }
         ensures { result ≡ is_sparse self.now.slots.slots }
@@ -284,7 +288,7 @@ impl FlowMaps {
         SPARSE < slots && self.places.len() < slots / 2
     }
 
-    /// Makes room for one more flow; drops empty slots if most are.
+    /// Makes room for one more flow, and removes the empty slots if `is_sparse` holds.
     fn make_room(&mut self, alloc: Global) -> Result<(), AllocError>
         requires { FlowMapsInvariant self.old }
         ensures many { FlowMapsInvariant self.new }
@@ -303,16 +307,18 @@ impl FlowMaps {
         self.reserve()
     }
 
-    /// Uses the flow of the packet's remote, if it counts; returns whether it does.
+    /// Uses the flow of the packet's remote if it stands, and returns whether it does.
     fn use_standing(&mut self, timers: IdleTimers, sent: OutboundPacket) -> bool
         requires many { FlowMapsInvariant self.old }
         requires rising { NoneUsedAfter (standing_flows self.old.slots.slots) sent.now }
         ensures many { FlowMapsInvariant self.new }
         ensures used { result ≡ true →
             packets.standing_at timers sent (standing_flows self.new.slots.slots)
-            ≡ packets.flows_after_outbound sent (packets.standing_at timers sent (standing_flows self.old.slots.slots)) }
+            ≡ packets.flows_after_outbound sent
+            (packets.standing_at timers sent (standing_flows self.old.slots.slots)) }
         ensures live { result ≡ true →
-            list_any (life.is_live_flow timers sent.now) (standing_flows self.new.slots.slots) ≡ true }
+            list_any (life.is_live_flow timers sent.now) (standing_flows self.new.slots.slots)
+            ≡ true }
         ensures same { result ≡ false → self.new.slots.slots ≡ self.old.slots.slots }
         ensures as_long { length self.new.slots.slots ≡ length self.old.slots.slots }
         ensures none { result ≡ false →
@@ -333,7 +339,7 @@ impl FlowMaps {
         true
     }
 
-    /// Uses the flow of the packet's remote; if none is live, begins one. If memory is refused no flow changes.
+    /// Uses the packet's flow, or begins it if none is live. Changes no flow if memory is refused.
     pub(super) fn use_flow(
         &mut self,
         alloc: Global,
@@ -343,11 +349,15 @@ impl FlowMaps {
         requires many { FlowMapsInvariant self.old }
         requires rising { NoneUsedAfter (standing_flows self.old.slots.slots) sent.now }
         ensures many { FlowMapsInvariant self.new }
-        ensures ok { OnOk result (packets.standing_at timers sent (standing_flows self.new.slots.slots)
-            ≡ packets.flows_after_outbound sent (packets.standing_at timers sent (standing_flows self.old.slots.slots))) }
+        ensures ok { OnOk result (packets.standing_at timers sent
+            (standing_flows self.new.slots.slots)
+            ≡ packets.flows_after_outbound sent
+            (packets.standing_at timers sent (standing_flows self.old.slots.slots))) }
         ensures live { OnOk result
-            (list_any (life.is_live_flow timers sent.now) (standing_flows self.new.slots.slots) ≡ true) }
-        ensures err { OnErr result (standing_flows self.new.slots.slots ≡ standing_flows self.old.slots.slots) }
+            (list_any (life.is_live_flow timers sent.now) (standing_flows self.new.slots.slots)
+            ≡ true) }
+        ensures err { OnErr result (standing_flows self.new.slots.slots
+            ≡ standing_flows self.old.slots.slots) }
         ensures grown { length self.old.slots.slots < length self.new.slots.slots →
             length self.new.slots.slots ≤ most_slots (length (standing_flows self.old.slots.slots)) }
     {
@@ -361,13 +371,15 @@ impl FlowMaps {
         Ok(())
     }
 
-    /// Marks the remote's flow, if any, as used now by an incoming segment.
+    /// Marks the remote's flow, if there is one, as used now by an incoming segment.
     pub(super) fn refresh_flow(&mut self, now: u64, remote: Endpoint, flags: Flags)
         requires many { FlowMapsInvariant self.old }
         requires rising { NoneUsedAfter (standing_flows self.old.slots.slots) now }
         ensures many { FlowMapsInvariant self.new }
-        ensures flows { standing_flows self.new.slots.slots ≡ change_first (traffic.is_flow_of remote)
-            (traffic.flow_after Protocol.Tcp Way.Incoming flags now) (standing_flows self.old.slots.slots) }
+        ensures flows { standing_flows self.new.slots.slots
+            ≡ change_first (traffic.is_flow_of remote)
+            (traffic.flow_after Protocol.Tcp Way.Incoming flags now)
+            (standing_flows self.old.slots.slots) }
     {
         let Some(place) = self.place_of(remote) else {
             return;

@@ -15,24 +15,24 @@ use napt_rules::Flow;
 use std::alloc::{AllocError, Global};
 use std::marker::Model;
 
-/// The row of the established flows: it begins after node 0 and ends before node 1.
+/// The row of the established flows, which begins after node 0 and ends before node 1.
 const ESTABLISHED: u32 = 0;
 
-/// The row of the other flows: it begins after node 1 and ends before node 2.
+/// The row of the other flows, which begins after node 1 and ends before node 2.
 const OTHERS: u32 = 1;
 
-/// How many nodes are no slot's: the ends of the rows.
+/// The number of nodes that belong to no slot: the ends of the rows.
 const ENDS: usize = 3;
 
-/// A slot for each flow, oldest first; a removed flow leaves its slot empty. Contracts see the slots, and how many more
-/// fit without growth (`room`).
+/// A slot for each flow, oldest first; a removed flow leaves its slot empty. Contracts see the slots and how
+/// many more fit without growth (`room`).
 ///
-/// The flows of a row are linked in the order in which they were last used. No flow is used before the latest, so a use
-/// puts it at the end of its row: a call looks at the flow, its neighbours and the ends of rows alone.
+/// The flows of a row are linked in the order of last use. No flow is used before the latest, so a flow that
+/// is used moves to the end of its row: a call looks only at it, its neighbours and the ends of rows.
 #[derive(Drop)]
 pub(crate) struct FlowSlots {
     flows: Vec<Option<Flow>>,
-    /// Those of the ends of the rows, and then those of each slot with a flow.
+    /// The links of the ends of the rows, and then those of the slots.
     links: Vec<Links>,
 }
 
@@ -48,7 +48,7 @@ impl Model for FlowSlots {
     ghost invariant = { λ it. AreLinksTimed it.flows.items it.links.items };
 }
 
-/// The row of the flow.
+/// Returns the row of the flow.
 fn row_of(flow: Flow) -> u32
     ensures { result ≡ slots.row_of flow }
 {
@@ -59,7 +59,7 @@ fn row_of(flow: Flow) -> u32
     }
 }
 
-/// Whether there is a time, less than `seconds` ago.
+/// Returns whether there is a time, and it is less than `seconds` seconds before `now` (ns).
 fn is_some_recent(latest: Option<u64>, now: u64, seconds: u64) -> bool
     requires { seconds ≤ 1_000_000_000 }
     ensures { result ≡ is_recent_time now seconds latest }
@@ -70,8 +70,8 @@ fn is_some_recent(latest: Option<u64>, now: u64, seconds: u64) -> bool
     }
 }
 
-/// The last moment at which the time, if any, is less than `seconds` ago, or the greatest time if that is earlier; at
-/// least `now`.
+/// Returns until when (ns) the time, if there is one, is less than `seconds` seconds ago: at least
+/// `now`, and at most `u64::MAX`.
 fn last_moment_of(latest: Option<u64>, now: u64, seconds: u64) -> u64
     requires some { 0 < seconds }
     requires few { seconds ≤ 1_000_000_000 }
@@ -85,7 +85,7 @@ fn last_moment_of(latest: Option<u64>, now: u64, seconds: u64) -> u64
     }
 }
 
-/// When the time, if any, is `seconds` ago, in ns; 0 if there is none.
+/// Returns the time `seconds` seconds after `latest`, in ns, or 0 if there is none.
 fn end_of_time(latest: Option<u64>, seconds: u64) -> u128
     requires some { 0 < seconds }
     requires few { seconds ≤ 1_000_000_000 }
@@ -98,7 +98,7 @@ fn end_of_time(latest: Option<u64>, seconds: u64) -> u128
 }
 
 impl FlowSlots {
-    /// No slots.
+    /// Creates an empty list of slots, with the ends of the rows. Fails if memory is refused.
     pub(crate) fn new(alloc: Global) -> Result<FlowSlots, AllocError>
         ensures { IfOk result (λ made. made.slots ≡ []) }
     {
@@ -121,14 +121,14 @@ impl FlowSlots {
         })
     }
 
-    /// How many slots there are.
+    /// Returns the number of slots.
     pub(crate) fn len(&self) -> usize
         ensures { result ≡ length self.now.slots }
     {
         self.flows.len()
     }
 
-    /// The flow in the slot.
+    /// Returns the flow in the slot, if there is one.
     pub(crate) fn get(&self, place: usize) -> Option<Flow>
         ensures stands { IfSome result (λ flow. IsInSlot self.now.slots place flow) }
         ensures found { (flow : Flow) → IsInSlot self.now.slots place flow → result ≡ Some flow }
@@ -136,7 +136,7 @@ impl FlowSlots {
         *self.flows.get(place)?
     }
 
-    /// Makes room for one more slot; `AllocError` also if there are 2^32 - 4.
+    /// Makes room for one more slot. Fails if memory is refused or there are 2^32 - 4 slots.
     pub(crate) fn reserve(&mut self) -> Result<(), AllocError>
         ensures slots { self.new.slots ≡ self.old.slots }
         ensures room { OnOk result (0 < self.new.room) }
@@ -148,7 +148,7 @@ impl FlowSlots {
         self.links.reserve(1)
     }
 
-    /// Appends a slot with the flow, for which there is room; returns its place.
+    /// Appends a slot with the flow, for which there must be room, and returns its place.
     pub(crate) fn insert(&mut self, flow: Flow) -> usize
         requires room { 0 < self.old.room }
         requires rising { NoneUsedAfter (standing_flows self.old.slots) flow.last }
@@ -179,7 +179,7 @@ impl FlowSlots {
         self.flows[place] = None;
     }
 
-    /// Fills an empty slot.
+    /// Puts a flow into an empty slot.
     fn fill(&mut self, place: usize, flow: Flow)
         requires empty { slice_get self.old.slots place ≡ Some None }
         requires rising { NoneUsedAfter (standing_flows self.old.slots) flow.last }
@@ -190,7 +190,7 @@ impl FlowSlots {
         self.flows[place] = Some(flow);
     }
 
-    /// Changes the flow in a slot.
+    /// Replaces the flow in a slot.
     pub(crate) fn change(&mut self, place: usize, flow: Flow)
         requires within { place < length self.old.slots }
         requires rising { NoneUsedAfter (standing_flows self.old.slots) flow.last }
@@ -201,7 +201,7 @@ impl FlowSlots {
         self.fill(place, flow);
     }
 
-    /// The flow at a node, with its place; none at an end of a row.
+    /// Returns the flow at a node, with its place, or `None` at an end of a row.
     fn flow_at(&self, node: u32) -> Option<(usize, Flow)>
         ensures some { IfSome result (λ found. IsInSlot self.now.slots found.0 found.1
             × (found.0 + 3 ≡ node)) }
@@ -212,7 +212,7 @@ impl FlowSlots {
         Some((place, self.get(place)?))
     }
 
-    /// The flow of the row that has not been used for longest, with its place.
+    /// Returns the flow of the row that was last used longest ago, with its place.
     fn first_used(&self, row: u32) -> Option<(usize, Flow)>
         requires { row < 2 }
         ensures { IsFirstUsed row self.now.slots result }
@@ -220,7 +220,7 @@ impl FlowSlots {
         self.flow_at(self.links[row as usize].after)
     }
 
-    /// When a flow of the row was last used; `None` if it has no flow.
+    /// Returns when a flow of the row was last used (ns), or `None` if the row has no flow.
     fn latest(&self, row: u32) -> Option<u64>
         requires { row < 2 }
         ensures { IsLatest row self.now.slots result }
@@ -228,7 +228,7 @@ impl FlowSlots {
         Some(self.flow_at(self.links[row as usize + 1].before)?.1.last)
     }
 
-    /// The place of a flow of the row that was not used less than `seconds` ago.
+    /// Returns the place of a flow of the row that was not used in the last `seconds` seconds.
     fn outlived_place(&self, row: u32, now: u64, seconds: u64) -> Option<usize>
         requires row { row < 2 }
         requires few { seconds ≤ 1_000_000_000 }
@@ -245,11 +245,12 @@ impl FlowSlots {
         }
     }
 
-    /// A place of a dead TCP flow. It takes two looks.
+    /// Returns the place of an expired TCP flow, if there is one. Looks at two flows at most.
     pub(crate) fn dead_place(&self, timers: IdleTimers, now: u64) -> Option<usize>
         ensures some { IfSome result (λ place. (flow : Flow) × IsInSlot self.now.slots place flow
             × (life.is_live_flow timers now flow ≡ false)) }
-        ensures none { IfNone result ((place : ℕ) (flow : Flow) → IsInSlot self.now.slots place flow →
+        ensures none { IfNone result ((place : ℕ) (flow : Flow) →
+            IsInSlot self.now.slots place flow →
             life.is_live_flow timers now flow ≡ true) }
     {
         match self.outlived_place(ESTABLISHED, now, timers.seconds.established) {
@@ -258,7 +259,7 @@ impl FlowSlots {
         }
     }
 
-    /// Whether one of the TCP flows is live. It takes two looks.
+    /// Returns whether one of the TCP flows is live. Looks at two flows at most.
     pub(crate) fn has_live(&self, timers: IdleTimers, now: u64) -> bool
         ensures { result ≡ list_any (life.is_live_flow timers now) (standing_flows self.now.slots) }
     {
@@ -266,10 +267,11 @@ impl FlowSlots {
             || is_some_recent(self.latest(OTHERS), now, timers.seconds.transitory)
     }
 
-    /// The last moment at which one of these TCP flows is live, or the greatest time if that is earlier; one is live
-    /// now. It takes two looks.
+    /// Returns until when (ns) one of these TCP flows is live, at most `u64::MAX`; one is at `now`.
+    /// Looks at two flows at most.
     pub(crate) fn last_moment(&self, timers: IdleTimers, now: u64) -> u64
-        requires live { list_any (life.is_live_flow timers now) (standing_flows self.now.slots) ≡ true }
+        requires live { list_any (life.is_live_flow timers now) (standing_flows self.now.slots)
+            ≡ true }
         ensures later { now ≤ result }
         ensures lives { (t : ℕ) → t ≤ result → list_any (life.is_live_flow timers t)
             (standing_flows self.now.slots) ≡ true }
@@ -280,7 +282,7 @@ impl FlowSlots {
         established.max(last_moment_of(self.latest(OTHERS), now, timers.seconds.transitory))
     }
 
-    /// When the last of the TCP flows ends, in ns; 0 if there is none. It takes two looks.
+    /// Returns when the last TCP flow ends, in ns, or 0 without one. Looks at two flows at most.
     pub(crate) fn last_end(&self, timers: IdleTimers) -> u128
         ensures { result ≡ last_end timers (standing_flows self.now.slots) }
     {

@@ -1,18 +1,18 @@
-//! Buffers of packets that have left, for inputs to come.
+//! A pool of packet buffers, which later inputs use again.
 
 ghost use Rattle.std.specs.Prelude.{◌≡◌, ◌⊎◌, ◌<◌, ◌≤◌, ◌∷◌, ◌++◌, [], length, vec_capacity, MatchOption};
 
 use std::alloc::Global;
 use std::marker::Model;
 
-/// The most buffers kept.
+/// The largest number of buffers in the pool.
 const MOST_SPARES: usize = 16_384;
 
-/// The largest capacity of a buffer that is kept, in bytes.
+/// The largest capacity of a buffer in the pool, in bytes.
 const MOST_ROOM: usize = 1_536;
 
-/// At most 16,384 buffers of at most 1,536 bytes each. An input that uses one needs no allocation. Contracts see the buffers,
-/// the one kept first in front.
+/// A pool of at most 16,384 buffers of at most 1,536 bytes each. An input that uses one needs no
+/// allocation. Contracts see the list of buffers, the oldest first.
 #[derive(Drop)]
 pub(crate) struct BufferPool {
     alloc: Global,
@@ -33,7 +33,7 @@ impl Model for BufferPool {
 }
 
 impl BufferPool {
-    /// No buffers.
+    /// Returns an empty pool.
     pub(crate) fn new(alloc: Global) -> BufferPool
         ensures { result ≡ [] }
     {
@@ -43,7 +43,7 @@ impl BufferPool {
         }
     }
 
-    /// Keeps a buffer, if there is one and it is of use. Otherwise it is freed, as it is if memory is refused.
+    /// Adds a buffer, if there is one. It is freed if it does not fit or if memory is refused.
     pub(crate) fn give_back(&mut self, vector: Option<Vec<u8>>)
         ensures { MatchOption vector (self.new ≡ self.old) (λ v. (self.new ≡ self.old)
             ⊎ ((self.new ≡ self.old ++ v ∷ []) × (length self.old < MOST_SPARES)
@@ -57,7 +57,7 @@ impl BufferPool {
         }
     }
 
-    /// Returns the buffer kept last, or an empty one.
+    /// Removes and returns the newest buffer, or returns a new, empty one if the pool is empty.
     pub(crate) fn take(&mut self) -> Vec<u8>
         ensures { (self.old ≡ self.new ++ result ∷ [])
             ⊎ ((self.old ≡ []) × (self.new ≡ []) × (result.items ≡ [])) }

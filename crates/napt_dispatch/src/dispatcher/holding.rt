@@ -1,4 +1,4 @@
-//! What is held for a worker and what it owes, and the progress of the inputs.
+//! Entries of the workers' queues, and how answers change the progress of the inputs.
 
 ghost use Rattle.std.specs.Prelude.{◌≡◌, ◌↔◌, ◌^◌, ◌<◌, true, false, [], length, IsOk, OnOk};
 ghost use Rattle.napt_dispatch.specs.{RunProgresses.progress_in, DispatcherInvariants.{NoteAnswerPost, Resolves, queue_waits, DispatcherIsDone}};
@@ -10,16 +10,16 @@ use napt_sequential::{LegTrace, TracedAnswer};
 use napt_translate::{Answer, End, Leg};
 use napt_wire::Way;
 
-/// A leg, or a placeholder for one, that was not offered to its worker yet.
+/// A leg, or a placeholder for one, that has not been offered to its worker yet.
 #[derive(Drop)]
 pub(crate) enum PendingLeg {
     Ready(Leg),
-    /// A placeholder for the second leg of the input with this number (RFC 4787, REQ-9). The answer to the first leg decides
-    /// whether there is a second one.
+    /// A placeholder for the second leg of the input with this number (RFC 4787, REQ-9). The answer
+    /// to the first leg decides whether there is a second one.
     Place(u64),
 }
 
-/// What is held first behind the legs of a worker's next message.
+/// The kind of the first entry after the legs of a worker's next message.
 #[derive(Clone, Copy)]
 pub(crate) enum QueueHead {
     Nothing,
@@ -28,7 +28,7 @@ pub(crate) enum QueueHead {
     FirstPlace(u64),
 }
 
-/// A leg that was offered to a worker and is not answered yet.
+/// A leg that was offered to a worker and that is not answered yet.
 #[derive(Clone, Copy)]
 pub(crate) struct AwaitedLeg {
     pub(crate) way: Way,
@@ -37,7 +37,7 @@ pub(crate) struct AwaitedLeg {
 }
 
 impl<P: LegTrace> Dispatcher<P> {
-    /// Returns whether there is nothing to put into a message: nothing is held, or the placeholder held first waits.
+    /// Returns whether a queue with this head is empty or begins with a placeholder that waits.
     pub(super) fn waits(&self, front: QueueHead) -> bool
         ensures { result ≡ queue_waits (progress_in self.now.progress) front }
     {
@@ -48,7 +48,7 @@ impl<P: LegTrace> Dispatcher<P> {
         }
     }
 
-    /// Takes out the second leg for a placeholder that does not wait, if its input has one.
+    /// Removes and returns the second leg for a placeholder that no longer waits, if there is one.
     pub(super) fn second_leg(&mut self, front: QueueHead) -> Option<Leg>
         requires { queue_waits (progress_in self.old.progress) front ≡ false }
         ensures same { self.new.queues ≡ self.old.queues }
@@ -60,7 +60,7 @@ impl<P: LegTrace> Dispatcher<P> {
         }
     }
 
-    /// Notes an answer taken from worker `w`. Fails if an incoming leg goes onward, or if no such answer is awaited.
+    /// Records an answer of worker `w`. Fails if no such answer is awaited: no worker gives it.
     #[inline(always)]
     pub(super) fn note(&mut self, w: u32, told: TracedAnswer<P>) -> Result<(), ImpossibleAnswer>
         requires { w < length self.old.queues }
@@ -85,14 +85,14 @@ impl<P: LegTrace> Dispatcher<P> {
         Ok(())
     }
 
-    /// Returns whether nothing is held, and every worker has answered every leg.
+    /// Returns whether nothing is held and every worker has answered every leg.
     pub(super) fn is_done(&self) -> bool
         ensures { (result ≡ true) ↔ DispatcherIsDone self.now }
     {
         self.queues.none_held() && self.queues.none_owed()
     }
 
-    /// Checks that every outcome has left. It has once nothing is held and every leg is answered.
+    /// Fails unless every outcome has been written, as it is once nothing is held or owed.
     pub(super) fn check_left(&self) -> Result<(), ImpossibleAnswer>
         ensures none { IsOk result ↔ (self.now.progress.under_way ≡ []) }
         ensures few { OnOk result (length self.now.progress.left < 2 ^ 64) }

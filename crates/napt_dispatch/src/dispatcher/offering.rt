@@ -1,4 +1,4 @@
-//! Offering legs to the workers, many in one message.
+//! Offers legs to the workers, many in one message.
 
 ghost use Rattle.std.specs.Prelude.{◌≡◌, ◌⊎◌, ◌+◌, ◌<◌, ◌≤◌, ◌++◌, true, length, slice_set, vec_len, IfOk, IfErr, OnOk, OnErr, MatchBool};
 ghost use Rattle.napt_pool.specs.Pools.{initial_machines, accepted_items, taken_answers, capacity_of};
@@ -14,8 +14,8 @@ use napt_translate::Leg;
 use std::alloc::{AllocError, Global};
 
 impl<P: LegTrace> Dispatcher<P> {
-    /// Puts what is held first for worker `w` behind the legs of its next message, or removes a placeholder without a leg. Returns
-    /// `false` if neither is possible.
+    /// Moves the first held leg of worker `w` to the end of its next message, or removes a
+    /// placeholder whose input has no second leg. Returns `false` if neither is possible.
     fn ready_next(&mut self, w: u32) -> Result<bool, AllocError>
         requires { w < length self.old.queues }
         ensures many { OnOk result (length self.new.queues ≡ length self.old.queues) }
@@ -33,8 +33,8 @@ impl<P: LegTrace> Dispatcher<P> {
         Ok(true)
     }
 
-    /// Puts what is held for worker `w` behind the legs of its next message, up to the first placeholder that waits, or until there
-    /// are `most` legs.
+    /// Moves held legs of worker `w` to the end of its next message, up to the first placeholder
+    /// that still waits, or until the message has `most` legs.
     fn ready_all(&mut self, w: u32, most: usize) -> Result<(), AllocError>
         requires { w < length self.old.queues }
         ensures many { OnOk result (length self.new.queues ≡ length self.old.queues) }
@@ -52,8 +52,8 @@ impl<P: LegTrace> Dispatcher<P> {
         Ok(())
     }
 
-    /// Offers the legs held for worker `w` in one message, up to the first placeholder that waits, and as many as its ring has
-    /// room for.
+    /// Offers legs to worker `w` in one message: as many as its ring has room for, up to the first
+    /// placeholder that still waits.
     pub(super) fn offer_held<G: Gate>(
         &mut self,
         pool: &mut Pool<Worker<P>, G>,
@@ -77,7 +77,7 @@ impl<P: LegTrace> Dispatcher<P> {
         Ok(())
     }
 
-    /// Offers the legs held for all workers, as far as each can be offered now.
+    /// Offers to each worker the legs that it can be offered now.
     pub(super) fn offer_all<G: Gate>(
         &mut self,
         pool: &mut Pool<Worker<P>, G>,
@@ -94,7 +94,7 @@ impl<P: LegTrace> Dispatcher<P> {
     }
 }
 
-/// Offers legs to worker `w` in one message, with room for an answer to each.
+/// Offers legs to worker `w` in one message, which has room for an answer to each.
 fn send<P: LegTrace, G: Gate>(
     alloc: Global,
     pool: &mut Pool<Worker<P>, G>,

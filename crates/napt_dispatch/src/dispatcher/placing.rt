@@ -1,4 +1,4 @@
-//! Placing the legs of an input: the first one and a placeholder for the second are held for their workers.
+//! Reads an input and queues its first leg, and a placeholder for a second leg.
 
 ghost use Rattle.std.specs.Prelude.{◌≡◌, ◌+◌, ◌<◌, ◌≤◌, ◌∷◌, ◌++◌, [], Bool, length, slice_get, Ok, Err, Some, None, IfOk, IfErr, IfSome, OnOk};
 ghost use Rattle.napt_wire.specs.{declared.Side.TheVariants.Inside as InsideSide, Fields.destination, Packet.IsPacket, Reading.reading};
@@ -20,7 +20,7 @@ use napt_wire::{Cause, Packet, Side};
 use std::alloc::AllocError;
 
 impl<P: LegTrace> Dispatcher<P> {
-    /// Holds a placeholder at worker `to`, if there is one, for the second leg of the input with this number.
+    /// Queues a placeholder for the second leg of input `number` at worker `to`, if there is one.
     fn hold_place(&mut self, to: Option<u32>, number: u64) -> Result<(), AllocError>
         requires to { IfSome to (λ v. v < length self.old.queues) }
         requires room { many_held self.old.queues < 65536 }
@@ -40,7 +40,7 @@ impl<P: LegTrace> Dispatcher<P> {
         }
     }
 
-    /// Holds a first leg for worker `w`, and a placeholder at worker `to`, if there is one.
+    /// Queues a first leg for worker `w`, and a placeholder at worker `to`, if there is one.
     #[inline(always)]
     fn hold_first(&mut self, w: u32, leg: Leg, to: Option<u32>) -> Result<(), AllocError>
         requires place { w < length self.old.queues }
@@ -60,10 +60,11 @@ impl<P: LegTrace> Dispatcher<P> {
         self.hold_place(to, number)
     }
 
-    /// Notes that the input with this number is dropped at a time in ns and has no leg.
+    /// Records that input `number` has no leg and is dropped at time `now`, in ns, for `cause`.
     fn note_dropped(&mut self, number: u64, now: u64, cause: Cause) -> Result<(), ImpossibleAnswer>
         ensures same { self.new.queues ≡ self.old.queues }
-        ensures noted { OnOk result (ProgressIsWritten number (progress_refused (P.tells NoPassage) now cause)
+        ensures noted { OnOk result (ProgressIsWritten number
+            (progress_refused (P.tells NoPassage) now cause)
             self.old.progress self.new.progress) }
     {
         self.progress
@@ -71,8 +72,8 @@ impl<P: LegTrace> Dispatcher<P> {
         Ok(())
     }
 
-    /// Reads the input with this number, at a time in ns, and holds its first leg. Returns the worker that it is held for, if
-    /// the input has a leg.
+    /// Reads input `number` at time `now`, in ns, and queues its first leg. Returns the leg's
+    /// worker, or `None` if the input has no leg because its packet is dropped.
     #[inline(always)]
     pub(super) fn admit(
         &mut self,
@@ -116,7 +117,7 @@ impl<P: LegTrace> Dispatcher<P> {
     }
 }
 
-/// Returns the place in the pool of the address that a first leg may be answered onward to.
+/// Returns the pool index of the address at which a packet of this side may have its second leg.
 #[inline(always)]
 fn second_place(config: &Config, side: Side, packet: &Packet) -> Option<u32>
     ensures some { IfSome result (λ place. (side ≡ InsideSide)
@@ -125,7 +126,7 @@ fn second_place(config: &Config, side: Side, packet: &Packet) -> Option<u32>
         pool_place config.now (destination packet.now).address ≡ None }
     ensures reads { IsPacket packet.now }
 {
-    // called for its clause alone: the packet is one
+    // called for its clause alone: a `Packet` is always valid
     let _bytes = packet.bytes();
     match side {
         Side::Outside => None,
@@ -133,8 +134,8 @@ fn second_place(config: &Config, side: Side, packet: &Packet) -> Option<u32>
     }
 }
 
-/// Reads a packet from a side. Returns the place in the pool of the address that serves it and the packet, or why it is
-/// dropped.
+/// Reads a packet that arrived from `side`. Returns the pool index of the external address that
+/// serves it, and the packet, or the cause for which it is dropped.
 #[inline(always)]
 fn read_and_route(config: &Config, side: Side, bytes: Vec<u8>) -> Result<(u32, Packet), Cause>
     requires keeps { RulesInvariant config.now }

@@ -1,4 +1,4 @@
-//! The progress of an input.
+//! The progress of one input.
 
 ghost use Rattle.std.specs.Prelude.{◌≡◌, true, false, Some};
 ghost use Rattle.napt_sequential.specs.declared.passage.Passage.TheVariants.{Nothing as NoPassage};
@@ -11,20 +11,20 @@ use napt_translate::{End, Leg};
 use napt_wire::{Cause, Way};
 use std::mem;
 
-/// The progress of an input.
+/// The progress of an input. `P` is the record of a leg.
 #[derive(Drop)]
 pub(crate) enum InputProgress<P> {
-    /// The answer to the first leg, which goes this way, is awaited.
+    /// The answer to the first leg, which has this direction, is awaited.
     Awaited(Way),
-    /// The answer to the second leg is awaited. This is told of the first.
+    /// The answer to the second leg is awaited. Holds the record of the first leg.
     Returning(P),
-    /// The answer to the last leg, as it came, and what is told of the first leg and of the second. If the answer is onward, the
-    /// packet enters again by a second leg.
+    /// The leg that was answered last, its answer, and the records of the first and second leg. If
+    /// the answer is onward, the packet enters again by a second leg.
     Answered(AwaitedLeg, End, P, P),
 }
 
 impl<P: LegTrace> InputProgress<P> {
-    /// The progress of an input that is dropped at a time in ns and has no leg.
+    /// Returns the progress of an input that has no leg and is dropped at time `now`, in ns.
     pub(crate) fn refused(now: u64, cause: Cause) -> InputProgress<P>
         ensures { result ≡ progress_refused (P.tells NoPassage) now cause }
     {
@@ -35,8 +35,8 @@ impl<P: LegTrace> InputProgress<P> {
         InputProgress::Answered(none, End::Dropped(cause), P::none(), P::none())
     }
 
-    /// Returns what is told of the first leg and of the second, once this is told of a leg that goes this way. `None` if no
-    /// answer to such a leg is awaited.
+    /// Returns the records of the first and second leg, where `passage` is that of a leg with
+    /// direction `way`. `None` if no answer to such a leg is awaited.
     #[inline(always)]
     pub(crate) fn passages(&self, way: Way, passage: P) -> Option<(P, P)>
         ensures { result ≡ passages_after (P.tells NoPassage) self.now way passage }
@@ -61,7 +61,7 @@ impl<P: LegTrace> InputProgress<P> {
         }
     }
 
-    /// Returns whether it is not known yet if there is a second leg.
+    /// Returns whether it is still undecided if there is a second leg.
     pub(crate) fn is_unknown(&self) -> bool
         ensures { result ≡ is_unknown (Some self.now) }
     {
@@ -71,7 +71,7 @@ impl<P: LegTrace> InputProgress<P> {
         }
     }
 
-    /// Returns what the input came to, which is known.
+    /// Returns the result of the input, whose outcome must be known.
     #[inline(always)]
     pub(crate) fn into_departed(self) -> InputResult<P>
         requires { has_ended self ≡ true }
@@ -95,19 +95,19 @@ impl<P: LegTrace> InputProgress<P> {
     }
 }
 
-/// An input that was read and whose outcome has not left.
+/// An input that was read and whose outcome has not been written.
 #[derive(Drop)]
 pub(crate) struct OpenInput<P> {
     /// The arrival time, in ns.
     pub(crate) time: u64,
     pub(crate) progress: InputProgress<P>,
-    /// Whether a placeholder is held for the second leg. The outcome does not leave while there is one.
+    /// Whether a placeholder is held for the second leg. Until it is removed, the outcome stays.
     pub(crate) has_place: bool,
 }
 
 impl<P: LegTrace> OpenInput<P> {
-    /// Takes out the second leg (RFC 4787, REQ-9) of the input with this number, if it has one. Notes that the placeholder is
-    /// gone.
+    /// Removes and returns the second leg of this input, which has number `number`, if it has one
+    /// (RFC 4787, REQ-9). Clears the mark of the placeholder.
     pub(crate) fn second_leg(&mut self, number: u64) -> Option<Leg>
         requires { is_unknown (Some self.old.progress) ≡ false }
         ensures { IsSecondOf number self.old self.new result }

@@ -1,4 +1,4 @@
-//! Reading the inputs in their order.
+//! Reads the inputs in their order.
 
 ghost use Rattle.std.specs.Prelude.{◌≡◌, ◌<◌, ◌≤◌, ◌/◌, ◌%◌, ◌==◌, cond, true, [], length, Some, None, IfErr, IfSome, OnOk, MatchResult};
 ghost use Rattle.napt_config.specs.Rules.{RulesInvariant};
@@ -17,12 +17,12 @@ use napt_pool::{Gate, Pool};
 use napt_sequential::{Input, InputSource, LegTrace, RunFault, way_from};
 use std::sync::Wait;
 
-/// The number of inputs between two looks at a worker's answers. The workers take turns. A look may fetch a cache line that
-/// another processor wrote, so fewer looks cost less.
+/// How many inputs are read from one check of a worker's answers to the next. The workers take
+/// turns. A check may fetch a cache line that another processor wrote, so fewer checks cost less.
 const LOOK_EACH: u64 = 64;
 
 impl<P: LegTrace> Dispatcher<P> {
-    /// Returns worker `place` again, if there is one and the legs held for it are due as a message.
+    /// Returns `place` if it is a worker whose queued legs are now due as a message.
     #[inline(always)]
     fn due(&self, place: Option<u32>) -> Option<u32>
         requires { IfSome place (λ w. w < length self.now.queues) }
@@ -35,7 +35,7 @@ impl<P: LegTrace> Dispatcher<P> {
         Some(w)
     }
 
-    /// Looks at a worker, if there is one.
+    /// Takes answers from a worker and offers it legs, if there is one.
     #[inline(always)]
     fn look_if<R: Wait, G: Gate>(
         &mut self,
@@ -53,7 +53,7 @@ impl<P: LegTrace> Dispatcher<P> {
         }
     }
 
-    /// Reads an input at a time in ns, and looks at the worker of its leg, if a message is due, and at the one whose turn it is.
+    /// Reads an input at `now`, in ns. Serves its worker if a message is due, and another in turn.
     #[inline(always)]
     fn serve<R: Wait, G: Gate>(
         &mut self,
@@ -80,7 +80,7 @@ impl<P: LegTrace> Dispatcher<P> {
         Ok(())
     }
 
-    /// Makes room for one more input. If a device is asked for it, lets every outcome leave and settles them first.
+    /// Makes room for one more input. Before a device is read, writes and flushes every outcome.
     #[inline(always)]
     fn make_ready<R: Wait, G: Gate, D: OutcomeSink<Told = P>>(
         &mut self,
@@ -105,8 +105,8 @@ impl<P: LegTrace> Dispatcher<P> {
         self.advance_until(rt, pool, departures, StopCondition::Room)
     }
 
-    /// Returns the next input, which may use the buffer of a packet that has left. A device is asked for it only if every
-    /// outcome has left and is settled; the departures are passed for that clause alone.
+    /// Returns the next input, which may use a pooled buffer. A device is read only if every
+    /// outcome has been written and flushed; `_departures` is passed for that clause alone.
     #[inline(always)]
     fn next_input<A: InputSource, D: OutcomeSink<Told = P>>(
         &mut self,
@@ -122,7 +122,7 @@ impl<P: LegTrace> Dispatcher<P> {
         arrivals.next(spare)
     }
 
-    /// Reads the inputs in their order until their end or a fault, and takes answers in between. Their bytes are moved.
+    /// Reads the inputs until their end or a fault and takes answers in between. Moves their bytes.
     fn read_all<R: Wait, G: Gate, A: InputSource, D: OutcomeSink<Told = P>>(
         &mut self,
         rt: &R,
@@ -155,7 +155,7 @@ impl<P: LegTrace> Dispatcher<P> {
         unreachable!()
     }
 
-    /// Reads the inputs until their end or a fault, and lets every outcome leave.
+    /// Reads the inputs until their end or a fault, and writes and flushes every outcome.
     pub(super) fn pass_all<R: Wait, G: Gate, A: InputSource, D: OutcomeSink<Told = P>>(
         &mut self,
         rt: &R,
@@ -178,12 +178,12 @@ impl<P: LegTrace> Dispatcher<P> {
     }
 }
 
-/// How the inputs ended.
+/// How reading the inputs ended.
 #[derive(Drop)]
 pub(crate) struct EndOfInputs<F> {
-    /// The greatest clock of the inputs and of the state before them, in ns.
+    /// The greatest clock of the starting state and of the inputs, in ns.
     pub(crate) clock: u64,
-    /// The fault of the arrivals, if they failed.
+    /// The fault of the input source, if it failed.
     pub(crate) fault: Option<F>,
 }
 
@@ -197,7 +197,7 @@ impl<F> EndOfInputs<F> {
     }
 }
 
-/// Returns the worker whose answers are looked at after the input with this number, if it is anyone's turn.
+/// Returns the worker, if any, whose answers are to be checked after the input `number`.
 #[inline(always)]
 fn turn_after(number: u64, count: u32) -> Option<u32>
     requires { 0 < count }

@@ -19,23 +19,23 @@ use std::collections::VecDeque;
 use std::marker::Model;
 use std::mem;
 
-/// The most inputs that were read and whose outcomes have not left. No input is read while there are this many.
+/// The largest number of open inputs. No input is read while there are this many.
 const WINDOW: usize = 131_072;
 
-/// The progress of the open inputs: those that were read and whose outcomes have not left, at most 131,072. Only the number
-/// of the others is kept; contracts see their outcomes.
+/// The progress of at most 131,072 open inputs: those that were read and whose outcomes have not
+/// been written. Of the others, only the number is stored; contracts also see their results.
 #[derive(Drop)]
 pub(crate) struct RunProgress<P> {
-    /// The number of outcomes that have left. It is the number of the first open input.
+    /// The number of outcomes handed to the sink, and so the number of the first open input.
     first: u64,
     under_way: VecDeque<OpenInput<P>>,
-    /// What has left. It takes no memory: only proofs read it.
+    /// The results handed to the sink. It takes no memory: only proofs read it.
     past: Log<u64, InputResult<P>>,
-    /// The buffers of packets that have left.
+    /// The buffers of packets that have been written, for later inputs.
     spares: BufferPool,
-    /// Whether the progress of an input was set for whose second leg a placeholder is held.
+    /// Whether there is new progress of an input for whose second leg a placeholder is held.
     is_freed: bool,
-    /// Whether an outcome may have become ready to leave.
+    /// Whether an outcome may have become ready to be written.
     is_told: bool,
 }
 
@@ -56,7 +56,7 @@ impl<P> Model for RunProgress<P> {
 }
 
 impl<P: LegTrace> RunProgress<P> {
-    /// The progress before the first input.
+    /// Returns the progress before the first input.
     pub(crate) fn new(alloc: Global) -> RunProgress<P>
         ensures left { result.left ≡ [] }
         ensures under_way { result.under_way ≡ [] }
@@ -78,21 +78,21 @@ impl<P: LegTrace> RunProgress<P> {
         self.under_way.len() < WINDOW
     }
 
-    /// Keeps the buffer of a packet that has left, if there is one.
+    /// Adds the buffer of a packet that has been written to the pool, if there is one.
     fn keep_spare(&mut self, vector: Option<Vec<u8>>)
         ensures { self.new ≡ self.old }
     {
         self.spares.give_back(vector);
     }
 
-    /// Returns a buffer for an input to come.
+    /// Returns a buffer for a later input.
     pub(crate) fn spare(&mut self) -> Vec<u8>
         ensures { self.new ≡ self.old }
     {
         self.spares.take()
     }
 
-    /// Returns whether the outcome of every input that was read has left.
+    /// Returns whether the outcome of every input that was read has been written.
     pub(crate) fn is_empty(&self) -> bool
         ensures none { (result ≡ true) ↔ (self.now.under_way ≡ []) }
         ensures few { length self.now.left < 2 ^ 64 }
@@ -100,8 +100,8 @@ impl<P: LegTrace> RunProgress<P> {
         self.under_way.is_empty()
     }
 
-    /// Opens the next input, which arrived at a time in ns, and whose first leg goes this way. Returns its number, which is below
-    /// `u64::MAX`. Fails where memory is refused, or after 2^64 - 1 inputs.
+    /// Opens the next input, which arrived at `time`, in ns, and whose first leg goes `way`.
+    /// Returns its number, below `u64::MAX`. Fails if memory is refused, or after 2^64 - 1 inputs.
     #[inline(always)]
     pub(crate) fn expect(&mut self, time: u64, way: Way) -> Result<u64, RunFault>
         requires { length self.old.under_way < 131072 }
@@ -127,7 +127,7 @@ impl<P: LegTrace> RunProgress<P> {
         }
     }
 
-    /// Returns the index of the open input with this number. `None` if its outcome has left or it was not read.
+    /// Returns the index of open input `number`, or `None` if it has left or was not read.
     #[inline(always)]
     fn place_of(&self, number: u64) -> Option<usize>
         ensures { MatchOption result ((is_unknown (slice_get (progress_in self.now) number) ≡ true)
@@ -147,7 +147,7 @@ impl<P: LegTrace> RunProgress<P> {
         }
     }
 
-    /// Sets the progress of the open input with this number. Fails if there is none, since no worker answers for it.
+    /// Sets the progress of open input `number`. Fails if there is none: no worker answers for it.
     #[inline(always)]
     pub(crate) fn write(
         &mut self,
@@ -169,8 +169,8 @@ impl<P: LegTrace> RunProgress<P> {
         Ok(())
     }
 
-    /// Returns what is told of the legs of the open input with this number, once this is told of one that goes this way. `None`
-    /// if no answer to such a leg is awaited, since no worker gives one.
+    /// Returns the records of both legs of open input `number`, where `passage` is that of a leg
+    /// with direction `way`. `None` if no answer to such a leg is awaited: no worker gives one.
     #[inline(always)]
     pub(crate) fn passages(&self, number: u64, way: Way, passage: P) -> Option<(P, P)>
         ensures { IfSome result (AnswersTo (P.tells NoPassage) self.now number way passage) }
@@ -181,22 +181,22 @@ impl<P: LegTrace> RunProgress<P> {
         self.under_way[place].progress.passages(way, passage)
     }
 
-    /// Returns whether the progress of an input was set since the last call for whose second leg a placeholder is held, which may
-    /// then be offered.
+    /// Returns whether, since the last call, an input with a placeholder made progress, so that its
+    /// second leg may be offered.
     pub(crate) fn take_freed(&mut self) -> bool
         ensures { self.new ≡ self.old }
     {
         mem::replace(&mut self.is_freed, false)
     }
 
-    /// Returns whether an outcome may have become ready to leave since the last call.
+    /// Returns whether an outcome may have become ready to be written since the last call.
     pub(crate) fn take_told(&mut self) -> bool
         ensures { self.new ≡ self.old }
     {
         mem::replace(&mut self.is_told, false)
     }
 
-    /// Notes that a placeholder is held for the second leg of the input with this number.
+    /// Records that a placeholder is held for the second leg of input `number`.
     pub(crate) fn note_place(&mut self, number: u64)
         requires { length self.old.left ≤ number }
         ensures { InputIsMarked number true self.old self.new }
@@ -206,7 +206,7 @@ impl<P: LegTrace> RunProgress<P> {
         }
     }
 
-    /// Returns whether it is not known yet if the input with this number has a second leg.
+    /// Returns whether it is still undecided if input `number` has a second leg.
     pub(crate) fn is_unknown(&self, number: u64) -> bool
         ensures { result ≡ is_unknown (slice_get (progress_in self.now) number) }
     {
@@ -216,7 +216,7 @@ impl<P: LegTrace> RunProgress<P> {
         }
     }
 
-    /// Takes out the second leg of the input with this number, if it has one. The caller drops the placeholder.
+    /// Removes and returns the second leg of input `number`, if any. Clears the placeholder's mark.
     pub(crate) fn second_leg(&mut self, number: u64) -> Option<Leg>
         requires { is_unknown (slice_get (progress_in self.old) number) ≡ false }
         ensures { IsSecond number self.old self.new result }
@@ -228,7 +228,7 @@ impl<P: LegTrace> RunProgress<P> {
         self.under_way[place].second_leg(number)
     }
 
-    /// Returns whether the first open input has ended, and no placeholder is held for its second leg.
+    /// Returns whether the first open input has ended and has no placeholder for a second leg.
     fn may_leave(&self) -> bool
         ensures { (result ≡ true) ↔ FirstMayLeave self.now.under_way }
     {
@@ -238,7 +238,7 @@ impl<P: LegTrace> RunProgress<P> {
         }
     }
 
-    /// Takes out what the first open input, which may leave, came to, with its arrival time.
+    /// Removes the first open input, which may leave. Returns its arrival time, in ns, and result.
     #[inline(always)]
     fn pop(&mut self) -> (u64, InputResult<P>)
         requires { FirstMayLeave self.old.under_way }
@@ -253,7 +253,7 @@ impl<P: LegTrace> RunProgress<P> {
         (time, departed)
     }
 
-    /// Lets the outcomes of the first open inputs leave, up to the first that may not leave yet.
+    /// Writes the results of the first open inputs, up to the first that may not leave yet.
     pub(crate) fn hand_over<D: OutcomeSink<Told = P>>(
         &mut self,
         departures: &mut D,

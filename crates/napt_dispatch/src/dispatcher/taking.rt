@@ -1,4 +1,4 @@
-//! Taking the answers of the workers, and letting the outcomes leave.
+//! Takes the answers of the workers and writes the outcomes.
 
 ghost use Rattle.std.specs.Prelude.{◌≡◌, ◌↔◌, ◌+◌, ◌⊎◌, ◌^◌, ◌<◌, [], length, true, IfOk, IfSome, OnOk};
 ghost use Rattle.napt_pool.specs.Pools.{initial_machines};
@@ -14,7 +14,7 @@ use napt_sequential::{LegTrace, RunFault, TracedAnswer};
 use napt_translate::Leg;
 use std::sync::Wait;
 
-/// The state up to which a dispatcher goes on without reading an input.
+/// The condition under which a dispatcher stops taking answers.
 #[derive(Clone, Copy)]
 pub(super) enum StopCondition {
     /// One more input may be read.
@@ -24,7 +24,7 @@ pub(super) enum StopCondition {
 }
 
 impl<P: LegTrace> Dispatcher<P> {
-    /// Notes answers of worker `w` in their order, and takes them out.
+    /// Records answers of worker `w` in their order, and removes them from `answers`.
     fn note_each(
         &mut self,
         w: u32,
@@ -42,7 +42,7 @@ impl<P: LegTrace> Dispatcher<P> {
         Ok(())
     }
 
-    /// Notes the answers of a reply of worker `w`. Returns whether there were any.
+    /// Records the answers of one batch of worker `w`. Returns whether there were any.
     fn note_all(
         &mut self,
         w: u32,
@@ -50,7 +50,8 @@ impl<P: LegTrace> Dispatcher<P> {
     ) -> Result<bool, ImpossibleAnswer>
         requires { w < length self.old.queues }
         ensures many { OnOk result (length self.new.queues ≡ length self.old.queues) }
-        ensures noted { OnOk result (NoteAnswersPost P.tells w answered.answers.items self.old self.new) }
+        ensures noted { OnOk result (NoteAnswersPost P.tells w answered.answers.items self.old
+            self.new) }
         ensures told { IfOk result (HasTaken self.old self.new) }
     {
         let mut answered = answered;
@@ -62,7 +63,7 @@ impl<P: LegTrace> Dispatcher<P> {
         Ok(true)
     }
 
-    /// Takes and notes the next answers of worker `w`, if they are there.
+    /// Takes and records the next answers of worker `w`. Returns whether there were any.
     fn take_reply<R: Wait, G: Gate>(
         &mut self,
         rt: &R,
@@ -84,7 +85,7 @@ impl<P: LegTrace> Dispatcher<P> {
         }
     }
 
-    /// Takes and notes the answers of worker `w` that are there. Returns whether there were any.
+    /// Takes and records all available answers of worker `w`. Returns whether there were any.
     fn take_there<R: Wait, G: Gate>(
         &mut self,
         rt: &R,
@@ -107,7 +108,7 @@ impl<P: LegTrace> Dispatcher<P> {
         Ok(any)
     }
 
-    /// Takes the answers of all workers that are there. Returns whether there were any.
+    /// Takes and records all available answers of all workers. Returns whether there were any.
     fn take_all_there<R: Wait, G: Gate>(
         &mut self,
         rt: &R,
@@ -127,8 +128,8 @@ impl<P: LegTrace> Dispatcher<P> {
         Ok(any)
     }
 
-    /// Waits until there is an answer, and takes all that are there. No leg that could be offered is held while it waits. Fails if
-    /// no worker has an answer to give.
+    /// Waits for an answer and takes all that are available. Every leg that could be offered must
+    /// have been offered. Fails if no worker owes an answer.
     fn take_some<R: Wait, G: Gate>(
         &mut self,
         rt: &R,
@@ -152,8 +153,8 @@ impl<P: LegTrace> Dispatcher<P> {
         unreachable!()
     }
 
-    /// Offers the legs that can be offered, takes answers, waiting for one if there is none yet, and offers those that can then
-    /// be offered.
+    /// Offers the legs that can be offered, takes answers, waiting until there is one, and offers
+    /// the legs that can then be offered.
     fn advance<R: Wait, G: Gate>(
         &mut self,
         rt: &R,
@@ -168,7 +169,7 @@ impl<P: LegTrace> Dispatcher<P> {
         self.offer_all(pool)
     }
 
-    /// Lets the outcomes of the first inputs leave, up to the first input that has not ended. Only the contract uses the pool.
+    /// Writes the outcomes of the first inputs, up to one not ready. Only the contract uses `pool`.
     fn hand_over<G: Gate, D: OutcomeSink<Told = P>>(
         &mut self,
         pool: &Pool<Worker<P>, G>,
@@ -184,14 +185,14 @@ impl<P: LegTrace> Dispatcher<P> {
         }
     }
 
-    /// Returns whether one more input may be read: there is room for it and for two more legs or placeholders.
+    /// Returns whether there is room for one more input and for two more legs or placeholders.
     pub(super) fn has_room(&self) -> bool
         ensures { (result ≡ true) ↔ DispatcherHasRoom self.now }
     {
         self.queues.has_room() && self.progress.has_room()
     }
 
-    /// Returns whether a state is reached.
+    /// Returns whether a stop condition holds.
     fn has_reached(&self, until: StopCondition) -> bool
         ensures { (result ≡ true) ↔ HasReached until self.now }
     {
@@ -201,7 +202,7 @@ impl<P: LegTrace> Dispatcher<P> {
         }
     }
 
-    /// Takes answers, offers legs and lets outcomes leave until a state is reached.
+    /// Takes answers, offers legs and writes outcomes until a stop condition holds.
     pub(super) fn advance_until<R: Wait, G: Gate, D: OutcomeSink<Told = P>>(
         &mut self,
         rt: &R,
@@ -224,7 +225,7 @@ impl<P: LegTrace> Dispatcher<P> {
         unreachable!()
     }
 
-    /// Goes on until every outcome has left, and settles them.
+    /// Continues until every outcome has been written, and flushes the sink.
     pub(super) fn settle<R: Wait, G: Gate, D: OutcomeSink<Told = P>>(
         &mut self,
         rt: &R,
@@ -248,8 +249,8 @@ impl<P: LegTrace> Dispatcher<P> {
         }
     }
 
-    /// Takes the answers of worker `w` that are there, and offers it the legs that can then be offered. If a placeholder waited
-    /// for one of the answers, offers those of all workers.
+    /// Takes the available answers of worker `w`, and offers it the legs that can then be offered.
+    /// If a placeholder waited for one of the answers, offers legs to all workers.
     #[inline(never)]
     pub(super) fn look_at<R: Wait, G: Gate>(
         &mut self,

@@ -1,4 +1,4 @@
-//! The vectors of batches that were answered, for batches to come.
+//! A pool of the vectors of answered batches, which later batches use again.
 
 ghost use Rattle.std.specs.Prelude.{◌≡◌, []};
 
@@ -7,7 +7,7 @@ use napt_sequential::{LegTrace, TracedAnswer};
 use napt_translate::Leg;
 use std::alloc::Global;
 
-/// The vectors of batches that were answered. A batch that uses them needs no allocation.
+/// A pool of the vectors of answered batches. A batch that uses them needs no allocation.
 #[derive(Drop)]
 pub(crate) struct VectorPool<P> {
     alloc: Global,
@@ -15,7 +15,7 @@ pub(crate) struct VectorPool<P> {
 }
 
 impl<P: LegTrace> VectorPool<P> {
-    /// No vectors.
+    /// Returns an empty pool.
     pub(crate) fn new(alloc: Global) -> VectorPool<P> {
         VectorPool {
             alloc,
@@ -23,12 +23,12 @@ impl<P: LegTrace> VectorPool<P> {
         }
     }
 
-    /// Keeps the vectors of a batch. They are freed if memory is refused.
+    /// Adds the vectors of a batch. They are freed if memory is refused.
     pub(crate) fn give_back(&mut self, answered: AnsweredBatch<Leg, TracedAnswer<P>>) {
         let _ = self.free.push(answered);
     }
 
-    /// Returns the vectors kept last, or new ones. Both are empty.
+    /// Removes and returns the newest vectors, or returns new ones. Both are empty.
     pub(crate) fn take(&mut self) -> AnsweredBatch<Leg, TracedAnswer<P>>
         ensures { result.spent.items ≡ [] }
     {

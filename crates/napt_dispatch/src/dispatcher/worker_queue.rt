@@ -14,19 +14,19 @@ use std::collections::VecDeque;
 use std::marker::Model;
 use std::mem;
 
-/// The most legs that are put into a message as they come. Those behind them wait in a queue.
+/// The largest number of legs that enter the next message directly. Later ones wait in a queue.
 const MOST_READY: usize = 64;
 
-/// The queues of one worker. Contracts see a count and three lists.
+/// The queues of one worker. Contracts see a `WorkerQueueModel`.
 #[derive(Drop)]
 pub(crate) struct WorkerQueue {
     /// The number of legs offered to the worker.
     offered: u64,
     /// The legs that the worker has not answered yet, oldest first.
     owed: VecDeque<AwaitedLeg>,
-    /// The first legs not offered yet, oldest first: those of the next message.
+    /// The legs of the next message, oldest first. None of them has been offered.
     ready: Vec<Leg>,
-    /// The legs and placeholders behind these, oldest first.
+    /// The legs and placeholders that follow those of the next message, oldest first.
     held: VecDeque<PendingLeg>,
 }
 
@@ -44,7 +44,7 @@ impl Model for WorkerQueue {
 }
 
 impl WorkerQueue {
-    /// Empty queues, before the first offer.
+    /// Returns empty queues, as they are before the first offer.
     pub(crate) fn new(alloc: Global) -> WorkerQueue
         ensures { result ≡ unused_queue }
     {
@@ -63,8 +63,8 @@ impl WorkerQueue {
         self.offered
     }
 
-    /// Holds a leg or a placeholder behind everything held. A leg is one of the next message, unless something is held behind
-    /// that, or it has as many as it may.
+    /// Appends a leg or a placeholder. A leg enters the next message directly if nothing is held
+    /// after that message and it has fewer than 64 legs.
     #[inline(always)]
     pub(crate) fn push(&mut self, held: PendingLeg) -> Result<(), AllocError>
         ensures ok { OnOk result (HoldPost (held ∷ []) self.old self.new) }
@@ -82,7 +82,7 @@ impl WorkerQueue {
         }
     }
 
-    /// Holds a leg or a placeholder behind everything held, and not in the next message.
+    /// Appends a leg or a placeholder to the queue that follows the next message.
     #[inline(never)]
     fn push_second(&mut self, held: PendingLeg) -> Result<(), AllocError>
         ensures ok { OnOk result (self.new
@@ -93,7 +93,7 @@ impl WorkerQueue {
         Ok(())
     }
 
-    /// Returns what is held first behind the legs of the next message.
+    /// Returns the kind of the first entry after the legs of the next message.
     pub(crate) fn front(&self) -> QueueHead
         ensures { result ≡ front_of self.now.held }
     {
@@ -104,7 +104,7 @@ impl WorkerQueue {
         }
     }
 
-    /// Puts the first leg behind those of the next message there too. Where a placeholder is first, `second` stands for it.
+    /// Moves the first held leg into the next message, or `second` if a placeholder is first.
     pub(crate) fn ready_first(&mut self, second: Option<Leg>) -> Result<(), AllocError>
         ensures readied { OnOk result (self.new ≡ queue_readied second self.old) }
         ensures fewer { held_legs_count self.new ≤ held_legs_count self.old }
@@ -120,8 +120,8 @@ impl WorkerQueue {
         Ok(())
     }
 
-    /// Puts the legs that are first behind those of the next message there too, up to the first placeholder, or until there are
-    /// `most`.
+    /// Moves held legs to the end of the next message, up to the first placeholder or until the
+    /// message has `most` legs.
     pub(crate) fn ready_legs(&mut self, most: usize) -> Result<(), AllocError>
         ensures { MovesLegs self.old self.new }
     {
@@ -135,15 +135,15 @@ impl WorkerQueue {
         self.ready.len()
     }
 
-    /// Returns the number of legs and placeholders held.
+    /// Returns the number of legs and placeholders that are not offered yet.
     pub(crate) fn held_count(&self) -> usize
         ensures { result ≡ held_legs_count self.now }
     {
         self.ready.len() + self.held.len()
     }
 
-    /// Takes out the first `count` legs of the next message. Counts them as offered, and notes them as not answered yet. They
-    /// are in the vector that held all, if these are all, and the vector `none` is in its place.
+    /// Removes and returns the first `count` legs of the next message, and records them as offered
+    /// and owed. If these are all legs, returns their vector and replaces it by `none`.
     pub(crate) fn offer_ready(&mut self, count: usize, none: Vec<Leg>) -> Result<Vec<Leg>, RunFault>
         requires count { count ≤ length self.old.ready }
         requires none { none.items ≡ [] }
@@ -168,7 +168,7 @@ impl WorkerQueue {
         }
     }
 
-    /// Takes out the oldest leg not answered yet, if there is one.
+    /// Removes and returns the oldest leg that is not answered yet, if there is one.
     pub(crate) fn note_answer(&mut self) -> Option<AwaitedLeg>
         ensures first { MatchOption result (self.old.owed ≡ [])
             (λ owed. self.old.owed ≡ owed ∷ self.new.owed) }
@@ -177,7 +177,7 @@ impl WorkerQueue {
         self.owed.pop_front()
     }
 
-    /// Returns the number of legs not answered yet.
+    /// Returns the number of legs that are not answered yet.
     pub(crate) fn many_owed(&self) -> usize
         ensures { result ≡ length self.now.owed }
     {
@@ -185,7 +185,7 @@ impl WorkerQueue {
     }
 }
 
-/// Notes legs as not answered yet.
+/// Appends legs to those that are not answered yet.
 fn note_owed(owed: &mut VecDeque<AwaitedLeg>, legs: &[Leg]) -> Result<(), AllocError>
     ensures { OnOk result (owed.new.items ≡ owed.old.items ++ map owed_of legs.now) }
 {
@@ -198,7 +198,7 @@ fn note_owed(owed: &mut VecDeque<AwaitedLeg>, legs: &[Leg]) -> Result<(), AllocE
     Ok(())
 }
 
-/// Moves the legs that are held first behind those that are ready, up to the first placeholder, or until `most` are ready.
+/// Moves legs from `held` to the end of `ready`, up to a placeholder or until `most` are ready.
 fn move_legs(
     held: &mut VecDeque<PendingLeg>,
     ready: &mut Vec<Leg>,
@@ -223,8 +223,8 @@ fn move_legs(
     Ok(())
 }
 
-/// Takes out the first `count` legs. They are in the vector that held all, if these are all, and the vector `none` is in its
-/// place.
+/// Removes and returns the first `count` legs. If they are all of them, their vector is returned
+/// and `none` replaces it.
 fn take_first(legs: &mut Vec<Leg>, count: usize, none: Vec<Leg>) -> Result<Vec<Leg>, AllocError>
     requires count { count ≤ vec_len legs.old }
     requires none { none.items ≡ [] }

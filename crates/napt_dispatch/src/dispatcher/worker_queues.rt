@@ -11,15 +11,15 @@ use napt_translate::Leg;
 use std::alloc::{AllocError, Global};
 use std::marker::Model;
 
-/// The most legs and placeholders held for all workers together. No input is read while fewer than two more would fit.
+/// The largest total of held legs and placeholders. No input is read unless two more would fit.
 const MOST_HELD: u64 = 65_536;
 
-/// The queues of 1 to 4,294,967,295 workers, which hold at most 65,536 legs and placeholders together. Contracts see the
-/// queues in the order of the workers.
+/// The queues of 1 to 4,294,967,295 workers, which hold at most 65,536 legs and placeholders in
+/// total. Contracts see the list of queues, in the order of the workers.
 #[derive(Drop)]
 pub(crate) struct WorkerQueues {
     queues: Vec<WorkerQueue>,
-    /// The number of legs and placeholders held in all queues.
+    /// The number of legs and placeholders that are held in all queues.
     many: u64,
 }
 
@@ -35,7 +35,7 @@ impl Model for WorkerQueues {
 }
 
 impl WorkerQueues {
-    /// Empty queues for a number of workers.
+    /// Returns empty queues for `workers` workers.
     pub(crate) fn new(alloc: Global, workers: u32) -> Result<WorkerQueues, AllocError>
         requires { 0 < workers }
         ensures { IfOk result (λ all. all ≡ replicate workers unused_queue) }
@@ -55,14 +55,14 @@ impl WorkerQueues {
         self.queues.len() as u32
     }
 
-    /// Returns whether two more legs or placeholders may be held.
+    /// Returns whether there is room for two more legs or placeholders.
     pub(crate) fn has_room(&self) -> bool
         ensures { (result ≡ true) ↔ (many_held self.now + 2 ≤ 65536) }
     {
         self.many + 2 <= MOST_HELD
     }
 
-    /// Holds a leg or a placeholder for worker `w`, behind everything held for it.
+    /// Appends a leg or a placeholder to the queue of worker `w`.
     #[inline(always)]
     pub(crate) fn push(&mut self, w: u32, held: PendingLeg) -> Result<(), AllocError>
         requires place { w < length self.old }
@@ -77,7 +77,7 @@ impl WorkerQueues {
         Ok(())
     }
 
-    /// Returns what is held first for worker `w`, behind the legs of its next message.
+    /// Returns the kind of the first entry after the legs of the next message of worker `w`.
     pub(crate) fn front(&self, w: u32) -> QueueHead
         requires { w < length self.now }
         ensures { result ≡ front_of (queue_of self.now w).held }
@@ -85,8 +85,8 @@ impl WorkerQueues {
         self.queues[w as usize].front()
     }
 
-    /// Puts what is held first for worker `w` behind the legs of its next message. Where that is a placeholder, `second` stands
-    /// for it.
+    /// Moves the first held leg of worker `w` to the end of its next message. A placeholder is
+    /// removed, and `second`, if there is one, enters the message in its stead.
     pub(crate) fn ready_first(&mut self, w: u32, second: Option<Leg>) -> Result<(), AllocError>
         requires { w < length self.old }
         ensures many { length self.new ≡ length self.old }
@@ -99,8 +99,8 @@ impl WorkerQueues {
         done
     }
 
-    /// Puts the legs that are first for worker `w` behind those of its next message there too, up to the first placeholder, or until
-    /// there are `most`.
+    /// Moves held legs of worker `w` to the end of its next message, up to the first placeholder or
+    /// until the message has `most` legs.
     pub(crate) fn ready_legs(&mut self, w: u32, most: usize) -> Result<(), AllocError>
         requires { w < length self.old }
         ensures many { length self.new ≡ length self.old }
@@ -118,8 +118,8 @@ impl WorkerQueues {
         self.queues[w as usize].many_ready()
     }
 
-    /// Takes out the first `count` legs of the next message of worker `w`. Counts them as offered, and notes them as not answered
-    /// yet. They are in the vector that held all, if these are all, and the vector `none` is in its place.
+    /// Removes and returns the first `count` legs of worker `w`'s next message, and records them as
+    /// offered and owed. If these are all legs, returns their vector and replaces it by `none`.
     pub(crate) fn offer_ready(
         &mut self,
         w: u32,
@@ -142,7 +142,7 @@ impl WorkerQueues {
         Ok(legs)
     }
 
-    /// Returns the number of legs and placeholders held for worker `w`.
+    /// Returns the number of legs and placeholders that are held for worker `w`.
     pub(crate) fn held_count(&self, w: u32) -> usize
         requires { w < length self.now }
         ensures { result ≡ held_legs_count (queue_of self.now w) }
@@ -157,7 +157,7 @@ impl WorkerQueues {
         self.many == 0
     }
 
-    /// Takes out the oldest leg that worker `w` has not answered yet, if there is one.
+    /// Removes and returns the oldest leg that worker `w` has not answered yet, if there is one.
     #[inline(always)]
     pub(crate) fn note_answer(&mut self, w: u32) -> Option<AwaitedLeg>
         requires { w < length self.old }
@@ -204,7 +204,7 @@ fn none_owed(queues: &[WorkerQueue]) -> bool
     true
 }
 
-/// Returns the number of offers of each queue.
+/// Returns, for each queue, the number of legs offered to its worker.
 fn counts_of(alloc: Global, queues: &[WorkerQueue]) -> Result<Vec<u64>, AllocError>
     ensures { IfOk result (λ counts. counts.items ≡ counts_in queues.now) }
 {

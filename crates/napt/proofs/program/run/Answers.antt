@@ -1,3 +1,4 @@
+-- run: a fault of the run or of saving its state is a stop of the files that the options name.
 use Rattle.std.proofs.{Common.{◌≡◌, true, is_some, ap}, lemmas.Result.err_from_is_err_and}
 use Rattle.napt_program.proofs.StateLemmas.{save_stop}
 use Rattle.napt.proofs.program.run.Goals as goal

@@ -1,3 +1,4 @@
+-- until: if the binding is live at a time within the least timer from `now` on, that time is at most the result.
 use Rattle.std.proofs.{Common.{◌≡◌, ℕ, ◌+◌, ◌*◌, ◌<◌, ◌||◌, true, false, min, subst, sym, ◌∙◌, ap, arith}, lemmas.Bool.Decides.nat_tests}
 use Rattle.napt_rules.specs.Prelude.{Binding, ns_per_second, is_recent, is_live_by, is_live, Protocol, Icmp, Tcp, Udp, Timers}
 use Rattle.napt_binding.specs.Ends.{least_timer}
@@ -9,7 +10,7 @@ lives_by b timers t protocol loose is live =
     ap (λ (p : Protocol). is_live_by p timers t b) (sym is)
     ∙ (ap (λ v. v || is_live_by b.row.protocol timers t b) (sym loose) ∙ live)
 
--- a time that is sooner after now than the least timer
+-- A time that is sooner after `now` than the least timer is recent.
 within : (b : Binding) (timers : Timers) (t now seconds : ℕ) (protocol : Protocol) → b.row.protocol ≡ protocol →
     seconds ≡ least_timer protocol timers → 0 < seconds → t < now + least_timer b.row.protocol timers * ns_per_second →
     is_recent t now seconds ≡ true

@@ -1,3 +1,4 @@
+-- purge_and_receive: after the purge, too, no flow was used after the packet's time.
 use Rattle.napt_binding.proofs.LastUses.{live_flows_used}
 use Rattle.napt_binding.proofs.traffic.purge_and_receive.Goals as goal
 

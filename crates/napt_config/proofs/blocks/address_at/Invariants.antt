@@ -1,3 +1,4 @@
+-- address_at: the address at `place` in the remaining prefixes is the one at `index` in all of them.
 use Rattle.std.proofs.Common.{◌≡◌, drop}
 use Rattle.napt_config.specs.Prefixes.{address_at}
 use Rattle.napt_config.proofs.blocks.address_at.Given as goal

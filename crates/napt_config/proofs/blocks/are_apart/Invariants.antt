@@ -1,3 +1,4 @@
+-- are_apart: all prefixes are apart if and only if the remaining ones are.
 use Rattle.std.proofs.Common.{◌≡◌, length}
 use Rattle.napt_config.specs.Prefixes.{are_prefixes_apart}
 use Rattle.napt_config.proofs.blocks.are_apart.Given as goal

@@ -1,3 +1,4 @@
+-- host_count: the count so far and that of the remaining prefixes are that of all, and the sum does not overflow.
 use Rattle.std.proofs.Common.{◌≡◌, ◌+◌, ◌*◌, ◌^◌, ◌≤◌, drop}
 use Rattle.napt_config.specs.Prefixes.{host_count}
 use Rattle.napt_config.proofs.blocks.host_count.Given as goal

@@ -1,3 +1,4 @@
+-- index_of: the index in the remaining prefixes, plus the addresses before them, is that in all of them.
 use Rattle.std.proofs.Common.{◌≡◌, ◌+◌, ◌*◌, ◌^◌, ◌≤◌, drop, option_map}
 use Rattle.napt_config.specs.Prefixes.{host_index}
 use Rattle.napt_config.proofs.blocks.index_of.Given as goal

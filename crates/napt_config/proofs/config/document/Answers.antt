@@ -1,3 +1,4 @@
+-- document: the result is the table of the text, or `NotToml` if the text is not UTF-8.
 use Rattle.std.proofs.{Common.{refl, sym, ◌∙◌}, lemmas.{Bool.false≢true, Str.is_utf8-from_IsUtf8}}
 use Rattle.napt_config.proofs.Documents.{document_of-utf8, document_of-other}
 use Rattle.napt_config.proofs.config.document.Goals as goal

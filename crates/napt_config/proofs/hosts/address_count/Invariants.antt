@@ -1,3 +1,4 @@
+-- address_count: the count so far and that of the remaining prefixes are that of all, and the sum does not overflow.
 use Rattle.std.proofs.Common.{◌≡◌, ◌+◌, ◌*◌, ◌^◌, ◌≤◌, length}
 use Rattle.napt_config.specs.Prefixes.{address_count}
 use Rattle.napt_config.proofs.hosts.address_count.Given as goal

@@ -1,3 +1,4 @@
+-- only_keys: the result for the keys of the map is that for the members of the table's view.
 use Rattle.std.{proofs.Common.{sym, ◌∙◌, ◌≡◌, false, true, rules}, specs.Map.keys_of}
 use Rattle.napt_config.proofs.KnownKeys.{all_among, only_keys_by_list}
 use Rattle.napt_config.proofs.keys.only_keys.Goals as goal

@@ -1,3 +1,4 @@
+-- only_keys_in_each: all entries have known keys alone if and only if the remaining ones have.
 use Rattle.std.proofs.Common.{◌≡◌, drop}
 use Rattle.toml.specs.View.{items_view}
 use Rattle.napt_config.{specs.Configured.only_keys_in_each, proofs.KnownKeys.texts}

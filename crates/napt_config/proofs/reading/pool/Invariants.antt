@@ -1,3 +1,4 @@
+-- pool: the pool so far and the remaining entries read as all entries; the first entry was read.
 use Rattle.std.proofs.Common.{◌≡◌, ◌<◌, [], drop, IsOk}
 use Rattle.toml.specs.View.{items_view}
 use Rattle.napt_config.specs.Configured.{each_in_order, first_in_order, with_address}

@@ -1,3 +1,4 @@
+-- have_double: the later redirect is a double of an earlier one if and only if of a remaining one.
 use Rattle.std.{proofs.Common.{◌≡◌, drop}, specs.List.list_any}
 use Rattle.napt_config.specs.Rules.{paired_address, is_double}
 use Rattle.napt_config.proofs.redirects.have_double.Given as goal

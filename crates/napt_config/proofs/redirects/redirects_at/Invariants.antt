@@ -1,3 +1,4 @@
+-- redirects_at: the redirects so far and the remaining entries read as all entries; the first entry was read.
 use Rattle.std.proofs.Common.{◌≡◌, ◌<◌, [], drop, length, IsOk}
 use Rattle.toml.specs.View.{items_view}
 use Rattle.napt_config.specs.Prelude.{paired_address, block_in, each_in_order, first_in_order, with_redirect}

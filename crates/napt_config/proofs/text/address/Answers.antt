@@ -1,3 +1,4 @@
+-- address: the result is the address that the text is in dotted decimal, or `None`.
 use Rattle.std.{proofs.Common.{◌∙◌, sym, ap, Some}, specs.Net.Addr.ipv4_bits}
 use Rattle.napt_config.proofs.Addresses.{address_of-dotted, address_of-none}
 use Rattle.napt_config.proofs.text.address.Goals as goal

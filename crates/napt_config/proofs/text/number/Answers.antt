@@ -1,3 +1,4 @@
+-- number: a decimal number that `parse` refuses is not a number from `least` to `most`.
 use Rattle.std.proofs.Common.{◌≡◌, true, sym, rules, arith}
 use Rattle.napt_config.{specs.Text.is_decimal, proofs.Numbers.number_of-unread}
 use Rattle.napt_config.proofs.text.number.Goals as goal

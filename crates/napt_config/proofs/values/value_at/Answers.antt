@@ -1,3 +1,4 @@
+-- value_at: the result is the member at the key in the table's view.
 use Rattle.toml.proofs.Views.{table_get}
 use Rattle.napt_config.proofs.values.value_at.Goals as goal
 

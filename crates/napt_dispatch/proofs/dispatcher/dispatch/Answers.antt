@@ -1,3 +1,4 @@
+-- dispatch: the outcomes in the list are those of the inputs in the list.
 use Rattle.std.{proofs.Common.{◌≡◌, ◌∙◌, length, refl, subst}, specs.Prelude.⊤}
 use Rattle.napt_config.specs.Rules.{Rules}
 use Rattle.napt_rules.specs.Prelude.{State, initial_state}
@@ -13,17 +14,20 @@ returns-in-Whole-clause-run g c = λ replied.
     let pool = c.dispatch_to.new.pool in
     let began : initial_machines pool ≡ started_from rules start (length rules.pool) = c.dispatch_to.ensures.starts
     ∙ c.requires.started in
-    subst (λ inputs. IsDispatchedFrom rules start inputs (accepted_items pool) c.dispatch_to.new.departures.outcomes.items
+    subst (λ inputs. IsDispatchedFrom rules start inputs (accepted_items pool)
+    c.dispatch_to.new.departures.outcomes.items
     c.in_ok-done.done.legs.items) c.in_ok-inputs.ensures
     (dispatched_whole rules start (λ queue. queue.items) (λ before pairs fault after. ⊤) (λ collected. ⊤)
     c.in_ok-inputs.inputs c.in_ok-collected.collected pool c.dispatch_to.new.arrivals c.dispatch_to.new.departures _
     (rw c.in-Whole.is at (c.in_ok-done.ensures.ends start refl)) c.in_ok-collected.ensures.outcomes
-    (right_since (λ passage. no_trace) rules start (initial_machines pool) (accepted_items pool) (taken_answers pool) began replied
+    (right_since (λ passage. no_trace) rules start (initial_machines pool) (accepted_items pool) (taken_answers pool)
+    began replied
     (λ s leg. refl) (λ s leg. refl)))
 
 pub returns-in-Whole-clause-settled : goal.returns-in-Whole-clause-settled
 returns-in-Whole-clause-settled g c =
-    answered_whole c.args.config.now (initial_state c.args.config.now) (λ queue. queue.items) (λ before pairs fault after. ⊤)
+    answered_whole c.args.config.now (initial_state c.args.config.now) (λ queue. queue.items)
+    (λ before pairs fault after. ⊤)
     (λ collected. ⊤) c.in_ok-inputs.inputs c.in_ok-collected.collected c.dispatch_to.new.pool
     c.dispatch_to.new.arrivals c.dispatch_to.new.departures _
     (rw c.in-Whole.is at (c.in_ok-done.ensures.ends (initial_state c.args.config.now) refl))

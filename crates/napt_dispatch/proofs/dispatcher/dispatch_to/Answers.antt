@@ -1,3 +1,4 @@
+-- dispatch_to: each ending of the dispatcher is one of the endings in the contract.
 use Rattle.std.proofs.{Common.{◌≡◌, [], length, refl, sym, ap, ◌∙◌, inl, rules}, lemmas.{List.length-replicate, Result.err_from_is_err_and}}
 use Rattle.napt_pool.specs.Pools.{initial_machines}
 use Rattle.napt_dispatch.{specs.WorkerQueues.unused_queue, proofs.Lanes.front_empty}

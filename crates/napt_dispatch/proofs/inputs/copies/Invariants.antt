@@ -1,3 +1,4 @@
+-- copies: the list has the inputs so far.
 use Rattle.std.proofs.Common.{◌≡◌, take}
 use Rattle.napt_dispatch.proofs.inputs.copies.Given as goal
 

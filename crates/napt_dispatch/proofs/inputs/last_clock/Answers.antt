@@ -1,3 +1,4 @@
+-- last_clock: the last clock with one more input is the greater of the two.
 use Rattle.std.proofs.{Common.{◌≡◌, ℕ, ◌+◌, max, List, [], ◌∷◌, ◌++◌, take, refl, ◌∙◌, ap}, lemmas.List.take_more}
 use Rattle.napt_rules.specs.Prelude.{Arrival, last_clock}
 use Rattle.napt_laws.proofs.OneMoreInput.{clock_more}

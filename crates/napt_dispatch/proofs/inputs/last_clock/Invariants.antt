@@ -1,3 +1,4 @@
+-- last_clock: `clock` is the last clock of the inputs so far.
 use Rattle.std.proofs.Common.{◌≡◌, take}
 use Rattle.napt_rules.specs.Prelude.{last_clock}
 use Rattle.napt_dispatch.proofs.inputs.last_clock.Given as goal

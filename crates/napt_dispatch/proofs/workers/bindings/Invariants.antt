@@ -1,3 +1,4 @@
+-- bindings: the list has the rows of the workers so far.
 use Rattle.std.{proofs.Common.{◌≡◌, take}, specs.Prelude.flat_map}
 use Rattle.napt_dispatch.specs.Dispatch.{rows_after}
 use Rattle.napt_dispatch.proofs.workers.bindings.Given as goal

@@ -1,3 +1,4 @@
+-- translators: one more translator is appended.
 use Rattle.std.{proofs.Common.{◌≡◌, [], ◌∷◌, ◌++◌, map, sym, ◌∙◌, ap, append_assoc}, specs.Vec.Iter.into_iter_items}
 use Rattle.napt_dispatch.proofs.workers.translators.Goals as goal
 

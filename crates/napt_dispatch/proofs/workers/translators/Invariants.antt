@@ -1,3 +1,4 @@
+-- translators: the translators so far, followed by those of the other workers, are all translators.
 use Rattle.std.{proofs.Common.{◌≡◌, ◌++◌, map}, specs.Vec.Iter.into_iter_items}
 use Rattle.napt_dispatch.proofs.workers.translators.Given as goal
 

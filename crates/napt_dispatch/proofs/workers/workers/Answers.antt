@@ -1,3 +1,4 @@
+-- workers: one more worker holds the translator of the next address.
 use Rattle.std.proofs.Common.{◌≡◌, length, ◌∙◌, ap, refl, arith}
 use Rattle.napt_rules.specs.Prelude.{with_redirects}
 use Rattle.napt_dispatch.{specs.Dispatch.started_from, proofs.{DispatchEnds.length_started, ClosedWorkers.started_more}}
@@ -19,7 +20,8 @@ pub returns-clause-made : goal.returns-clause-made
 returns-clause-made g c =
     let whole : c.loop-index.index ≡ length c.args.config.now.pool =
     omega (arith, ap length c.pool.ensures.addresses) in
-    c.loop-index.invariant.made ∙ ap (started_from c.args.config.now (with_redirects c.args.config.now c.args.state.now)) whole
+    c.loop-index.invariant.made ∙ ap (started_from c.args.config.now
+    (with_redirects c.args.config.now c.args.state.now)) whole
 
 pub returns-clause-many : goal.returns-clause-many
 returns-clause-many g c =

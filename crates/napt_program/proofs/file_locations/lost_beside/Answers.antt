@@ -1,3 +1,4 @@
+-- lost_beside: an output that is lost is one that is named.
 use Rattle.napt_program.proofs.PlaceLemmas.{lost_is_named}
 use Rattle.napt_program.proofs.file_locations.lost_beside.Goals as goal
 

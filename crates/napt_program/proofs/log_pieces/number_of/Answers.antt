@@ -1,3 +1,4 @@
+-- number_of: the number is read from its decimal digits alone, and each number is read.
 use Rattle.std.proofs.Common.{◌∙◌, arith, sym}
 use Rattle.std.proofs.lemmas.{Grind.common_steps, Bool.{Decides.nat_tests}}
 use Rattle.napt_program.proofs.NumberLemmas.{no_number, number_again, number_read, number_unread}

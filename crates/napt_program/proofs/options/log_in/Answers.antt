@@ -1,3 +1,4 @@
+-- log_in: the log is the value of its option.
 use Rattle.napt_program.proofs.LineLemmas.{if_ok_is, log_named}
 use Rattle.napt_program.proofs.options.log_in.Goals as goal
 

@@ -1,3 +1,4 @@
+-- options_in: the options are the files in clap's matches.
 use Rattle.std.proofs.Common.{sym}
 use Rattle.napt_program.proofs.LineLemmas.{files_read}
 use Rattle.napt_program.proofs.options.options_in.Goals as goal

@@ -1,3 +1,4 @@
+-- parse_words_for: each answer of clap is the meaning of the command line.
 use Rattle.std.proofs.Common.{[], rules, ◌∙◌, option_map, string_bytes, ap, sym}
 use Rattle.clap.specs.Words.{app_of, found_of, rows_of}
 use Rattle.napt_program.{specs.CommandLine.{files, line_by}, proofs.LineLemmas.{help_line, log_read, mistaken_line, misused_line, some_second, taken_line, used_line, version_line, with_log}}

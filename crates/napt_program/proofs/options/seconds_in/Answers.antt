@@ -1,3 +1,4 @@
+-- seconds_in: the seconds are those of the option, or none without it.
 use Rattle.std.proofs.Common.{◌∙◌, Some, ap, sym}
 use Rattle.napt_program.proofs.LineLemmas.{no_seconds_named, seconds_named}
 use Rattle.napt_program.proofs.options.seconds_in.Goals as goal

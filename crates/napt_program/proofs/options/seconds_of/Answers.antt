@@ -1,3 +1,4 @@
+-- seconds_of: `parse` reads the number that the definition gives, and fails where it gives 0.
 use Rattle.napt_program.proofs.NumberLemmas.{seconds_read, seconds_unread}
 use Rattle.napt_program.proofs.options.seconds_of.Goals as goal
 

@@ -1,3 +1,4 @@
+-- state_from: a text that was saved has no line that is refused.
 use Rattle.std.proofs.Common.{◌∙◌}
 use Rattle.napt_program.proofs.StateLemmas.{unread}
 use Rattle.napt_program.proofs.state_reading.state_from.Goals as goal

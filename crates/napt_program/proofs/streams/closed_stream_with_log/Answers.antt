@@ -1,3 +1,4 @@
+-- closed_stream_with_log: a closed stream of an option before the log is the first.
 use Rattle.std.proofs.Common.{◌∙◌, sym}
 use Rattle.napt_program.proofs.LogLemmas.{closed_kept}
 use Rattle.napt_program.proofs.streams.closed_stream_with_log.Goals as goal

@@ -1,3 +1,4 @@
+-- merge: the inputs so far, followed by those to come, are the merged list.
 use Rattle.std.proofs.Common.{◌≡◌, ◌++◌, length}
 use Rattle.napt_records.proofs.record_merger.merge.Given as goal
 

@@ -1,3 +1,4 @@
+-- push_counts: the lines of the counts are those of the definition, in its order.
 use Rattle.std.proofs.Common.{◌≡◌, ℕ, ◌++◌, ◌∙◌, ap, codes, count_by, flat_map, length, slice_index, string_bytes}
 use Rattle.napt_wire.specs.declared.Cause.{Cause}
 use Rattle.napt_records.{specs.Counts.cause_place, proofs.Texts.{four_pieces, same_pieces}}

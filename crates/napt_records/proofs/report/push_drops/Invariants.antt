@@ -1,9 +1,9 @@
+-- push_drops: the report has the lines of the causes so far.
 use Rattle.std.proofs.Common.{◌≡◌, ◌++◌, codes, flat_map, slice_index, string_bytes, take}
 use Rattle.napt_records.specs.Counts.{cause_place}
 use Rattle.napt_records.specs.Report as model
 use Rattle.napt_records.proofs.report.push_drops.Given as goal
 
--- the lines of the causes so far are there
 abbrev pub invariant-loop-cause : goal.invariant-loop-cause
 invariant-loop-cause l =
     string_bytes l.report

@@ -1,3 +1,4 @@
+-- report_of: the counts, the cuts and the rows in this order are the report.
 use Rattle.std.proofs.Common.{ℕ, List, [], ◌++◌, ◌∙◌, ap, flat_map, string_bytes}
 use Rattle.napt_records.specs.Report as model
 use Rattle.napt_records.proofs.Texts.{three_pieces}

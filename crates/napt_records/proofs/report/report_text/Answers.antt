@@ -1,3 +1,4 @@
+-- report_text: the report of the counts is the report of the run.
 use Rattle.std.proofs.Common.{◌≡◌, List, IfOk, ◌∙◌, ap, string_bytes, subst}
 use Rattle.napt_rules.specs.{declared.{Row.Row, Outcome.Outcome}, Prelude.RunResult}
 use Rattle.napt_records.specs.Report as model

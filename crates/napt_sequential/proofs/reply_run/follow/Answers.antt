@@ -1,3 +1,4 @@
+-- follow: an input from inside changes no translator.
 use Rattle.napt_sequential.proofs.LaterTranslators.{all_unchanged}
 use Rattle.napt_sequential.proofs.reply_run.follow.Goals as goal
 

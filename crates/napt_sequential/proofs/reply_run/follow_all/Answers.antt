@@ -1,3 +1,4 @@
+-- follow_all: one more input can be translated, and is the one that the run gets.
 use Rattle.std.proofs.Common.{◌≡◌, ◌≤◌, max, List, [], ◌∷◌, ◌++◌, length, length-append, append_assoc, sym, ◌∙◌, ap, subst, arith}
 use Rattle.std.specs.Vec.Iter.{into_iter_items}
 use Rattle.napt_rules.specs.Prelude.{Arrival, last_clock}

@@ -1,3 +1,4 @@
+-- number: the number at one translator is that by the whole list, and all translators stay those of the state.
 use Rattle.std.{proofs.{Common.{◌≡◌, Some, ◌∙◌, get_or}, lemmas.Option.slice_get-get_or}, specs.List.slice_get}
 use Rattle.napt_sequential.{specs.declared.counted_translator.CountedTranslator.CountedTranslator, proofs.{LaterTranslators.one_changed, Numbers.number_told}}
 use Rattle.napt_sequential.proofs.reply_run.number.Goals as goal

@@ -1,3 +1,4 @@
+-- sent: a packet that was read can be sent, and bytes that are no packet change nothing.
 use Rattle.napt_wire.{specs.declared.Side.TheVariants.Outside, proofs.ReadingChecks.reads_again}
 use Rattle.napt_sequential.proofs.LaterTranslators.{all_unchanged}
 use Rattle.napt_sequential.proofs.reply_run.sent.Goals as goal

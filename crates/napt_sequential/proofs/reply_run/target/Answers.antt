@@ -1,3 +1,4 @@
+-- target: the endpoint is the one of the definition, and the translators stay those of the state.
 use Rattle.std.proofs.Common.{◌≡◌, true, Option, Some, None, slice_get, ℕ, sym, ◌∙◌, ap, arith}
 use Rattle.napt_wire.specs.declared.Endpoint.{Endpoint}
 use Rattle.napt_config.specs.Rules.{is_inside}

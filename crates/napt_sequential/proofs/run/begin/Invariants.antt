@@ -1,3 +1,4 @@
+-- begin: the translators so far are as they are before any leg.
 use Rattle.std.proofs.Common.{◌≡◌, ◌≤◌, length}
 use Rattle.napt_rules.specs.Prelude.{initial_state}
 use Rattle.napt_sequential.proofs.InitialTranslators.{AreFresh}

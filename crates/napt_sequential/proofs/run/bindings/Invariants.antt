@@ -1,3 +1,4 @@
+-- bindings: the list has the rows of the translators so far.
 use Rattle.std.{proofs.Common.{◌≡◌, take}, specs.Prelude.flat_map}
 use Rattle.napt_sequential.specs.CountedTranslators.{rows_at}
 use Rattle.napt_sequential.proofs.run.bindings.Given as goal

@@ -1,3 +1,4 @@
+-- left: the bindings of one more translator are appended.
 use Rattle.std.proofs.{Common.{◌≡◌, ◌+◌, List, [], ◌∷◌, ◌++◌, take, sym, ◌∙◌, ap, subst}, lemmas.List.take_more}
 use Rattle.napt_sequential.specs.declared.counted_translator.CountedTranslator.{CountedTranslator}
 use Rattle.napt_sequential.{specs.CountedTranslators.AreBindingsOfAll, proofs.LeftTranslators.one_left}

@@ -1,3 +1,4 @@
+-- left: the list has the bindings of the translators so far.
 use Rattle.std.proofs.Common.{take}
 use Rattle.napt_sequential.specs.CountedTranslators.{AreBindingsOfAll}
 use Rattle.napt_sequential.proofs.run.left.Given as goal

@@ -1,3 +1,4 @@
+-- legs: the list has the numbers of the translators so far.
 use Rattle.std.proofs.Common.{◌≡◌, take, map}
 use Rattle.napt_sequential.specs.declared.counted_translator.CountedTranslator.{CountedTranslator}
 use Rattle.napt_sequential.proofs.run.legs.Given as goal

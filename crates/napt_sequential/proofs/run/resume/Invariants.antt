@@ -1,3 +1,4 @@
+-- resume: the translators so far have the bindings of the state, and have translated no leg.
 use Rattle.std.proofs.Common.{◌≡◌, ◌≤◌, length}
 use Rattle.napt_rules.specs.Prelude.{with_redirects}
 use Rattle.napt_sequential.proofs.InitialTranslators.{AreFresh}

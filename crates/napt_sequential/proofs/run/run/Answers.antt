@@ -1,3 +1,4 @@
+-- run: the outcomes, the bindings and the numbers of legs are those of the definition.
 use Rattle.napt_rules.specs.Prelude.{initial_state, run_result}
 use Rattle.napt_sequential.proofs.SequentialRuns.{is_ran}
 use Rattle.napt_sequential.proofs.run.run.Goals as goal

@@ -1,3 +1,4 @@
+-- run_plain: there is one outcome for each input, and no two bindings of a protocol share an endpoint.
 use Rattle.napt_laws.proofs.{OneMoreInput.ran_long, Rows.rows_apart}
 use Rattle.napt_sequential.proofs.run.run_plain.Goals as goal
 

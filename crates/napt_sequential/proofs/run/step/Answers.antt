@@ -1,3 +1,4 @@
+-- step: an input is dropped without a leg, or goes to the address that serves it, as the definition says.
 use Rattle.std.{proofs.{Common.{◌≡◌, ℕ, List, Ok, Err, Some, None, sym, ◌∙◌, ap, subst}, lemmas.Option.slice_get_within}, specs.Prelude.IfOk}
 use Rattle.napt_wire.specs.{Reading.reading, declared.{Side.Side, Way.Way}}
 use Rattle.napt_rules.specs.Prelude.{side_refusal, way_from, served_at, route, Arrival, RunEffect, refused_effect, admitted_effect, step}
@@ -12,7 +13,8 @@ returns-in-Err c = λ state are later.
     let reads : reading input.side input.bytes ≡ Err c.in-Err.cause = reads_as input copy c.in_ok-bytes.bytes.items
     (Err c.in-Err.cause) c.input.view_is (c.in_ok-bytes.ensures.items ∙ c.deref.ensures.value)
     c.in-Err.ensures.cause in
-    let is : step c.args.config.now c.args.number c.args.now input state.list ≡ refused_effect c.in-Err.cause state.list =
+    let is : step c.args.config.now c.args.number c.args.now input state.list
+    ≡ refused_effect c.in-Err.cause state.list =
     step_unread c.args.config.now c.args.number c.args.now input state.list c.in-Err.cause reads in
     subst (λ (s : RunEffect). StepTraces c.args.config.now c.args.now s state c.args.translators.now c.stepped.result)
     (sym is)

@@ -1,3 +1,4 @@
+-- step_all: one more input can be translated, and its outcome is appended.
 use Rattle.std.proofs.{Common.{◌≡◌, ℕ, ◌+◌, List, [], ◌∷◌, ◌++◌, take, length, sym, ◌∙◌, ap, subst, arith}, lemmas.List.{take_more, length-take-le}}
 use Rattle.napt_config.specs.Rules.{Rules}
 use Rattle.napt_rules.specs.{Prelude.{opening, Arrival, initial_state, run}, declared.Outcome.Outcome}

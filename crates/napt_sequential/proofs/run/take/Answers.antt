@@ -1,3 +1,4 @@
+-- take: the index is in the pool, the leg can be counted, and the translators are those after it.
 use Rattle.std.proofs.{Common.{◌≡◌, sym, ◌∙◌, subst, arith, get_or, set}, lemmas.Option.slice_get-get_or}
 use Rattle.napt_config.specs.Rules.{Rules}
 use Rattle.napt_sequential.specs.declared.{passage.Passage.Passage, leg_trace.TracedAnswer.TracedAnswer, counted_translator.CountedTranslator.CountedTranslator}

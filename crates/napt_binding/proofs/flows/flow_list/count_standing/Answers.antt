@@ -1,3 +1,4 @@
+-- count_standing: the result is the number of standing flows.
 use Rattle.std.proofs.{Common.{◌∙◌, List, length, ap, sym, rules, tests}, lemmas.Iterator.YieldsList-from_slice}
 use Rattle.std.proofs.lemmas.Iterator.Consumers.{count_from_yields_List, YieldsList-from_filter}
 use Rattle.napt_rules.specs.declared.Flow.{Flow}

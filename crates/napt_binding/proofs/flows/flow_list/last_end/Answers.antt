@@ -1,3 +1,4 @@
+-- last_end: the end of the flows so far and that of the next flow give the last end with it.
 use Rattle.std.proofs.Common.{sym, ◌∙◌, ap, max, take}
 use Rattle.napt_binding.{specs.Ends.last_end, proofs.FirstEnds.last_end_more}
 use Rattle.napt_binding.proofs.flows.flow_list.last_end.Goals as goal

@@ -1,3 +1,4 @@
+-- last_moment_of: the invariant holds at the start, and with each further flow.
 use Rattle.std.{proofs.{lemmas.Grind.common_steps, Common.{◌≡◌, ◌≤◌, ◌<◌, ⊎_elim, true, false, ltb, refl, sym, ◌∙◌, arith}}, specs.List.list_any}
 use Rattle.std.proofs.lemmas.{Bool.{or_cases, Decides.nat_tests}, List.Folds.{list_any_at, list_any_more}}
 use Rattle.napt_rules.specs.Life as life

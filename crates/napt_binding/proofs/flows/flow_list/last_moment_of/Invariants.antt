@@ -1,3 +1,4 @@
+-- last_moment_of: one flow is live until `last`, and none of the flows so far is live later.
 use Rattle.std.{proofs.Common.{◌≡◌, ℕ, ◌≤◌, ◌<◌, ◌^◌, true, take}, specs.List.list_any}
 use Rattle.napt_rules.specs.Life as life
 use Rattle.napt_binding.proofs.flows.flow_list.last_moment_of.Given as goal

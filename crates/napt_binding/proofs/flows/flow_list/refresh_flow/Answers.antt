@@ -1,3 +1,4 @@
+-- refresh_flow: the flow of the remote is marked and refreshed, and the flows stay distinct.
 use Rattle.std.proofs.Common.{ap, sym}
 use Rattle.napt_rules.specs.{Prelude.{Tcp, Incoming}, declared.Flow.Flow}
 use Rattle.napt_rules.specs.FlowUpdates as traffic
@@ -10,7 +11,8 @@ returns-in-Some-clause-distinct c = distinct_set c.args.flows.now c.in-Some.i _ 
 
 pub returns-in-Some-clause-flows : goal.returns-in-Some-clause-flows
 returns-in-Some-clause-flows c =
-    rw c.used.ensures (change_at (traffic.is_flow_of c.args.remote) (traffic.flow_after Tcp Incoming c.args.flags c.args.now)
+    rw c.used.ensures (change_at (traffic.is_flow_of c.args.remote)
+    (traffic.flow_after Tcp Incoming c.args.flags c.args.now)
     c.args.flows.now c.in-Some.i _ (cc))
 
 pub returns-in_default-clause-flows : goal.returns-in_default-clause-flows

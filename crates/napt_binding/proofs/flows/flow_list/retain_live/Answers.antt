@@ -1,3 +1,4 @@
+-- retain_live: the flows that stay are the live ones.
 use Rattle.std.proofs.{Common.rules, lemmas.Fn.filter_same}
 use Rattle.napt_binding.proofs.flows.flow_list.retain_live.Goals as goal
 

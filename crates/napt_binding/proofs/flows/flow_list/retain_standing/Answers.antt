@@ -1,3 +1,4 @@
+-- retain_standing: under TCP, the flows that stay are the live ones.
 use Rattle.napt_binding.proofs.flows.flow_list.retain_standing.Goals as goal
 
 pub returns-in-Tcp-clause-flows : goal.returns-in-Tcp-clause-flows

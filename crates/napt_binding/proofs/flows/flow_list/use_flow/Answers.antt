@@ -1,3 +1,4 @@
+-- use_flow: the packet's flow is used or begins, and the flows stay distinct and few.
 use Rattle.std.proofs.{Common.{arith, ◌∙◌, ap}, lemmas.{Grind.common_steps, Bool.Decides.nat_tests}}
 use Rattle.napt_rules.specs.declared.Flow.{Flow}
 use Rattle.napt_binding.proofs.{ListLengths.fits, DistinctFlows.{distinct_set, distinct_pushed, distinct_live}, Lists.any_nowhere}

@@ -1,3 +1,4 @@
+-- by_last_use: the entries are the flows with their places, in ascending order of their last use.
 use Rattle.std.proofs.Common.{rules, ◌≡◌, ◌<◌, ℕ, inl, inr, [], ◌∷◌, ◌++◌, get_or, Some, slice_get, length, sym, ◌∙◌, ap, subst, arith, Contains}
 use Rattle.std.proofs.lemmas.{Bool.cases_eq, List.Elements.{All-push, Contains-push, Contains-append_left}}
 use Rattle.std.proofs.lemmas.List.Sorted.{answers_always, All-permutation, Contains-permutation, IsNonDecreasingBy-from_sort}

@@ -1,3 +1,4 @@
+-- by_last_use: the entries are the flows so far with their places.
 use Rattle.std.proofs.Common.{◌≡◌, ◌<◌, ℕ, Some, slice_get, All, Contains}
 use Rattle.napt_rules.specs.declared.Flow.{Flow}
 use Rattle.napt_binding.proofs.flows.flow_maps.by_last_use.Given as goal

@@ -1,3 +1,4 @@
+-- from_str: the result is the address whose spelling is the text, or `BadAddress`.
 use Rattle.std.proofs.Common.{◌≡◌, Ok, refl, sym}
 use Rattle.napt_config.proofs.Spellings.{address_text-of, address_reads_back, address_not_read}
 use Rattle.napt_config.proofs.address.AddressFromStr.from_str.Goals as goal

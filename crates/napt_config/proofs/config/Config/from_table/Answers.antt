@@ -1,3 +1,4 @@
+-- from_table: what `block` and `redirects` require holds, and the configuration satisfies its rules.
 use Rattle.std.proofs.Common.{◌≡◌, Ok, rules}
 use Rattle.toml.specs.View.{table_view}
 use Rattle.napt_config.specs.Configured.{configured, each_in_order, pool_in, inside_in, block_size_in}

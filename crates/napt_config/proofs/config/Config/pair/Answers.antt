@@ -1,3 +1,4 @@
+-- pair: the external address of a host is in the pool.
 use Rattle.std.proofs.Common.{◌≡◌, ℕ, true, sym, subst, rules}
 use Rattle.napt_config.{specs.Rules.{contains_address, paired_address}, proofs.Pools.{paired_in_pool, position_of_member}}
 use Rattle.napt_config.proofs.config.Config.pair.Goals as goal

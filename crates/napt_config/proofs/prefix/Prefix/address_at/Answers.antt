@@ -1,3 +1,4 @@
+-- address_at: the address fits 32 bits.
 use Rattle.std.proofs.Common.{◌<◌, ◌+◌, ◌^◌, subst, sym, arith}
 use Rattle.napt_config.{specs.Prefixes.{PrefixModel, prefix_size}, proofs.Indices.address_fits}
 use Rattle.napt_config.proofs.prefix.Prefix.address_at.Goals as goal

@@ -1,3 +1,4 @@
+-- read: a text without a slash is not a prefix.
 use Rattle.std.{proofs.Common.{◌≡◌, length, sym, rules}, specs.List.position_or_len}
 use Rattle.napt_config.{specs.Text.is_slash, proofs.Splits.network_of-whole}
 use Rattle.napt_config.proofs.prefix.Prefix.read.Goals as goal

@@ -1,3 +1,4 @@
+-- size: a prefix has at most 2 ^ 32 addresses.
 use Rattle.std.proofs.{Common.{◌≤◌, ◌^◌, ◌-◌, arith}, Math.Pow.pow_mono}
 use Rattle.napt_config.proofs.prefix.Prefix.size.Goals as goal
 

@@ -1,3 +1,4 @@
+-- from_str: the result is the prefix whose spelling is the text, or `BadPrefix`.
 use Rattle.std.proofs.Common.{sym, ap, ◌∙◌, subst, ok_or}
 use Rattle.napt_config.{specs.Prelude.{BadPrefix, IsPrefix, prefix_text, IsReadBack}, proofs.Spellings.networks_read_back}
 use Rattle.napt_config.proofs.prefix.PrefixFromStr.from_str.Goals as goal

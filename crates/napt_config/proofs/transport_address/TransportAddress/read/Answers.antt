@@ -1,3 +1,4 @@
+-- read: a text without a colon is not a transport address.
 use Rattle.std.{proofs.Common.{◌≡◌, length, sym, rules}, specs.List.position_or_len}
 use Rattle.napt_config.{specs.Text.is_colon, proofs.Splits.socket_of-whole}
 use Rattle.napt_config.proofs.transport_address.TransportAddress.read.Goals as goal

@@ -1,3 +1,4 @@
+-- from_str: the result is the transport address whose spelling is the text, or `BadAddress`.
 use Rattle.std.proofs.Common.{sym, ap, ◌∙◌, subst, ok_or}
 use Rattle.napt_config.{specs.Prelude.{BadAddress, IsTransportAddress, transport_address_text, IsReadBack}, proofs.Spellings.sockets_read_back}
 use Rattle.napt_config.proofs.transport_address.TransportAddressFromStr.from_str.Goals as goal

@@ -1,3 +1,4 @@
+-- advance_until: the steps so far and the next one make one step, or end with its fault.
 use Rattle.std.proofs.{Common.[], lemmas.Result.err_from_is_err_and}
 use Rattle.napt_dispatch.proofs.Passing.{goes_none, lets_more, lets_halt, lets_turn, lets_stop}
 use Rattle.napt_dispatch.proofs.dispatcher.Dispatcher.advance_until.Goals as goal
@@ -12,7 +13,7 @@ loop-init g c = record {
 pub loop-preserved : goal.loop-preserved
 loop-preserved g c =
     lets_turn g.D.Departures.fails g.met.D.Departures.takes_more c.loop.invariant c.in_ok-hand_over.ensures
-    c.in_ok-go_on.ensures.state
+    c.in_ok-advance.ensures.state
 
 pub returns-in_err-hand_over-clause-state : goal.returns-in_err-hand_over-clause-state
 returns-in_err-hand_over-clause-state g c =
@@ -26,9 +27,9 @@ pub returns-then-has_reached-clause-state : goal.returns-then-has_reached-clause
 returns-then-has_reached-clause-state g c =
     lets_more g.D.Departures.fails g.met.D.Departures.takes_more _ _ _ c.loop.invariant c.in_ok-hand_over.ensures
 
-pub returns-in_err-go_on-clause-state : goal.returns-in_err-go_on-clause-state
-returns-in_err-go_on-clause-state g c =
-    let p = err_from_is_err_and c.from_residual-in_err-go_on.result c.from_residual-in_err-go_on.ensures.1 in
+pub returns-in_err-advance-clause-state : goal.returns-in_err-advance-clause-state
+returns-in_err-advance-clause-state g c =
+    let p = err_from_is_err_and c.from_residual-in_err-advance.result c.from_residual-in_err-advance.ensures.1 in
     rw (p.1, p.2)
     (lets_stop g.D.Departures.fails g.met.D.Departures.takes_more c.loop.invariant c.in_ok-hand_over.ensures
-    c.in_err-go_on.ensures.state)
+    c.in_err-advance.ensures.state)

@@ -1,3 +1,4 @@
+-- hold_place: the input of a placeholder is open.
 use Rattle.napt_dispatch.proofs.dispatcher.Dispatcher.hold_place.Goals as goal
 
 pub note_place-requires : goal.note_place-requires

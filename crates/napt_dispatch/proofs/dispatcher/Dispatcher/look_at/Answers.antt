@@ -1,3 +1,4 @@
+-- look_at: taking answers and offering legs after that make one step.
 use Rattle.napt_dispatch.proofs.Passing.{continues_then}
 use Rattle.napt_dispatch.proofs.dispatcher.Dispatcher.look_at.Goals as goal
 

@@ -1,3 +1,4 @@
+-- make_ready: the dispatcher continues, whether it settles, has room at once or makes room.
 use Rattle.std.proofs.Common.{[]}
 use Rattle.napt_dispatch.proofs.Passing.{goes_none}
 use Rattle.napt_dispatch.proofs.dispatcher.Dispatcher.make_ready.Goals as goal
@@ -12,4 +13,4 @@ returns-then-has_room-clause-state g c =
     })
 
 pub returns-clause-state : goal.returns-clause-state
-returns-clause-state g c = rw c.take_told.ensures at c.go_on_until.ensures.state
+returns-clause-state g c = rw c.take_told.ensures at c.advance_until.ensures.state

@@ -1,3 +1,4 @@
+-- note_all: the answers of a batch are recorded.
 use Rattle.napt_dispatch.proofs.dispatcher.Dispatcher.note_all.Goals as goal
 
 pub returns-clause-noted : goal.returns-clause-noted

@@ -1,3 +1,4 @@
+-- note_each: one more answer is recorded, and one leg fewer is owed.
 use Rattle.std.proofs.{Common.{◌≡◌, ◌+◌, ◌<◌, ◌++◌, [], ◌∷◌, length, ◌∙◌, arith, refl}, lemmas.List.length_push}
 use Rattle.napt_pool.proofs.JoinedWorkers.{split-step}
 use Rattle.napt_dispatch.proofs.WorkerOffers.{notes_none, notes_more, noted_less}

@@ -1,3 +1,4 @@
+-- note_each: the answers taken from the list so far have been recorded.
 use Rattle.std.{proofs.Common.{◌≡◌, ◌+◌, ◌++◌, length}, specs.Vec.Iter.drain_items}
 use Rattle.napt_dispatch.specs.{WorkerQueues.many_owed, DispatcherInvariants.NoteAnswersPost}
 use Rattle.napt_dispatch.proofs.dispatcher.Dispatcher.note_each.Given as goal

@@ -1,3 +1,4 @@
+-- offer_all: the workers below `w` were offered all that they can be offered.
 use Rattle.std.proofs.Common.{ℕ, ◌<◌}
 use Rattle.napt_dispatch.specs.DispatcherInvariants.{DispatcherContinues, HasOffered}
 use Rattle.napt_dispatch.proofs.dispatcher.Dispatcher.offer_all.Given as goal

@@ -1,3 +1,4 @@
+-- offer_held: the dispatcher continues, only worker `w` is offered legs, and it has all that it can be offered.
 use Rattle.std.proofs.{Common.{◌<◌, length, refl, sym, ap, ◌∙◌}, lemmas.Result.err_from_is_err_and}
 use Rattle.napt_dispatch.{specs.declared.dispatcher.Dispatcher.Dispatcher, proofs.Lanes.{grows_not, grows_none, grows_offered}}
 use Rattle.napt_dispatch.proofs.WorkerOffers.{over_pool, none_sent, none_continue, none_alone, sent_keeps, only_sent, sent_all}

@@ -1,3 +1,4 @@
+-- read_all: these inputs came, these results were written, and `clock` is the last clock.
 use Rattle.std.proofs.Common.{◌≡◌, ℕ, List}
 use Rattle.napt_dispatch.specs.{declared.outcome_sink.InputResult.InputResult, RunsThrough.ReadInputsPost}
 use Rattle.napt_rules.specs.Prelude.{Arrival, last_clock}

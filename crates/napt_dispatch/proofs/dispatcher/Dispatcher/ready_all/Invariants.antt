@@ -1,3 +1,4 @@
+-- ready_all: the entries moved so far went to the end of the next message, in their order.
 use Rattle.std.proofs.Common.{◌≡◌, length}
 use Rattle.napt_dispatch.specs.{WorkerQueues.queue_of, DispatcherInvariants.ReadyLegsPost}
 use Rattle.napt_dispatch.proofs.dispatcher.Dispatcher.ready_all.Given as goal

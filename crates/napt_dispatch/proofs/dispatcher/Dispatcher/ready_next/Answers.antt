@@ -1,3 +1,4 @@
+-- ready_next: the first held entry moves to the next message, or waits.
 use Rattle.std.proofs.Common.{sym, ◌∙◌}
 use Rattle.napt_dispatch.{specs.declared.dispatcher.Dispatcher.Dispatcher, proofs.WorkerOffers.readies_first}
 use Rattle.napt_dispatch.proofs.dispatcher.Dispatcher.ready_next.Goals as goal

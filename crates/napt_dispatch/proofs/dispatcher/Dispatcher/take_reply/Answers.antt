@@ -1,3 +1,4 @@
+-- take_reply: the dispatcher continues with no answer, with one, or with a batch of them.
 use Rattle.std.proofs.{Common.{◌<◌, [], ◌∷◌, length, rules, refl}, lemmas.Result.err_from_is_err_and}
 use Rattle.napt_dispatch.{specs.DispatcherInvariants.NoteAnswersPost, proofs.{Lanes.grows_taken, WorkerOffers.{notes_none, notes_more, over_pool, answered_keeps}}}
 use Rattle.napt_dispatch.proofs.dispatcher.Dispatcher.take_reply.Goals as goal

@@ -1,3 +1,4 @@
+-- take_some: a pass without an answer changes nothing; one with an answer ends the wait.
 use Rattle.napt_dispatch.proofs.{WorkerOffers.taken_none, Passing.continues_both, Lanes.halts_after}
 use Rattle.std.proofs.lemmas.Result.{err_from_is_err_and}
 use Rattle.napt_dispatch.proofs.dispatcher.Dispatcher.take_some.Goals as goal

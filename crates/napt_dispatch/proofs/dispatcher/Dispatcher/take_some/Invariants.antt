@@ -1,3 +1,4 @@
+-- take_some: while it waits, no answer was taken, and the dispatcher continues.
 use Rattle.std.proofs.Common.{false}
 use Rattle.napt_dispatch.specs.DispatcherInvariants.{DispatcherContinues, HasTaken}
 use Rattle.napt_dispatch.proofs.dispatcher.Dispatcher.take_some.Given as goal

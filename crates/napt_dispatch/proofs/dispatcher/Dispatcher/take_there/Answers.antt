@@ -1,3 +1,4 @@
+-- take_there: the steps so far and the next one make one step.
 use Rattle.std.proofs.{Common.rules, lemmas.Result.err_from_is_err_and}
 use Rattle.napt_dispatch.proofs.{WorkerOffers.taken_on, Passing.continues_both, Lanes.halts_after}
 use Rattle.napt_dispatch.proofs.dispatcher.Dispatcher.take_there.Goals as goal

@@ -1,3 +1,4 @@
+-- take_there: the dispatcher continues, and `any` says whether answers were taken so far.
 use Rattle.napt_dispatch.specs.DispatcherInvariants.{DispatcherContinues, HasTaken}
 use Rattle.napt_dispatch.proofs.dispatcher.Dispatcher.take_there.Given as goal
 

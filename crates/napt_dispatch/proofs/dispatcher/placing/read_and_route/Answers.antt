@@ -1,3 +1,4 @@
+-- read_and_route: the packet is admitted or dropped as the definition says.
 use Rattle.std.proofs.Common.{refl, sym, ◌∙◌}
 use Rattle.napt_laws.proofs.Routes.{route_ok, route_err}
 use Rattle.napt_dispatch.proofs.dispatcher.placing.read_and_route.Goals as goal

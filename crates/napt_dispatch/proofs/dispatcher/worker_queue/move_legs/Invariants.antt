@@ -1,3 +1,4 @@
+-- move_legs: the legs, their number and their order are as at the start.
 use Rattle.std.proofs.Common.{◌≡◌, ◌+◌, ◌≤◌, List, length}
 use Rattle.napt_rules.specs.Prelude.{LegAct}
 use Rattle.napt_dispatch.specs.DispatcherInvariants.{turned_legs}

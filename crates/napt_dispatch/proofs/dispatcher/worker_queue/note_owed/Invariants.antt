@@ -1,3 +1,4 @@
+-- note_owed: the legs so far were appended to those that are owed.
 use Rattle.std.proofs.Common.{◌≡◌, ◌++◌, map, take}
 use Rattle.napt_dispatch.specs.WorkerQueues.{owed_of}
 use Rattle.napt_dispatch.proofs.dispatcher.worker_queue.note_owed.Given as goal

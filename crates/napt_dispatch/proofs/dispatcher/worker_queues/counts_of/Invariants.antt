@@ -1,3 +1,4 @@
+-- counts_of: the list has the number of each queue so far.
 use Rattle.std.proofs.Common.{◌≡◌, take}
 use Rattle.napt_dispatch.specs.WorkerQueues.{counts_in}
 use Rattle.napt_dispatch.proofs.dispatcher.worker_queues.counts_of.Given as goal

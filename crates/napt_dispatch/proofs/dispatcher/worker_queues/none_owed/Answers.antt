@@ -1,3 +1,4 @@
+-- none_owed: a queue whose count is zero owes no answer.
 use Rattle.std.proofs.Common.{◌≡◌, ◌∙◌, length, sym, ap, arith, below_more}
 use Rattle.napt_dispatch.{specs.WorkerQueues.{WorkerQueueModel, queue_of}, proofs.QueueStates.{queue_is, nothing}}
 use Rattle.napt_dispatch.proofs.dispatcher.worker_queues.none_owed.Goals as goal

@@ -1,3 +1,4 @@
+-- final_bindings: the bindings of one more translator are appended, and the state is in order.
 use Rattle.std.proofs.{Common.{◌≡◌, ◌+◌, List, [], ◌∷◌, ◌++◌, map, take, sym, ◌∙◌, ap, subst, arith}, lemmas.List.{take_all, take_more, map-append}}
 use Rattle.napt_translate.specs.Translators.{TranslatorModel}
 use Rattle.napt_sequential.{specs.{declared.counted_translator.CountedTranslator.CountedTranslator, CountedTranslators.AreBindingsOfAll}, proofs.LeftTranslators.one_left}

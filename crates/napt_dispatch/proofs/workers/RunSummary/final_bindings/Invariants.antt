@@ -1,3 +1,4 @@
+-- final_bindings: the list has the bindings of the translators so far.
 use Rattle.std.proofs.Common.{map, take}
 use Rattle.napt_sequential.specs.CountedTranslators.{AreBindingsOfAll}
 use Rattle.napt_dispatch.proofs.LeftTranslators.{uncounted}

@@ -1,3 +1,4 @@
+-- pop: the input is the first of the merged list, or both sides are empty.
 use Rattle.std.proofs.Common.{Some, refl, sym, subst}
 use Rattle.napt_capture.specs.Contents.{RecordModel}
 use Rattle.napt_records.{specs.RecordMerging.TakesRecord, proofs.Merges.hands}

@@ -1,4 +1,4 @@
--- What was told is the first of what is left.
+-- look: the record that was read is the first of what is left, and a fault is that of what is left.
 use Rattle.std.proofs.lemmas.Result.{err_from_is_err_and}
 use Rattle.napt_capture.specs.{declared.{fault.CaptureFault.CaptureFault, reading.NextRead.NextRead}, RecordReaders.remaining_text}
 use Rattle.napt_records.proofs.ReaderRests.{StopsBy-says, held_refused, held_told, held_whole, untold}
@@ -10,7 +10,8 @@ returns-in_err-record-clause-fault g c live =
     let r = c.args.self.now in
     let fault : CaptureFault = c.in_err-record.field-0.0 in
     rw (p.1, p.2, untold c.args.first.now c.if-is_some.ensures, untold r.cut c.if-is_some-2.ensures)
-    (StopsBy-says NextRead fault (held_refused r.records (remaining_text r.records (g.R.Source.remaining r.live.source.now))
+    (StopsBy-says NextRead fault (held_refused r.records
+    (remaining_text r.records (g.R.Source.remaining r.live.source.now))
     (remaining_text c.next.new.records (g.R.Source.remaining c.next.new.self.source.now)) fault)
     (c.in_err-record.ensures.next live))
 

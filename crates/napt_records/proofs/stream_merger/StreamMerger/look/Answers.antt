@@ -1,4 +1,4 @@
--- What is next of both is known, or has a fault.
+-- look: the next record of each side is known, or it has a fault.
 use Rattle.std.proofs.Common.{◌∙◌, refl, arith}
 use Rattle.napt_records.proofs.HandedInputs.{stops_inside, stops_outside}
 use Rattle.napt_records.proofs.stream_merger.StreamMerger.look.Goals as goal

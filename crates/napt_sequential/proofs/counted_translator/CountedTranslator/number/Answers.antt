@@ -1,3 +1,4 @@
+-- number: the number is that of the binding or a spare one, and the translator stays that of the state.
 use Rattle.std.{proofs.Common.{ℕ, max, sym, ◌∙◌}, specs.Option.is_some}
 use Rattle.napt_rules.specs.Prelude.{by_inside, by_number, hold_ago}
 use Rattle.napt_translate.specs.Translators.{TranslatorModel}

@@ -1,3 +1,4 @@
+-- translate_traced: the look-up after the leg finds the binding that its packet used.
 use Rattle.napt_sequential.proofs.LookUps.{told_there}
 use Rattle.napt_sequential.proofs.leg_trace.PassageLegTrace.tell.Goals as goal
 

@@ -1,3 +1,4 @@
+-- advance: the legs can be counted, and the invariant and the result hold with one more input.
 use Rattle.std.proofs.{Common.{◌≡◌, ℕ, max, List, [], ◌∷◌, ◌++◌, length, length-append, sym, ◌∙◌, ap, subst, arith}, lemmas.List.with_items_is}
 use Rattle.napt_config.specs.Rules.{Rules}
 use Rattle.napt_rules.specs.Prelude.{Arrival}

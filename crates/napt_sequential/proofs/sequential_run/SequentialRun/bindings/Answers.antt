@@ -1,3 +1,4 @@
+-- bindings: the rows are those of the run.
 use Rattle.std.{proofs.Common.{◌∙◌, ap}, specs.Prelude.flat_map}
 use Rattle.napt_sequential.{specs.CountedTranslators.rows_at, proofs.{Results.if_ok, SequentialRuns.bindings_shown}}
 use Rattle.napt_sequential.proofs.sequential_run.SequentialRun.bindings.Goals as goal

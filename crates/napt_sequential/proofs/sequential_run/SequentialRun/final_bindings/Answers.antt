@@ -1,3 +1,4 @@
+-- final_bindings: the state is the one after the run, in order.
 use Rattle.std.proofs.Common.{List, subst}
 use Rattle.napt_sequential.specs.{declared.counted_translator.CountedTranslator.CountedTranslator, CountedTranslators.AreBindingsOfAll}
 use Rattle.napt_sequential.proofs.LeftTranslators.{all_left}

@@ -1,3 +1,4 @@
+-- legs: the numbers are those of the run's legs.
 use Rattle.std.proofs.Common.{◌∙◌, ap, map}
 use Rattle.napt_sequential.{specs.declared.counted_translator.CountedTranslator.CountedTranslator, proofs.{Results.if_ok, SequentialRuns.legs_shown}}
 use Rattle.napt_sequential.proofs.sequential_run.SequentialRun.legs.Goals as goal

@@ -38,7 +38,7 @@ returns-in_default-clause-begins c =
 pub insert-requires-clause-live : goal.insert-requires-clause-live
 insert-requires-clause-live c =
     let limits : AreTimers c.args.self.now.timers =
-    subst (λ (x : BindingsModel). AreTimers x.timers) c.self.view_is c.keep_limits.ensures in
+    subst (λ (x : BindingsModel). AreTimers x.timers) c.self.view_is c.are_within_limits.ensures in
     rw c.new.ensures (made_live c.args.self.now.timers limits c.address.result c.args.packet
     c.in-Some.number c.args.flows c.requires.flows)
 
@@ -49,7 +49,7 @@ insert-requires-clause-at c = ap (λ (r : Row). r.external.address) c.new.ensure
 pub insert-requires-clause-used : goal.insert-requires-clause-used
 insert-requires-clause-used c =
     let limits : AreTimers c.args.self.now.timers =
-    subst (λ (x : BindingsModel). AreTimers x.timers) c.self.view_is c.keep_limits.ensures in
+    subst (λ (x : BindingsModel). AreTimers x.timers) c.self.view_is c.are_within_limits.ensures in
     rw c.requires.at (
       made_used c.args.self.now.timers limits c.address.result c.args.packet c.in-Some.number c.args.flows
           c.requires.flows,
@@ -102,7 +102,7 @@ returns-clause-begins c =
     (sym c.self.view_is) c.requires.flows in
     let is : seen_binding s.timers p.now (Some binding)
     ≡ Some (binding_after_out p (new_binding s.held.address p number)) =
-    made_seen s.timers c.keep_limits.ensures c.address.result p number c.args.flows begun
+    made_seen s.timers c.are_within_limits.ensures c.address.result p number c.args.flows begun
     ∙ ap (λ (a : ℕ). Some (binding_after_out p (new_binding a p number))) c.address.ensures in
     let live = subst (λ (x : BindingsModel). (k : ExternalNumberKey) (b : Binding) → held_binding x.held k ≡ Some b →
     is_live x.timers (hold_ago x.timers p.now) b ≡ true) (sym c.self.view_is) c.requires.live in

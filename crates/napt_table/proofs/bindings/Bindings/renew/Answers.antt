@@ -23,7 +23,7 @@ invariant_of-self c =
     let row_is = row_again s.timers s.held c.keep_names.ensures p n has.0 has.1 has.2
     (ap (seen_binding s.timers p.now) (sym has.1) ∙ unseen) in
     subst (λ (a : ℕ). AreDue s.timers a c.renew.new.self s.due.entries) (sym at)
-    (again_due s.timers c.keep_limits.ensures s.held.address p n c.args.flows begun s.held c.renew.new.self has.0 row_is
+    (again_due s.timers c.are_within_limits.ensures s.held.address p n c.args.flows begun s.held c.renew.new.self has.0 row_is
     has.1 c.renew.ensures.one (c.renew.ensures.left has.0 has.1) s.due.entries
     (subst (λ (a : ℕ). AreDue s.timers a s.held s.due.entries) at c.self.invariant))
 
@@ -43,10 +43,10 @@ returns-clause-renews c =
     (ap (seen_binding s.timers p.now) (sym has.1) ∙ unseen) in
     let new = c.renew.new.self in
     let left = c.renew.ensures.left has.0 has.1 in
-    let is = again_seen s.timers c.keep_limits.ensures s.held.address p n c.args.flows begun s.held new has.0 row_is
+    let is = again_seen s.timers c.are_within_limits.ensures s.held.address p n c.args.flows begun s.held new has.0 row_is
     has.1
     c.renew.ensures.one left in
-    let holds = again_holds s.timers c.keep_limits.ensures s.held.address p n c.args.flows begun s.held new has.0 row_is
+    let holds = again_holds s.timers c.are_within_limits.ensures s.held.address p n c.args.flows begun s.held new has.0 row_is
     has.1 c.renew.ensures.one left in
     rw (← c.self.view_is) (λ list shows. record {
       live = made_all s.timers s.held.address p s.held new n _ (purge s.timers p.now list) shows holds unseen is;

@@ -12,7 +12,7 @@ returns-in-Some-clause-sends c list apart is_taken keeps left =
     let old = c.args.self.now in
     let new = c.send_held.new.self in
     let t : AreTimers old.timers = subst (λ (x : BindingsModel). AreTimers x.timers) c.self.view_is
-    c.keep_limits.ensures in
+    c.are_within_limits.ensures in
     let went : WentThrough old.timers p old.held new.held c.in-Some.number =
     subst (SendKnownPost old.timers p old.held new.held) c.in-Some.is c.in_ok-number.ensures.went in (
       went_answer old.timers t old.held.granting p old.held new.held c.keep_names.ensures c.in-Some.number went list
@@ -64,7 +64,7 @@ returns-in-Some-number_of-clause-sends c list apart is_taken keeps left =
     record { timers_is = c.send_held.ensures.timers; at_is = at; same = none.same } in
     let same = stands_then old c.send_held.new.self mid first c.prepare.ensures.same in
     let t : AreTimers old.timers = subst (λ (x : BindingsModel). AreTimers x.timers) c.self.view_is
-    c.keep_limits.ensures in
+    c.are_within_limits.ensures in
     let n = c.in-Some-number_of.number in
     let has : HasInside gone.held p.protocol p.inside n =
     subst (λ (x : BindingsModel). HasInside x.held p.protocol p.inside n) c.self-2.view_is
@@ -72,8 +72,8 @@ returns-in-Some-number_of-clause-sends c list apart is_taken keeps left =
     renewed_sends old mid gone p same c.purge_at.ensures none.none c.keep_names.ensures c.keep_names-2.ensures t list
     apart is_taken keeps n has c.renew.new.self c.renew.ensures.renews left
 
-pub begin-requires-clause-absent : goal.begin-requires-clause-absent
-begin-requires-clause-absent c =
+pub insert_new-requires-clause-absent : goal.insert_new-requires-clause-absent
+insert_new-requires-clause-absent c =
     let p = c.args.packet in
     let gone = c.purge_at.new.self in
     let absent : HasNoInside gone.held p.protocol p.inside = absent_from gone.held p.protocol p.inside
@@ -95,7 +95,7 @@ returns-then-reaches-clause-sends c list apart is_taken keeps left =
     record { timers_is = c.send_held.ensures.timers; at_is = at; same = none.same } in
     let same = stands_then old c.send_held.new.self mid first c.prepare.ensures.same in
     let t : AreTimers old.timers = subst (λ (x : BindingsModel). AreTimers x.timers) c.self.view_is
-    c.keep_limits.ensures in
+    c.are_within_limits.ensures in
     let absent : HasNoInside gone.held p.protocol p.inside = absent_from gone.held p.protocol p.inside
     c.number_of.result (subst (λ (x : BindingsModel). IsNumberOf x.held p.protocol p.inside c.number_of.result)
     c.self-2.view_is c.number_of.ensures) c.in_default-number_of.is in
@@ -120,7 +120,7 @@ returns-clause-sends c list apart is_taken keeps left =
     record { timers_is = c.send_held.ensures.timers; at_is = at; same = none.same } in
     let same = stands_then old c.send_held.new.self mid first c.prepare.ensures.same in
     let t : AreTimers old.timers = subst (λ (x : BindingsModel). AreTimers x.timers) c.self.view_is
-    c.keep_limits.ensures in
+    c.are_within_limits.ensures in
     let absent : HasNoInside gone.held p.protocol p.inside = absent_from gone.held p.protocol p.inside
     c.number_of.result (subst (λ (x : BindingsModel). IsNumberOf x.held p.protocol p.inside c.number_of.result)
     c.self-2.view_is c.number_of.ensures) c.in_default-number_of.is in
@@ -130,4 +130,4 @@ returns-clause-sends c list apart is_taken keeps left =
     (sym c.reaches.ensures ∙ c.if-reaches.false) in
     begun_sends old mid gone p same c.purge_at.ensures none.none c.keep_names.ensures c.keep_names-2.ensures t list
     apart
-    is_taken keeps absent under c.begin.new.self c.begin.result c.begin.ensures.begins left
+    is_taken keeps absent under c.insert_new.new.self c.insert_new.result c.insert_new.ensures.begins left

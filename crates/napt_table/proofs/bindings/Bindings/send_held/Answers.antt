@@ -26,6 +26,6 @@ invariant_of-self-in_default c =
 pub invariant_of-self-2 : goal.invariant_of-self-2
 invariant_of-self-2 c =
     let s = c.self.inside in
-    sent_due s.timers c.keep_limits.ensures c.args.packet s.at s.held c.send.new.self s.due.entries c.self.invariant
+    sent_due s.timers c.are_within_limits.ensures c.args.packet s.at s.held c.send.new.self s.due.entries c.self.invariant
     (subst (λ (x : BindingsModel). x.at ≤ c.args.packet.now) (sym c.self.view_is) c.requires.later) c.in-Some.number
     (subst (SendKnownPost s.timers c.args.packet s.held c.send.new.self) c.in-Some.is c.in_ok-number.ensures.went)

@@ -26,7 +26,7 @@ known p old new t named (Ok (Some number)) went at = record {
 
 pub returns-clause-known : goal.returns-clause-known
 returns-clause-known c = known c.args.packet c.args.self.now c.send_held.new.self
-    (subst (λ (x : BindingsModel). AreTimers x.timers) c.self.view_is c.keep_limits.ensures) c.keep_names.ensures
+    (subst (λ (x : BindingsModel). AreTimers x.timers) c.self.view_is c.are_within_limits.ensures) c.keep_names.ensures
     c.send_held.result c.send_held.ensures.went c.send_held.ensures.at
 
 pub returns-clause-unknown : goal.returns-clause-unknown

@@ -1,3 +1,4 @@
+-- over: a fault with or without a log is a stop of the files that the options name.
 use Rattle.std.proofs.lemmas.Result.{err_from_is_err_and}
 use Rattle.stream.proofs.stream_run.StreamRun.over.Goals as goal
 

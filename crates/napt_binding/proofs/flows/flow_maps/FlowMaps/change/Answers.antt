@@ -1,3 +1,4 @@
+-- change: the invariant holds after the flow was replaced by one of the same remote.
 use Rattle.std.proofs.Common.{refl}
 use Rattle.napt_binding.proofs.FlowMapSteps.{changed_many}
 use Rattle.napt_binding.proofs.flows.flow_maps.FlowMaps.change.Goals as goal

@@ -1,3 +1,4 @@
+-- drop_dead: an expired flow is removed and the live ones stay; without one, all flows are live.
 use Rattle.std.proofs.Common.{sym, arith}
 use Rattle.napt_rules.specs.Life as life
 use Rattle.napt_binding.proofs.Slots.{all_kept, kept_emptied, one_fewer}

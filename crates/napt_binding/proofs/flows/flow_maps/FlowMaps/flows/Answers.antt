@@ -1,3 +1,4 @@
+-- flows: the invariant of the loop holds with each further slot.
 use Rattle.std.proofs.{lemmas.{Grind.common_steps, Bool.Decides.nat_tests}, Common.arith}
 use Rattle.napt_binding.proofs.DistinctFlows.{not_in_slots_before, distinct_pushed, next_slot, empty_slot}
 use Rattle.napt_binding.proofs.flows.flow_maps.FlowMaps.flows.Goals.{in-Some+in_ok-push, in_default}

@@ -1,3 +1,4 @@
+-- flows: the copy has the flows of the slots so far, which are distinct.
 use Rattle.std.proofs.Common.{◌≡◌, ◌≤◌, length, take}
 use Rattle.napt_binding.specs.Slots.{standing_flows, AreDistinct}
 use Rattle.napt_binding.proofs.flows.flow_maps.FlowMaps.flows.Given as goal

@@ -1,3 +1,4 @@
+-- from_flows: the flows are inserted as if never used, and get their last uses back.
 use Rattle.std.proofs.{lemmas.{Grind.common_steps, Bool.Decides.nat_tests}, Common.{◌≡◌, List, Option, map, take, sym, ◌∙◌, ap, subst, arith}}
 use Rattle.std.proofs.lemmas.List.{take_all, map_more}
 use Rattle.napt_rules.specs.declared.Flow.{Flow}

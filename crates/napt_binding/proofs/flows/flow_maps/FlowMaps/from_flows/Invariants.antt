@@ -1,3 +1,4 @@
+-- from_flows: the flows so far are inserted as if never used; then the entries so far have their last uses back.
 use Rattle.std.proofs.Common.{◌≡◌, map, take}
 use Rattle.napt_binding.{specs.FlowMapInvariants.FlowMapsInvariant, proofs.RestoredFlows.{as_unused, AreBack}}
 use Rattle.napt_binding.proofs.flows.flow_maps.FlowMaps.from_flows.Given as goal

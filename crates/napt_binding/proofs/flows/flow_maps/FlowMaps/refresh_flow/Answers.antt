@@ -1,3 +1,4 @@
+-- refresh_flow: the flow of the remote is marked and refreshed; without one, nothing changes.
 use Rattle.std.proofs.{Common.{arith, sym, refl}, lemmas.{Grind.common_steps, Bool.Decides.nat_tests}}
 use Rattle.napt_rules.specs.Prelude.{Tcp, Incoming}
 use Rattle.napt_rules.specs.FlowUpdates as traffic

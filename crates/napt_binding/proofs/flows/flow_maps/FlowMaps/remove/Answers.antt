@@ -1,3 +1,4 @@
+-- remove: the invariant holds without the flow.
 use Rattle.std.{proofs.Common.{◌∙◌, ◌+◌, ℕ, Option, cond, ap, sym, is_some}, specs.HashMap.hash_map_len}
 use Rattle.napt_binding.proofs.FlowMapSteps.{taken_many}
 use Rattle.napt_binding.proofs.flows.flow_maps.FlowMaps.remove.Goals as goal

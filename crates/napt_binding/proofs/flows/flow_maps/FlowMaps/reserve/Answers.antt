@@ -1,3 +1,4 @@
+-- reserve: the invariant holds after the room was made, and if memory is refused.
 use Rattle.std.proofs.Common.{refl}
 use Rattle.napt_binding.proofs.FlowMapSteps.{same_many}
 use Rattle.napt_binding.proofs.flows.flow_maps.FlowMaps.reserve.Goals as goal

@@ -1,3 +1,4 @@
+-- retain_live: the live flows and the slots are those at the start, and each step removes a flow.
 use Rattle.std.proofs.Common.{◌≡◌, length, filter}
 use Rattle.napt_rules.specs.Life as life
 use Rattle.napt_binding.specs.{Slots.standing_flows, FlowMapInvariants.{FlowMapsInvariant, FlowMapsHaveRoom}}

@@ -1,3 +1,4 @@
+-- change: emptying a slot and filling it again replaces its flow.
 use Rattle.std.proofs.Common.{None, Some}
 use Rattle.napt_binding.proofs.{Slots.set_twice, LastUses.used_cleared}
 use Rattle.napt_binding.proofs.flows.slots.FlowSlots.change.Goals as goal

@@ -1,3 +1,4 @@
+-- clear: the invariant holds after the flow was unlinked and its slot emptied.
 use Rattle.std.proofs.{Common.{◌≡◌, ◌<◌, not, length, Some, refl, sym, ◌∙◌, ap, arith, subst, get_or-set_other, get_or-set_same, None}, Math.ListN.length-set}
 use Rattle.std.proofs.lemmas.{Grind.common_steps, List.with_items_is}
 use Rattle.napt_rules.specs.declared.Flow.{Flow}

@@ -1,3 +1,4 @@
+-- fill: the invariant holds after the flow was linked at the end of its row.
 use Rattle.std.proofs.{Common.{◌≡◌, ◌<◌, length, Some, None, refl, sym, arith, subst, slice_get, get_or-set_other, get_or-set_same}, Math.ListN.length-set}
 use Rattle.std.proofs.lemmas.{Grind.common_steps, List.with_items_is, Option.{slice_get_within, get_or_from_slice_get}}
 use Rattle.napt_binding.{specs.{Slots.{standing_flows, NoneUsedAfter}, SlotsModels.FlowSlotsModel}, proofs.TimedRows.filled}
@@ -26,6 +27,7 @@ invariant_of-self c =
     ))
     (grind (arith, common_steps, kept, c.self.inside.links.ok.0, c.self.invariant.fits)) c.args.flow
     (get_or_from_slice_get flows c.args.place None None at) refl
-    (subst (λ (s : FlowSlotsModel). NoneUsedAfter (standing_flows s.slots) c.args.flow.last) (sym c.self.view_is) c.requires.rising)
+    (subst (λ (s : FlowSlotsModel). NoneUsedAfter (standing_flows s.slots) c.args.flow.last) (sym c.self.view_is)
+    c.requires.rising)
     (rw (c.deref_mut.ensures.value, c.row_of.ensures) at c.link_before.ensures.nexts)
     (rw (c.deref_mut.ensures.value, c.row_of.ensures) at c.link_before.ensures.prevs))

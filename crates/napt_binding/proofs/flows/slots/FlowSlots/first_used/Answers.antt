@@ -1,3 +1,4 @@
+-- first_used: the first flow of a row is the one that was last used longest ago.
 use Rattle.napt_binding.proofs.TimedRows.{first_used_is}
 use Rattle.napt_binding.proofs.flows.slots.FlowSlots.first_used.Goals as goal
 

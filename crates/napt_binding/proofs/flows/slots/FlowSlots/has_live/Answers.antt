@@ -1,3 +1,4 @@
+-- has_live: a flow is live if and only if the latest of its row is.
 use Rattle.std.proofs.Common.{◌∙◌, sym}
 use Rattle.napt_binding.proofs.TimedRows.{live_is, one_live, or_second}
 use Rattle.napt_binding.proofs.flows.slots.FlowSlots.has_live.Goals as goal

@@ -1,3 +1,4 @@
+-- insert: the invariant holds with a slot more, whose flow is linked at the end of its row.
 use Rattle.std.proofs.{Common.{◌≡◌, ◌+◌, ◌<◌, length, arith, sym, subst}, lemmas.List.{with_items_is, length_push}}
 use Rattle.napt_collections.specs.Links.{no_links}
 use Rattle.napt_binding.{specs.{Slots.{standing_flows, NoneUsedAfter}, SlotsModels.FlowSlotsModel}, proofs.TimedRows.{row_low, longer_within, pushed}}
@@ -19,7 +20,8 @@ invariant_of-self c =
     let room = subst (λ (s : FlowSlotsModel). 0 < s.room) (sym c.self.view_is) c.requires.room in
     rw (with_items_is c.push_reserved-2.new.self c.link_before.new.links kept, c.push_reserved.ensures.items)
     (pushed flows links c.self.invariant c.link_before.new.links c.args.flow
-    (subst (λ (s : FlowSlotsModel). NoneUsedAfter (standing_flows s.slots) c.args.flow.last) (sym c.self.view_is) c.requires.rising)
+    (subst (λ (s : FlowSlotsModel). NoneUsedAfter (standing_flows s.slots) c.args.flow.last) (sym c.self.view_is)
+    c.requires.rising)
     (omega (arith, kept, c.push_reserved-2.new.self.ok.0, more, c.self.invariant.lengths))
     (omega (arith, kept, c.push_reserved-2.new.self.ok.0, more, c.self.inside.links.ok.0, room))
     (rw (c.deref_mut.ensures.value, c.push_reserved-2.ensures.items, c.row_of.ensures, place) at

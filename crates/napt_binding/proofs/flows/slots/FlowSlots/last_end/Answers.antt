@@ -1,3 +1,4 @@
+-- last_end: the last end of the flows is the later of the ends of the two rows.
 use Rattle.std.{proofs.Common.◌∙◌, specs.List.list_any}
 use Rattle.napt_binding.{specs.{Ends.last_end, Slots.{standing_flows, is_recent_time}}, proofs.{FirstEnds.{flows_before, max_before}, TimedRows.live_is}}
 use Rattle.napt_rules.specs.Prelude.{is_live_flow}

@@ -1,3 +1,4 @@
+-- last_moment: a flow is live until the later of the last moments of the two rows, and not after it.
 use Rattle.std.{proofs.{Common.{◌≡◌, ⊎_elim, sym, ◌∙◌, ap, true, arith}, lemmas.Bool.or_cases}, specs.List.list_any}
 use Rattle.napt_config.specs.declared.settings.Timers.{Timers}
 use Rattle.napt_rules.specs.Life as life
@@ -9,7 +10,8 @@ returns-clause-lives c t within =
     let m = c.max.ensures in
     let slots = c.args.self.now.slots in
     let live : list_any (life.is_live_flow c.timers.inside.seconds c.args.now) (standing_flows slots) ≡ true =
-    ap (λ (x : Timers). list_any (life.is_live_flow x c.args.now) (standing_flows slots)) c.timers.view_is ∙ c.requires.live in
+    ap (λ (x : Timers). list_any (life.is_live_flow x c.args.now) (standing_flows slots)) c.timers.view_is
+    ∙ c.requires.live in
     rw (← c.timers.view_is)
     (lives_until c.timers.inside.seconds c.args.now slots c.latest.result c.latest-2.result
     c.last_moment_of-established.result c.last_moment_of.result c.latest.ensures c.latest-2.ensures live

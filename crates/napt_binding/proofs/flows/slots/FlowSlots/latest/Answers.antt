@@ -1,3 +1,4 @@
+-- latest: the last flow of a row was used latest.
 use Rattle.napt_binding.proofs.TimedRows.{latest_is}
 use Rattle.napt_binding.proofs.flows.slots.FlowSlots.latest.Goals as goal
 

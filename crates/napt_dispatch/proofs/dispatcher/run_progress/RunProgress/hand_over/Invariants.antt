@@ -1,3 +1,4 @@
+-- hand_over: the results that left the window so far were written.
 use Rattle.std.proofs.Common.{length}
 use Rattle.napt_dispatch.specs.RunsThrough.{HandOverOk}
 use Rattle.napt_dispatch.proofs.dispatcher.run_progress.RunProgress.hand_over.Given as goal

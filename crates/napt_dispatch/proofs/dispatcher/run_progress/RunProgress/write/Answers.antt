@@ -1,3 +1,4 @@
+-- write: the progress of one open input is set, and all else stays.
 use Rattle.std.proofs.Common.{refl}
 use Rattle.napt_dispatch.proofs.Windows.{open_written, open_unmarked}
 use Rattle.napt_dispatch.proofs.dispatcher.run_progress.RunProgress.write.Goals as goal

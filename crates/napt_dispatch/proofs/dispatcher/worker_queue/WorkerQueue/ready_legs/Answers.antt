@@ -1,3 +1,4 @@
+-- ready_legs: the legs, their number and their order stay.
 use Rattle.std.proofs.Common.{refl}
 use Rattle.napt_dispatch.proofs.dispatcher.worker_queue.WorkerQueue.ready_legs.Goals as goal
 

@@ -1,3 +1,4 @@
+-- new: all queues so far are unused.
 use Rattle.std.proofs.Common.{◌≡◌, replicate}
 use Rattle.napt_dispatch.specs.WorkerQueues.{unused_queue}
 use Rattle.napt_dispatch.proofs.dispatcher.worker_queues.WorkerQueues.new.Given as goal

@@ -1,3 +1,4 @@
+-- offer_ready: the fault is that of the worker's queue.
 use Rattle.std.proofs.lemmas.Result.{err_from_is_err_and}
 use Rattle.napt_dispatch.proofs.dispatcher.worker_queues.WorkerQueues.offer_ready.Goals as goal
 

@@ -1,3 +1,4 @@
+-- push: the count stays right, and one entry is appended for worker `w` alone.
 use Rattle.std.proofs.Common.{◌+◌, ◌<◌, [], ◌∷◌, length, arith, sym, ap, ◌∙◌}
 use Rattle.napt_dispatch.{specs.WorkerQueues.many_held, proofs.QueueStates.{holds_here, count_more, counted_by}}
 use Rattle.napt_dispatch.proofs.dispatcher.worker_queues.WorkerQueues.push.Goals as goal

@@ -1,3 +1,4 @@
+-- ready_legs: the count stays right, and the queues of worker `w` alone change.
 use Rattle.std.proofs.Common.{◌<◌, length}
 use Rattle.napt_dispatch.proofs.QueueStates.{moves_here, counted_same}
 use Rattle.napt_dispatch.proofs.dispatcher.worker_queues.WorkerQueues.ready_legs.Goals as goal

@@ -6,8 +6,8 @@ use Rattle.napt_table.specs.{BindingIndexes.{BindingIndexModel, held_binding, Ha
 use Rattle.napt_table.proofs.{Ends.{held_in, hosts_few, step_held, IsAt}, Keys.{key_itself, other_key}}
 use Rattle.napt_table.proofs.bindings.binding_index.BindingIndex.insert.Goals as goal
 
-pub put-requires-clause-fits : goal.put-requires-clause-fits
-put-requires-clause-fits c =
+pub increment-requires-clause-fits : goal.increment-requires-clause-fits
+increment-requires-clause-fits c =
     let few = hosts_few c.self.inside c.self.invariant c.args.binding.row.inside.address in
     omega (arith, few)
 
@@ -44,11 +44,11 @@ invariant_of-self c =
         number = (sym (ap (λ (x : ExternalNumberKey). x.number) key_is)) i;
       },
       refl,
-    )) refl refl c.put-2.ensures.by_protocol
-    (c.put-2.ensures.used key c.key_of-key.ensures.small
+    )) refl refl c.insert-3.ensures.by_protocol
+    (c.insert-3.ensures.used key c.key_of-key.ensures.small
     ∙ ap (λ v. v || is_in_use c.self.inside.numbers key) (key_itself key))
-    (λ k lt d. c.put-2.ensures.used k lt ∙ ap (λ v. v || is_in_use c.self.inside.numbers k) (other_key k key d))
-    c.put.ensures.counted (λ on host n moved. count_more _ _ n _ (c.put.ensures.counts on host) moved)
+    (λ k lt d. c.insert-3.ensures.used k lt ∙ ap (λ v. v || is_in_use c.self.inside.numbers k) (other_key k key d))
+    c.increment.ensures.counted (λ on host n moved. count_more _ _ n _ (c.increment.ensures.counts on host) moved)
 
 pub returns-clause-held : goal.returns-clause-held
 returns-clause-held c = λ k. c.in-Ok-insert.ensures.updates.0 k

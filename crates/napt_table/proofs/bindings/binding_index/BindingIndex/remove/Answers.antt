@@ -26,11 +26,11 @@ invariant_of-self-2 c =
     ∙ λ i. cond (inside_eq (ends i) (inside_key q e)) None (number_of_inside c.self.inside q e))
     (λ b h. ap (λ (x : Binding). x.row.inside) (same_Some b dead (sym h)))
     (λ n h. same_Some n key.number (sym h ∙ is.inside_is key dead there)) (λ b h. cc) refl refl
-    c.take-2.ensures.by_protocol
-    (c.take-2.ensures.used key (is.named.small key dead there)
+    c.remove-2.ensures.by_protocol
+    (c.remove-2.ensures.used key (is.named.small key dead there)
     ∙ ap (λ v. not v && is_in_use c.self.inside.numbers key) (key_itself key))
-    (λ k lt d. c.take-2.ensures.used k lt ∙ ap (λ v. not v && is_in_use c.self.inside.numbers k) (other_key k key d))
-    c.take.ensures.counted (λ on host n moved. count_less _ _ n _ (c.take.ensures.counts host) moved)
+    (λ k lt d. c.remove-2.ensures.used k lt ∙ ap (λ v. not v && is_in_use c.self.inside.numbers k) (other_key k key d))
+    c.decrement.ensures.counted (λ on host n moved. count_less _ _ n _ (c.decrement.ensures.counts host) moved)
 
 pub returns-clause-held : goal.returns-clause-held
 returns-clause-held c = rw (← c.self.view_is) (λ k. c.swap_remove_full.ensures.updates.0 k)
