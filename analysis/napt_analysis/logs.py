@@ -13,6 +13,7 @@ import pandas as pd
 PROTOCOLS = {1: "icmp", 6: "tcp", 17: "udp"}
 MADE, ENDED = 8, 9
 REFUSED = {12: "no-port", 13: "over-quota"}
+PART = 50_000  # rows
 
 COLUMNS = {
     "time": "time",
@@ -79,16 +80,20 @@ def read_log(*paths: str | Path) -> Log:
 
 
 def _events(path: str | Path) -> pd.DataFrame:
+    """Reads a file in parts, since its dates as texts take most of the memory. As numbers, beside empty ones, they would be
+    rounded."""
     kinds = {"sourceIPv4Address": "category", "postNATSourceIPv4Address": "category"}
+    protocols = pd.CategoricalDtype(sorted(PROTOCOLS.values()))
+    parts = []
     try:
-        events = pd.read_csv(path, usecols=list(COLUMNS), dtype=kinds).rename(columns=COLUMNS)
-        for column in ("time", "last_packet"):  # the dates: as numbers, beside empty ones, they would be rounded
-            events[column] = pd.to_datetime(events[column], utc=True)
+        for part in pd.read_csv(path, usecols=list(COLUMNS), dtype=kinds, chunksize=PART):
+            part = part.rename(columns=COLUMNS)
+            for column in ("time", "last_packet"):
+                part[column] = pd.to_datetime(part[column], utc=True)
+            parts.append(part.assign(protocol=part.protocol.map(PROTOCOLS).astype(protocols)))
     except ValueError as error:
         raise LogError(f"{path} is no log of napt: {error}") from None
-    protocols = pd.CategoricalDtype(sorted(PROTOCOLS.values()))
-    events["protocol"] = events.protocol.map(PROTOCOLS).astype(protocols)
-    return events
+    return pd.concat(parts, ignore_index=True)
 
 
 def _bindings(events: pd.DataFrame) -> pd.DataFrame:
