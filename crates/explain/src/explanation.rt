@@ -1,15 +1,16 @@
 //! A run as it goes on, for one command.
 
-use crate::command_output::CommandOutput;
 use crate::flaws::ConfigAdvice;
 use crate::options::ExplainOptions;
 use crate::progress::ExplainProgress;
 use napt_account::{LogEntry, RunFromState, TrackedRun};
-use napt_commands::{Consumer, Exit, Page, RunEnd, RunPacket, RunStart, print_warning};
-use napt_config::Config;
-use napt_lines::{OutsideSummary, PacketLine, Replies, UnmatchedSelection};
+use napt_commands::{
+    CommandOutput, Consumer, Exit, LossCounts, Page, RunEnd, RunPacket, RunStart, print_warning,
+};
+use napt_lines::{PacketLine, Remotes, Replies, UnmatchedSelection};
 use napt_sequential::Input;
 use std::alloc::{AllocError, Global};
+use std::rt::Files;
 
 /// A run before its first packet.
 #[derive(Drop)]
@@ -39,10 +40,6 @@ impl<'a> BegunRun<'a> {
             living,
         })
     }
-
-    pub fn config(&self) -> &'a Config {
-        self.run.config()
-    }
 }
 
 /// A run as it goes on. `O` is what the command prints or writes of it.
@@ -51,7 +48,10 @@ pub struct Explanation<'a, 'b, O> {
     options: &'a ExplainOptions<'a>,
     running: TrackedRun<'a>,
     output: O,
-    outside: OutsideSummary<'b>,
+    losses: LossCounts,
+    remotes: Remotes,
+    /// The packets from outside, if they are replies.
+    replies: Option<Replies<'b>>,
     unmatched: UnmatchedSelection,
     progress: ExplainProgress,
     page: Page,
@@ -63,20 +63,22 @@ pub struct Explanation<'a, 'b, O> {
 
 impl<'a, 'b, O: Drop> Explanation<'a, 'b, O> {
     /// Before the first packet. The packets from outside may be replies.
-    pub fn begin(
-        alloc: Global,
+    pub fn begin<R: Files + AllocGlobal>(
+        rt: &R,
         options: &'a ExplainOptions<'a>,
         begun: BegunRun<'a>,
         replies: Option<Replies<'b>>,
-        progress: ExplainProgress,
         output: O,
     ) -> Result<Explanation<'a, 'b, O>, Exit> {
+        let alloc = rt.alloc();
         Ok(Explanation {
             options,
             output,
-            outside: OutsideSummary::new(alloc, begun.run.config(), replies)?,
+            losses: LossCounts::new(alloc, begun.run.config())?,
+            remotes: Remotes::new(alloc),
+            replies,
             unmatched: UnmatchedSelection::of(options.choice, &begun.living),
-            progress,
+            progress: ExplainProgress::of(rt),
             page: Page::new(alloc),
             packets: 0,
             first: begun.clock,
@@ -98,21 +100,23 @@ impl<'a, 'b, O: Drop> Explanation<'a, 'b, O> {
             options,
             running,
             output,
-            outside,
+            losses,
+            remotes,
             unmatched,
             progress,
             mut page,
             packets,
             first,
             last,
+            ..
         } = self;
         page.end(rt)?;
         progress.tell_end(rt, packets);
         flaws.tell(rt, options.form)?;
-        if options.is_of_gateway() && outside.remotes.are_astray() {
-            return Err(outside.remotes.tell_astray(rt));
+        if options.is_of_gateway() && remotes.are_astray() {
+            return Err(remotes.tell_astray(rt));
         }
-        print_warning(rt, options.outside, None, &outside.losses);
+        print_warning(rt, options.outside, None, &losses);
         let ending = RunEnd {
             config: running.config(),
             packets,
@@ -120,11 +124,13 @@ impl<'a, 'b, O: Drop> Explanation<'a, 'b, O> {
             last,
             later: flaws.back.far(),
             cuts: flaws.cuts,
+            are_answers: remotes.are_answers(&losses),
+            losses,
             rows: running.bindings(rt.alloc())?,
             living: running.living(rt.alloc())?,
         };
         unmatched.tell(rt);
-        output.end(rt, &mut page, &ending, &outside)
+        output.end(rt, &mut page, &ending)
     }
 }
 
@@ -147,10 +153,13 @@ impl<R: Print + Eprint + AllocGlobal, O: CommandOutput<R> + Drop> Consumer<R>
         };
         self.packets = number;
         self.last = self.last.max(input.clock);
-        self.outside.take(config, passing)?;
-        let line = PacketLine::of(passing, self.outside.replies);
+        self.losses.take(config, input, &step.outcome);
+        if self.replies.is_none() {
+            self.remotes.take(passing)?;
+        }
+        let line = PacketLine::of(passing, self.replies);
         self.unmatched.take(alloc, line, &step.made)?;
-        self.output.take(rt, config, line, &mut self.page.text)?;
+        self.output.take(rt, config, passing, &mut self.page.text)?;
         self.page.turn(rt)?;
         self.progress.tell(rt, number);
         Ok(())

@@ -7,7 +7,6 @@
 #![tactic(auto)]
 
 mod captures;
-mod command_output;
 mod commands;
 mod explanation;
 mod flaws;

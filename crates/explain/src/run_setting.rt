@@ -1,17 +1,15 @@
 //! A run over captures, as the command line asks for it.
 
 use crate::captures::{CaptureInputs, OpenCaptures, RefusedRun, StartedCaptures};
-use crate::command_output::{CommandOutput, PacketObjects};
 use crate::explanation::{BegunRun, Explanation};
 use crate::follow_command::follow;
 use crate::options::{ExplainOptions, OutputForm};
-use crate::progress::ExplainProgress;
 use crate::reading::{GivenLog, RunStarts};
 use napt_attribution::{Holders, begin_run_log};
 use napt_capture::{EmptySource, Source, Watched};
-use napt_commands::{Exit, RunStart, take_all};
+use napt_commands::{CommandOutput, Exit, RunStart, take_all};
 use napt_config::Config;
-use napt_lines::{PacketLines, Replies, RunComparison, SinglePacket, ends_of};
+use napt_lines::{PacketLines, PacketObjects, Replies, RunComparison, SinglePacket, ends_of};
 use napt_log_text::TimeStamp;
 use napt_program::{InputFiles, StandardStreams};
 use napt_sequential::Input;
@@ -143,31 +141,34 @@ impl<'a> RunSetting<'a> {
             true => Some(FollowedInputs::read(rt, options, start.config(), captures)?),
             false => None,
         };
+        let (config, choice) = (start.config(), options.choice);
+        let replies = match &followed {
+            Some(followed) => Replies::of(options.outside, config, &followed.ends),
+            None => None,
+        };
         let begun = BegunRun::of(alloc, start)?;
         let told = ToldRun {
             rt,
             options,
             captures,
-            followed,
+            kept: followed.as_ref().map(|followed| followed.inputs.as_slice()),
+            replies,
         };
-        match (options.form, options.choice.only) {
-            (OutputForm::Objects, _) => {
-                let choice = options.choice;
-                told.explain(begun, PacketObjects { choice })
-            }
+        match (options.form, choice.only) {
+            (OutputForm::Objects, _) => told.explain(begun, PacketObjects { choice, replies }),
             (OutputForm::Log(paths), _) => {
                 tell_new_entries(rt, start)?;
                 let is_held = options.is_of_gateway();
-                let log = begin_run_log(rt, paths, is_held, start.config(), &begun.living)?;
+                let log = begin_run_log(rt, paths, is_held, config, &begun.living)?;
                 told.explain(begun, log)
             }
             (OutputForm::Holders(_) | OutputForm::Requests(_), _) => {
                 let mut holders = Holders::of(alloc, &self.given.asked)?;
-                holders.take(&begun.ended)?;
+                holders.add(&begun.ended)?;
                 told.explain(begun, holders)
             }
-            (_, Some(number)) => told.explain(begun, SinglePacket::new(number, options.choice)),
-            (_, None) => told.explain(begun, PacketLines::new(options.choice)),
+            (_, Some(number)) => told.explain(begun, SinglePacket::new(number, choice, replies)),
+            (_, None) => told.explain(begun, PacketLines::new(choice, replies)),
         }
     }
 
@@ -217,7 +218,8 @@ struct ToldRun<'a, 'c, 'r, 'i, 'o, R, A: Source, B: Source> {
     rt: &'c R,
     options: &'a ExplainOptions<'a>,
     captures: &'c mut CaptureInputs<'r, 'i, 'o, A, B>,
-    followed: Option<FollowedInputs>,
+    kept: Option<&'c [Input]>,
+    replies: Option<Replies<'c>>,
 }
 
 impl<'a, 'c, 'r, 'i, 'o, R, A: Source, B: Source> ToldRun<'a, 'c, 'r, 'i, 'o, R, A, B> {
@@ -227,34 +229,12 @@ impl<'a, 'c, 'r, 'i, 'o, R, A: Source, B: Source> ToldRun<'a, 'c, 'r, 'i, 'o, R,
         R: Files + Print + Eprint + AllocGlobal,
     {
         let (rt, options, captures) = (self.rt, self.options, self.captures);
-        let progress = ExplainProgress::of(rt);
-        match &self.followed {
-            None => {
-                let mut explanation = Explanation::begin(
-                    rt.alloc(),
-                    options,
-                    begun,
-                    None,
-                    progress,
-                    output,
-                )?;
-                captures.hand_over(rt, &mut explanation)?;
-                explanation.end(rt, captures.flaws())
-            }
-            Some(followed) => {
-                let replies = Replies::of(options.outside, begun.config(), &followed.ends);
-                let mut explanation = Explanation::begin(
-                    rt.alloc(),
-                    options,
-                    begun,
-                    replies,
-                    progress,
-                    output,
-                )?;
-                take_all(rt, &followed.inputs, &mut explanation)?;
-                explanation.end(rt, captures.flaws())
-            }
+        let mut explanation = Explanation::begin(rt, options, begun, self.replies, output)?;
+        match self.kept {
+            None => captures.hand_over(rt, &mut explanation)?,
+            Some(inputs) => take_all(rt, inputs, &mut explanation)?,
         }
+        explanation.end(rt, captures.flaws())
     }
 }
 

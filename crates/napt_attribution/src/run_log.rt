@@ -4,7 +4,7 @@ use crate::blocks::tell_needless;
 use crate::log_file::{LogFile, begin_log};
 use crate::packet_file::{PacketFile, begin_packets};
 use napt_account::LogEntry;
-use napt_commands::{Coverage, Exit, RunEnd, RunPacket, print_unwritten};
+use napt_commands::{CommandOutput, Coverage, Exit, Page, RunEnd, RunPacket, print_unwritten};
 use napt_config::Config;
 use napt_records::{OutcomeCounts, report_of};
 use std::fs;
@@ -90,13 +90,13 @@ impl<'a> RunReport<'a> {
     }
 }
 
-impl<'a, W: Write + Drop> RunLog<'a, W> {
-    /// Takes what a packet did.
-    pub fn take<R: Files + Print + Eprint>(
+impl<R: Files + Print + Eprint + AllocGlobal, W: Write + Drop> CommandOutput<R> for RunLog<'_, W> {
+    fn take(
         &mut self,
         rt: &R,
         config: &Config,
         passing: RunPacket<'_>,
+        _text: &mut String,
     ) -> Result<(), Exit> {
         if let Some(packets) = &mut self.packets {
             packets.take(rt, passing)?;
@@ -109,7 +109,7 @@ impl<'a, W: Write + Drop> RunLog<'a, W> {
     }
 
     /// Writes the rows so far, unless they are held until the end.
-    pub fn settle<R: Files + Print + Eprint>(&mut self, rt: &R) -> Result<(), Exit> {
+    fn settle(&mut self, rt: &R) -> Result<(), Exit> {
         if let Some(packets) = &mut self.packets {
             packets.rows.settle(rt)?;
         }
@@ -117,11 +117,7 @@ impl<'a, W: Write + Drop> RunLog<'a, W> {
     }
 
     /// Writes what needs the end, and all that is not written yet. Says if nobody needs the log, unless figures are made of it.
-    pub fn finish<R: Files + Print + Eprint + AllocGlobal>(
-        self,
-        rt: &R,
-        ending: &RunEnd<'_>,
-    ) -> Result<(), Exit> {
+    fn end(self, rt: &R, _page: &mut Page, ending: &RunEnd<'_>) -> Result<(), Exit> {
         let RunLog {
             mut log,
             mut packets,

@@ -2,6 +2,7 @@
 //! and what becomes of those from outside.
 #![tactic(auto)]
 
+mod command_output;
 mod counted_run;
 mod coverage;
 mod exit;
@@ -16,6 +17,7 @@ mod sorted_entries;
 mod start;
 mod warning;
 
+pub use crate::command_output::CommandOutput;
 pub use crate::counted_run::CountedRun;
 pub use crate::coverage::Coverage;
 pub use crate::exit::Exit;
