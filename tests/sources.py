@@ -5,7 +5,7 @@ from shared import TOP
 
 LIBRARIES = {path.parent.parent.name for path in TOP.glob("crates/*/src/lib.rt")}
 # crates of tests, whose functions nothing is proved for
-OF_TESTS = ("napt_calls", "napt_samples", "napt_library_tests", "napt_run_tests")
+OF_TESTS = ("napt_calls", "napt_run_tests")
 DECLARED = re.compile(r"^pub (?:const )?(?:struct|enum|trait|fn|type|const) (\w+)", re.MULTILINE)
 
 

@@ -3,12 +3,13 @@
 ghost use Rattle.std.specs.Prelude.{◌<◌, ◌*◌, ◌^◌, length, All, IfOk};
 ghost use Rattle.napt_capture.specs.Text.{IsWritable};
 
+use crate::captures::{at_most, failing};
+use crate::packets::UDP_QUERY;
+use crate::samples::captures::{ONE_PACKET, WRITTEN};
 use napt_capture::{
     CaptureFault, FaultPlan, Faulty, InjectedFault, Record, Sink, Source, Watched, WriteFault,
     read_capture, write_capture, write_text,
 };
-use napt_samples::captures::{ONE_PACKET, WRITTEN};
-use napt_samples::packets::UDP_QUERY;
 use std::alloc::Global;
 use std::io;
 use std::io::{Read, Write};
@@ -17,17 +18,6 @@ use std::test::*;
 
 /// How many records a capture has, and whether its last is cut.
 pub(crate) type Shape = (usize, bool);
-
-/// Moves at most so many bytes at a time, but for 0, and goes wrong at a call, counted from 1, or at none.
-pub(crate) fn at_most(most: usize, call: u64, trouble: InjectedFault) -> FaultPlan
-    ensures { 0 < result.most }
-{
-    FaultPlan {
-        most: most.max(1),
-        call,
-        trouble,
-    }
-}
 
 /// The shape of a capture that is read whole from a device.
 pub(crate) fn shape_of(alloc: Global, bytes: &[u8], plan: FaultPlan) -> Result<Shape, CaptureFault>
@@ -77,7 +67,7 @@ fn each_read_fails_in_turn(rt: HostRuntime) {
 fn each_read_finds_the_end(rt: HostRuntime) {
     for given in 0..=70u16 {
         let (front, wanted) = (&ONE_PACKET[..usize::from(given)], shape_of_front(given));
-        let whole = at_most(100, 0, InjectedFault::Fails);
+        let whole = failing(0);
         let cut = shape_of(rt.alloc(), front, whole);
         assert_eq!(rt; cut, wanted, "{given} bytes");
         let plan = at_most(1, u64::from(given) + 1, InjectedFault::TakesNone);
@@ -125,7 +115,7 @@ fn assert_written(
 #[test]
 fn one_packet_or_none_is_written(rt: HostRuntime) -> Result<(), Fail> {
     let records = [packet(rt.alloc())?];
-    let plan = at_most(100, 0, InjectedFault::Fails);
+    let plan = failing(0);
     assert_written(&rt, written!(rt, plan, write_capture(&records)), Ok(()), 70);
     assert_written(&rt, written!(rt, plan, write_capture(&[])), Ok(()), 24);
     Ok(())

@@ -2,11 +2,12 @@
 
 ghost use Rattle.std.specs.Prelude.{◌<◌};
 
-use crate::captures::{Shape, at_most, shape_of};
+use super::captures::{Shape, shape_of};
+use crate::captures::{at_most, failing};
+use crate::samples::captures::ONE_PACKET;
 use napt_capture::{
     CaptureFault, FaultPlan, Faulty, InjectedFault, NextRead, RecordReader, Watched,
 };
-use napt_samples::captures::ONE_PACKET;
 use std::alloc::Global;
 use std::test::*;
 
@@ -43,11 +44,7 @@ fn one_by_one_is_the_same_as_whole(rt: HostRuntime) -> Result<(), Fail> {
         let rest = &bytes[..bytes.len().min(length)];
         let most = [1, 7, 4096][length % 3];
         let found = shape_one_by_one(rt.alloc(), rest, at_most(most, 0, InjectedFault::Fails));
-        let whole = shape_of(
-            rt.alloc(),
-            rest,
-            at_most(usize::MAX, 0, InjectedFault::Fails),
-        );
+        let whole = shape_of(rt.alloc(), rest, failing(0));
         assert_eq!(rt; found, whole, "{length} bytes by {most}");
     }
     Ok(())

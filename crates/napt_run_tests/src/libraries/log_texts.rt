@@ -1,12 +1,16 @@
 //! Dates around which the calendar is not plain, as Python's `datetime` has them, and a row, a line and an object of each
 //! kind.
 
-use crate::{
+use crate::packets::UDP_QUERY;
+use crate::samples::captures::WRITTEN;
+use crate::samples::hosts::CLIENT;
+use crate::samples::settings::ONE_ADDRESS;
+use napt_account::{Entry, LogNote, Party, Shortage};
+use napt_config::Config;
+use napt_log_text::{
     JsonObject, LogEntry, LogEvent, LogField, LogFileFault, LogReader, LogRow, Request, TimeSpan,
     TimeStamp, add_holder, add_mark, add_nobody, header,
 };
-use napt_account::{Entry, LogNote, Party, Shortage};
-use napt_config::Config;
 use napt_rules::{Outcome, Row};
 use napt_sequential::Input;
 use napt_wire::{Cause, Endpoint, Packet, Protocol, Side};
@@ -31,8 +35,6 @@ const DATES: &[(u128, &str)] = &[
     (253_402_300_800_000_000_000, ""),
 ];
 
-const CONFIG: &[u8] = b"inside = [\"10.0.0.0/8\"]\npool = [\"203.0.113.1\"]\n";
-
 #[test]
 fn dates_are_those_of_the_calendar(rt: HostRuntime) -> Result<(), Fail> {
     for (time, date) in DATES {
@@ -47,10 +49,7 @@ fn dates_are_those_of_the_calendar(rt: HostRuntime) -> Result<(), Fail> {
 const ENTRY: Entry = Entry {
     binding: Row {
         protocol: Protocol::Udp,
-        inside: Endpoint {
-            address: 0x0A00_0002,
-            number: 5000,
-        },
+        inside: CLIENT,
         external: Endpoint {
             address: 0xCB00_7101,
             number: 1024,
@@ -67,7 +66,7 @@ const ENTRY: Entry = Entry {
 
 /// The row of an event.
 fn row_of(alloc: Global, event: LogEvent) -> Result<String, Fail> {
-    let config = Config::read(alloc, CONFIG)?;
+    let config = Config::read(alloc, ONE_ADDRESS.as_bytes())?;
     let mut text = String::new(alloc);
     event.add_row(&config, &mut text)?;
     Ok(text)
@@ -197,7 +196,7 @@ fn holders_have_lines(rt: HostRuntime) -> Result<(), Fail> {
 
 #[test]
 fn nobody_has_lines(rt: HostRuntime) -> Result<(), Fail> {
-    let config = Config::read(rt.alloc(), CONFIG)?;
+    let config = Config::read(rt.alloc(), ONE_ADDRESS.as_bytes())?;
     let mut text = String::new(rt.alloc());
     let entries = [ENTRY];
     let before = request(1024, 999_999_999, 1_000_000_000);
@@ -252,17 +251,6 @@ fn a_span_has_holders(rt: HostRuntime) -> Result<(), Fail> {
     assert_eq!(rt; tcp.nearest_among(&entries).before, None);
     Ok(())
 }
-
-/// UDP 10.0.0.2:5000 > 198.51.100.7:53, and as it leaves from 203.0.113.1.
-const QUERY: &[u8] = &[
-    0x45, 0, 0, 30, 0, 1, 0, 0, 64, 17, 0x46, 0x92, 10, 0, 0, 2, 198, 51, 100, 7, // IPv4
-    0x13, 0x88, 0, 53, 0, 10, 0x4f, 0x77, 0x68, 0x69, // ports, length, checksum, payload
-];
-
-const QUERY_OUT: &[u8] = &[
-    0x45, 0, 0, 30, 0, 1, 0, 0, 64, 17, 0x14, 0x92, 203, 0, 113, 1, 198, 51, 100, 7, // IPv4
-    0x13, 0x88, 0, 53, 0, 10, 0x1d, 0x77, 0x68, 0x69, // ports, length, checksum, payload
-];
 
 /// An echo request of 10.0.0.2 with identifier 7.
 const ECHO: &[u8] = &[
@@ -322,8 +310,8 @@ fn object_of(
 #[test]
 fn a_packet_that_leaves_has_an_object(rt: HostRuntime) -> Result<(), Fail> {
     let alloc = rt.alloc();
-    let query = input(alloc, Side::Inside, QUERY)?;
-    let left = Outcome::ToOutside(packet(alloc, Side::Inside, QUERY_OUT)?);
+    let query = input(alloc, Side::Inside, &UDP_QUERY)?;
+    let left = Outcome::ToOutside(packet(alloc, Side::Inside, &WRITTEN[40..])?);
     let made = object_of(alloc, 1, &query, &left, LogNote::Made)?;
     assert_eq!(rt;
         made.as_str(),
@@ -350,7 +338,7 @@ fn an_error_has_an_object_that_tells_what_it_quotes(rt: HostRuntime) -> Result<(
         told.as_str(),
         "{\"number\":3,\"time\":1000000000,\"side\":\"outside\",\"outcome\":\"to-inside\",\"cause\":null,\"binding\":null,\"hairpin\":false,\"before\":{\"kind\":\"icmp-error\",\"source\":\"198.51.100.7\",\"source_port\":null,\"destination\":\"203.0.113.1\",\"destination_port\":null,\"identifier\":null,\"about\":{\"protocol\":\"udp\",\"source\":\"203.0.113.1\",\"source_port\":5000,\"destination\":\"198.51.100.7\",\"destination_port\":53,\"identifier\":null}},\"after\":{\"kind\":\"icmp-error\",\"source\":\"198.51.100.7\",\"source_port\":null,\"destination\":\"10.0.0.2\",\"destination_port\":null,\"identifier\":null,\"about\":{\"protocol\":\"udp\",\"source\":\"10.0.0.2\",\"source_port\":5000,\"destination\":\"198.51.100.7\",\"destination_port\":53,\"identifier\":null}}}\n"
     );
-    let cut = input(alloc, Side::Outside, &QUERY[..8])?;
+    let cut = input(alloc, Side::Outside, &UDP_QUERY[..8])?;
     let dropped = Outcome::Dropped(Cause::Truncated);
     let refused = object_of(alloc, 4, &cut, &dropped, LogNote::Nothing)?;
     assert_eq!(rt;

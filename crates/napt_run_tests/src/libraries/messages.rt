@@ -1,7 +1,8 @@
-//! What the faults of captures and of configurations say. Their messages are derived, and no clause tells them.
+//! What faults and refusals say. Their messages are derived, and no clause has them: one that is always empty would meet its contract.
 
 use napt_capture::{CaptureFault, WriteFault};
 use napt_config::ConfigFault;
+use napt_pool::{OfferRefused, PoolFault};
 use std::test::Fail;
 
 /// Each fault of a type, by its variant, says its message.
@@ -58,6 +59,22 @@ fn faults_of_configurations_are_told(rt: HostRuntime) -> Result<(), Fail> {
         DoubleRedirect "expected at most one `redirect` of a protocol for each inside endpoint and for each external endpoint"
         TimerTooShort "expected at least 120 seconds for `udp`, 7440 for `tcp-established`, 240 for `tcp-transitory` and 60 for `icmp`"
         Memory "out of memory"
+    }
+    Ok(())
+}
+
+#[test]
+fn faults_and_refusals_of_pools_are_told(rt: HostRuntime) -> Result<(), Fail> {
+    assert_messages! {rt, PoolFault:
+        Memory "out of memory"
+        NoThread "no thread can be started"
+        GateShut(12) "the gate is shut to worker 12"
+        Ring "the ends of a ring do not agree"
+    }
+    assert_messages! {rt, OfferRefused:
+        Full(7u32) "the worker owes as many answers as it may"
+        Memory(7u32) "out of memory"
+        Ring(7u32) "the ends of a ring do not agree"
     }
     Ok(())
 }

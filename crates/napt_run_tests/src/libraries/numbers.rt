@@ -1,21 +1,14 @@
 //! Which number an inside endpoint gets where its class is full. Others are told in `tests/calls` and `tests/numbers`.
 
+use crate::samples::hosts::host;
 use napt_config::NumberAssignment;
 use napt_table::Numbers;
-use napt_wire::{Endpoint, Protocol};
+use napt_wire::Protocol;
 use std::test::Fail;
-
-/// 10.0.0.2, with the number.
-fn inside(number: u16) -> Endpoint {
-    Endpoint {
-        address: 0x0A00_0002,
-        number,
-    }
-}
 
 /// What stands for each number.
 fn choices(numbers: &Numbers, of: [u16; 4]) -> [Option<u16>; 4] {
-    of.map(|number| numbers.choose(NumberAssignment::DEFAULT, None, inside(number)))
+    of.map(|number| numbers.choose(NumberAssignment::DEFAULT, None, host(2, number)))
 }
 
 #[test]
