@@ -70,14 +70,6 @@ def levels(log: Log, hold: int, keeps_parity: bool):
     return spaces, classes, at_space, hosts
 
 
-def most_at_once(log: Log, hold: int) -> int:
-    """The most bindings at once, of all addresses and protocols."""
-    whole = Level()
-    for at, entry, is_made in changes(log, hold):
-        whole.make(entry.number, at) if is_made else whole.end(entry.number)
-    return whole.most
-
-
 def refused_by(log: Log, hold: int, most: int, of_protocol: bool = False) -> tuple[int, int]:
     """How many new bindings a quota would have refused, or a block, which is one of each protocol for itself, and of how
     many hosts."""

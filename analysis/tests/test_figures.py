@@ -2,7 +2,6 @@
 
 import random
 
-import pandas as pd
 import pytest
 from conftest import TOP
 from hostile_inputs import captures
@@ -10,7 +9,7 @@ from hostile_inputs.configured import configured
 from hostile_inputs.logged import NO_PORT, OVER_QUOTA, logged
 from logs import Log
 from random_runs import CHANGES, config_of, random_run
-from second import SECOND, Level, levels, most_at_once, refused_by
+from second import SECOND, Level, levels, refused_by
 
 from napt_analysis import Configuration, Sizes, read_log
 from napt_analysis.classes import classes
@@ -32,10 +31,6 @@ def random_captures(seed: int) -> tuple[str, list]:
 def example_captures() -> tuple[str, list]:
     folder = TOP / "examples/gateway"
     return (folder / "napt.toml").read_text(), [captures.read((folder / f"{it}.pcap").read_bytes()) for it in ("inside", "outside")]
-
-
-def moment(at: int) -> pd.Timestamp:
-    return pd.Timestamp(at, tz="UTC")
 
 
 @pytest.fixture(params=["example", *range(RUNS)], ids=str)
@@ -60,15 +55,14 @@ def check_levels(sizes: Sizes, log: Log) -> None:
     spaces, of_class, at_space, hosts = levels(log, hold, parity == "kept")
     for space, row in sizes.addresses.iterrows():
         assert (row.most, row.hosts) == (spaces[space].most, at_space[space].most), space
-        assert not row.most or row.first_at == moment(spaces[space].at), space
+        assert not row.most or row.first_at.value == spaces[space].at, space
     kinds = classes(parity)
     assert list(sizes.classes.index) == [(*space, name) for space in sizes.addresses.index for name in kinds[space[1]]]
     for place, row in sizes.classes.iterrows():
         assert row.most == of_class[place].most and row.share == row.most / row.numbers, place
     ranked = sorted(hosts.items(), key=lambda it: (-it[1].most, list(map(int, it[0].split(".")))))
-    assert list(sizes.hosts.itertuples(name=None)) == [(host, level.most, moment(level.at)) for host, level in ranked]
+    assert [(host, most, at.value) for host, most, at in sizes.hosts.itertuples(name=None)] == [(it, level.most, level.at) for it, level in ranked]
     check_percentiles(sizes, [level.most for level in hosts.values()])
-    assert sizes.most == most_at_once(log, hold)
     greatest = max(of_class, key=lambda it: of_class[it].most / sizes.classes.numbers[it], default=None)
     found = sizes.fullest()
     assert (found is None) == (greatest is None)

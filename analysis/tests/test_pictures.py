@@ -19,10 +19,6 @@ def whole() -> Run:
     return run(CAPTURES, CONFIG)
 
 
-def titles_of(figure) -> list[str]:
-    return [axes.get_title("left") for axes in figure.axes]
-
-
 def labels_of(figure) -> list[str]:
     return [label.get_text() for axes in figure.axes for label in axes.get_yticklabels()]
 
@@ -80,7 +76,7 @@ def test_many_bindings(whole, monkeypatch, tmp_path):
     monkeypatch.setattr("napt_analysis.pictures.MOST_BARS", 1)
     figure = draw(whole, CONFIGURATION)
     save(figure, tmp_path / "picture.svg")
-    assert titles_of(figure) == [
+    assert [axes.get_title("left") for axes in figure.axes] == [
         "203.0.113.1: at most 1 at once, 0.0 % of udp even ports from 1024 on",
         "203.0.113.2: at most 2 at once, 0.0 % of tcp even ports from 1024 on",
         "packets: 9",

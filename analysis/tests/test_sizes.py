@@ -24,9 +24,6 @@ def test_most_at_once(log, hold):
     sizes = Sizes(log, configuration)
     bindings = log.bindings.assign(released=released(log.bindings, hold))
     assert sizes.most == most_at_once(bindings)
-    for (address, protocol), row in sizes.addresses.iterrows():
-        of_space = bindings[(bindings.address == address) & (bindings.protocol == protocol)]
-        assert row.most == most_at_once(of_space)
     for host, row in sizes.hosts.iterrows():
         assert row.most == most_at_once(bindings[bindings.host == host])
 

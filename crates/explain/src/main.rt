@@ -1,9 +1,8 @@
 //! The program `explain`: what a run of `napt` does, for people to read.
 //!
-//! Each question is a command. Over captures it makes the run of `napt` on one thread, and tells what is asked: lines,
-//! the log, who had an endpoint. It takes the arguments of `napt` and `stream` as they are, but
-//! never writes an output file of theirs. If they would refuse a file, `explain` prints why on standard error, and
-//! exits with the same status.
+//! Each question is a command. Over captures it makes the run of `napt` on one thread, and prints what is asked: lines,
+//! the log, who had an endpoint. It takes the arguments of `napt` and `stream` as they are, but never writes an output
+//! file of theirs. If they would refuse a file, `explain` prints why on standard error, and exits with the same status.
 #![tactic(auto)]
 
 mod captures;

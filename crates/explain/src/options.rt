@@ -131,7 +131,7 @@ pub enum OutputForm<'m> {
     Holders(Request),
     /// Who had those that the file at this path asks for.
     Requests(&'m str),
-    /// The log, and what stands beside it.
+    /// The log, and the files that are written in addition to it.
     Log(LogPaths<'m>),
     /// The block of each inside host.
     Blocks,
@@ -151,7 +151,7 @@ impl<'m> OutputForm<'m> {
         }
     }
 
-    /// What names each file that is written beside the outputs of `napt`, and its path, if there is one.
+    /// What names each file that `explain` alone writes, and its path, if there is one.
     pub fn written(self) -> [(&'static str, Option<&'m str>); 2] {
         match self {
             OutputForm::Log(paths) => [("--to", paths.log), ("--packets", paths.packets)],

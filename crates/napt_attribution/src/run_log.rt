@@ -1,4 +1,4 @@
-//! What `explain log` writes of a run: its log, and the packets and the report beside it.
+//! What `explain log` writes of a run: its log, and in addition its packets and its report.
 
 use crate::blocks::tell_needless;
 use crate::log_file::{LogFile, begin_log};
@@ -11,7 +11,7 @@ use std::fs;
 use std::io::Write;
 use std::rt::Files;
 
-/// The files that a log and what stands beside it are written to.
+/// The files that are written.
 #[derive(Clone, Copy)]
 pub struct LogPaths<'a> {
     /// The log; standard output if absent.
@@ -21,7 +21,7 @@ pub struct LogPaths<'a> {
     pub report: Option<&'a str>,
 }
 
-/// A log that is being written, with what stands beside it. `W` is a file.
+/// A log that is being written, with the packets and the report of its run. `W` is a file.
 #[derive(Drop)]
 pub struct RunLog<'a, W> {
     log: LogFile<'a, W>,
