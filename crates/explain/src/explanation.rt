@@ -5,7 +5,7 @@ use crate::options::ExplainOptions;
 use crate::progress::ExplainProgress;
 use napt_account::{LogEntry, RunFromState, TrackedRun};
 use napt_commands::{
-    CommandOutput, Consumer, Exit, LossCounts, Page, RunEnd, RunPacket, RunStart, print_warning,
+    CommandOutput, Consumer, EndedRun, Exit, LossCounts, Page, RunPacket, RunStart, print_warning,
 };
 use napt_lines::{PacketLine, Remotes, Replies, UnmatchedSelection};
 use napt_sequential::Input;
@@ -117,7 +117,7 @@ impl<'a, 'b, O: Drop> Explanation<'a, 'b, O> {
             return Err(remotes.tell_astray(rt));
         }
         print_warning(rt, options.outside, None, &losses);
-        let ending = RunEnd {
+        let ending = EndedRun {
             config: running.config(),
             packets,
             first,

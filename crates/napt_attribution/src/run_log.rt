@@ -4,7 +4,7 @@ use crate::blocks::tell_needless;
 use crate::log_file::{LogFile, begin_log};
 use crate::packet_file::{PacketFile, begin_packets};
 use napt_account::LogEntry;
-use napt_commands::{CommandOutput, Coverage, Exit, Page, RunEnd, RunPacket, print_unwritten};
+use napt_commands::{CommandOutput, Coverage, EndedRun, Exit, Page, RunPacket, print_unwritten};
 use napt_config::Config;
 use napt_records::{OutcomeCounts, report_of};
 use std::fs;
@@ -71,7 +71,7 @@ impl<'a> RunReport<'a> {
     fn write<R: Files + Eprint + AllocGlobal>(
         &self,
         rt: &R,
-        ending: &RunEnd<'_>,
+        ending: &EndedRun<'_>,
     ) -> Result<(), Exit> {
         self.coverage.tell(rt);
         self.coverage.tell_living(rt, &ending.living);
@@ -117,7 +117,7 @@ impl<R: Files + Print + Eprint + AllocGlobal, W: Write + Drop> CommandOutput<R> 
     }
 
     /// Writes what needs the end, and all that is not written yet. Says if nobody needs the log, unless figures are made of it.
-    fn end(self, rt: &R, _page: &mut Page, ending: &RunEnd<'_>) -> Result<(), Exit> {
+    fn end(self, rt: &R, _page: &mut Page, ending: &EndedRun<'_>) -> Result<(), Exit> {
         let RunLog {
             mut log,
             mut packets,

@@ -2,7 +2,7 @@
 
 use crate::exit::Exit;
 use crate::page::Page;
-use crate::run_packet::{RunEnd, RunPacket};
+use crate::run_packet::{EndedRun, RunPacket};
 use napt_config::Config;
 
 /// What a command prints or writes of a run under a configuration.
@@ -22,5 +22,5 @@ pub trait CommandOutput<R> {
     }
 
     /// Prints or writes what there is at the end of the run.
-    fn end(self, rt: &R, page: &mut Page, ending: &RunEnd<'_>) -> Result<(), Exit>;
+    fn end(self, rt: &R, page: &mut Page, ending: &EndedRun<'_>) -> Result<(), Exit>;
 }

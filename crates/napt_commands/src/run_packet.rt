@@ -19,7 +19,7 @@ pub struct RunPacket<'a> {
 
 /// How a run under a configuration ended.
 #[derive(Drop)]
-pub struct RunEnd<'a> {
+pub struct EndedRun<'a> {
     pub config: &'a Config,
     /// How many packets there were.
     pub packets: u64,

@@ -6,7 +6,7 @@ use crate::lines::PacketLine;
 use crate::packet_selection::PacketSelection;
 use crate::replies::Replies;
 use napt_account::{Entry, LogEntry};
-use napt_commands::{CommandOutput, Exit, Page, RunEnd, RunPacket, Seconds};
+use napt_commands::{CommandOutput, EndedRun, Exit, Page, RunPacket, Seconds};
 use napt_config::Config;
 use napt_program::Stop;
 use std::alloc::AllocError;
@@ -114,7 +114,7 @@ impl<R: Print + Eprint + AllocGlobal> CommandOutput<R> for SinglePacket<'_> {
     }
 
     /// Prints the bindings. A packet that did not come is reported.
-    fn end(self, rt: &R, page: &mut Page, ending: &RunEnd<'_>) -> Result<(), Exit> {
+    fn end(self, rt: &R, page: &mut Page, ending: &EndedRun<'_>) -> Result<(), Exit> {
         if !self.is_found {
             let (number, packets) = (self.number, ending.packets);
             let _ = eprintln!(rt; "explain: --only {number}: there are {packets} packets");

@@ -6,7 +6,7 @@ use crate::lines::{PacketLine, has_party};
 use crate::packet_selection::PacketSelection;
 use crate::replies::Replies;
 use napt_account::Entry;
-use napt_commands::{CommandOutput, Exit, Page, RunEnd, RunPacket, Seconds, SortedEntries};
+use napt_commands::{CommandOutput, EndedRun, Exit, Page, RunPacket, Seconds, SortedEntries};
 use napt_config::Config;
 use napt_display::reasons::CauseText;
 use napt_records::{OutcomeCounts, cause_name};
@@ -52,7 +52,7 @@ impl<'a> PacketLines<'a> {
         &self,
         rt: &R,
         page: &mut Page,
-        ending: &RunEnd<'_>,
+        ending: &EndedRun<'_>,
     ) -> Result<(), Exit> {
         let living = ending.living.iter().map(|listed| listed.entry);
         let living = SortedEntries::of(living.collect(rt.alloc())?)?;
@@ -70,7 +70,7 @@ impl<'a> PacketLines<'a> {
     }
 
     /// Appends the counts of outcomes, and what to do if more than a fifth of the packets were dropped for one cause.
-    fn add_counts(&self, text: &mut String, ending: &RunEnd<'_>) -> Result<(), AllocError> {
+    fn add_counts(&self, text: &mut String, ending: &EndedRun<'_>) -> Result<(), AllocError> {
         let counts = &self.counts;
         writeln!(text, "packets: {}", counts.packets())?;
         writeln!(text, "  {} to the outside", counts.to_outside())?;
@@ -84,7 +84,7 @@ impl<'a> PacketLines<'a> {
     fn add_cause(
         &self,
         text: &mut String,
-        ending: &RunEnd<'_>,
+        ending: &EndedRun<'_>,
         cause: Cause,
     ) -> Result<(), AllocError> {
         let many = self.counts.dropped(cause);
@@ -107,7 +107,7 @@ impl<'a> PacketLines<'a> {
     fn add_advice(
         &self,
         text: &mut String,
-        ending: &RunEnd<'_>,
+        ending: &EndedRun<'_>,
         cause: Cause,
     ) -> Result<(), AllocError> {
         let is_answered = self.replies.is_none()
@@ -159,7 +159,7 @@ impl<R: Print + AllocGlobal> CommandOutput<R> for PacketLines<'_> {
     }
 
     /// Prints the live bindings, and what became of the packets.
-    fn end(self, rt: &R, page: &mut Page, ending: &RunEnd<'_>) -> Result<(), Exit> {
+    fn end(self, rt: &R, page: &mut Page, ending: &EndedRun<'_>) -> Result<(), Exit> {
         self.tell_bindings(rt, page, ending)?;
         self.add_counts(&mut page.text, ending)?;
         page.end(rt)
