@@ -201,10 +201,8 @@ impl<'r, 'i, 'o, A: Source, B: Source> CaptureInputs<'r, 'i, 'o, A, B> {
 
     /// What they show against themselves, once their end is reached.
     pub fn flaws(&self) -> ConfigAdvice {
-        let cuts = self.packets.cuts();
         ConfigAdvice {
-            inside: cuts.inside,
-            outside: cuts.outside,
+            cuts: self.packets.cuts(),
             holds: self.refusing.options.outside,
             back: self.back,
         }

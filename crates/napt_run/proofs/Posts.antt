@@ -7,11 +7,11 @@ use Rattle.napt_records.specs.{Faults.is_shut_gate_fault, RecordMerging.MergedIn
 use Rattle.napt_rules.specs.Prelude.{Arrival}
 use Rattle.napt_sequential.specs.declared.fault.RunFault.TheVariants.{Memory, TooMany, Pool}
 use Rattle.napt_wire.specs.declared.Side.TheVariants as sides
-use Rattle.napt_run.specs.{Captures.{failed_readings, failed_writings}, LogLaws.held, LogOrigins.LogTexts, OutputSinkLaws.appends_none, Origins.OriginModel, Posts.{CapturePost, ExplainsPost, ExtentPost, FailedPost, FaultPost, IsBeforeReport, IsDone, OutputPost, SinkPost, capture_to, log_by, text_by}, OutputSinks.records_text, Runs.{IfHeld, run_left_of}}
+use Rattle.napt_run.specs.{Captures.{failed_readings, failed_writings}, LogLaws.held, LogOrigins.LogTexts, OutputSinkLaws.appends_none, Origins.OriginModel, Posts.{CapturePost, ExplainsPost, ExtentPost, FailedPost, FaultPost, IsBeforeReport, IsDone, OutputPost, SinkPost, capture_to, log_by, output_text_by}, OutputSinks.records_text, Runs.{IfHeld, run_left_of}}
 use Rattle.napt_run.specs.Streams.{DeviceGetsFrom, Explains, GetsOf, HasAll, HasRead, IsOfRun, IsReading, IsReportFault, IsSettledBy, IsStopFault, capture_text, stream_ended, side_of}
 use Rattle.napt_run.specs.LoggedStreams.{StreamsCountFailures, DeviceGetsOrFrom, HasBytes, HasLog, IsLoggedStop, LogGetsText, LoggedExplains, Logs, LogsOf, besides_log}
 use Rattle.napt_account.specs.ResumedLogRuns.{LogStateModel}
-use Rattle.napt_run.specs.Logs.{fault_of, unified, with_log}
+use Rattle.napt_run.specs.Logs.{fault_of_logged_run, unified, with_log}
 use Rattle.napt_run.specs.declared.capture_run.Totals.{Totals}
 use Rattle.napt_run.specs.declared.logged_fault.LogRunFault.{LogRunFault}
 use Rattle.napt_run.specs.declared.logged_fault.LogRunFault.TheVariants as logged
@@ -28,7 +28,7 @@ module _ (origin : OriginModel) (which : Which) (all : MergedInputs) (old new : 
   Post result = OutputPost (capture_to which origin) which result all old new
 
   same_text : (result : Result (Unit {0}) Fault) (inputs : List Arrival) →
-      text_by (capture_to which origin) result inputs ≡ textof inputs
+      output_text_by (capture_to which origin) result inputs ≡ textof inputs
   same_text (Ok done) inputs = refl
   same_text (Err (Capture side fault)) inputs = refl
   same_text (Err (Run fault)) inputs = refl
@@ -299,8 +299,8 @@ module _ (texts : LogTexts) (all : MergedInputs) (old new : Option (List ℕ)) w
   LogHas result = OutputPost texts Log result all old new
 
   log_part : (result : Result (Unit {0}) Fault) (count : ℕ) → HasBytes texts count all old new →
-      text_by texts result ≡ texts.whole →
-      ((inputs : List Arrival) → ExtentPost Log result all inputs count (length (text_by texts result inputs))) →
+      output_text_by texts result ≡ texts.whole →
+      ((inputs : List Arrival) → ExtentPost Log result all inputs count (length (output_text_by texts result inputs))) →
       LogHas result
   log_part result count p is extent = record {
     inputs = p.inputs;
@@ -312,7 +312,7 @@ module _ (texts : LogTexts) (all : MergedInputs) (old new : Option (List ℕ)) w
   }
 
   log_all : (result : Result (Unit {0}) Fault) (text : List ℕ) (inputs : List Arrival) → IsFrontOf inputs all.arrivals →
-      text_by texts result inputs ≡ text → Appends old new text →
+      output_text_by texts result inputs ≡ text → Appends old new text →
       ExtentPost Log result all inputs (length text) (length text) → LogHas result
   log_all result text inputs front is appended extent = record {
     inputs = inputs;
@@ -449,7 +449,7 @@ module _ {D T : Type 0} (S : Ghosts D) (origin : OriginModel) (inside outside : 
 
 pub logged_fault : (open_gate : Bool) (inside outside : Option (List ℕ)) (fault : LogRunFault) →
     LoggedExplains inside outside fault → IsLoggedStop open_gate fault →
-    FaultPost true open_gate inside outside (fault_of fault)
+    FaultPost true open_gate inside outside (fault_of_logged_run fault)
 logged_fault open_gate inside outside (logged.Log fault) explained stop =
     record { explained = refl; gate = λ is. refl }
 logged_fault open_gate inside outside (logged.Run (Run TooMany)) explained stop =
@@ -544,7 +544,7 @@ kept_with P (Err fault) log result is p = rw is tt
 -- a fault of the log among those of the run
 
 pub unified_fault : (P : Fault → Type 0) (told : Result Totals LogRunFault) →
-    IfErr told (λ fault. P (fault_of fault)) → IfErr (unified told) P
+    IfErr told (λ fault. P (fault_of_logged_run fault)) → IfErr (unified told) P
 unified_fault P (Ok totals) p = tt
 unified_fault P (Err fault) p = p
 
@@ -568,7 +568,7 @@ unified_reads of if old new other last (Err (logged.Log fault)) reads none = abs
 
 -- the report is not written yet
 pub unified_before : (open_gate : Bool) (fault : LogRunFault) → IsLoggedStop open_gate fault →
-    IsBeforeReport (fault_of fault)
+    IsBeforeReport (fault_of_logged_run fault)
 unified_before open_gate (logged.Log fault) stop = tt
 unified_before open_gate (logged.Run (Run fault)) stop = tt
 unified_before open_gate (logged.Run (Capture side fault)) stop = tt

@@ -32,7 +32,7 @@ texts_from start log_start log =
     }
 
 -- with nothing kept, the log of a run from this state is that of a run before any input, in one piece
-pub record IsAnew (rules : Rules) (state : State) (kept : LogStateModel) : Type 0 where
+pub record IsFreshStart (rules : Rules) (state : State) (kept : LogStateModel) : Type 0 where
   pub log : LogStateModel
   pub told : LogDelta
   pub is : IsTakenUp rules (with_redirects rules state) kept log told
@@ -43,7 +43,7 @@ pub record IsAnew (rules : Rules) (state : State) (kept : LogStateModel) : Type 
 
 abbrev pub BeginsLogsAnew : State → Type 0
 BeginsLogsAnew state = (rules : Rules) (kept : LogStateModel) → kept ≡ record { made = 0; living = [] } →
-    IsAnew rules state kept
+    IsFreshStart rules state kept
 
 -- STEPS
 

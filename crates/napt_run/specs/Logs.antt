@@ -25,9 +25,9 @@ LogPost S start inside outside result old new =
     IfTakenUp start old.start (LogWriterPost S start inside outside result old new)
 
 -- A fault of the run, of an output or of the log, as one type.
-abbrev pub fault_of : LogRunFault → Fault
-fault_of (logged.Run fault) = fault
-fault_of (logged.Log fault) = Write Log fault
+abbrev pub fault_of_logged_run : LogRunFault → Fault
+fault_of_logged_run (logged.Run fault) = fault
+fault_of_logged_run (logged.Log fault) = Write Log fault
 
 -- The result of a run before its report is written.
 abbrev pub with_log : Result Totals Fault → LogStateModel → Result (Totals × LogStateModel) Fault
@@ -36,4 +36,4 @@ with_log (Err fault) log = Err fault
 
 abbrev pub unified : {T : Type 0} → Result T LogRunFault → Result T Fault
 unified (Ok given) = Ok given
-unified (Err fault) = Err (fault_of fault)
+unified (Err fault) = Err (fault_of_logged_run fault)

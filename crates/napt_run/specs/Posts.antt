@@ -21,9 +21,9 @@ capture_to which origin =
     record { so_far = capture_text origin (side_of which); whole = capture_text origin (side_of which) }
 
 -- After a fault of a capture, the text without the part that is written at the end.
-abbrev pub text_by : LogTexts → Result (Unit {0}) Fault → List Arrival → List ℕ
-text_by texts (Err (Capture side fault)) = texts.so_far
-text_by texts other = texts.whole
+abbrev pub output_text_by : LogTexts → Result (Unit {0}) Fault → List Arrival → List ℕ
+output_text_by texts (Err (Capture side fault)) = texts.so_far
+output_text_by texts other = texts.whole
 
 -- HOW MANY BYTES OF IT AN OUTPUT HAS, by the result of the run: count, of the text of these inputs, which has this size
 
@@ -57,9 +57,9 @@ pub record OutputPost (texts : LogTexts) (which : Which) (result : Result (Unit 
   pub inputs : List Arrival
   pub front : IsFrontOf inputs all.arrivals
   pub count : ℕ
-  pub within : count ≤ length (text_by texts result inputs)
-  pub appended : Appends old new (take count (text_by texts result inputs))
-  pub extent : ExtentPost which result all inputs count (length (text_by texts result inputs))
+  pub within : count ≤ length (output_text_by texts result inputs)
+  pub appended : Appends old new (take count (output_text_by texts result inputs))
+  pub extent : ExtentPost which result all inputs count (length (output_text_by texts result inputs))
 
 -- THE CALLS THAT FAILED
 
@@ -108,9 +108,9 @@ pub record FaultPost (is_kept open_gate : Bool) (inside outside : Option (List �
   pub gate : open_gate ≡ true → is_shut_gate_fault fault ≡ false
 
 -- What is saved of the log, by the result of the run.
-abbrev pub log_of : Result RunEnd Fault → Result LogStateModel Fault
-log_of (Ok end) = Ok end.log
-log_of (Err fault) = Err fault
+abbrev pub log_of_end : Result RunEnd Fault → Result LogStateModel Fault
+log_of_end (Ok end) = Ok end.log
+log_of_end (Err fault) = Err fault
 
 -- The same before the report is written.
 abbrev pub log_by : {T : Type 0} → Result (T × LogStateModel) Fault → Result LogStateModel Fault

@@ -2,7 +2,7 @@
 ghost use Rattle.std.specs.Prelude.{◌≡◌, IfErr, IfOk, false, true};
 ghost use Rattle.napt_account.specs.ResumedLogRuns.{IsFew};
 ghost use Rattle.napt_rules.specs.Prelude.{TakesState};
-ghost use Rattle.napt_run.specs.{DevicesPosts.{EndPost, ExplainedBy, OutputsPost, ReadsPost}, Logs.{LogPost, NoLogPost}, Origins.origin_of, Posts.log_of, Streams.stream_ended};
+ghost use Rattle.napt_run.specs.{DevicesPosts.{EndPost, ExplainedBy, OutputsPost, ReadsPost}, Logs.{LogPost, NoLogPost}, Origins.origin_of, Posts.log_of_end, Streams.stream_ended};
 
 use crate::devices::Devices;
 use crate::logging::NoLog;
@@ -62,7 +62,7 @@ pub fn run_streams<
     requires state { TakesState start.config.now start.state.now }
     ensures outputs { OutputsPost R.Source Q.Source W.Sink V.Sink U.Sink false
         (origin_of start.entry) devices.old (stream_ended result) devices.new }
-    ensures log { NoLogPost (log_of result) }
+    ensures log { NoLogPost (log_of_end result) }
     ensures end { IfOk result (EndPost R.Source Q.Source (origin_of start.entry) devices.old) }
     ensures fault { IfErr result (ExplainedBy R.Source Q.Source false G.is_open devices.old) }
     ensures reads { ReadsPost R.Source Q.Source devices.old (stream_ended result) devices.new }
@@ -117,7 +117,7 @@ pub fn run_streams_with_log<
     ensures outputs { OutputsPost R.Source Q.Source W.Sink V.Sink U.Sink true
         (origin_of start.entry) devices.old (stream_ended result) devices.new }
     ensures log { LogPost L.Sink start.entry (R.remaining devices.old.inside)
-        (Q.remaining devices.old.outside) (log_of result) devices.old.log devices.new.log }
+        (Q.remaining devices.old.outside) (log_of_end result) devices.old.log devices.new.log }
     ensures end { IfOk result (EndPost R.Source Q.Source (origin_of start.entry) devices.old) }
     ensures fault { IfErr result (ExplainedBy R.Source Q.Source true G.is_open devices.old) }
     ensures reads { ReadsPost R.Source Q.Source devices.old (stream_ended result) devices.new }
