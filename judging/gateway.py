@@ -31,40 +31,53 @@ STRANGER, SIMULTANEOUS, SEGMENT, RESET, AFTER_ERROR, SUDDEN, UNREFRESHED, TIMER,
 
 
 class Session:
-    """A connection through a mapping of TCP, by its flags (RFC 7857, section 2)."""
+    """A connection through a mapping of TCP, by its flags (RFC 7857, section 2), and the kind of timer that holds for it."""
 
-    __slots__ = ("opened_out", "opened_in", "closed_out", "closed_in", "reset", "last", "acknowledged", "met")
+    __slots__ = ("opened_out", "opened_in", "closed_out", "closed_in", "reset", "last", "acknowledged", "met", "kind")
 
     def __init__(self):
         self.opened_out = self.opened_in = self.closed_out = self.closed_in = self.met = False
-        self.reset, self.last, self.acknowledged = None, 0, None
+        self.reset, self.last, self.acknowledged, self.kind = None, 0, None, TRANSITORY
 
     @property
     def is_closing(self):
         return self.reset is not None or self.closed_out and self.closed_in
 
-    @property
-    def kind(self):
-        return ESTABLISHED if self.opened_out and self.opened_in and not self.is_closing else TRANSITORY
+    def take(self, pair, is_out):
+        """Takes a segment that went through."""
+        flags, self.last = pair.arrival.flags, pair.time
+        if not flags & (SYN | FIN | RST):
+            return
+        if is_out:
+            self.opened_out |= bool(flags & SYN)
+            self.closed_out |= bool(flags & FIN)
+        else:
+            self.opened_in |= bool(flags & SYN)
+            self.closed_in |= bool(flags & FIN)
+            # the SYN of the inside may have left before the captures
+            self.opened_out |= flags & (SYN | ACK) == SYN | ACK
+        if flags & RST:
+            self.reset = pair
+        self.kind = ESTABLISHED if self.opened_out and self.opened_in and not self.is_closing else TRANSITORY
 
 
 class Mapping:
-    """A mapping of an inside endpoint to an external one. `remotes` and `hosts` have when a packet last left for each, `tried` the
-    external endpoints to which it sent hairpins. A fixed one was there before a packet left: nothing is concluded from it."""
+    """A mapping of an inside endpoint to an external one. `remotes` has when a packet last left for each, `tried` the external endpoints to which it sent hairpins. One that is not sure was there before a packet left, or has packets that may be of
+    others: nothing is concluded from it."""
 
     __slots__ = (
-        "protocol", "inside", "external", "first", "last_out", "last_any", "longest_gap", "first_pair", "last_pair", "remotes", "hosts",
-        "tried", "sessions", "error", "refused", "sent", "received", "is_fixed",
+        "protocol", "inside", "external", "first", "last_out", "last_any", "longest_gap", "last_pair", "remotes", "tried",
+        "sessions", "error", "refused", "sent", "received", "is_unsure",
     )
 
     def __init__(self, protocol, inside, external, pair):
-        self.protocol, self.inside, self.external, self.tried, self.is_fixed = protocol, inside, external, set(), False
+        self.protocol, self.inside, self.external, self.tried, self.is_unsure = protocol, inside, external, (), False
         self.last_out, self.last_any, self.last_pair, self.sessions = pair.time, pair.time, pair, {}
         self.begin(pair)
 
     def begin(self, pair):
         """It is made, or made again after its timer."""
-        self.first, self.first_pair, self.remotes, self.hosts, self.longest_gap = pair.time, pair, {}, {}, 0
+        self.first, self.remotes, self.longest_gap = pair.time, {}, 0
         self.error, self.refused, self.sent, self.received = None, None, 0, 0
         if self.sessions:
             self.sessions = {it: session for it, session in self.sessions.items() if pair.time - session.last < LEAST[session.kind]}
@@ -80,8 +93,11 @@ class Mapping:
         """Returns the kind of the timer that ends last, and how long it has run."""
         if self.protocol != TCP:
             return self.kind_to(None), time - self.last_out
-        ages = [(it.kind, time - it.last) for it in self.sessions.values()]
-        return max(ages, key=lambda it: LEAST[it[0]] - it[1], default=(TRANSITORY, LONGEST))
+        left, kind = -LONGEST, TRANSITORY
+        for it in self.sessions.values():
+            if it.last + LEAST[it.kind] - time > left:
+                left, kind = it.last + LEAST[it.kind] - time, it.kind
+        return kind, LEAST[kind] - left
 
     def must_live(self, time):
         """Whether no timer that the RFCs allow can have ended it."""
@@ -186,6 +202,13 @@ class Unforwarded:
 
 
 @dataclasses.dataclass(slots=True)
+class Fragmented:
+    """A datagram that came in pieces."""
+
+    pair: Pair
+
+
+@dataclasses.dataclass(slots=True)
 class Leak:
     """A packet that left with its inside source."""
 
@@ -281,12 +304,14 @@ class Gateway:
             self.take_alone(item)
             return
         if item.how == LIKELY:
-            self.likely += 1
+            self.doubt(item)
             return
         if self.now - self.swept > SWEEP:
             self.sweep()
-        self.tell(item, item.arrival.protocol)
         came = item.arrival
+        self.tell(item, came.protocol)
+        if came.pieces:
+            self.tell(Fragmented(item), came.protocol)
         if item.departure is None and item.way is OUT and not came.may_fragment and came.length > 576 and came.kind in (OF_UDP, OF_TCP):
             self.large.append(TooLarge(item))
         elif item.departure and item.way is OUT and not came.pieces and not item.departure.pieces:
@@ -298,6 +323,15 @@ class Gateway:
             self.take_error(item)
         elif came.kind in (OF_UDP, OF_TCP, QUERY):
             (self.take_out if item.way is OUT else self.take_in if item.way is IN else self.take_hairpin)(item)
+
+    def doubt(self, pair):
+        """Concludes nothing from mappings whose packet it may be, since several hosts sent the same."""
+        self.likely += 1
+        came = pair.arrival
+        ends = [(self.by_external, came.destination), (self.by_inside, pair.departure.destination)] if pair.way is IN else []
+        for table, end in ends or [(self.by_inside, came.source), (self.by_external, pair.departure.source)]:
+            for it in table.get((came.protocol, end), ()):
+                it.is_unsure = True
 
     def take_alone(self, item):
         """Takes a packet that left without having arrived."""
@@ -363,7 +397,7 @@ class Gateway:
         self.of_host = {key: it for key, it in self.of_host.items() if not self.is_over(it)}
 
     def is_over(self, mapping):
-        return not mapping.is_fixed and self.now - mapping.last_any > (LONGEST + 600 * SECOND if mapping.protocol == TCP else 1000 * SECOND)
+        return not mapping.is_unsure and self.now - mapping.last_any > (LONGEST + 600 * SECOND if mapping.protocol == TCP else 1000 * SECOND)
 
     # OUT
 
@@ -386,21 +420,21 @@ class Gateway:
         mapping = None
         if mine:
             mapping = mine[0] if mine[0].external == external else next((it for it in mine if it.external == external), None)
-        if not mapping or not mapping.is_fixed and (len(mine) > 1 or remote not in mapping.remotes or not mapping.must_live(time)):
+        if not mapping or not mapping.is_unsure and (len(mine) > 1 or remote not in mapping.remotes or not mapping.must_live(time)):
             mapping = self.leave_anew(pair, inside, external, remote, mapping, mine or ())
-        if protocol == TCP and not mapping.is_fixed:
+        if protocol == TCP and not mapping.is_unsure:
             self.session_out(mapping, pair, remote)
         mapping.longest_gap = max(mapping.longest_gap, time - mapping.last_any)
-        mapping.last_out = mapping.last_any = mapping.remotes[remote] = mapping.hosts[remote[0]] = time
+        mapping.last_out = mapping.last_any = mapping.remotes[remote] = time
         mapping.last_pair, mapping.refused = pair, None
         mapping.sent += 1
 
     def leave_anew(self, pair, inside, external, remote, mapping, mine):
         """Tells of a packet that left by a mapping that is new, or to a new remote, and returns its mapping."""
         protocol, time = pair.arrival.protocol, pair.time
-        others = [it for it in mine if it.external != external and not it.is_fixed and it.must_live(time)]
+        others = [it for it in mine if it.external != external and not it.is_unsure and it.must_live(time)]
         all_with_it = self.by_external.setdefault((protocol, external), [])
-        foreign = [it for it in all_with_it if it.inside != inside and not it.is_fixed]
+        foreign = [it for it in all_with_it if it.inside != inside and not it.is_unsure]
         is_new = mapping is None or not mapping.must_live(time)
         it = Departure(pair, protocol, inside, external, remote, mapping, is_new, others, [it for it in foreign if it.must_live(time)])
         if is_new:
@@ -425,8 +459,10 @@ class Gateway:
         time = it.pair.time
         if it.external[1] != it.inside[1]:
             wanted = self.by_external.get((it.protocol, (it.external[0], it.inside[1])), ())
-            it.rival = next((o for o in wanted if o.inside != it.inside and not o.is_fixed and it.remote not in o.remotes and o.must_live(time)), None)
-        it.before = max((o for o in foreign if not o.must_live(time)), key=lambda o: o.last_out, default=None)
+            it.rival = next((o for o in wanted if o.inside != it.inside and not o.is_unsure and it.remote not in o.remotes and o.must_live(time)), None)
+        it.before = max((o for o in foreign if not o.must_live(time)), key=lambda o: o.last_out, default=None) if foreign else None
+        if len(self.pool) < 2:
+            return
         found = [(protocol, self.of_host.get((it.inside[0], protocol))) for protocol in (ICMP, TCP, UDP)]
         lives = [(protocol, o) for protocol, o in found if o and o.must_live(time)]
         it.sibling = next((o for protocol, o in lives if protocol == it.protocol and o.inside != it.inside), None)
@@ -447,13 +483,9 @@ class Gateway:
         flags, session = pair.arrival.flags, mapping.sessions.get(remote)
         if session is None or session.is_closing and flags & (SYN | ACK) == SYN:
             session = mapping.sessions[remote] = Session()
-        session.opened_out |= bool(flags & SYN)
-        session.closed_out |= bool(flags & FIN)
-        if flags & RST:
-            session.reset = pair
-        elif session.reset and pair.way is OUT and not flags & SYN:
+        if session.reset and pair.way is OUT and not flags & (SYN | RST):
             self.tell(Incoming(pair, TCP, mapping, remote, session, session.kind, 0, 0, True, True, RESET), TCP)
-        session.last = pair.time
+        session.take(pair, True)
         if flags & ACK:
             session.acknowledged = pair.arrival.acknowledged
 
@@ -476,7 +508,7 @@ class Gateway:
                 self.syns.append(Unsolicited(pair))
             return
         mapping = next((it for it in holders if it.inside == target), None) if target else None
-        if any(it.is_fixed for it in holders):
+        if any(it.is_unsure for it in holders):
             return
         if mapping is None or not mapping.must_live(time):
             live = [it for it in holders if it.must_live(time)]
@@ -496,7 +528,7 @@ class Gateway:
         protocol = pair.arrival.protocol
         if target:
             mapping = Mapping(protocol, target, external, pair)
-            mapping.is_fixed = True
+            mapping.is_unsure = True
             self.by_inside.setdefault((protocol, target), []).append(mapping)
             self.by_external.setdefault((protocol, external), []).append(mapping)
             return
@@ -536,14 +568,14 @@ class Gateway:
         mapping.last_any, mapping.last_pair = time, pair
         mapping.received += 1
         if protocol == TCP:
-            session_in(mapping.sessions.setdefault(remote, Session()), pair)
+            (session or mapping.sessions.setdefault(remote, Session())).take(pair, False)
 
     def note_filter(self, it):
         """Notes whether a stranger was let in by a mapping that must be live."""
         time, is_syn = it.pair.time, it.pair.arrival.is_syn
         if it.protocol == TCP and not is_syn or not it.is_let_in and not it.mapping.must_live(time):
             return
-        sent = it.mapping.hosts.get(it.remote[0])
+        sent = next((True for address, _ in it.mapping.remotes if address == it.remote[0]), None)
         self.filters[it.protocol].note("address" if sent is None else "port", it.is_let_in, it.mapping.last_pair, it.pair)
         if is_syn and not it.is_let_in:
             self.syns.append(Unsolicited(it.pair))
@@ -597,11 +629,11 @@ class Gateway:
         if came.kind not in (OF_UDP, OF_TCP) or not is_clean(came) or protocol == TCP and self.ends_connections:
             return
         owner = next((it for it in self.by_external.get((protocol, came.destination), ()) if it.must_live(time)), None)
-        if not owner or owner.is_fixed:
+        if not owner or owner.is_unsure:
             return
         senders = self.by_inside.get((protocol, came.source), ())
         for it in senders:
-            it.tried.add(came.destination)
+            it.tried = {*it.tried, came.destination}
         mine, is_untranslated = [it for it in senders if it.must_live(time)], bool(left) and left.source[0] in self.prefixes
         if left or protocol != TCP or came.is_syn:
             self.tell(Turned(pair, protocol, owner, mine, self.open_for(senders, owner), is_untranslated), protocol)
@@ -613,7 +645,7 @@ class Gateway:
         """Returns the kinds of filtering under which a mapping lets in one of the senders."""
         if any(it.external in owner.remotes or it.external in owner.tried for it in senders):
             return INDEPENDENT, ADDRESS, ADDRESS_PORT, None
-        if any(it.external[0] in owner.hosts for it in senders):
+        if any(it.external[0] == address for it in senders for address, _ in owner.remotes):
             return INDEPENDENT, ADDRESS
         return (INDEPENDENT,)
 
@@ -655,17 +687,6 @@ class Gateway:
             ends = (left.quoted.source, left.destination[0]) == (other.inside, other.inside[0])
             it.is_right = ends and any(o.external == left.quoted.destination for o in senders)
         return True
-
-
-def session_in(session, pair):
-    flags = pair.arrival.flags
-    session.opened_in |= bool(flags & SYN)
-    session.closed_in |= bool(flags & FIN)
-    # the SYN of the inside may have left before the captures
-    session.opened_out |= flags & (SYN | ACK) == SYN | ACK
-    if flags & RST:
-        session.reset = pair
-    session.last = pair.time
 
 
 def is_clean(packet):

@@ -2,7 +2,7 @@
 import dataclasses
 
 from judging.gateway import Gateway
-from judging.packets import ICMP, TCP, UDP, Reading, Side
+from judging.packets import ICMP, TCP, UDP, Reading, Side, dotted
 from judging.pairing import Pairing, planned
 from judging.requirements import OF_SEGMENTS, REQUIREMENTS
 from judging.rows import Row
@@ -95,9 +95,8 @@ class Judge:
     def notes(self):
         """Yields what is to be known of the captures beside the verdicts, line by line."""
         gateway, pairing = self.gateway, self.pairing
-        count = sum(found for (_, how), found in pairing.counts.items() if how) if pairing.counts else 0
-        from judging.packets import dotted
-        yield f"{self.inside.read + self.outside.read} packets, {count} pairs; external addresses: {', '.join(dotted(it) for it in sorted(self.plan.pool))}"
+        addresses = ", ".join(dotted(it) for it in sorted(self.plan.pool))
+        yield f"{self.inside.read + self.outside.read} packets, {pairing.pairs} pairs; external addresses: {addresses}"
         if self.plan.ahead:
             yield f"the outside clock is {self.plan.ahead / SECOND:.3f} s ahead"
         for found, what in (

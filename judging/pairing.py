@@ -163,8 +163,9 @@ class Pairing:
         self.departures, self.queue, self.silent = collections.deque(), collections.deque(), []
         # what has departed alone, by what an application gateway leaves, or by the remote of a SYN
         self.alone = collections.defaultdict(list)
-        self.recent = collections.deque()
-        self.counts, self.not_judged, self.last = collections.Counter(), 0, 0
+        # arrivals in pieces
+        self.in_pieces = []
+        self.counts, self.pairs, self.not_judged = collections.Counter(), 0, 0
 
     def items(self, inside, outside):
         """Yields pairs and what departed alone."""
@@ -191,19 +192,20 @@ class Pairing:
     def decided(self, item):
         """Yields an item whose fate is known. Arrivals of which nothing left wait until something leaves again."""
         if type(item) is Pair:
+            if item.arrival.pieces:
+                self.in_pieces.remove(item)
             if not item.departure and not item.leak:
                 self.end_wait(item)
             if not item.departure and not item.leak and not item.made:
-                self.counts[item.way, None] += 1
                 if len(self.silent) < MOST_SILENT:
                     self.silent.append(item)
                 else:
                     self.not_judged += 1
                 return
-            self.counts[item.way, item.how] += 1
+            self.pairs += item.departure is not None
         else:
             self.forget(item)
-            if item.is_claimed:
+            if item.is_claimed or not item.is_leak and self.is_made_of_pieces(item):
                 return
         if self.silent:
             yield from self.silent
@@ -240,6 +242,8 @@ class Pairing:
         key = packet.content() if way is HAIRPIN else packet.key(way is OUT)
         pair, waiting = Pair(way, packet, key), self.waiting[way]
         self.queue.append(pair)
+        if packet.pieces:
+            self.in_pieces.append(pair)
         row = waiting.get(key)
         if row is None:
             waiting[key] = [pair]
@@ -279,15 +283,18 @@ class Pairing:
         row = self.waiting[way].get(key)
         if row is None:
             return None
-        best, how = row[0], SURE
+        best = row[0]
         if len(row) > 1:
             same = [it for it in row if it.arrival.identification == packet.identification and it.arrival.length == packet.length]
             best = (same or row)[0]
             if any(it.arrival.source != best.arrival.source or it.arrival.destination != best.arrival.destination for it in row):
                 ends = {(it.arrival.source, it.arrival.destination) for it in same}
-                how = SURE if len(ends) == 1 and packet.identification else LIKELY
+                if len(ends) != 1 or not packet.identification:
+                    # so are all that wait with it
+                    for it in row:
+                        it.how = LIKELY
         self.drop(best)
-        best.how = how
+        best.how = best.how or SURE
         return best
 
     def drop(self, pair):
@@ -303,8 +310,9 @@ class Pairing:
     def leave_alone(self, packet):
         """Notes a departure without an arrival, by what may still be found to be its arrival."""
         item = Departed(packet)
+        if self.is_made_of_pieces(item):
+            return
         self.queue.append(item)
-        self.recent.append(item)
         if packet.side == "outside":
             for key in keys_alone(packet):
                 self.alone[key].append(item)
@@ -321,8 +329,6 @@ class Pairing:
     def forget(self, item):
         if item.is_leak:
             return
-        while self.recent and self.recent[0].time <= item.time:
-            self.recent.popleft()
         if item.packet.side == "outside":
             for key in keys_alone(item.packet):
                 self.alone[key].remove(item)
@@ -342,12 +348,17 @@ class Pairing:
                     if not item.is_claimed and (how == ALTERED or is_anew(came, item.packet)) and 0 <= item.time - pair.time < SECOND:
                         item.is_claimed, pair.departure, pair.how = True, item.packet, how
                         return
-        if came.pieces:
-            made = [it for it in self.recent if it.packet.side != came.side and it.packet.protocol == came.protocol and not it.is_claimed
-                    and (it.packet.destination[0] == came.destination[0] or it.packet.source[0] == came.source[0])]
-            pair.made = tuple(it.packet for it in made if abs(it.time - pair.time) < SECOND // 10)
-            for it in made:
-                it.is_claimed |= it.packet in pair.made
+
+    def is_made_of_pieces(self, item):
+        """Whether a departure was made of the pieces of a datagram that waits; that notes it."""
+        left = item.packet
+        for pair in self.in_pieces:
+            came = pair.arrival
+            is_like = left.side != came.side and left.protocol == came.protocol and abs(item.time - pair.time) < SECOND // 10
+            if is_like and not pair.departure and (left.destination[0] == came.destination[0] or left.source[0] == came.source[0]):
+                pair.made += (left,)
+                return True
+        return False
 
 
 def keys_alone(packet):

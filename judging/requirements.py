@@ -1,6 +1,6 @@
 """The requirements: name, level, section of the RFC, what it asks, what traffic shows it, and its rule, for which moments and protocol."""
 from judging import rules
-from judging.gateway import Departure, Error, Incoming, Leak, TooLarge, Turned, Unforwarded, Unsolicited
+from judging.gateway import Departure, Error, Fragmented, Incoming, Leak, TooLarge, Turned, Unforwarded, Unsolicited
 from judging.packets import ICMP, TCP, UDP
 from judging.pairing import Pair
 from judging.rows import Requirement
@@ -48,9 +48,9 @@ REQUIREMENTS = (
     needed("4787 REQ-13", MUST, "10", "too big with DF is answered by 'fragmentation needed'", "a DF packet above the outer MTU",
            rules.too_large_is_answered, TooLarge, End),
     needed("4787 REQ-14 in", MUST, "11", "fragments in order go through", "a datagram in pieces, in order",
-           rules.pieces_in_order_pass, Pair),
+           rules.pieces_in_order_pass, Fragmented),
     needed("4787 REQ-14 out", MUST, "11", "fragments out of order go through", "a datagram in pieces, out of order",
-           rules.pieces_out_of_order_pass, Pair),
+           rules.pieces_out_of_order_pass, Fragmented),
     needed("5382 REQ-1", MUST, "4.1", "TCP: one external endpoint, whatever the remote",
            "connections of one inside endpoint to two remotes", rules.same_endpoint_for_each_remote, Departure, End, of=TCP),
     needed("5382 REQ-2", MUST, "4.2", "TCP: every valid sequence: handshake and data", "a whole connection",

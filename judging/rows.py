@@ -38,17 +38,6 @@ class Requirement:
         return int(self.name.split()[0])
 
 
-@dataclasses.dataclass(order=True, slots=True)
-class Assumed:
-    """An occasion that counts only if mappings lived for some time: of each its kind and how long it was not used."""
-
-    longest: int
-    order: int
-    live: list = dataclasses.field(compare=False)
-    is_met: bool = dataclasses.field(compare=False)
-    evidence: tuple = dataclasses.field(compare=False)
-
-
 class Row:
     """A requirement with its occasions. `needs` is what has to be there so that it can be met, where that is missing; `memory` is for what
     its rule keeps."""
@@ -56,15 +45,16 @@ class Row:
     def __init__(self, requirement):
         self.requirement = requirement
         self.met = self.broken = self.absent = 0
-        self.shown, self.against, self.missing, self.assumed = [], [], [], []
+        self.shown, self.against, self.missing = [], [], []
+        # occasions that count only if mappings lived for some time: broken, and met
+        self.assumed = ([], [])
         self.note = self.needs = ""
         self.is_whole, self.judged_by = True, BY_PAIRS
         self.memory, self.order = collections.Counter(), itertools.count()
 
     def meets(self, *evidence, live=()):
         """Counts an occasion on which the requirement was met, if mappings of these kinds lived so long."""
-        if live and max(gap for _, gap in live) > AT_ONCE:
-            self.assume(live, True, evidence)
+        if live and self.is_assumed(True, evidence, live):
             return
         self.met += 1
         if len(self.shown) < MOST_KEPT:
@@ -73,8 +63,7 @@ class Row:
     def breaks(self, *evidence, live=(), is_absence=False):
         """Counts an occasion on which it was broken. Where a packet is missing, or may be, nobody is accused by captures that are not
         whole."""
-        if live and max(gap for _, gap in live) > AT_ONCE:
-            self.assume(live, False, evidence)
+        if live and self.is_assumed(False, evidence, live):
             return
         self.broken += 1
         if is_absence or any(type(it) is Pair and not it.departure and not it.leak for it in evidence):
@@ -86,23 +75,33 @@ class Row:
             kept.append(evidence)
 
     def judge(self, is_met, *evidence, live=()):
-        (self.meets if is_met else self.breaks)(*evidence, live=live)
+        """Counts an occasion on which it was met or broken."""
+        if is_met and not live and len(self.shown) >= MOST_KEPT:
+            self.met += 1
+        else:
+            (self.meets if is_met else self.breaks)(*evidence, live=live)
 
-    def assume(self, live, is_met, evidence):
-        """Keeps an occasion until the gateway's timers are known; those of mappings that were used last are kept longest."""
-        longest = max(gap for _, gap in live)
-        it = Assumed(-longest, next(self.order), list(live), is_met, evidence)
-        (heapq.heappush if len(self.assumed) < MOST_ASSUMED else heapq.heappushpop)(self.assumed, it)
+    def is_assumed(self, is_met, evidence, live):
+        """Keeps an occasion until the gateway's timers are known, and returns whether that is needed: a mapping was not used just now.
+        Those of mappings that were used last are kept longest."""
+        longest, kept = max(gap for _, gap in live), self.assumed[is_met]
+        if longest <= AT_ONCE:
+            return False
+        if len(kept) < MOST_ASSUMED:
+            heapq.heappush(kept, (-longest, next(self.order), evidence, live))
+        elif longest < -kept[0][0]:
+            heapq.heapreplace(kept, (-longest, next(self.order), evidence, live))
+        return True
 
     def resolve(self, lifetimes):
         """Counts what was kept: each mapping has to be younger than the gateway's own timer; to accuse, others must have lived as long."""
-        assumed, self.assumed = sorted(self.assumed, reverse=True), []
-        for it in assumed:
-            lost = [lifetimes.shortest(kind) for kind, _ in it.live]
-            if any(end is not None and gap >= end for (_, gap), end in zip(it.live, lost)):
-                continue
-            if it.is_met or all(gap <= max(lifetimes.longest(kind), SURELY) for kind, gap in it.live):
-                self.judge(it.is_met, *it.evidence)
+        for is_met, kept in enumerate(self.assumed):
+            for _, _, evidence, live in sorted(kept, key=lambda it: it[:2], reverse=True):
+                if any(gap >= (lifetimes.shortest(kind) or gap + 1) for kind, gap in live):
+                    continue
+                if is_met or all(gap <= max(lifetimes.longest(kind), SURELY) for kind, gap in live):
+                    self.judge(is_met, *evidence)
+            kept.clear()
 
     @property
     def verdict(self):

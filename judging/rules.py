@@ -229,12 +229,12 @@ def packets_out_refresh(row, it):
     if type(it) is Incoming:
         mapping = it.mapping
         if it.cause == UNREFRESHED:
-            row.breaks(mapping.first_pair, it.holder, it.pair)
+            row.breaks(it.holder, it.pair)
         elif it.is_let_in and it.is_known and mapping.sent > 1:
             gap, age = max(mapping.longest_gap, it.pair.time - mapping.last_any) // SECOND, it.pair.time - mapping.first
             ages = row.memory.setdefault("ages", {})
             if age > ages.get(gap, (10 * SECOND,))[0]:
-                ages[gap] = (age, mapping.first_pair, mapping.last_pair, it.pair)
+                ages[gap] = (age, mapping.last_pair, it.pair)
         return
     end = it.lifetimes.shortest(OF_UDP)
     if it.lifetimes.is_one(OF_UDP):
@@ -612,9 +612,10 @@ def too_large_is_answered(row, it):
 
 
 def judge_pieces(row, it, is_in_order):
-    if it.arrival.pieces and it.arrival.is_in_order == is_in_order:
-        made = [f"made of them: {packet.name} ({packet.text()})" for packet in it.made]
-        row.judge(it.departure is not None, it, f"in the pieces {', '.join(it.arrival.pieces)}", *made)
+    pair = it.pair
+    if pair.arrival.is_in_order == is_in_order:
+        made = [f"made of them: {packet.name} ({packet.text()})" for packet in pair.made]
+        row.judge(pair.departure is not None, pair, f"in the pieces {', '.join(pair.arrival.pieces)}", *made)
 
 
 def pieces_in_order_pass(row, it):
