@@ -541,7 +541,7 @@ class Gateway:
         """Takes a packet to the external endpoint of a mapping."""
         came, time, protocol = pair.arrival, pair.time, mapping.protocol
         if self.follows:
-            self.follows(pair, mapping)
+            self.follows(pair, mapping, remote in mapping.remotes)
         session = mapping.sessions.get(remote) if protocol == TCP else None
         last = mapping.remotes.get(remote)
         is_known = last is not None
@@ -671,6 +671,8 @@ class Gateway:
         elif pair.way is OUT and left and live:
             it.is_right = any(o.external == left.quoted.destination for o in with_it)
             it.is_own_source = left.source[0] in self.pool
+        if self.follows and pair.way is IN and (it.mapping or with_it):
+            self.follows(pair, it.mapping or with_it[-1], True)
         self.tell(it, protocol)
         noted = it.host if left else live if protocol == UDP and it.is_from_remote else None
         if pair.way is IN and noted and not is_bad:

@@ -40,6 +40,7 @@ class Prefixes:
     """The prefixes of inside hosts; each address is looked up once."""
 
     def __init__(self, networks):
+        self.texts = [str(it) for it in networks]
         self.networks = [(int(it.netmask), int(it.network_address)) for it in networks]
         self.found = {}
 
