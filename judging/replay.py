@@ -1,16 +1,13 @@
 """What should have come in, by the proved program: each packet from outside, at the inside endpoint that the gateway's number stood for,
 goes through the definition of napt, under the gateway's own timers and filter."""
-import collections
-import contextlib
 import dataclasses
 import json
-import os
 import pathlib
 import struct
 import subprocess
 import tempfile
 
-from judging.gateway import ADDRESS, ADDRESS_PORT, ESTABLISHED, INDEPENDENT, LEAST, OF_ICMP, OF_UDP, TIMER, TRANSITORY, Incoming, Mapping
+from judging.gateway import ADDRESS, ADDRESS_PORT, ESTABLISHED, INDEPENDENT, LEAST, OF_ICMP, OF_UDP, RESET, TIMER, TRANSITORY, Incoming
 from judging.judge import Judge
 from judging.packets import ERROR, ICMP, QUERY, TCP, UDP, dotted
 from judging.pairing import IN, Pair
@@ -87,10 +84,12 @@ def rows_of(pair, mapping, is_known):
         return ["5508 REQ-4", "5382 REQ-9"] if came.quoted.protocol == TCP else ["5508 REQ-4"]
     if not is_known:
         return [FILTERING[came.protocol]] if came.protocol == UDP or came.is_syn else []
-    if came.kind == QUERY:
-        return ["3022 deliver", "5508 REQ-1"]
-    after_error = [{UDP: "4787 REQ-12", TCP: "5382 REQ-10"}[came.protocol]] if mapping.error else []
-    return ["3022 deliver", *after_error, *([] if came.protocol == UDP else ["5382 REQ-2a" if came.is_syn else "5382 REQ-2"])]
+    if came.protocol != TCP:
+        return ["3022 deliver", "4787 REQ-12"] if mapping.error and came.protocol == UDP else ["3022 deliver"]
+    session = mapping.sessions.get(came.source)
+    if came.is_syn or session and session.met:
+        return ["5382 REQ-2a"]
+    return ["5382 REQ-2", "5382 REQ-10"] if mapping.error else ["5382 REQ-2"]
 
 
 class Replay(Judge):
@@ -102,7 +101,7 @@ class Replay(Judge):
         self.gateway.follows = self.follow
 
     def tell(self, moment, protocol):
-        if type(moment) is Incoming and moment.cause == TIMER:
+        if type(moment) is Incoming and moment.cause in (TIMER, RESET):
             self.timed_out.add(id(moment.pair))
         super().tell(moment, protocol)
 
@@ -145,7 +144,7 @@ class Replay(Judge):
                         it.is_let_in, it.cause = outcome["outcome"] == "to-inside", outcome["cause"]
 
     def conclude(self):
-        """Judges what comes in by what the definition did. What the gateway's own timers ended is for their rows to say."""
+        """Judges what comes in by what the definition did. What the gateway's own timers, or a RST, ended is for other rows to say."""
         for name in {name for it in self.followed for name in it.rows} - set(FILTERING.values()):
             self.rows[name].clear(BY_DEFINITION)
         for it in self.followed:

@@ -31,7 +31,6 @@ class Requirement:
     rule: Callable
     moments: tuple
     protocol: int | None = None
-    comes_in: bool = False
 
     @property
     def rfc(self):
