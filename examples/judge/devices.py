@@ -198,15 +198,32 @@ def within(namespace, function, *words):
         os.close(there)
 
 
-NAT = 'table ip nat {{ chain post {{ type nat hook postrouting priority srcnat; oifname "wan" {}; }} }}\n'
+NAT = """table ip nat {{
+ chain post {{
+  type nat hook postrouting priority srcnat;
+  oifname "wan" {};
+ }}
+}}
+"""
 # what a home router has: a firewall, and application gateways for SIP and FTP
 HOME = """table ip home {
  ct helper sip { type "sip" protocol udp; }
  ct helper ftp { type "ftp" protocol tcp; }
- chain helpers { type filter hook prerouting priority 0; udp dport 5060 ct helper set "sip"; tcp dport 21 ct helper set "ftp"; }
- chain input { type filter hook input priority 0; iifname "wan" drop; }
- chain forward { type filter hook forward priority 0; policy drop; ct state invalid drop; ct state established,related accept
-  iifname "lan" accept; }
+ chain helpers {
+  type filter hook prerouting priority 0;
+  udp dport 5060 ct helper set "sip"
+  tcp dport 21 ct helper set "ftp"
+ }
+ chain input {
+  type filter hook input priority 0;
+  iifname "wan" drop
+ }
+ chain forward {
+  type filter hook forward priority 0; policy drop;
+  ct state invalid drop
+  ct state established,related accept
+  iifname "lan" accept
+ }
 }
 """
 LINUX = {
