@@ -7,7 +7,7 @@ import heapq
 import itertools
 
 from judging.packets import ACK, ERROR, FIN, ICMP, OF_TCP, OF_UDP, QUERY, QUERIES, RST, SYN, TCP, UDP
-from judging.pairing import ALTERED, CONNECTION, HAIRPIN, IN, LIKELY, OUT, Departed, Pair
+from judging.pairing import ALTERED, HAIRPIN, IN, LIKELY, OUT, Departed, Pair
 from reading.captures import SECOND
 
 # kinds of mappings and sessions, and their least timers (RFC 4787, REQ-5; RFC 5508, REQ-2; RFC 5382, REQ-5)
@@ -269,12 +269,16 @@ class Filter:
             return ADDRESS if address_out else None
         return ADDRESS_PORT if port_out else None
 
+    def occasions(self, is_let_in):
+        """Returns the evidence of those that were let in, or not."""
+        return self.seen["port"][is_let_in] + self.seen["address"][is_let_in]
+
 
 class Gateway:
     """What is known of a gateway so far. It tells each moment in which a requirement can be met or broken."""
 
-    def __init__(self, prefixes, pool, tell):
-        self.prefixes, self.pool, self.tell = prefixes, pool, tell
+    def __init__(self, prefixes, plan, tell):
+        self.prefixes, self.pool, self.ends_connections, self.tell = prefixes, plan.pool, plan.ends_connections, tell
         # mappings by protocol and inside endpoint, and by protocol and external endpoint
         self.by_inside, self.by_external = {}, {}
         # the last mapping of each host by protocol
@@ -283,15 +287,10 @@ class Gateway:
         # what waits for an answer of the gateway's own, in order of time; refusals whose reason is known at the end
         self.syns, self.large, self.unforwarded = collections.deque(), collections.deque(), collections.deque()
         self.undecided, self.order = [], itertools.count()
-        self.connections = self.syns_sent = self.likely = self.now = self.swept = 0
+        self.likely = self.now = self.swept = 0
         self.largest, self.errors_of_remotes, self.lost = 0, 0, 0
         self.own_ends = collections.Counter()
         self.follows = None
-
-    @property
-    def ends_connections(self):
-        """Whether the gateway ends connections itself, and makes its own."""
-        return self.connections > self.syns_sent
 
     # ITEMS
 
@@ -316,7 +315,6 @@ class Gateway:
             self.large.append(TooLarge(item))
         elif item.departure and item.way is OUT and not came.pieces and not item.departure.pieces:
             self.largest = max(self.largest, came.length)
-        self.connections += item.how == CONNECTION
         if item.how == ALTERED:
             return
         if came.kind == ERROR:
@@ -406,7 +404,6 @@ class Gateway:
         if came.kind == QUERY and came.type not in QUERIES:
             return
         if pair.departure:
-            self.syns_sent += came.is_syn and pair.how != CONNECTION
             remote = (came.destination[0], 0) if came.kind == QUERY else came.destination
             self.leave(pair, came.source, pair.departure.source, remote)
         elif is_clean(came) and not came.pieces and (came.may_fragment or came.length <= 576):

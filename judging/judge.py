@@ -48,7 +48,7 @@ class Judge:
         self.rows = {it.name: Row(it) for it in REQUIREMENTS}
         self.pairing = Pairing(given.prefixes, plan)
         self.rules = self.dispatched()
-        self.gateway = Gateway(given.prefixes, plan.pool, self.tell)
+        self.gateway = Gateway(given.prefixes, plan, self.tell)
         self.gateway.follows = follows
 
     def dispatched(self):

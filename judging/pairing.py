@@ -5,7 +5,7 @@ import heapq
 import itertools
 import statistics
 
-from judging.packets import ACK, ERROR, OF_TCP, OF_UDP, SYN, Packet, Side, dotted
+from judging.packets import ERROR, OF_TCP, OF_UDP, dotted
 from reading.captures import BAD_WORDS, SECOND, Fault
 
 OUT, IN, HAIRPIN = "out", "in", "hairpin"
@@ -16,6 +16,8 @@ SURE, LIKELY, CONNECTION, ALTERED = "sure", "likely", "connection", "altered"
 WINDOW, SLACK = 2 * SECOND, SECOND // 500
 # of a gateway that has ended: so many arrivals and so long at the end, of which nothing leaves; and how many are kept until it is known
 FEW_SILENT, LONG_SILENT, MOST_SILENT = 20, 5 * SECOND, 10_000
+# a gateway keeps identifications where it kept so many times more of them than it changed
+KEEPS = 20
 # packets of each side from which the pool and the difference of the clocks are found
 SAMPLE = 10_000
 
@@ -58,12 +60,14 @@ class Departed:
 @dataclasses.dataclass
 class Plan:
     """What is known before captures are paired: the pool, how far the outside clock is ahead, in nanoseconds, how deep payloads are
-    compared, which sides have each packet twice, and whether one file is of both sides, so that a leak cannot be told."""
+    compared, which sides have each packet twice, whether the gateway ends connections itself and makes its own, and whether one file is
+    of both sides, so that a leak cannot be told."""
 
     pool: set
     ahead: int = 0
     depth: int | None = None
     doubles: tuple = ()
+    ends_connections: bool = False
     is_one_file: bool = False
 
 
@@ -107,6 +111,13 @@ def ahead_of(inside, outside, prefixes, pool):
     return int(delays[0]) if delays and abs(delays[0]) > SECOND else 0
 
 
+def is_ending(inside, outside, prefixes):
+    """Whether a gateway ends connections itself: its SYNs are none that inside hosts sent, but go to the same remotes."""
+    syns, left = ([it for it in packets if it.is_syn and (it.source[0] in prefixes) == is_from] for packets, is_from in ((inside, True), (outside, False)))
+    ends = {it.destination for it in syns}
+    return not {it.key(True) for it in syns} & {it.key(True) for it in left} and any(it.destination in ends for it in left)
+
+
 def share_of_doubles(packets):
     """Returns which part of packets has an equal one just before it."""
     seen, count = {}, 0
@@ -133,7 +144,7 @@ def planned(sides, prefixes, pool=None, is_one_file=False):
         refuse(packets, prefixes)
     depth = min((it.least_cut for it in (inside, outside) if it.least_cut), default=None)
     doubles = tuple(name for name, it in zip(("inside", "outside"), packets) if share_of_doubles(it) > 1 / 3)
-    return Plan(set(found), ahead_of(*packets, prefixes, found), depth, doubles, is_one_file)
+    return Plan(set(found), ahead_of(*packets, prefixes, found), depth, doubles, is_ending(*packets, prefixes), is_one_file)
 
 
 def refuse(packets, prefixes):
@@ -165,6 +176,8 @@ class Pairing:
         self.alone = collections.defaultdict(list)
         # arrivals in pieces
         self.in_pieces = []
+        # how many identifications were changed, and how many kept
+        self.identifications = [0, 0]
         self.counts, self.pairs, self.not_judged = collections.Counter(), 0, 0
 
     def items(self, inside, outside):
@@ -294,7 +307,11 @@ class Pairing:
                     for it in row:
                         it.how = LIKELY
         self.drop(best)
-        best.how = best.how or SURE
+        is_kept = best.arrival.identification == packet.identification
+        self.identifications[is_kept] += 1
+        changed, kept = self.identifications
+        # of a gateway that keeps identifications it is the packet of another host, whose own arrival is not in the captures
+        best.how = best.how or (LIKELY if not is_kept and kept > KEEPS * changed else SURE)
         return best
 
     def drop(self, pair):
@@ -343,9 +360,9 @@ class Pairing:
         came = pair.arrival
         if pair.way is OUT and came.kind in (OF_UDP, OF_TCP):
             keys = zip((ALTERED, CONNECTION), keys_alone(came))
-            for how, key in keys:
+            for how, key in keys if self.plan.ends_connections else itertools.islice(keys, 1):
                 for item in self.alone.get(key, ()):
-                    if not item.is_claimed and (how == ALTERED or is_anew(came, item.packet)) and 0 <= item.time - pair.time < SECOND:
+                    if not item.is_claimed and (how is ALTERED or item.packet.is_syn) and 0 <= item.time - pair.time < SECOND:
                         item.is_claimed, pair.departure, pair.how = True, item.packet, how
                         return
 
@@ -368,11 +385,6 @@ def keys_alone(packet):
     # identifications of 0 tell nothing (RFC 6864)
     altered = packet.identification and (packet.kind, packet.destination, packet.identification, packet.sequence)
     return (altered, packet.destination) if packet.is_syn else (altered,)
-
-
-def is_anew(came, left):
-    """Whether both are SYNs, of connections of their own."""
-    return came.flags & (SYN | ACK) == SYN == left.flags & (SYN | ACK) and came.sequence != left.sequence
 
 
 def TIME(packet):

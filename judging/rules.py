@@ -3,7 +3,7 @@ import collections
 
 from judging.gateway import ADDRESS_PORT, ELSEWHERE, ESTABLISHED, INDEPENDENT, LEAST, NO_ONE, OF_ICMP, RESET, SEGMENT, SIMULTANEOUS, SOON, STRANGER
 from judging.gateway import AFTER_ERROR, SUDDEN, TIMER, TRANSITORY, UNREFRESHED, Departure, Error, Incoming, Leak, TooLarge, Turned, Unforwarded
-from judging.packets import ICMP, OF_TCP, OF_UDP, RST, SYN, TCP, UDP, dotted
+from judging.packets import ERROR, ICMP, OF_TCP, OF_UDP, RST, SYN, TCP, UDP, dotted
 from judging.pairing import ALTERED, HAIRPIN, IN, OUT, SURE, Pair
 from reading.captures import SECOND
 
@@ -175,7 +175,7 @@ def identifications_differ(row, it):
 
 def deterministic(row, end):
     """RFC 4787 8: mapping and filtering stay the same, whatever other hosts do."""
-    for protocol, mapping, filtering in ((UDP, "4787 REQ-1", "4787 REQ-8"), (TCP, "5382 REQ-1", "5382 REQ-3")):
+    for protocol, mapping in ((UDP, "4787 REQ-1"), (TCP, "5382 REQ-1")):
         found = end.rows[mapping]
         same = found.met + found.memory["kept"]
         if same and found.broken and found.memory["changed"]:
@@ -184,8 +184,9 @@ def deterministic(row, end):
             row.note = f"mapping of {name}: independent {same} times, not {found.memory['changed']} times"
         elif found.met and same > 3 and not found.broken:
             row.meets(*found.shown[0])
-        if end.gateway.filters[protocol].kind == NO_ONE:
-            row.breaks(*(end.rows[filtering].missing or end.rows[filtering].against)[0], is_absence=True)
+        filtered = end.gateway.filters[protocol]
+        if filtered.kind == NO_ONE:
+            row.breaks(*filtered.occasions(True)[0], *filtered.occasions(False)[0], is_absence=True)
 
 
 # TIMERS
@@ -305,7 +306,7 @@ def filtering(row, end):
     """RFC 4787 5, RFC 5382 4.3: who is let in by a mapping is independent of the remote, or depends on its address alone; and it is one of
     both, at all times."""
     found = end.gateway.filters[row.requirement.protocol]
-    let_in, refused = ([it for which in ("port", "address") for it in found.seen[which][is_in]] for is_in in (True, False))
+    let_in, refused = found.occasions(True), found.occasions(False)
     row.note = found.kind or ""
     if found.kind == NO_ONE:
         row.note = "; ".join(f"from another {which}: {found.counts[which, True]} let in, {found.counts[which, False]} not" for which in found.seen)
@@ -570,7 +571,7 @@ def content_stays(row, it):
     if type(it) is not Pair:
         if row.memory["fragmentation"]:
             row.note = f"DF differs in {row.memory['fragmentation']}"
-    elif is_as_it_was(it):
+    elif is_as_it_was(it) and it.arrival.kind != ERROR:
         row.memory["fragmentation"] += it.arrival.may_fragment != it.departure.may_fragment
         row.judge(it.arrival.payload == it.departure.payload, it)
     elif it.how is ALTERED:
