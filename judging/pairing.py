@@ -203,23 +203,26 @@ class Pairing:
             yield from self.silent
 
     def decided(self, item):
-        """Yields an item whose fate is known. Arrivals of which nothing left wait until something leaves again."""
+        """Yields an item whose fate is known. Arrivals of which nothing left, and the gateway's own packets after them, wait until
+        something leaves again."""
         if type(item) is Pair:
             if item.arrival.pieces:
                 self.in_pieces.remove(item)
             if not item.departure and not item.leak:
                 self.end_wait(item)
-            if not item.departure and not item.leak and not item.made:
-                if len(self.silent) < MOST_SILENT:
-                    self.silent.append(item)
-                else:
-                    self.not_judged += 1
-                return
             self.pairs += item.departure is not None
+            is_silent = not item.departure and not item.leak and not item.made
         else:
             self.forget(item)
             if item.is_claimed or not item.is_leak and self.is_made_of_pieces(item):
                 return
+            is_silent = bool(self.silent) and not item.is_leak
+        if is_silent:
+            if len(self.silent) < MOST_SILENT:
+                self.silent.append(item)
+            else:
+                self.not_judged += 1
+            return
         if self.silent:
             yield from self.silent
             self.silent.clear()
@@ -238,17 +241,15 @@ class Pairing:
 
     def take_outside(self, packet):
         source, destination = packet.source[0], packet.destination[0]
-        if source in self.pool:
-            self.departures.append(packet)
+        if destination in self.prefixes:
+            self.counts["neither"] += 1
         elif source in self.prefixes:
             if packet.is_sent is not False and not self.plan.is_one_file:
                 self.departures.append(packet)
-        elif destination in self.pool:
+        elif source not in self.pool and destination in self.pool:
             self.arrive(IN, packet)
-        elif destination in self.prefixes:
-            self.counts["neither"] += 1
         else:
-            # perhaps of an address of the pool that was not seen yet
+            # where neither is in the pool, the source may be an address of it that was not seen yet
             self.departures.append(packet)
 
     def arrive(self, way, packet):

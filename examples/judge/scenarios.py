@@ -339,10 +339,11 @@ def number_again(probe, number, wait):
 
 
 def quiet_echo(probe, number, wait):
-    external = probe.out(craft.echo(probe.host(94 + number), REMOTES[22], 300 + number, 1))
+    # each with a number of its own, by which it is found again whatever its identifier becomes
+    external = probe.out(craft.echo(probe.host(94 + number), REMOTES[22], 300 + number, 1 + number))
     yield wait
     if external:
-        probe.in_(craft.echo(REMOTES[22], *external, 1, is_reply=True))
+        probe.in_(craft.echo(REMOTES[22], *external, 1 + number, is_reply=True))
 
 
 def quiet_syn(probe, number, wait):
