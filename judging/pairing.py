@@ -1,7 +1,6 @@
 """Pairs what arrived at a gateway with what left it, while both captures are read."""
 import collections
 import dataclasses
-import heapq
 import itertools
 import statistics
 
@@ -183,7 +182,7 @@ class Pairing:
     def items(self, inside, outside):
         """Yields pairs and what departed alone."""
         depart, departures, queue = self.depart, self.departures, self.queue
-        for packet in heapq.merge(inside, outside, key=TIME):
+        for packet in merged(inside, outside):
             now = packet.time
             while departures and departures[0].time + SLACK <= now:
                 depart(departures.popleft())
@@ -388,5 +387,15 @@ def keys_alone(packet):
     return (altered, packet.destination) if packet.is_syn else (altered,)
 
 
-def TIME(packet):
-    return packet.time
+def merged(one, other):
+    """Yields the packets of two sides by time."""
+    first, second = next(one, None), next(other, None)
+    while first and second:
+        if first.time <= second.time:
+            yield first
+            first = next(one, None)
+        else:
+            yield second
+            second = next(other, None)
+    yield from filter(None, (first, second))
+    yield from itertools.chain(one, other)

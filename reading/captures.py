@@ -147,8 +147,9 @@ class Capture:
         # the high half tells of checksums behind frames
         interface = Interface(struct.unpack(f"{order}16xI", header)[0] & 0xFFFF)
         self.interfaces.append(interface)
+        unpack = struct.Struct(f"{order}IIII").unpack
         while head := self.take(16, is_first=True):
-            seconds, fraction, captured, original = struct.unpack(f"{order}IIII", head)
+            seconds, fraction, captured, original = unpack(head)
             if captured > MOST_CAPTURED:
                 raise self.damaged(f"a record of {captured} bytes")
             if (data := self.take(captured)) is not None:
