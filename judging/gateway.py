@@ -6,7 +6,7 @@ import dataclasses
 import heapq
 import itertools
 
-from judging.packets import ACK, ERROR, FIN, ICMP, OF_TCP, OF_UDP, QUERY, QUERIES, RST, SYN, TCP, UDP
+from judging.packets import ACK, ERROR, FIN, ICMP, OF_TCP, OF_UDP, PROTOCOLS, QUERIES, QUERY, RST, SYN, TCP, UDP, endpoint_text, flags_text, named
 from judging.pairing import ALTERED, HAIRPIN, IN, LIKELY, OUT, Departed, Pair
 from reading.captures import SECOND
 
@@ -61,19 +61,58 @@ class Session:
         self.kind = ESTABLISHED if self.opened_out and self.opened_in and not self.is_closing else TRANSITORY
 
 
+@dataclasses.dataclass(frozen=True, slots=True)
+class Seen:
+    """A packet that went through a mapping before: its way and remote, flags, time, and the file and number of its arrival and departure."""
+
+    protocol: int
+    inside: tuple
+    external: tuple
+    way: str
+    remote: tuple
+    flags: int
+    time: int
+    numbers: tuple
+
+    @property
+    def places(self):
+        """Returns of the arrival and of the departure the side, the file and the number."""
+        sides = {OUT: ("inside", "outside"), IN: ("outside", "inside"), HAIRPIN: ("inside", "inside")}[self.way]
+        return [(side, *self.numbers[at : at + 2]) for side, at in zip(sides, (0, 2))]
+
+    def text(self):
+        names = ">".join(named(*it) for it in self.places)
+        inside, external, remote = (endpoint_text(it) for it in (self.inside, self.external, self.remote))
+        ends = f"{remote} > {external}" if self.way is IN else f"{inside} > {remote}"
+        flags = "".join(f" {it}" for it in [flags_text(self.flags)] if it)
+        return f"{names} ({PROTOCOLS[self.protocol]} {ends}{flags} {f'to {inside}' if self.way is IN else f'as {external}'})"
+
+
 class Mapping:
     """A mapping of an inside endpoint to an external one. `remotes` has when a packet last left for each, `tried` the external endpoints to which it sent hairpins. One that is not sure was there before a packet left, or has packets that may be of
     others: nothing is concluded from it."""
 
     __slots__ = (
-        "protocol", "inside", "external", "first", "last_out", "last_any", "longest_gap", "last_pair", "remotes", "tried",
+        "protocol", "inside", "external", "first", "last_out", "last_any", "longest_gap", "last", "remotes", "tried",
         "sessions", "error", "refused", "sent", "received", "is_unsure",
     )
 
     def __init__(self, protocol, inside, external, pair):
         self.protocol, self.inside, self.external, self.tried, self.is_unsure = protocol, inside, external, (), False
-        self.last_out, self.last_any, self.last_pair, self.sessions = pair.time, pair.time, pair, {}
+        self.last_out, self.last_any, self.last, self.sessions = pair.time, pair.time, None, {}
         self.begin(pair)
+
+    @property
+    def last_pair(self):
+        """The last packet that went through."""
+        return Seen(self.protocol, self.inside, self.external, *self.last)
+
+    def use(self, pair, remote):
+        """A packet goes through."""
+        came, left, time = pair.arrival, pair.departure, pair.time
+        if time - self.last_any > self.longest_gap:
+            self.longest_gap = time - self.last_any
+        self.last_any, self.last = time, (pair.way, remote, came.flags, time, (came.file, came.number, left.file, left.number))
 
     def begin(self, pair):
         """It is made, or made again after its timer."""
@@ -224,15 +263,14 @@ class Lifetimes:
         self.alive_alone = 0
 
     def survive(self, kind, gap, *evidence):
-        if gap > self.alive.get(kind, (-1,))[0]:
-            self.alive[kind] = (gap, *evidence)
+        self.alive[kind] = (gap, *evidence)
 
     def lose(self, kind, gap, *evidence):
         if kind not in self.lost or gap < self.lost[kind][0]:
             self.lost[kind] = (gap, *evidence)
 
     def longest(self, kind):
-        return self.alive.get(kind, (0,))[0]
+        return self.alive[kind][0] if kind in self.alive else 0
 
     def shortest(self, kind):
         """Returns after how long one was gone, or None."""
@@ -421,9 +459,9 @@ class Gateway:
             mapping = self.leave_anew(pair, inside, external, remote, mapping, mine or ())
         if protocol == TCP and not mapping.is_unsure:
             self.session_out(mapping, pair, remote)
-        mapping.longest_gap = max(mapping.longest_gap, time - mapping.last_any)
-        mapping.last_out = mapping.last_any = mapping.remotes[remote] = time
-        mapping.last_pair, mapping.refused = pair, None
+        mapping.use(pair, remote)
+        mapping.last_out = mapping.remotes[remote] = time
+        mapping.refused = None
         mapping.sent += 1
 
     def leave_anew(self, pair, inside, external, remote, mapping, mine):
@@ -526,6 +564,7 @@ class Gateway:
         if target:
             mapping = Mapping(protocol, target, external, pair)
             mapping.is_unsure = True
+            mapping.use(pair, pair.arrival.source)
             self.by_inside.setdefault((protocol, target), []).append(mapping)
             self.by_external.setdefault((protocol, external), []).append(mapping)
             return
@@ -552,7 +591,8 @@ class Gateway:
             if gap < LONGEST + 600 * SECOND:
                 if it.kind == OF_UDP and mapping.sent == 1 and not mapping.received:
                     self.lifetimes.alive_alone = max(self.lifetimes.alive_alone, quiet)
-                self.lifetimes.survive(it.kind, quiet, mapping.last_pair, pair)
+                if quiet > self.lifetimes.longest(it.kind):
+                    self.lifetimes.survive(it.kind, quiet, mapping.last_pair, pair)
         else:
             it.cause = STRANGER
             if protocol in self.filters and not any(remote[0] == tried[0] for tried in mapping.tried):
@@ -561,8 +601,7 @@ class Gateway:
         if not target:
             mapping.refused = pair
             return
-        mapping.longest_gap = max(mapping.longest_gap, time - mapping.last_any)
-        mapping.last_any, mapping.last_pair = time, pair
+        mapping.use(pair, remote)
         mapping.received += 1
         if protocol == TCP:
             (session or mapping.sessions.setdefault(remote, Session())).take(pair, False)

@@ -26,6 +26,14 @@ def dotted(address):
     return f"{address >> 24}.{address >> 16 & 255}.{address >> 8 & 255}.{address & 255}"
 
 
+def flags_text(flags):
+    return "".join(letter for bit, letter in FLAGS if flags & bit)
+
+
+def named(side, file, number):
+    return f"{side[0]}{file}.{number}" if file else f"{side[0]}{number}"
+
+
 def endpoint_text(endpoint):
     return f"{dotted(endpoint[0])}:{endpoint[1]}"
 
@@ -83,13 +91,13 @@ class Packet:
     @property
     def name(self):
         """Its side and number, behind the number of its file where its side has several."""
-        return f"{self.side[0]}{self.file}.{self.number}" if self.file else f"{self.side[0]}{self.number}"
+        return named(self.side, self.file, self.number)
 
     def text(self):
         """Returns the packet as a line shows it."""
         protocol = PROTOCOLS.get(self.protocol, str(self.protocol))
         if self.kind in (OF_UDP, OF_TCP):
-            flags = "".join(letter for bit, letter in FLAGS if self.flags & bit) if self.kind == OF_TCP else ""
+            flags = flags_text(self.flags)
             return f"{protocol} {endpoint_text(self.source)} > {endpoint_text(self.destination)}{' ' if flags else ''}{flags}"
         ends = f"{protocol} {dotted(self.source[0])} > {dotted(self.destination[0])}"
         if self.kind == QUERY:

@@ -2,6 +2,7 @@
 import collections
 import json
 
+from judging.gateway import Seen
 from judging.packets import Packet
 from judging.pairing import Pair
 from judging.rows import BROKEN, BY_DEFINITION, MET, NOT_SURE, VERDICTS, text_of
@@ -36,19 +37,21 @@ def table(rows):
     yield ", ".join(f"{counts[it]} {it}" for it in VERDICTS)
 
 
-def place(packet, files):
-    """Returns where a packet is: its side, file and number."""
-    return {"side": packet.side, "file": files[packet.side][max(packet.file - 1, 0)], "packet": packet.number}
-
-
 def shown(evidence, files):
-    """Returns a piece of evidence as an object."""
-    if isinstance(evidence, Pair):
-        left = evidence.departure or evidence.leak
-        ends = {"arrived": place(evidence.arrival, files), "left": left and place(left, files)}
-    else:
-        ends = {"left": place(evidence, files)} if isinstance(evidence, Packet) else {}
-    return {**ends, "text": text_of(evidence)}
+    """Returns a piece of evidence as an object, with the side, file and number of each of its packets."""
+    ends = {}
+    if isinstance(evidence, Seen):
+        ends = dict(zip(("arrived", "left"), evidence.places))
+    elif isinstance(evidence, Pair):
+        ends = {"arrived": place_of(evidence.arrival), "left": place_of(evidence.departure or evidence.leak)}
+    elif isinstance(evidence, Packet):
+        ends = {"left": place_of(evidence)}
+    found = {name: it and {"side": it[0], "file": files[it[0]][max(it[1] - 1, 0)], "packet": it[2]} for name, it in ends.items()}
+    return {**found, "text": text_of(evidence)}
+
+
+def place_of(packet):
+    return packet and (packet.side, packet.file, packet.number)
 
 
 def lines(rows, files):
