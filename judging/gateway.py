@@ -6,7 +6,7 @@ import dataclasses
 import heapq
 import itertools
 
-from judging.packets import ACK, ERROR, FIN, ICMP, OF_TCP, OF_UDP, PROTOCOLS, QUERIES, QUERY, RST, SYN, TCP, UDP, endpoint_text, flags_text, named
+from judging.packets import ACK, ERROR, FIN, ICMP, OF_TCP, OF_UDP, PROTOCOLS, QUERIES, QUERY, REPLIES, RST, SYN, TCP, UDP, endpoint_text, flags_text, named
 from judging.pairing import ALTERED, HAIRPIN, IN, LIKELY, OUT, Departed, Pair
 from reading.captures import SECOND
 
@@ -20,8 +20,8 @@ SOON = 5 * SECOND
 ANSWER_TO_SYN, ANSWER = 12 * SECOND, 3 * SECOND
 # mappings are looked through for those that are long over each time that so much has passed
 SWEEP = 300 * SECOND
-# how many refusals are kept whose reason is known at the end
-MOST_UNDECIDED = 256
+# how many refusals are kept whose reason is known at the end, and how many endpoints of the gateway itself
+MOST_UNDECIDED, MOST_ENDS = 256, 10_000
 # kinds of filtering (RFC 4787, section 5)
 INDEPENDENT, ADDRESS, ADDRESS_PORT, NO_ONE = "endpoint-independent", "address-dependent", "address- and port-dependent", "not one"
 # why a packet to an external endpoint did not come in: not before something was sent there; a SYN that meets a SYN; a segment of a
@@ -89,8 +89,9 @@ class Seen:
 
 
 class Mapping:
-    """A mapping of an inside endpoint to an external one. `remotes` has when a packet last left for each, `tried` the external endpoints to which it sent hairpins. One that is not sure was there before a packet left, or has packets that may be of
-    others: nothing is concluded from it."""
+    """A mapping of an inside endpoint to an external one. `remotes` has when a packet last left for each, `tried` the external endpoints
+    to which it sent hairpins. One that is not sure was there before a packet left, or has packets that may be of others: nothing is
+    concluded from it."""
 
     __slots__ = (
         "protocol", "inside", "external", "first", "last_out", "last_any", "longest_gap", "last", "remotes", "tried",
@@ -327,7 +328,8 @@ class Gateway:
         self.undecided, self.order = [], itertools.count()
         self.likely = self.now = self.swept = 0
         self.largest, self.errors_of_remotes, self.lost = 0, 0, 0
-        self.own_ends = collections.Counter()
+        # endpoints from which packets left alone, and those of nobody to which packets came
+        self.alone, self.nobodys = collections.Counter(), set()
         self.follows = None
 
     # ITEMS
@@ -378,18 +380,18 @@ class Gateway:
         self.answer(packet)
         if packet.kind == OF_TCP and (packet.flags & RST or self.ends_connections) or packet.kind not in (OF_UDP, OF_TCP, QUERY):
             return
-        if packet.side == "inside" or any(it.must_live(item.time) for it in self.by_external.get((packet.protocol, packet.source), ())):
-            self.lost += 1
-        elif len(self.own_ends) < 10_000:
-            self.own_ends[packet.protocol, packet.source] += 1
+        end = (packet.protocol, packet.source)
+        is_own = packet.side == "outside" and not any(it.must_live(item.time) for it in self.by_external.get(end, ()))
+        if is_own and len(self.alone) < MOST_ENDS:
+            self.alone[end] += packet.kind != QUERY or packet.type not in REPLIES
         else:
             self.lost += 1
 
     @property
     def lost_arrivals(self):
         """How many packets left whose arrival is not in the captures. What leaves from an endpoint of the gateway itself, to which
-        answers come that go nowhere, does not count."""
-        return self.lost + sum(count for count in self.own_ends.values() if count > 0)
+        packets come that go nowhere, does not count."""
+        return self.lost + sum(count for end, count in self.alone.items() if end not in self.nobodys)
 
     def answer(self, packet):
         """Notes what a packet of the gateway's own answers."""
@@ -568,8 +570,8 @@ class Gateway:
             self.by_inside.setdefault((protocol, target), []).append(mapping)
             self.by_external.setdefault((protocol, external), []).append(mapping)
             return
-        if (protocol, external) in self.own_ends:
-            self.own_ends[protocol, external] = -LONGEST
+        if len(self.nobodys) < MOST_ENDS:
+            self.nobodys.add((protocol, external))
         if pair.arrival.is_syn:
             self.syns.append(Unsolicited(pair))
 

@@ -229,7 +229,7 @@ class Pairing:
 
     def take_inside(self, packet):
         is_from, is_to = packet.source[0] in self.prefixes, packet.destination[0] in self.prefixes
-        if is_from and not is_to:
+        if is_from and not is_to and is_forwarded(packet.destination[0]):
             # one that the machine itself sent was captured at its other interface
             if not packet.is_sent:
                 self.arrive(HAIRPIN if packet.destination[0] in self.pool else OUT, packet)
@@ -385,6 +385,11 @@ def keys_alone(packet):
     # identifications of 0 tell nothing (RFC 6864)
     altered = packet.identification and (packet.kind, packet.destination, packet.identification, packet.sequence)
     return (altered, packet.destination) if packet.is_syn else (altered,)
+
+
+def is_forwarded(address):
+    """Whether a gateway forwards what is for an address: not for multicast, broadcast, link-local or this host (RFC 6890)."""
+    return address < 0xE0000000 and address >> 16 != 0xA9FE and address >> 24 not in (0, 127)
 
 
 def merged(one, other):
