@@ -6,7 +6,8 @@ import dataclasses
 import heapq
 import itertools
 
-from judging.packets import ACK, ERROR, FIN, ICMP, OF_TCP, OF_UDP, PROTOCOLS, QUERIES, QUERY, REPLIES, RST, SYN, TCP, UDP, endpoint_text, flags_text, named
+from judging.packets import ACK, ERROR, FIN, ICMP, OF_TCP, OF_UDP, PROTOCOLS, QUERIES, QUERY, REPLIES, RST, SYN, TCP, UDP
+from judging.packets import endpoint_text, flags_text, named
 from judging.pairing import ALTERED, HAIRPIN, IN, LIKELY, OUT, Departed, Pair
 from reading.captures import SECOND
 
@@ -18,8 +19,8 @@ LONGEST = max(LEAST.values())
 SOON = 5 * SECOND
 # what is asked of the gateway's own packets is kept so long: the answer to a SYN (RFC 5382, REQ-4), and any other
 ANSWER_TO_SYN, ANSWER = 12 * SECOND, 3 * SECOND
-# mappings are looked through for those that are long over each time that so much has passed
-SWEEP = 300 * SECOND
+# a gateway's timers may be so much longer than they must. Mappings that are over then are looked for each time that the second has passed
+MARGIN, SWEEP = 600 * SECOND, 300 * SECOND
 # how many refusals are kept whose reason is known at the end, and how many endpoints of the gateway itself
 MOST_UNDECIDED, MOST_ENDS = 256, 10_000
 # kinds of filtering (RFC 4787, section 5)
@@ -63,7 +64,7 @@ class Session:
 
 @dataclasses.dataclass(frozen=True, slots=True)
 class Seen:
-    """A packet that went through a mapping before: its way and remote, flags, time, and the file and number of its arrival and departure."""
+    """A packet that went through a mapping before: its way, remote, flags and time, and the file and number of arrival and departure."""
 
     protocol: int
     inside: tuple
@@ -435,7 +436,8 @@ class Gateway:
         self.of_host = {key: it for key, it in self.of_host.items() if not self.is_over(it)}
 
     def is_over(self, mapping):
-        return not mapping.is_unsure and self.now - mapping.last_any > (LONGEST + 600 * SECOND if mapping.protocol == TCP else 1000 * SECOND)
+        longest = (LONGEST if mapping.protocol == TCP else LEAST[OF_UDP]) + MARGIN
+        return self.now - mapping.last_any > longest
 
     # OUT
 
@@ -496,7 +498,8 @@ class Gateway:
         time = it.pair.time
         if it.external[1] != it.inside[1]:
             wanted = self.by_external.get((it.protocol, (it.external[0], it.inside[1])), ())
-            it.rival = next((o for o in wanted if o.inside != it.inside and not o.is_unsure and it.remote not in o.remotes and o.must_live(time)), None)
+            rivals = (o for o in wanted if o.inside != it.inside and not o.is_unsure and it.remote not in o.remotes)
+            it.rival = next((o for o in rivals if o.must_live(time)), None)
         it.before = max((o for o in foreign if not o.must_live(time)), key=lambda o: o.last_out, default=None) if foreign else None
         if len(self.pool) < 2:
             return
@@ -590,7 +593,7 @@ class Gateway:
             self.refuse(it)
             return
         if is_known:
-            if gap < LONGEST + 600 * SECOND:
+            if gap < LONGEST + MARGIN:
                 if it.kind == OF_UDP and mapping.sent == 1 and not mapping.received:
                     self.lifetimes.alive_alone = max(self.lifetimes.alive_alone, quiet)
                 if quiet > self.lifetimes.longest(it.kind):

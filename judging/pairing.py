@@ -11,8 +11,8 @@ OUT, IN, HAIRPIN = "out", "in", "hairpin"
 # how a departure was found: alone with its content; the most likely of several; as the SYN of a gateway that ends connections itself;
 # or with another payload
 SURE, LIKELY, CONNECTION, ALTERED = "sure", "likely", "connection", "altered"
-# a packet leaves within so long after it arrived. Clocks may differ by the second span once they are set
-WINDOW, SLACK = 2 * SECOND, SECOND // 500
+# a packet leaves within so long after it arrived, and where there are two clocks, which may drift, so long before
+WINDOW, ONE_CLOCK, TWO_CLOCKS = 2 * SECOND, SECOND // 500, SECOND // 20
 # of a gateway that has ended: so many arrivals and so long at the end, of which nothing leaves; and how many are kept until it is known
 FEW_SILENT, LONG_SILENT, MOST_SILENT = 20, 5 * SECOND, 10_000
 # a gateway keeps identifications where it kept so many times more of them than it changed
@@ -92,8 +92,7 @@ def pool_of(inside, outside, prefixes):
 
 
 def ahead_of(inside, outside, prefixes, pool):
-    """Returns how far the outside clock is ahead, from contents that are at each side once: half of the difference of both delays. A
-    difference of a few milliseconds is taken for the time that the gateway needs."""
+    """Returns how far the outside clock is ahead, from contents that are at each side once: half of the difference of both delays."""
     delays = []
     for is_out in (True, False):
         places = [collections.defaultdict(list), collections.defaultdict(list)]
@@ -105,14 +104,15 @@ def ahead_of(inside, outside, prefixes, pool):
         if differences:
             delays.append(statistics.median(differences))
     if len(delays) == 2:
-        ahead = int(sum(delays) / 2)
-        return ahead if abs(ahead) >= SECOND // 200 else 0
+        # of one clock what goes out is later outside, and what comes in earlier
+        return int(sum(delays) / 2) if delays[0] < 0 or delays[1] > 0 else 0
     return int(delays[0]) if delays and abs(delays[0]) > SECOND else 0
 
 
 def is_ending(inside, outside, prefixes):
     """Whether a gateway ends connections itself: its SYNs are none that inside hosts sent, but go to the same remotes."""
-    syns, left = ([it for it in packets if it.is_syn and (it.source[0] in prefixes) == is_from] for packets, is_from in ((inside, True), (outside, False)))
+    syns = [it for it in inside if it.is_syn and it.source[0] in prefixes]
+    left = [it for it in outside if it.is_syn and it.source[0] not in prefixes]
     ends = {it.destination for it in syns}
     return not {it.key(True) for it in syns} & {it.key(True) for it in left} and any(it.destination in ends for it in left)
 
@@ -153,10 +153,9 @@ def refuse(packets, prefixes):
         if not side:
             raise Fault(BAD_WORDS, f"the captures of --{name} have no packet of IPv4")
     if not ends[0]:
-        turned = " and the captures of --outside have: the sides seem to be swapped" if ends[1] else ""
-        raise Fault(BAD_WORDS, f"the captures of --inside have no packet from or to --inside-prefix,{turned or ' so that there are no inside hosts'}")
-    raise Fault(BAD_WORDS, "nothing that inside hosts sent is in the captures of --outside: they are not of one gateway and one time, or --pool"
-                " has to name its addresses")
+        turned = ", and the captures of --outside have: the sides seem to be swapped" if ends[1] else ""
+        raise Fault(BAD_WORDS, f"the captures of --inside have no packet from or to --inside-prefix{turned}")
+    raise Fault(BAD_WORDS, "nothing that inside hosts sent is in the captures of --outside: they are not of one gateway and one time")
 
 
 # PAIRS
@@ -181,10 +180,10 @@ class Pairing:
 
     def items(self, inside, outside):
         """Yields pairs and what departed alone."""
-        depart, departures, queue = self.depart, self.departures, self.queue
+        depart, departures, queue, slack = self.depart, self.departures, self.queue, TWO_CLOCKS if self.plan.ahead else ONE_CLOCK
         for packet in merged(inside, outside):
             now = packet.time
-            while departures and departures[0].time + SLACK <= now:
+            while departures and departures[0].time + slack <= now:
                 depart(departures.popleft())
             if packet.side == "inside":
                 self.take_inside(packet)

@@ -170,9 +170,9 @@ def write_capture(path, records):
 
 def asked(explain, room):
     """Returns what the program does with each reply, as objects of `explain show --json`."""
-    words = [explain, "show", "--config", room / "napt.toml", "--inside", room / "inside.pcap", "--replies", room / "replies.pcap", "--json"]
+    words = [explain, "show", "--config", "napt.toml", "--inside", "inside.pcap", "--replies", "replies.pcap", "--json"]
     try:
-        answer = subprocess.run(words, stdin=subprocess.DEVNULL, capture_output=True, text=True, check=False)
+        answer = subprocess.run(words, cwd=room, stdin=subprocess.DEVNULL, capture_output=True, text=True, check=False)
     except OSError as error:
         raise Fault(BAD_WORDS, f"{explain}: {error.strerror} (--explain names the program)") from error
     if answer.returncode:

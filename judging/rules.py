@@ -1,8 +1,8 @@
 """The rule of each requirement: what the RFC asks, on each occasion that pairs show. A rule is given the row and a moment."""
 import collections
 
-from judging.gateway import ADDRESS_PORT, ELSEWHERE, ESTABLISHED, INDEPENDENT, LEAST, NO_ONE, OF_ICMP, RESET, SEGMENT, SIMULTANEOUS, SOON, STRANGER
-from judging.gateway import AFTER_ERROR, SUDDEN, TIMER, TRANSITORY, UNREFRESHED, Departure, Error, Incoming, Leak, TooLarge, Turned, Unforwarded
+from judging.gateway import ADDRESS_PORT, AFTER_ERROR, ELSEWHERE, ESTABLISHED, LEAST, NO_ONE, OF_ICMP, RESET, SEGMENT, SIMULTANEOUS, SOON
+from judging.gateway import SUDDEN, TIMER, TRANSITORY, UNREFRESHED, Departure, Error, Incoming, Leak, TooLarge, Turned, Unforwarded
 from judging.packets import ERROR, ICMP, OF_TCP, OF_UDP, RST, SYN, TCP, UDP, dotted
 from judging.pairing import ALTERED, HAIRPIN, IN, OUT, SURE, Pair
 from reading.captures import SECOND
@@ -309,7 +309,8 @@ def filtering(row, end):
     let_in, refused = found.occasions(True), found.occasions(False)
     row.note = found.kind or ""
     if found.kind == NO_ONE:
-        row.note = "; ".join(f"from another {which}: {found.counts[which, True]} let in, {found.counts[which, False]} not" for which in found.seen)
+        counts = ((which, found.counts[which, True], found.counts[which, False]) for which in found.seen)
+        row.note = "; ".join(f"from another {which}: {let} let in, {not_let} not" for which, let, not_let in counts)
         row.breaks(*let_in[0], *refused[0], is_absence=True)
     elif found.kind and end.expected and found.kind != end.expected:
         row.breaks(*(let_in or refused)[0], is_absence=True)

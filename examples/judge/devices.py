@@ -97,7 +97,8 @@ class Port:
     def receive(self):
         """Returns when a frame came, and the frame; or nothing where the probe sent it itself."""
         frame, said, _, address = self.socket.recvmsg(65536, 128)
-        seconds, rest = next((struct.unpack("qq", data[:16]) for _, kind, data in said if kind == SO_TIMESTAMPNS), divmod(time.time_ns(), SECOND))
+        stamps = [struct.unpack("qq", data[:16]) for _, kind, data in said if kind == SO_TIMESTAMPNS]
+        seconds, rest = (stamps or [divmod(time.time_ns(), SECOND)])[0]
         return None if address[2] == socket.PACKET_OUTGOING else (seconds * SECOND + rest, frame)
 
     def ask(self, address, sender):
@@ -226,15 +227,13 @@ HOME = """table ip home {
  }
 }
 """
-LINUX = {
-    "masquerade": NAT.format("masquerade"), "random": NAT.format("masquerade random"), "fully-random": NAT.format("masquerade fully-random"),
-    "snat": NAT.format("snat to 203.0.113.1"), "pool": NAT.format("snat to 203.0.113.1-203.0.113.4"), "home": NAT.format("masquerade") + HOME,
-}
-FLOWS = ("table=0,in_port=1,ip,actions=ct(commit,zone=1,nat(src=203.0.113.1),table=1)", "table=0,in_port=2,ip,actions=ct(zone=1,nat,table=2)",
-         "table=1,ip,actions=output:2", "table=2,ip,ct_state=+trk+est,actions=output:1", "table=2,ip,ct_state=+trk+rel,actions=output:1")
+LINUX = {it: NAT.format(it) for it in ("masquerade", "masquerade random", "masquerade fully-random")}
+LINUX = {name.split()[-1]: rules for name, rules in LINUX.items()}
+LINUX |= {"snat": NAT.format("snat to 203.0.113.1"), "pool": NAT.format("snat to 203.0.113.1-203.0.113.4"), "home": LINUX["masquerade"] + HOME}
+FLOWS = ("table=0,in_port=1,ip,actions=ct(commit,zone=1,nat(src=203.0.113.1),table=1)",
+         "table=0,in_port=2,ip,actions=ct(zone=1,nat,table=2)", "table=1,ip,actions=output:2", "table=2,ip,ct_state=+trk+est,actions=output:1", "table=2,ip,ct_state=+trk+rel,actions=output:1")
 USER_MODE = ("slirp4netns", "pasta")
 GATEWAYS = (*LINUX, "ovs", *USER_MODE)
-TOOLS = {**dict.fromkeys(LINUX, ("ip", "nft")), "ovs": ("ip", "ovs-vswitchd"), "slirp4netns": ("ip", "slirp4netns"), "pasta": ("ip", "pasta")}
 
 
 class Namespaces:
@@ -322,7 +321,8 @@ class Namespaces:
         ran("ovsdb-tool", "create", folder / "conf.db", "/usr/share/openvswitch/vswitch.ovsschema")
         self.start("ovsdb-server", folder / "conf.db", f"--remote=punix:{folder}/db.sock", env=env)
         time.sleep(1)
-        vsctl = lambda *words: self.run_in(gateway, "ovs-vsctl", f"--db=unix:{folder}/db.sock", "--timeout=20", "--no-wait", *words, env=env)
+        def vsctl(*words):
+            self.run_in(gateway, "ovs-vsctl", f"--db=unix:{folder}/db.sock", "--timeout=20", "--no-wait", *words, env=env)
         vsctl("init")
         self.start("ovs-vswitchd", f"unix:{folder}/db.sock", f"--unixctl={folder}/control", env=env)
         time.sleep(1)

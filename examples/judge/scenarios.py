@@ -42,12 +42,12 @@ class Probe:
     def in_(self, packet):
         """Sends from outside, and returns what came in."""
         came = packet_of(packet, "outside", 0)
-        return self.sent("outside", packet, lambda it: it.side == "inside" and it.source[0] == came.source[0] and it.content() == came.content())
+        return self.sent("outside", packet, lambda it: (it.side, it.source[0], it.content()) == ("inside", came.source[0], came.content()))
 
     def turn(self, packet):
         """Sends from inside to an external endpoint, and returns what came back in."""
         came = packet_of(packet, "inside", 0)
-        return self.sent("inside", packet, lambda it: it.side == "inside" and it.destination != came.destination and it.content() == came.content())
+        return self.sent("inside", packet, lambda it: (it.side, it.content()) == ("inside", came.content()) and it.destination != came.destination)
 
     def throw(self, side, *packets):
         """Sends packets without looking for what they become."""
@@ -380,7 +380,8 @@ def after_ends(probe, number, wait):
 
 # (scenario, its seconds)
 SHORT = ((mapping, 1), (clash, 2), (clash_of_connections, 2), (filtering, 2), (filtering_of_connections, 16), (simultaneous_open, 1),
-         (echoes, 1), (errors, 2), (wrong_errors, 1), (other_errors, 1), (hairpins, 2), (fragments, 2), (sums, 1), (application_gateways, 1))
+         (echoes, 1), (errors, 2), (wrong_errors, 1), (other_errors, 1), (hairpins, 2), (fragments, 2), (sums, 1),
+         (application_gateways, 1))
 # (scenario, those that it waits for)
 WAITING = ((quiet_echo, (20, 58.5, 70)), (quiet_syn, (20, 50, 110, 130, 236, 250)), (quiet_connection, (60, 250, 7300, 7435, 7450)),
            (after_reset, (0.5, 8, 15, 100, 230)), (after_ends, (100, 130, 230)))
