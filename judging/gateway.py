@@ -15,8 +15,8 @@ from reading.captures import SECOND
 OF_ICMP, ESTABLISHED, TRANSITORY = "icmp", "established", "transitory"
 LEAST = {OF_UDP: 120 * SECOND, OF_ICMP: 60 * SECOND, ESTABLISHED: 7440 * SECOND, TRANSITORY: 240 * SECOND}
 LONGEST = max(LEAST.values())
-# a reply within so long cannot be late for a timer
-SOON = 5 * SECOND
+# a reply within so long cannot be late for a timer; and for so long a mapping lives of which nothing else is known
+SOON, SURELY = 5 * SECOND, 10 * SECOND
 # what is asked of the gateway's own packets is kept so long: the answer to a SYN (RFC 5382, REQ-4), and any other
 ANSWER_TO_SYN, ANSWER = 12 * SECOND, 3 * SECOND
 # a gateway's timers may be so much longer than they must. Mappings that are over then are looked for each time that the second has passed
@@ -203,6 +203,11 @@ class Error:
     is_from_remote: bool
     is_right: bool = True
     is_own_source: bool = False
+
+    @property
+    def live(self):
+        """What has to live so that the gateway may not drop it."""
+        return [self.mapping.age(self.pair.time)] if self.mapping and not self.pair.departure else []
 
 
 @dataclasses.dataclass(slots=True)
@@ -614,7 +619,8 @@ class Gateway:
     def note_filter(self, it):
         """Notes whether a stranger was let in by a mapping that must be live."""
         time, is_syn = it.pair.time, it.pair.arrival.is_syn
-        if it.protocol == TCP and not is_syn or not it.is_let_in and not it.mapping.must_live(time):
+        kind, age = it.mapping.age(time)
+        if it.protocol == TCP and not is_syn or not it.is_let_in and age > max(self.lifetimes.longest(kind), SURELY):
             return
         sent = next((True for address, _ in it.mapping.remotes if address == it.remote[0]), None)
         self.filters[it.protocol].note("address" if sent is None else "port", it.is_let_in, it.mapping.last_pair, it.pair)

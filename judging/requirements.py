@@ -30,7 +30,7 @@ REQUIREMENTS = (
     needed("4787 REQ-5", MUST, "4.3", "UDP: a mapping lives 2 minutes",
            "a reply that comes 115 to 120 s after the last packet out", rules.udp_lives, End),
     needed("4787 REQ-6", MUST, "4.3", "UDP: a packet out refreshes the mapping",
-           "a mapping kept by packets out alone for longer than the timer, then a reply; and a reply after the timer to one that is not kept",
+           "a mapping that packets out alone keep for longer than the timer, and a reply after the timer to one that is not kept",
            rules.packets_out_refresh, Incoming, End, of=UDP),
     needed("4787 REQ-8", SHOULD, "5", "UDP: filtering endpoint-independent or address-dependent, and one of them",
            "packets to a live mapping from another port of its remote, and from another address", rules.filtering, End, of=UDP),

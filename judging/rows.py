@@ -5,6 +5,7 @@ import heapq
 import itertools
 from collections.abc import Callable
 
+from judging.gateway import SURELY
 from judging.pairing import Pair
 from judging.packets import Packet
 from reading.captures import SECOND
@@ -13,8 +14,8 @@ MET, BROKEN, NOT_SURE, NOT_SEEN = "met", "broken", "not sure", "not seen"
 VERDICTS = (MET, BROKEN, NOT_SURE, NOT_SEEN)
 # by whom a verdict is: by the rule over pairs, or by napt's definition (judge replay)
 BY_PAIRS, BY_DEFINITION = "pairs", "definition"
-# a mapping that was used within so long is live, whatever the gateway's timers are; one that was not seen to live longer, within the second
-AT_ONCE, SURELY = 2 * SECOND, 10 * SECOND
+# a mapping that was used within so long is live, whatever the gateway's timers are
+AT_ONCE = 2 * SECOND
 MOST_KEPT, MOST_ASSUMED = 5, 64
 
 

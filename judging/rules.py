@@ -407,10 +407,15 @@ def turns_back_translated(row, it):
 def errors_turn_back(row, it):
     """RFC 5508 5: an error about a hairpin goes to its sender, with the ends that the sender knows."""
     if it.way is HAIRPIN and not it.is_bad:
-        row.judge(it.pair.departure is not None and it.is_right, *([] if it.pair.departure else [it.mapping.last_pair]), it.pair)
+        row.judge(it.pair.departure is not None and it.is_right, *shown_before(it), it.pair, live=it.live)
 
 
 # ICMP ERRORS
+
+
+def shown_before(it):
+    """Returns what shows that the mapping of an error that nothing became of was there."""
+    return [] if it.pair.departure else [it.mapping.last_pair]
 
 
 def errors_from_all(row, it):
@@ -419,13 +424,13 @@ def errors_from_all(row, it):
         if row.broken and not it.gateway.errors_of_remotes:
             row.needs, row.broken, row.absent = "errors of the remotes themselves that go in (here none does)", 0, 0
     elif it.way is IN and not it.is_bad and not it.is_from_remote and (it.pair.departure or it.mapping):
-        row.judge(it.pair.departure is not None, it.pair)
+        row.judge(it.pair.departure is not None, it.pair, live=it.live)
 
 
 def tcp_errors_pass(row, it):
     """RFC 5382 7.3, REQ-9: an error about a connection is translated."""
     if it.way is IN and not it.is_bad and it.is_known and (it.pair.departure or it.mapping):
-        row.judge(it.pair.departure is not None, it.pair)
+        row.judge(it.pair.departure is not None, it.pair, live=it.live)
 
 
 def needs_good_errors(row, end):
@@ -438,7 +443,7 @@ def wrong_errors_end(row, it):
     if type(it) is not Error:
         needs_good_errors(row, it)
     elif it.pair.arrival.sum_ok is False and it.mapping:
-        row.judge(not it.pair.departure, it.pair)
+        row.judge(not it.pair.departure, it.pair, live=it.live)
 
 
 def wrong_quotations_end(row, it):
@@ -446,7 +451,7 @@ def wrong_quotations_end(row, it):
     if type(it) is not Error:
         needs_good_errors(row, it)
     elif it.pair.arrival.sum_ok is not False and it.is_bad and it.mapping:
-        row.judge(not it.pair.departure, it.pair)
+        row.judge(not it.pair.departure, it.pair, live=it.live)
 
 
 def foreign_errors_end(row, it):
@@ -466,7 +471,7 @@ def errors_come_in(row, it):
         if it.host:
             row.judge(it.pair.departure.destination[0] == it.host.inside[0], it.pair)
         elif it.mapping and not it.pair.departure:
-            row.breaks(it.mapping.last_pair, it.pair)
+            row.breaks(*shown_before(it), it.pair, live=it.live)
 
 
 def quotes_inside(row, it):
@@ -485,7 +490,7 @@ def type_stays(row, it):
 def errors_go_out(row, it):
     """RFC 5508 4.2.2, REQ-5: an error from inside about a mapping goes out."""
     if it.way is OUT and not it.is_bad and (it.pair.departure or it.mapping):
-        row.judge(it.pair.departure is not None, *([] if it.pair.departure else [it.mapping.last_pair]), it.pair)
+        row.judge(it.pair.departure is not None, *shown_before(it), it.pair, live=it.live)
 
 
 def quotes_outside(row, it):

@@ -9,6 +9,7 @@ import shutil
 import socket
 import struct
 import subprocess
+import tempfile
 import time
 
 import craft
@@ -51,6 +52,8 @@ class Napt(Device):
     def __init__(self, folder, program, configuration):
         super().__init__(folder)
         self.program, self.configuration, self.time, self.is_begun = program, configuration, 1_700_000_000 * SECOND, False
+        # in memory where that can be: the state is told to the disk each time
+        self.room = tempfile.TemporaryDirectory(prefix="probe-", dir="/dev/shm" if os.path.isdir("/dev/shm") else None)
 
     def now(self):
         return self.time
@@ -61,24 +64,23 @@ class Napt(Device):
     def send(self, side, packet, found):
         self.time += SECOND // 1000
         self.keep(side, self.time, packet)
+        room = pathlib.Path(self.room.name)
+        words = [self.program, "--config", self.configuration, "--report", os.devnull, "--save", room / "state"]
+        words += ["--resume", room / "state"] if self.is_begun else []
         for name in SIDES:
-            craft.write(self.folder / f"in-{name}", [(self.time, packet)] * (name == side))
-        words = [self.program, "--config", self.configuration, "--report", os.devnull, "--save", self.folder / "state"]
-        words += ["--resume", self.folder / "state"] if self.is_begun else []
-        for name in SIDES:
-            words += [f"--{name}", self.folder / f"in-{name}", f"--to-{name}", self.folder / f"out-{name}"]
+            craft.write(room / f"in-{name}", [(self.time, packet)] * (name == side))
+            words += [f"--{name}", room / f"in-{name}", f"--to-{name}", room / f"out-{name}"]
         subprocess.run(words, check=True, stderr=subprocess.DEVNULL)
         self.is_begun, answer = True, None
         for name in SIDES:
-            for frame in Capture(str(self.folder / f"out-{name}")).frames():
+            for frame in Capture(str(room / f"out-{name}")).frames():
                 self.keep(name, frame.time + 1, frame.data)
                 answer = answer or found and found(name, frame.data)
         return answer
 
     def close(self):
         super().close()
-        for name in ("state", *(f"{way}-{side}" for way in ("in", "out") for side in SIDES)):
-            (self.folder / name).unlink(missing_ok=True)
+        self.room.cleanup()
 
 
 class Port:
@@ -229,9 +231,11 @@ HOME = """table ip home {
 """
 LINUX = {it: NAT.format(it) for it in ("masquerade", "masquerade random", "masquerade fully-random")}
 LINUX = {name.split()[-1]: rules for name, rules in LINUX.items()}
-LINUX |= {"snat": NAT.format("snat to 203.0.113.1"), "pool": NAT.format("snat to 203.0.113.1-203.0.113.4"), "home": LINUX["masquerade"] + HOME}
+LINUX |= {"snat": NAT.format("snat to 203.0.113.1"), "pool": NAT.format("snat to 203.0.113.1-203.0.113.4")}
+LINUX["home"] = LINUX["masquerade"] + HOME
 FLOWS = ("table=0,in_port=1,ip,actions=ct(commit,zone=1,nat(src=203.0.113.1),table=1)",
-         "table=0,in_port=2,ip,actions=ct(zone=1,nat,table=2)", "table=1,ip,actions=output:2", "table=2,ip,ct_state=+trk+est,actions=output:1", "table=2,ip,ct_state=+trk+rel,actions=output:1")
+         "table=0,in_port=2,ip,actions=ct(zone=1,nat,table=2)", "table=1,ip,actions=output:2",
+         "table=2,ip,ct_state=+trk+est,actions=output:1", "table=2,ip,ct_state=+trk+rel,actions=output:1")
 USER_MODE = ("slirp4netns", "pasta")
 GATEWAYS = (*LINUX, "ovs", *USER_MODE)
 

@@ -47,7 +47,9 @@ class Probe:
     def turn(self, packet):
         """Sends from inside to an external endpoint, and returns what came back in."""
         came = packet_of(packet, "inside", 0)
-        return self.sent("inside", packet, lambda it: (it.side, it.content()) == ("inside", came.content()) and it.destination != came.destination)
+        def is_it(left):
+            return (left.side, left.content()) == ("inside", came.content()) and left.destination != came.destination
+        return self.sent("inside", packet, is_it)
 
     def throw(self, side, *packets):
         """Sends packets without looking for what they become."""
