@@ -3,6 +3,7 @@
 #include <dirent.h>
 #include <errno.h>
 #include <fcntl.h>
+#include <inttypes.h>
 #include <linux/if_tun.h>
 #include <net/if.h>
 #include <poll.h>
@@ -15,6 +16,7 @@
 #include <stdlib.h>
 #include <string.h>
 #include <sys/ioctl.h>
+#include <sys/prctl.h>
 #include <sys/socket.h>
 #include <sys/stat.h>
 #include <sys/wait.h>
@@ -55,10 +57,11 @@ static const char HELP[] =
     "\n"
     "SIGTERM, SIGINT and SIGHUP end the captures: what came is translated and leaves, and PROGRAM writes the report, the log\n"
     "(--log FILE of the words) and the state (--save FILE) to their ends. PROGRAM itself is started so that it ignores these\n"
-    "signals. Started again with --resume FILE it goes on with the bindings and the log, also under another configuration or\n"
-    "as another version. Where a device is deleted a line says so, and the captures end too. Where PROGRAM ends by itself the\n"
-    "relay ends too. The status is that of PROGRAM; it is 1 where a device, a folder or PROGRAM cannot be opened, a device is\n"
-    "deleted or a capture cannot be kept, and 2 for a mistake in the words.\n";
+    "signals. If the relay is killed, PROGRAM is killed too, and saves no state. Started again with --resume FILE it goes on\n"
+    "with the bindings and the log, also under another configuration or as another version. If it is earlier than the time\n"
+    "of that state, a line says so. Where a device is deleted a line says so, and the captures end too. Where PROGRAM ends by\n"
+    "itself the relay ends too. The status is that of PROGRAM; it is 1 where a device, a folder or PROGRAM cannot be opened,\n"
+    "a device is deleted or a capture cannot be kept, and 2 for a mistake in the words.\n";
 
 enum {
     HEADER_BYTES = 24,
@@ -155,6 +158,25 @@ static void watch_clock(void) {
     said = apart;
     fprintf(stderr, "%s: the system's clock was set: it differs by %+.1f s from the times of packets, which go on as before\n", name,
             (double)apart / (double)SECOND);
+}
+
+// Writes a time in nanoseconds as a date (RFC 3339).
+static const char *date_of(char date[40], uint64_t time) {
+    time_t seconds = (time_t)(time / SECOND);
+    size_t many = strftime(date, 40, "%Y-%m-%dT%H:%M:%S", gmtime(&seconds));
+    snprintf(date + many, 40 - many, ".%09" PRIu64 "Z", time % SECOND);
+    return date;
+}
+
+// Says where the clock is behind that of the state from which the program goes on.
+static void compare_clock(const char *path) {
+    uint64_t saved, time = now();
+    char dates[2][40];
+    FILE *state = path ? fopen(path, "re") : NULL;
+    if (state && fscanf(state, "clock %" SCNu64, &saved) == 1 && time < saved)
+        fprintf(stderr, "%s: it is %s, earlier than %s, the time of the state: until then no timer ends, and packets count as at that time\n",
+                name, date_of(dates[0], time), date_of(dates[1], saved));
+    if (state) fclose(state);
 }
 
 // DEVICES
@@ -353,6 +375,7 @@ static Side side_of(Device *device, const Folder *folder, const char *option) {
     fcntl(side.pipe, F_SETFL, O_NONBLOCK);
     put(&side.waiting, HEADER, HEADER_BYTES);
     keep(&side.kept, HEADER, HEADER_BYTES);
+    flush_kept(&side.kept);
     return side;
 }
 
@@ -524,11 +547,13 @@ static void take_report(Relay *relay, char **words, int *many) {
     *many = kept;
 }
 
-// Whether the words have --resume.
-static bool resumes(char **words, int many) {
-    for (int at = 0; at < many; at++)
-        if (strcmp(words[at], "--resume") == 0 || strncmp(words[at], "--resume=", 9) == 0) return true;
-    return false;
+// The file of --resume among the words, or NULL.
+static const char *resumed(char **words, int many) {
+    for (int at = 0; at < many; at++) {
+        if (strcmp(words[at], "--resume") == 0 && at + 1 < many) return words[at + 1];
+        if (strncmp(words[at], "--resume=", 9) == 0) return words[at] + 9;
+    }
+    return NULL;
 }
 
 static void add_option(char **words, int *many, const char *option, int end) {
@@ -543,9 +568,13 @@ static void add_option(char **words, int *many, const char *option, int end) {
 static void start(Relay *relay, char **given, int many) {
     char **words = some(calloc((size_t)many + 11, sizeof *words));
     memcpy(words, given, (size_t)many * sizeof *words);
+    pid_t own = getpid();
     relay->program = fork();
     if (relay->program < 0) fail(1, "fork: %s", strerror(errno));
     if (relay->program == 0) {
+        // where the relay is killed, the program is too: it would take the end of its pipes for that of the captures
+        prctl(PR_SET_PDEATHSIG, SIGKILL);
+        if (getppid() != own) _exit(1);
         signal(SIGPIPE, SIG_DFL);
         signal(SIGXFSZ, SIG_DFL);
         // these are the relay's to see, also where a whole service gets them: it ends the captures, and so the program
@@ -721,7 +750,9 @@ int main(int many, char **words) {
     take_report(&relay, words + at + 2, &left);
     open_report(&relay.report);
     note_signals(&relay);
-    if (folder.path && resumes(words + at + 2, left)) number_on(&folder);
+    const char *state = resumed(words + at + 2, left);
+    if (folder.path && state) number_on(&folder);
+    compare_clock(state);
     for (int side = 0; side < 2; side++) {
         relay.sides[side] = side_of(&devices[side], &folder, OPTIONS[side]);
         relay.exits[side] = exit_of(&devices[side], &folder, OPTIONS[2 + side]);
