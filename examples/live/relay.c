@@ -16,7 +16,6 @@
 #include <stdlib.h>
 #include <string.h>
 #include <sys/ioctl.h>
-#include <sys/prctl.h>
 #include <sys/socket.h>
 #include <sys/stat.h>
 #include <sys/wait.h>
@@ -57,11 +56,12 @@ static const char HELP[] =
     "\n"
     "SIGTERM, SIGINT and SIGHUP end the captures: what came is translated and leaves, and PROGRAM writes the report, the log\n"
     "(--log FILE of the words) and the state (--save FILE) to their ends. PROGRAM itself is started so that it ignores these\n"
-    "signals. If the relay is killed, PROGRAM is killed too, and saves no state. Started again with --resume FILE it goes on\n"
-    "with the bindings and the log, also under another configuration or as another version. If it is earlier than the time\n"
-    "of that state, a line says so. Where a device is deleted a line says so, and the captures end too. Where PROGRAM ends by\n"
-    "itself the relay ends too. The status is that of PROGRAM; it is 1 where a device, a folder or PROGRAM cannot be opened,\n"
-    "a device is deleted or a capture cannot be kept, and 2 for a mistake in the words.\n";
+    "signals. It saves the state as FILE.saved, which the relay renames last, so that a relay that is killed leaves none.\n"
+    "Started again with --resume FILE it goes on with the bindings and the log, also under another configuration or as\n"
+    "another version. If it is earlier than the time of that state, a line says so. Where a device is deleted a line says so,\n"
+    "and the captures end too. Where PROGRAM ends by itself the relay ends too. The status is that of PROGRAM; it is 1 where a\n"
+    "device, a folder or PROGRAM cannot be opened, a device is deleted or a capture cannot be kept, and 2 for a mistake in the\n"
+    "words.\n";
 
 enum {
     HEADER_BYTES = 24,
@@ -172,7 +172,7 @@ static const char *date_of(char date[40], uint64_t time) {
 static void compare_clock(const char *path) {
     uint64_t saved, time = now();
     char dates[2][40];
-    FILE *state = path ? fopen(path, "re") : NULL;
+    FILE *state = fopen(path, "re");
     if (state && fscanf(state, "clock %" SCNu64, &saved) == 1 && time < saved)
         fprintf(stderr, "%s: it is %s, earlier than %s, the time of the state: until then no timer ends, and packets count as at that time\n",
                 name, date_of(dates[0], time), date_of(dates[1], saved));
@@ -522,6 +522,8 @@ typedef struct {
     Side sides[2];
     Exit exits[2];
     Report report;
+    // the file of the state, and where the program saves it; NULL where it does not
+    const char *state, *saved;
     pid_t program;
     int ready_fd;
     // signals that were blocked at first: those that end the captures come while the relay waits, and at no other time
@@ -547,13 +549,30 @@ static void take_report(Relay *relay, char **words, int *many) {
     *many = kept;
 }
 
-// The file of --resume among the words, or NULL.
-static const char *resumed(char **words, int many) {
+// A value among the words, which an option has behind it or behind a =, from a byte of its word on.
+typedef struct {
+    char **word;
+    size_t begin;
+} Value;
+
+static Value value_of(const char *option, char **words, int many) {
+    size_t length = strlen(option);
     for (int at = 0; at < many; at++) {
-        if (strcmp(words[at], "--resume") == 0 && at + 1 < many) return words[at + 1];
-        if (strncmp(words[at], "--resume=", 9) == 0) return words[at] + 9;
+        if (strncmp(words[at], option, length) != 0) continue;
+        if (words[at][length] == '=') return (Value){&words[at], length + 1};
+        if (!words[at][length] && at + 1 < many) return (Value){&words[at + 1], 0};
     }
-    return NULL;
+    return (Value){0};
+}
+
+// Has the program save its state beside the file of --save, whose place that takes where all ends in good order: if the relay is killed,
+// the program takes that for the end of the captures, and would save a state without packets that were kept.
+static void take_state(Relay *relay, char **words, int many) {
+    Value value = value_of("--save", words, many);
+    if (!value.word) return;
+    relay->state = *value.word + value.begin;
+    if (asprintf(value.word, "%s.saved", *value.word) < 0) some(NULL);
+    relay->saved = *value.word + value.begin;
 }
 
 static void add_option(char **words, int *many, const char *option, int end) {
@@ -568,13 +587,9 @@ static void add_option(char **words, int *many, const char *option, int end) {
 static void start(Relay *relay, char **given, int many) {
     char **words = some(calloc((size_t)many + 11, sizeof *words));
     memcpy(words, given, (size_t)many * sizeof *words);
-    pid_t own = getpid();
     relay->program = fork();
     if (relay->program < 0) fail(1, "fork: %s", strerror(errno));
     if (relay->program == 0) {
-        // where the relay is killed, the program is too: it would take the end of its pipes for that of the captures
-        prctl(PR_SET_PDEATHSIG, SIGKILL);
-        if (getppid() != own) _exit(1);
         signal(SIGPIPE, SIG_DFL);
         signal(SIGXFSZ, SIG_DFL);
         // these are the relay's to see, also where a whole service gets them: it ends the captures, and so the program
@@ -704,6 +719,7 @@ static int end_of(Relay *relay) {
     bool is_written = write_report(&relay->report, relay->sides[0].clocks + relay->sides[1].clocks);
     if (WIFSIGNALED(status)) fail(128 + WTERMSIG(status), "the program was ended by signal %d", WTERMSIG(status));
     int told = WEXITSTATUS(status);
+    if (told == 0 && relay->saved && rename(relay->saved, relay->state)) fail(1, "%s: %s", relay->state, strerror(errno));
     if (told == 0 && !is_written) fail(1, "%s: the report cannot be written", relay->report.path);
     return told || (are_whole && are_there) ? told : 1;
 }
@@ -750,9 +766,10 @@ int main(int many, char **words) {
     take_report(&relay, words + at + 2, &left);
     open_report(&relay.report);
     note_signals(&relay);
-    const char *state = resumed(words + at + 2, left);
-    if (folder.path && state) number_on(&folder);
-    compare_clock(state);
+    take_state(&relay, words + at + 2, left);
+    Value resumed = value_of("--resume", words + at + 2, left);
+    if (folder.path && resumed.word) number_on(&folder);
+    if (resumed.word) compare_clock(*resumed.word + resumed.begin);
     for (int side = 0; side < 2; side++) {
         relay.sides[side] = side_of(&devices[side], &folder, OPTIONS[side]);
         relay.exits[side] = exit_of(&devices[side], &folder, OPTIONS[2 + side]);
