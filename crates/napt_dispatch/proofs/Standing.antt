@@ -720,7 +720,7 @@ module _ {P : Type 0} {tells : Passage → P} (rules : Rules) (start : State) (i
   abbrev whole : RunLegs P
   whole = whole_of tells rules start inputs
 
-  -- The results that were written are the first ones of the run.
+  -- The results that left the window are the first ones of the run.
   pub left_right : IsFrontOf d.progress.left (timed_results inputs (input_results tells rules start inputs))
   left_right = left_front whole d.progress inputs times (s.reaches right).known (departed_long tells rules start inputs)
 

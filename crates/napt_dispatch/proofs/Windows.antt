@@ -86,7 +86,7 @@ known_departed : {P : Type 0} (whole : RunLegs P) (i : ℕ) (p : InputProgress P
     ProgressIsKnown whole i p → slice_get whole.departed i ≡ Some d
 known_departed whole i p d is known = rw is at known.departed
 
--- The results that were written agree with the run.
+-- The results that left the window agree with the run.
 left_known : {P : Type 0} (whole : RunLegs P) (i : ℕ) (pair : ℕ × InputResult P) →
     ProgressIsKnown whole i (ended_in pair) →
     slice_get whole.departed i ≡ Some pair.1
@@ -179,7 +179,7 @@ module _ {P : Type 0} (left : List (ℕ × InputResult P)) (items : List (OpenIn
     mark = open_has_mark later false (ap mark_of s.1);
   }
 
--- No second leg is known of an input whose outcome was written.
+-- No second leg is known of an input whose outcome has left the window.
 pub left_unknown : {P : Type 0} (left : List (ℕ × InputResult P)) (ps : List (InputProgress P)) (number : ℕ) →
     number < length left → is_unknown (slice_get (map ended_in left ++ ps) number) ≡ true
 left_unknown [] ps number lt = absurd (omega arith)

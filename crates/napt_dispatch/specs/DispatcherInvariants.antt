@@ -50,7 +50,7 @@ with_more_at w xs lists v = if v == w then lists v ++ xs else lists v
 
 -- THE INVARIANT
 
--- A worker has answered the first legs that it was offered, and owes the answers to the others. `count` counts all.
+-- A worker has answered the first of the `count` legs that it was offered, and owes the answers to the others.
 pub record IsOwed {P : Type 0} (offered : List Leg) (taken : List (TracedAnswer P)) (count : ℕ) (owed : List AwaitedLeg)
     : Type 0 where
   pub before : List Leg
@@ -109,7 +109,7 @@ DispatcherKeeps tells state later = (rules : Rules) (start : State) (done all : 
 
 -- WITH A POOL
 
--- The arrival times of the inputs that were read, in ns, and the results that were written.
+-- The arrival times of the inputs that were read, in ns, and the results that left the window.
 abbrev pub journal_of : {P : Type 0} → RunProgressModel P → List ℕ × List (ℕ × InputResult P)
 journal_of window = (times_in window, window.left)
 
@@ -140,7 +140,7 @@ pub record DispatcherHalts {P M G : Type 0} (open_gate : Bool) (pool later_pool 
   pub grows : PoolGrows pool later_pool
   pub fault_is : IsDispatchFault open_gate fault
 
--- The pool has the same workers, no input was read and no outcome written, and the dispatcher's invariant still holds.
+-- The pool has the same workers, no input was read, no outcome left, and the dispatcher's invariant still holds.
 pub record DispatcherContinues {P M G : Type 0} (tells : Passage →
     P) (pool : Pool M G Leg (TracedAnswer P)) (d : Dispatcher P)
     (later_pool : Pool M G Leg (TracedAnswer P)) (later : Dispatcher P) : Type 0 where

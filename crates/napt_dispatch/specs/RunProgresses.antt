@@ -1,4 +1,4 @@
--- The progress of the inputs that were read: of those whose outcomes have been written, and of the open ones.
+-- The progress of the inputs that were read: of those whose outcomes have left the window, and of the open ones.
 use Rattle.std.specs.Prelude.{◌≡◌, ℕ, ◌≤◌, ◌++◌, List, [], ◌∷◌, length, Bool, true, false, Option, Some, None, IfSome, is_some, option_to_list, map, slice_get, slice_set}
 use Rattle.napt_wire.specs.declared.{Cause.Cause, Way.{Way, TheVariants.{Outgoing, Incoming}}}
 use Rattle.napt_config.specs.Rules.{Rules}
@@ -10,7 +10,7 @@ use Rattle.napt_sequential.specs.{declared.passage.Passage.Passage, Traces.trace
 use Rattle.napt_dispatch.specs.declared.{outcome_sink.InputResult.InputResult, dispatcher.progress.{OpenInput.OpenInput, InputProgress.InputProgress}}
 use Rattle.napt_dispatch.specs.{declared.dispatcher.progress.InputProgress.TheVariants.{Awaited, Returning, Answered}, Dispatch.input_results}
 
--- The results that were written, each with its arrival time in ns, and then the open inputs, all in input order.
+-- The results that left the window, each with its arrival time in ns, and then the open inputs, all in input order.
 pub record RunProgressModel (P : Type 0) : Type 0 where
   pub left : List (ℕ × InputResult P)
   pub under_way : List (OpenInput P)
@@ -36,7 +36,7 @@ refused_at none now cause = record { outcome = outcomes.Dropped cause; now = now
 abbrev pub progress_refused : {P : Type 0} → P → ℕ → Cause → InputProgress P
 progress_refused none now cause = progress_ended (refused_at none now cause)
 
--- An input whose outcome has been written counts as ended, and has no placeholder.
+-- An input whose outcome has left the window counts as ended, and has no placeholder.
 abbrev pub ended_in : {P : Type 0} → ℕ × InputResult P → InputProgress P
 ended_in pair = progress_ended pair.1
 
@@ -112,7 +112,7 @@ passages_after none (Awaited Incoming) Incoming passage = Some (passage, none)
 passages_after none (Returning first) Incoming passage = Some (first, passage)
 passages_after none _ _ passage = None
 
--- The progress of the input with this number was set. What was written and the arrival times stay.
+-- The progress of the input with this number was set. The results that left and the arrival times stay.
 pub record ProgressIsWritten {P : Type 0} (number : ℕ) (progress : InputProgress P)
     (window later : RunProgressModel P) : Type 0 where
   pub left_stays : later.left ≡ window.left
@@ -130,7 +130,7 @@ pub record InputIsMarked {P : Type 0} (number : ℕ) (mark : Bool) (window later
   pub progress_stays : progress_in later ≡ progress_in window
   pub marks_are : HasMark number mark window later
 
--- The result of the first open input, which had ended, was written with its arrival time in ns.
+-- The result of the first open input, which had ended, left the window with its arrival time in ns.
 pub record FirstInputLeaves {P : Type 0} (pair : ℕ × InputResult P) (window later : RunProgressModel P) : Type 0 where
   pub progress : InputProgress P
   pub first : window.under_way ≡ record { time = pair.0; progress = progress; has_place = false } ∷ later.under_way
@@ -199,7 +199,7 @@ pub record ProgressIsKnown {P : Type 0} (whole : RunLegs P) (number : ℕ) (prog
 abbrev pub AllKnown : {P : Type 0} → RunLegs P → List (InputProgress P) → Type 0
 AllKnown {P} whole progress = (i : ℕ) (p : InputProgress P) → slice_get progress i ≡ Some p → ProgressIsKnown whole i p
 
--- These results were written, and the arrival times and marks are unchanged. The progress still agrees with any run.
+-- These results left the window. The arrival times and marks stay, and the progress still agrees with any run.
 pub record OutcomesAreHandedOver {P : Type 0} (went : List (ℕ × InputResult P)) (window later : RunProgressModel P) :
     Type 0 where
   pub left_is : later.left ≡ window.left ++ went

@@ -128,7 +128,7 @@ pub record ReadInputPost {P M G : Type 0} (tells : Passage → P) (rules : Rules
       DispatcherInvariant tells rules start (done ++ input ∷ []) ((done ++ input ∷ []) ++ rest)
       (dispatcher_state later_pool later)
 
--- These are all inputs that were read so far, and all results that were written.
+-- These are all inputs that were read so far, and all results that left the window.
 pub record ReadInputsPost {P M G : Type 0} (tells : Passage → P) (rules : Rules) (pool : Pool M G Leg (TracedAnswer P))
     (d : Dispatcher P) (inputs : List Arrival) (went : List (ℕ × InputResult P))
     (later_pool : Pool M G Leg (TracedAnswer P))

@@ -36,7 +36,7 @@ use std::sync::Wait;
 use vector_pool::VectorPool;
 use worker_queues::WorkerQueues;
 
-/// The number of legs in a message if a ring holds at least four times as many. A power of two.
+/// The number of held legs at which a message is due, unless the ring is small. A power of two.
 const BATCH: usize = 32;
 
 /// The dispatcher's state: the queues of each worker and the progress of each input.
@@ -45,7 +45,7 @@ pub(crate) struct Dispatcher<P> {
     alloc: Global,
     /// The clock of the state from which the run starts, in ns.
     clock: u64,
-    /// One less than the number of legs for which a message is sent at once: its bits are all ones.
+    /// One less than the number of held legs at which a message is due. Its bits are all ones.
     mask: usize,
     queues: WorkerQueues,
     progress: RunProgress<P>,
@@ -191,8 +191,8 @@ impl<A, D> DispatchEnd<A, D> {
     }
 }
 
-/// Returns one less than the number of legs for which a message is sent at once: 32, or the
-/// greatest power of two that is at most a quarter of `ring`; 1 if `ring` is below 8.
+/// Returns one less than the number of held legs at which a message is due: 32, or if that is less,
+/// the greatest power of two that is at most a quarter of `ring`, or 1 if `ring` is below 8.
 fn mask_of(ring: usize) -> usize {
     match ring / 4 {
         0 | 1 => 0,

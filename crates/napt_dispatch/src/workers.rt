@@ -127,12 +127,12 @@ fn close<P: LegTrace, R: Threads, G: Gate, D: Drop>(
     first_fault(dispatched, closed)
 }
 
-/// Runs the inputs with one worker thread for each external address. Returns exactly what `run_plain`
+/// Runs the inputs with a worker thread for each external address. Returns exactly what `run_plain`
 /// does, whatever the gate, ring size and schedule. A worker asks the gate before each leg.
 ///
 /// Fails with `RunFault::TooMany` exactly if there are more than 4,294,967,295 inputs.
-/// `RunFault::Pool` says why a worker stopped or did not start; an open gate never causes `GateShut`.
-/// The workers are closed and joined before an error is returned.
+/// `RunFault::Pool` says why a worker stopped or did not start. It is never `GateShut` for a gate
+/// that promises to stay open. The workers are closed and joined before an error is returned.
 pub fn run_workers<
     R: Threads + Wait + Copy + Send + 'static,
     G: Gate + Send + Sync + Drop + 'static,
@@ -236,14 +236,14 @@ fn result_of<P: LegTrace>(
     })
 }
 
-/// Runs the inputs that `arrivals` supplies until their end or a fault, from a state that the
-/// configuration accepts, as `run_workers` does. Redirects come first, then the state's other bindings.
-/// Each outcome is written in input order. At most 131,072 inputs and 65,536 legs are held.
+/// Runs the inputs that `arrivals` supplies until their end or a fault, as `run_workers` does, from
+/// a state that the configuration accepts: its redirects, then the state's other bindings. Outcomes
+/// are written in input order, each once it is known. Holds at most 131,072 inputs and 65,536 legs.
 ///
-/// Before a device is read, at the end, and if the source fails, every outcome so far is written and
-/// flushed. The workers are joined before an error is returned. A fault of the run precedes one of
-/// the sink, and that one of the source. After a fault of the run or the sink, the outcomes written
-/// are the first ones of the run over the inputs that came.
+/// Before a device is read, at the end, and if the source fails, every outcome so far is written
+/// and flushed. The workers are joined before an error is returned. A fault of the run precedes one
+/// of the sink, and that one of the source. After a fault of the run or the sink, the outcomes
+/// written are the first ones of the run over the inputs that came.
 pub fn run_through<
     R: Threads + Wait + Copy + Send + 'static,
     G: Gate + Send + Sync + Drop + 'static,

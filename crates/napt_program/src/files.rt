@@ -88,7 +88,7 @@ pub fn open_files<'r, R: Files + Input + Print + AllocGlobal>(
     Ok(FilesWithLog { files, log })
 }
 
-/// Returns how many bytes of its text the log keeps, or the number of its last piece; changes none.
+/// Returns how many bytes the log keeps, or the number of its last piece. Changes nothing.
 /// Fails with its role if another option names it, and as `bytes_to_keep` and `last_piece` do.
 fn kept_of_log<R: Files + AllocGlobal>(
     rt: &R,

@@ -62,7 +62,7 @@ fn bytes_at<R: Files>(rt: &R, path: &str) -> u64 {
     }
 }
 
-/// Returns bytes of a file from an offset on, at most one more than `MOST_TORN`. Fails likewise.
+/// Returns up to `MOST_TORN` + 1 bytes of a file from `place` on. Fails as `bytes_to_keep` does.
 fn end_at<R: Files + AllocGlobal>(rt: &R, path: &str, place: u64) -> Result<Vec<u8>, Stop>
     ensures { IfErr result IsLogStop }
 {

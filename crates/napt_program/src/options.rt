@@ -48,7 +48,7 @@ Examples:
        --to-outside to-outside.pcap --to-inside to-inside.pcap --report report.txt
 
 Exit status, and the line on standard error that says why (explain with the same
-words tells where in a file, and what to do):
+words prints where in a file, and what to do):
   0  done, without a line
   2  napt: usage
        an unknown option, one that stands twice, or one without its file
@@ -100,7 +100,7 @@ words tells where in a file, and what to do):
        writing failed; help goes where to-outside goes by default, so that help
        which could not be written to standard output is write to-outside
   8  napt: state WORD
-       bad-line N       line N is none of a state there, or it is missing
+       bad-line N       line N is not a line of a state, or is missing
        not-utf-8 N      line N is not UTF-8
        not-inside       the host of a binding is in no prefix of inside
        not-paired       its external address is not the one of its host
@@ -118,7 +118,7 @@ const OPTIONS: [(&str, &str); 8] = [
     ),
     (
         "resume",
-        "State from which the run goes on, as --save wrote it [default: the run begins anew]",
+        "State from which the run goes on, as written by --save [default: the run begins anew]",
     ),
     (
         "inside",
@@ -142,17 +142,17 @@ const OPTIONS: [(&str, &str); 8] = [
     ),
     (
         "save",
-        "State that the run leaves, written last [default: not written]",
+        "State at the end of the run, written last [default: not written]",
     ),
 ];
 
 // The meanings of the options that only a program with a log has.
 const LOG: &str =
-    "Log of the bindings as CSV, written as they begin and end; with --resume it goes on in the same file [default: not written]";
+    "Log of the bindings as CSV, written as they begin and end; with --resume it is continued in the same file [default: not written]";
 
 const LOG_EACH: &str =
-    "Writes the log to FILE.1, FILE.2, ..: a new file where the clock of the run passes a multiple of SECONDS; each stands by \
-itself [default: one file, FILE]";
+    "Writes the log to FILE.1, FILE.2, ..: a new file when the clock of the run passes a multiple of SECONDS; each can be \
+read by itself [default: one file, FILE]";
 
 /// The file that each option names, `None` if the option is absent.
 #[derive(Debug, PartialEq, Eq, Drop)]

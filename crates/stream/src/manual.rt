@@ -20,24 +20,25 @@ Examples:
   ", $name, " < inside.pcap > to-outside.pcap
   zstdcat inside.pcap.zst | ", $name, " --config napt.toml --report report.txt > to-outside.pcap
 
-Where it ends well, each output holds the bytes that napt writes. What differs:
-  A packet that came is answered, written and flushed before more is asked for.
-  With an outside capture a packet waits for the next record of the other side,
-  whose time tells that none comes before it. A record without bytes will do.
-  At a fault of a capture all packets before it have been translated and
-  written. Outputs begin with their header whatever comes; the report is written
-  at the end alone.
-  The log is that of explain log. The rows of each packet that is out are in
-  the log. A log with text is refused, unless --resume names the state that was
-  saved beside it: then the log goes on there. With --log-each it goes on in the
-  file behind FILE.1, FILE.2, .., which are refused without --resume. Captures
-  may have any number of bytes and of packets.
-  Where standard error is a terminal, a run of more than two seconds tells there
-  the packets read, how many a second, and the bindings held.
+After success each output contains the bytes that napt writes. The differences are:
+  Each packet is answered, written and flushed before more input is read.
+  With an outside capture, a packet waits for the next record of the other side,
+  whose time shows that no earlier packet can come. An empty record will do.
+  At a fault of a capture, all packets before it have been translated and
+  written. Outputs begin with their header in any case; the report is written
+  only at the end.
+  The log is the one that explain log writes. The rows of a packet are in the
+  log before the packet is written. A log that has text is refused, unless
+  --resume names the state that was saved with it: then the log is continued.
+  With --log-each it is continued in the next file after FILE.1, FILE.2, .., and
+  without --resume these are refused. Captures may have any number of bytes and
+  of packets.
+  If standard error is a terminal, a run of more than two seconds prints there
+  the number of packets read, the packets per second, and the live bindings.
 
-Exit status, and the line on standard error that says why: as of napt, with
-", $name, ": in place of napt: at its beginning. too-large never comes, and too-many
-with a log alone, at packet 4611686018427387904.
+Exit status, and the line on standard error that says why: as for napt, with
+", $name, ": in place of napt: at its beginning. too-large never occurs, and too-many
+only with a log, at packet 4611686018427387904.
   0  done, without a line, or with one that says that the log begins a new
      entry for each binding of the state
   2  ", $name, ": usage
@@ -45,7 +46,7 @@ with a log alone, at packet 4611686018427387904.
   4  ", $name, ": capture SIDE WORD
   5  ", $name, ": run WORD
   6  ", $name, ": file OPTION
-       of a log with text, or files of it, a line behind it says why
+       for a log that has text or pieces, a second line says why
      ", $name, ": write OPTION
   8  ", $name, ": state WORD"
             ),

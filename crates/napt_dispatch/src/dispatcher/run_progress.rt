@@ -26,12 +26,12 @@ const WINDOW: usize = 131_072;
 /// been written. Of the others, only the number is stored; contracts also see their results.
 #[derive(Drop)]
 pub(crate) struct RunProgress<P> {
-    /// The number of outcomes that have been written, and so the number of the first open input.
+    /// The number of outcomes handed to the sink, and so the number of the first open input.
     first: u64,
     under_way: VecDeque<OpenInput<P>>,
-    /// The results that have been written. It takes no memory: only proofs read it.
+    /// The results handed to the sink. It takes no memory: only proofs read it.
     past: Log<u64, InputResult<P>>,
-    /// The buffers of packets that have been written.
+    /// The buffers of packets that have been written, for later inputs.
     spares: BufferPool,
     /// Whether there is new progress of an input for whose second leg a placeholder is held.
     is_freed: bool,
@@ -127,7 +127,7 @@ impl<P: LegTrace> RunProgress<P> {
         }
     }
 
-    /// Returns the index of open input `number`, or `None` if it was written or not read.
+    /// Returns the index of open input `number`, or `None` if it has left or was not read.
     #[inline(always)]
     fn place_of(&self, number: u64) -> Option<usize>
         ensures { MatchOption result ((is_unknown (slice_get (progress_in self.now) number) ≡ true)
