@@ -35,7 +35,7 @@ module _ (timers : Timers) (at address : ℕ) (b : Binding) where
           ap (λ v. bindings_at address (filter (λ b. not b.row.fixed)
           (map (with_live_flows timers ago) (cond v (b ∷ []) []))))
           live
-          ∙ (ap (λ v. bindings_at address (cond (not v) (with_live_flows timers ago b ∷ []) [])) dynamic_bindings
+          ∙ (ap (λ v. bindings_at address (cond (not v) (with_live_flows timers ago b ∷ []) [])) loose
           ∙ ap (λ v. cond v (with_live_flows timers ago b ∷ []) []) (eq-eqb b.row.external.address address here))
 
       pub one_distinct : Each (λ x. AreFlowsOwn at x.flows) one → AreDistinct (with_live_flows timers ago b).flows
