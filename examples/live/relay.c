@@ -29,7 +29,7 @@ static const char HELP[] =
     "Runs a translator between two TUN devices: what they receive goes to it as captures over pipes, while it comes, and\n"
     "what it writes leaves through them.\n"
     "\n"
-    "usage: %s [--keep DIR] [--ready-fd N] INSIDE OUTSIDE PROGRAM [WORD ..]\n"
+    "usage: %s [--keep DIR] [--state FILE] [--ready-fd N] INSIDE OUTSIDE PROGRAM [WORD ..]\n"
     "       %s --help | --version\n"
     "\n"
     "INSIDE and OUTSIDE are the names of TUN devices that are there; NAME@FILE is one of another network namespace, as\n"
@@ -38,10 +38,13 @@ static const char HELP[] =
     "says that it is ready.\n"
     "\n"
     "  --keep DIR      keeps the captures that went to PROGRAM and came from it in DIR, named after its options, as\n"
-    "                  inside.pcap. If one of an earlier run is there, the relay ends at once; with --resume among the words\n"
-    "                  it takes the next number instead, as inside-2.pcap. If it ends before it is ready, it leaves none. If\n"
-    "                  one cannot be written any more, as on a full disk, a line says so, and the captures end as after\n"
-    "                  SIGTERM\n"
+    "                  inside.pcap. If one of an earlier run is there, the relay ends at once; with --state, or with --resume\n"
+    "                  among the words, it takes the next number instead, as inside-2.pcap. If it ends before it is ready, it\n"
+    "                  leaves none. If one cannot be written any more, as on a full disk, a line says so, and the captures end\n"
+    "                  as after SIGTERM\n"
+    "  --state FILE    the run goes on from the state FILE, and its own takes that place last: PROGRAM gets --resume FILE and\n"
+    "                  --save FILE.saved, which is renamed where all has ended in good order. A relay that is killed leaves\n"
+    "                  FILE as it was, though PROGRAM takes that for the end of the captures\n"
     "  --ready-fd N    writes the line 'ready' to the open file N too, and closes it; it is closed without the line where the\n"
     "                  relay ends before\n"
     "\n"
@@ -56,12 +59,11 @@ static const char HELP[] =
     "\n"
     "SIGTERM, SIGINT and SIGHUP end the captures: what came is translated and leaves, and PROGRAM writes the report, the log\n"
     "(--log FILE of the words) and the state (--save FILE) to their ends. PROGRAM itself is started so that it ignores these\n"
-    "signals. It saves the state as FILE.saved, which the relay renames last, so that a relay that is killed leaves none.\n"
-    "Started again with --resume FILE it goes on with the bindings and the log, also under another configuration or as\n"
-    "another version. If it is earlier than the time of that state, a line says so. Where a device is deleted a line says so,\n"
-    "and the captures end too. Where PROGRAM ends by itself the relay ends too. The status is that of PROGRAM; it is 1 where a\n"
-    "device, a folder or PROGRAM cannot be opened, a device is deleted or a capture cannot be kept, and 2 for a mistake in the\n"
-    "words.\n";
+    "signals. Started again with --resume FILE it goes on with the bindings and the log, also under another configuration or\n"
+    "as another version. If it is earlier than the time of that state, a line says so. Where a device is deleted a line says\n"
+    "so, and the captures end too. Where PROGRAM ends by itself the relay ends too. The status is that of PROGRAM; it is 1\n"
+    "where a device, a folder or PROGRAM cannot be opened, a device is deleted or a capture cannot be kept, and 2 for a mistake\n"
+    "in the words.\n";
 
 enum {
     HEADER_BYTES = 24,
@@ -174,7 +176,7 @@ static void compare_clock(const char *path) {
     char dates[2][40];
     FILE *state = fopen(path, "re");
     if (state && fscanf(state, "clock %" SCNu64, &saved) == 1 && time < saved)
-        fprintf(stderr, "%s: it is %s, earlier than %s, the time of the state: until then no timer ends, and packets count as at that time\n",
+        fprintf(stderr, "%s: it is %s, earlier than the state's time, %s: until then packets count as at that time, and no timer ends\n",
                 name, date_of(dates[0], time), date_of(dates[1], saved));
     if (state) fclose(state);
 }
@@ -522,8 +524,9 @@ typedef struct {
     Side sides[2];
     Exit exits[2];
     Report report;
-    // the file of the state, and where the program saves it; NULL where it does not
-    const char *state, *saved;
+    // the state from which the run goes on and whose place its own takes, or NULL, and where the program saves that
+    const char *state;
+    char *saved;
     pid_t program;
     int ready_fd;
     // signals that were blocked at first: those that end the captures come while the relay waits, and at no other time
@@ -549,43 +552,30 @@ static void take_report(Relay *relay, char **words, int *many) {
     *many = kept;
 }
 
-// A value among the words, which an option has behind it or behind a =, from a byte of its word on.
-typedef struct {
-    char **word;
-    size_t begin;
-} Value;
-
-static Value value_of(const char *option, char **words, int many) {
-    size_t length = strlen(option);
+// The file of --resume among the words, or NULL.
+static const char *resumed(char **words, int many) {
     for (int at = 0; at < many; at++) {
-        if (strncmp(words[at], option, length) != 0) continue;
-        if (words[at][length] == '=') return (Value){&words[at], length + 1};
-        if (!words[at][length] && at + 1 < many) return (Value){&words[at + 1], 0};
+        if (strcmp(words[at], "--resume") == 0 && at + 1 < many) return words[at + 1];
+        if (strncmp(words[at], "--resume=", 9) == 0) return words[at] + 9;
     }
-    return (Value){0};
+    return NULL;
 }
 
-// Has the program save its state beside the file of --save, whose place that takes where all ends in good order: if the relay is killed,
-// the program takes that for the end of the captures, and would save a state without packets that were kept.
-static void take_state(Relay *relay, char **words, int many) {
-    Value value = value_of("--save", words, many);
-    if (!value.word) return;
-    relay->state = *value.word + value.begin;
-    if (asprintf(value.word, "%s.saved", *value.word) < 0) some(NULL);
-    relay->saved = *value.word + value.begin;
+static void add_words(char **words, int *many, const char *option, const char *value) {
+    words[(*many)++] = some(strdup(option));
+    words[(*many)++] = some(strdup(value));
 }
 
 static void add_option(char **words, int *many, const char *option, int end) {
     char path[32];
     snprintf(path, sizeof path, "/dev/fd/%d", end);
-    words[(*many)++] = some(strdup(option));
-    words[(*many)++] = some(strdup(path));
+    add_words(words, many, option, path);
     fcntl(end, F_SETFD, 0);
 }
 
 // Starts the program with its ends of the pipes.
 static void start(Relay *relay, char **given, int many) {
-    char **words = some(calloc((size_t)many + 11, sizeof *words));
+    char **words = some(calloc((size_t)many + 15, sizeof *words));
     memcpy(words, given, (size_t)many * sizeof *words);
     relay->program = fork();
     if (relay->program < 0) fail(1, "fork: %s", strerror(errno));
@@ -601,6 +591,8 @@ static void start(Relay *relay, char **given, int many) {
         add_option(words, &many, "--to-inside", relay->exits[0].far);
         add_option(words, &many, "--to-outside", relay->exits[1].far);
         if (relay->report.path) add_option(words, &many, "--report", relay->report.far);
+        if (relay->state) add_words(words, &many, "--resume", relay->state);
+        if (relay->state) add_words(words, &many, "--save", relay->saved);
         // nor does another key of a terminal end or stop it
         setpgid(0, 0);
         execvp(words[0], words);
@@ -719,7 +711,7 @@ static int end_of(Relay *relay) {
     bool is_written = write_report(&relay->report, relay->sides[0].clocks + relay->sides[1].clocks);
     if (WIFSIGNALED(status)) fail(128 + WTERMSIG(status), "the program was ended by signal %d", WTERMSIG(status));
     int told = WEXITSTATUS(status);
-    if (told == 0 && relay->saved && rename(relay->saved, relay->state)) fail(1, "%s: %s", relay->state, strerror(errno));
+    if (told == 0 && relay->state && rename(relay->saved, relay->state)) fail(1, "%s: %s", relay->state, strerror(errno));
     if (told == 0 && !is_written) fail(1, "%s: the report cannot be written", relay->report.path);
     return told || (are_whole && are_there) ? told : 1;
 }
@@ -755,6 +747,8 @@ int main(int many, char **words) {
     for (; at + 1 < many && strncmp(words[at], "--", 2) == 0; at += 2) {
         if (strcmp(words[at], "--keep") == 0)
             folder.path = words[at + 1];
+        else if (strcmp(words[at], "--state") == 0)
+            relay.state = words[at + 1];
         else if (strcmp(words[at], "--ready-fd") == 0)
             relay.ready_fd = file_number(words[at + 1]);
         else
@@ -763,13 +757,13 @@ int main(int many, char **words) {
     if (many - at < 3 || words[at][0] == '-') fail(2, "unknown words (see %s --help)", name);
     Device devices[2] = {open_device(words[at]), open_device(words[at + 1])};
     int left = many - at - 2;
+    if (relay.state && asprintf(&relay.saved, "%s.saved", relay.state) < 0) some(NULL);
     take_report(&relay, words + at + 2, &left);
     open_report(&relay.report);
     note_signals(&relay);
-    take_state(&relay, words + at + 2, left);
-    Value resumed = value_of("--resume", words + at + 2, left);
-    if (folder.path && resumed.word) number_on(&folder);
-    if (resumed.word) compare_clock(*resumed.word + resumed.begin);
+    const char *state = relay.state ? relay.state : resumed(words + at + 2, left);
+    if (folder.path && state) number_on(&folder);
+    if (state) compare_clock(state);
     for (int side = 0; side < 2; side++) {
         relay.sides[side] = side_of(&devices[side], &folder, OPTIONS[side]);
         relay.exits[side] = exit_of(&devices[side], &folder, OPTIONS[2 + side]);
