@@ -43,8 +43,8 @@ static const char HELP[] =
     "                  leaves none. If one cannot be written any more, as on a full disk, a line says so, and the captures end\n"
     "                  as after SIGTERM\n"
     "  --state FILE    the run goes on from the state FILE, and its own takes that place last: PROGRAM gets --resume FILE and\n"
-    "                  --save FILE.saved, which is renamed where all has ended in good order. A relay that is killed leaves\n"
-    "                  FILE as it was, though PROGRAM takes that for the end of the captures\n"
+    "                  --save FILE.saved, which is renamed where all has ended in good order, and FILE.begun is removed. A\n"
+    "                  relay that is killed leaves both as they were, though PROGRAM takes that for the end of the captures\n"
     "  --ready-fd N    writes the line 'ready' to the open file N too, and closes it; it is closed without the line where the\n"
     "                  relay ends before\n"
     "\n"
@@ -99,6 +99,12 @@ static void fail(int status, const char *format, ...) {
 static void *some(void *memory) {
     if (!memory) fail(1, "memory ran out");
     return memory;
+}
+
+static char *joined(const char *front, const char *end) {
+    char *both;
+    if (asprintf(&both, "%s%s", front, end) < 0) some(NULL);
+    return both;
 }
 
 // BYTES THAT WAIT
@@ -524,9 +530,9 @@ typedef struct {
     Side sides[2];
     Exit exits[2];
     Report report;
-    // the state from which the run goes on and whose place its own takes, or NULL, and where the program saves that
+    // the state from which the run goes on and whose place its own takes, or NULL, where the program saves that, and what its start noted
     const char *state;
-    char *saved;
+    char *saved, *begun;
     pid_t program;
     int ready_fd;
     // signals that were blocked at first: those that end the captures come while the relay waits, and at no other time
@@ -711,7 +717,10 @@ static int end_of(Relay *relay) {
     bool is_written = write_report(&relay->report, relay->sides[0].clocks + relay->sides[1].clocks);
     if (WIFSIGNALED(status)) fail(128 + WTERMSIG(status), "the program was ended by signal %d", WTERMSIG(status));
     int told = WEXITSTATUS(status);
-    if (told == 0 && relay->state && rename(relay->saved, relay->state)) fail(1, "%s: %s", relay->state, strerror(errno));
+    if (told == 0 && relay->state) {
+        if (rename(relay->saved, relay->state)) fail(1, "%s: %s", relay->state, strerror(errno));
+        unlink(relay->begun);
+    }
     if (told == 0 && !is_written) fail(1, "%s: the report cannot be written", relay->report.path);
     return told || (are_whole && are_there) ? told : 1;
 }
@@ -757,7 +766,10 @@ int main(int many, char **words) {
     if (many - at < 3 || words[at][0] == '-') fail(2, "unknown words (see %s --help)", name);
     Device devices[2] = {open_device(words[at]), open_device(words[at + 1])};
     int left = many - at - 2;
-    if (relay.state && asprintf(&relay.saved, "%s.saved", relay.state) < 0) some(NULL);
+    if (relay.state) {
+        relay.saved = joined(relay.state, ".saved");
+        relay.begun = joined(relay.state, ".begun");
+    }
     take_report(&relay, words + at + 2, &left);
     open_report(&relay.report);
     note_signals(&relay);
