@@ -126,7 +126,7 @@ def shown_entry(text):
 
 def shown_listed(text):
     number, _, entry = text.partition(" ")
-    return f"Listed {{ number: {number}, entry: {shown_entry(entry)} }}"
+    return f"LogEntry {{ number: {number}, entry: {shown_entry(entry)} }}"
 
 
 def shown_shortage(text):
@@ -140,10 +140,10 @@ def step_pattern(wanted):
     """What the log tells with an input: 'ended LISTED, ..; made LISTED; refused SHORTAGE; used made out 1 into 0', or
     'nothing'."""
     told = dict(part.split(" ", 1) for part in items_of(wanted.replace("nothing", "none"), "; "))
-    used = r"Use \{[^}]*\}"
+    used = r"BindingTally \{[^}]*\}"
     if "used" in told:
         note, _, out, _, into = told["used"].split()
-        used = re.escape(f"Use {{ note: {note.capitalize()}, out: Some({out}), into: Some({into}) }}")
+        used = re.escape(f"BindingTally {{ note: {note.capitalize()}, out: Some({out}), into: Some({into}) }}")
     shown = ((shown_listed, "ended"), (shown_listed, "made"), (shown_shortage, "refused"))
     return " ".join([*map(re.escape, (shown_list(map(how, items_of(told.get(name, "none")))) for how, name in shown)), used])
 
@@ -171,13 +171,13 @@ def inputs_pattern(wanted):
     """Inputs, and then whether a capture is cut, as `cut inside`, or the fault of one, as `fault inside too-long 2`."""
     *items, last = items_of(wanted) or [""]
     kind, side, *fault = last.split()[:4] or ["", ""]
-    end = f"Cuts {{ inside: {str(side == 'inside').lower()}, outside: {str(side == 'outside').lower()} }}"
+    end = f"CutFlags {{ inside: {str(side == 'inside').lower()}, outside: {str(side == 'outside').lower()} }}"
     if kind == "fault":
         number = "".join(f"({it})" for it in fault[1:])
         end = f"SideFault {{ side: {side.capitalize()}, fault: {shown_name(fault[0])}{number} }}"
     elif kind != "cut":
         items += [last] if last else []
-        end = "Cuts { inside: false, outside: false }"
+        end = "CutFlags { inside: false, outside: false }"
     inputs = "".join(f"(true|false) {re.escape(shown_input(it))}; " for it in items)
     return re.compile(f"{inputs}((true|false) {re.escape(end)}; ){{2,}}")
 
@@ -337,7 +337,7 @@ SETTINGS = {
     "pool": lambda wanted: shown_list(map(number_in, items_of(wanted))),
     "redirects": wanted_redirects,
     "timers": lambda wanted: "Timers {{ udp: {}, established: {}, transitory: {}, icmp: {}, hold: {} }}".format(*wanted.split()),
-    "choosing": lambda wanted: "Choosing {{ keeps_parity: {}, seed: {} }}".format(*map(CHOSEN.get, wanted.split())),
+    "choosing": lambda wanted: "NumberAssignment {{ keeps_parity: {}, seed: {} }}".format(*map(CHOSEN.get, wanted.split())),
     **dict.fromkeys(("quota", "block"), option_of(str)),
 }
 # what a field of a line for the player is of the word behind the call at the place that the field ends with
@@ -362,7 +362,7 @@ PLAIN = {
     "is_inside": ("{address0}", {"yes": "true", "no": "false"}.get),
     "pair": ("{address0}", number_in),
     "pool_index": ("{address0}", option_of(str)),
-    "block_of": ("{address0}", option_of(lambda it: "Block {{ first: {}, size: {} }}".format(*it.split()))),
+    "block_of": ("{address0}", option_of(lambda it: "PortBlock {{ first: {}, size: {} }}".format(*it.split()))),
     "host_of": ("{end0}", option_of(number_in)),
 }
 # each call that a text may have

@@ -55,9 +55,6 @@ class Flow:
         """The first time at which it is no longer live if no packet comes."""
         return self.last + SECOND * timers[self.timer()]
 
-    def is_live(self, now, timers):
-        return now < self.end(timers)
-
 
 class Binding:
     def __init__(self, protocol, inside, external, is_fixed=False):
@@ -81,7 +78,7 @@ class Binding:
 
     def live_flows(self, now, timers):
         """Outside TCP flows live as long as their binding."""
-        return [flow for flow in self.flows if self.protocol != TCP or flow.is_live(now, timers)]
+        return [flow for flow in self.flows if now < flow.end(timers)] if self.protocol == TCP else [*self.flows]
 
     def flow_of(self, remote):
         return next((flow for flow in self.flows if flow.remote == remote), None)
@@ -192,11 +189,11 @@ class Translator:
 
     def purge(self, now):
         timers, ago = self.rules.timers, max(0, now - SECOND * self.rules.hold)
-        kept = [it for it in self.bindings + self.held if it.is_live(ago, timers)]
-        for it in kept:
+        kept = [(end, it) for it in self.bindings + self.held if (end := it.end(timers)) > ago]
+        for _, it in kept:
             it.flows = it.live_flows(ago, timers)
-        self.bindings = [it for it in kept if it.is_live(now, timers)]
-        self.held = [it for it in kept if not it.is_live(now, timers)]
+        self.bindings = [it for end, it in kept if end > now]
+        self.held = [it for end, it in kept if end <= now]
 
     def found(self, protocol, address, inside=None, number=None):
         for binding in self.bindings:

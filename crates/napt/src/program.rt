@@ -9,7 +9,7 @@ use napt_program::{
     CountedSource, MEMORY, OptionsWithLog, ProgramCall, ProgramHost, RunDevices, RunResources,
     StandardStreams, Stop, answer_line, open, parse_words, stop_of_run, words,
 };
-use napt_run::{RunSummary, Start, State, resume_captures};
+use napt_run::{RunSummary, Start, resume_captures};
 use std::alloc::Global;
 use std::io::{Read, Write};
 use std::sync::Arc;
@@ -76,8 +76,8 @@ fn run<R: ProgramHost>(
         state: &state,
     };
     let passed = run_over(rt, call, options, start, devices)?;
-    if let Some(save) = save {
-        let state = state_left(rt.alloc(), &passed)?;
+    let state = passed.into_state_if(save.is_some(), rt.alloc())?;
+    if let (Some(save), Some(state)) = (save, state) {
         save.finish(rt, rt.alloc(), &state, None)?;
     }
     Ok(())
@@ -122,13 +122,6 @@ fn run_over<R: ProgramHost, S: Read + Drop, T: Write + Drop, F: Read + Write + D
         }
         Err(fault) => Err(stop_of_run(options, fault)),
     }
-}
-
-/// Returns the state after a run. Fails with `MEMORY` if memory is refused.
-fn state_left(alloc: Global, passed: &RunSummary) -> Result<State, Stop>
-    ensures { IfErr result (λ stop. stop ≡ MEMORY) }
-{
-    passed.final_bindings(alloc).map_err(|_| MEMORY)
 }
 
 /// Returns the gate of a run, which is always open. Fails with `MEMORY` if memory is refused.

@@ -1,6 +1,6 @@
 //! Runs over workers on threads of their own.
 
-ghost use Rattle.std.specs.Prelude.{◌≡◌, ◌↔◌, ◌^◌, ◌≤◌, [], length, map, flat_map, replicate, vec_len, AllPairs, IfOk, IfErr, OnOk, Ok, Err, true, false};
+ghost use Rattle.std.specs.Prelude.{◌≡◌, ◌↔◌, ◌^◌, ◌≤◌, [], length, map, flat_map, replicate, vec_len, AllPairs, IfOk, IfErr, IfSome, OnOk, Ok, Err, is_some, true, false};
 ghost use Rattle.napt_config.specs.Rules.{RulesInvariant};
 ghost use Rattle.napt_pool.specs.{Histories.{after, replies, ArePrefixesOf}, Pools.{initial_machines, accepted_items, taken_answers, zip_with}};
 ghost use Rattle.napt_rules.specs.Sequential as model;
@@ -182,20 +182,24 @@ impl RunSummary {
     ghost use Rattle.napt_rules.specs.Prelude.{IsStateInOrder, State};
     ghost use Rattle.napt_dispatch.specs.RunsThrough.{LeavesState};
 
-    /// Returns the state after the run: the bindings that are live or held at the last clock, by
+    /// Returns the state after the run, if it is to be saved: the bindings that are live or held at the last clock, by
     /// external address in pool order, then by protocol (ICMP, TCP, UDP) and external number.
-    pub fn final_bindings(&self, alloc: Global) -> Result<State, AllocError>
-        ensures { (rules : Rules) (state : State) → LeavesState rules state self.now →
-            IfOk result (IsStateInOrder rules state) }
+    pub fn into_state_if(self, is_saved: bool, alloc: Global) -> Result<Option<State>, AllocError>
+        ensures saved { IfOk result (λ state. is_some state ≡ is_saved) }
+        ensures state { (rules : Rules) (state : State) → LeavesState rules state self →
+            IfOk result (λ left. IfSome left (IsStateInOrder rules state)) }
     {
+        if !is_saved {
+            return Ok(None);
+        }
         let mut list = Vec::new(alloc);
         for translator in &self.translators {
             list.append(&mut translator.final_bindings(alloc, self.clock)?)?;
         }
-        Ok(State {
+        Ok(Some(State {
             clock: self.clock,
             list,
-        })
+        }))
     }
 }
 

@@ -13,8 +13,6 @@ mod log_rows;
 mod moment;
 mod request;
 mod suffix;
-#[cfg(test)]
-mod tests;
 
 pub use digits::{add_address, add_endpoint, add_number};
 pub use event::{LogEvent, header};

@@ -3,9 +3,9 @@
 
 use crate::gates::Hold;
 use crate::sample_inputs::input;
+use crate::samples::hosts::SECOND;
 use napt_config::Config;
 use napt_run::{Input, Run, RunFault, run_plain, run_workers};
-use napt_samples::hosts::SECOND;
 use napt_wire::{Endpoint, Side};
 use std::alloc::{AllocError, Global};
 use std::process::Abort;

@@ -7,10 +7,10 @@ use crate::calls::TestRuntime;
 use crate::gates::{GateMode, Hold};
 use crate::packets::udp;
 use crate::sample_inputs::{THREE_ADDRESSES, thousand_inputs};
+use crate::samples::hosts::{RESOLVER, external};
 use napt_capture::{FaultPlan, Faulty, InjectedFault, Watched};
 use napt_config::Config;
 use napt_run::{Fault, LogRunFault, run_captures, run_streams, run_streams_with_log};
-use napt_samples::hosts::{RESOLVER, external};
 use std::alloc::{AllocError, Global};
 use std::ops::Range;
 use std::sync::Arc;
@@ -27,13 +27,22 @@ pub(crate) enum Device {
     Log,
 }
 
-/// Moves all that is asked, and fails at a call, counted from 1, or at none.
-pub(crate) fn failing(call: u64) -> FaultPlan {
+/// Moves at most so many bytes at a time, but for 0, and goes wrong at a call, counted from 1, or at none.
+pub(crate) fn at_most(most: usize, call: u64, trouble: InjectedFault) -> FaultPlan
+    ensures { 0 < result.most }
+{
     FaultPlan {
-        most: usize::MAX,
+        most: most.max(1),
         call,
-        trouble: InjectedFault::Fails,
+        trouble,
     }
+}
+
+/// Moves all that is asked, and fails at a call, counted from 1, or at none.
+pub(crate) fn failing(call: u64) -> FaultPlan
+    ensures { 0 < result.most }
+{
+    at_most(usize::MAX, call, InjectedFault::Fails)
 }
 
 /// What a device does: the last that is planned for it, or no call of it goes wrong.
@@ -46,10 +55,7 @@ fn plan_of(plans: &[(Device, FaultPlan)], device: Device) -> FaultPlan
             found = *plan;
         }
     }
-    FaultPlan {
-        most: found.most.max(1),
-        ..found
-    }
+    at_most(found.most, found.call, found.trouble)
 }
 
 /// The call that a program makes: `napt` runs over whole captures, `stream` over captures as they come, with a log or without.

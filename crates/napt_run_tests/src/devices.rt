@@ -1,12 +1,12 @@
 //! Devices of a run that move a byte at a time, and go wrong at each of their calls in turn.
 
 use crate::calls::TestRuntime;
-use crate::captures::{Call, Device, HEADER, RunInput, captured, failing, told};
+use crate::captures::{Call, Device, HEADER, RunInput, at_most, captured, failing, told};
 use crate::gates::{GateMode, Hold};
+use crate::samples::captures::{ONE_PACKET, WRITTEN};
 use napt_capture::{CaptureFault, FaultPlan, InjectedFault, WriteFault};
 use napt_pool::PoolFault;
 use napt_run::{Fault, RunFault, Which};
-use napt_samples::captures::{ONE_PACKET, WRITTEN};
 use napt_wire::Side;
 use std::test::Fail;
 
@@ -18,11 +18,7 @@ drop no-binding 0\ndrop filtered 0\ndrop over-quota 0\ndrop no-port 0\nudp 10.0.
 
 /// Moves a byte at a time, and goes wrong once it has moved so many.
 fn slow(moved: u16, trouble: InjectedFault) -> FaultPlan {
-    FaultPlan {
-        most: 1,
-        call: u64::from(moved) + 1,
-        trouble,
-    }
+    at_most(1, u64::from(moved) + 1, trouble)
 }
 
 /// What a run answers, and how many bytes of each of its texts it leaves: to the outside, to the inside and of the report.

@@ -1,14 +1,14 @@
 //! What no contract says of runs over workers: that they come to their end, on threads that step at the same time and ask the gate that
 //! they are given. What becomes of their packets is told in `tests/runs/legs.txt`, at the top of the repository.
 
-use crate::calls::{PacketEnds, inputs_of, workers_run};
+use crate::calls::{PacketEnds, TestRuntime, inputs_of, workers_run};
 use crate::gates::{GateMode, Hold, MOST_ASKS};
 use crate::large::compared;
 use crate::sample_inputs::THREE_ADDRESSES;
+use crate::samples::hosts::{CLIENT, RESOLVER, SECOND_CLIENT, external, host};
+use crate::samples::settings::{ONE_ADDRESS, TWO_ADDRESSES};
 use napt_pool::PoolFault;
 use napt_run::RunFault;
-use napt_samples::hosts::{CLIENT, RESOLVER, SECOND_CLIENT, external, host};
-use napt_samples::settings::{ONE_ADDRESS, TWO_ADDRESSES};
 use napt_wire::Side;
 use std::sync::Arc;
 use std::test::Fail;
@@ -36,13 +36,12 @@ type HairpinRow<'a> = (&'a str, &'a str, &'a [PacketEnds], &'a [u64], GateMode, 
 
 #[test]
 fn runs_have_their_legs(rt: HostRuntime) -> Result<(), Fail> {
-    let (one, two, three) = (ONE_ADDRESS, TWO_ADDRESSES, THREE_ADDRESSES);
+    let (one, two) = (ONE_ADDRESS, TWO_ADDRESSES);
     let (served, lost) = (served(), hairpin(2));
     let inbound = (Side::Inside, RESOLVER, CLIENT);
-    let fourth = (Side::Inside, host(4, 5000), RESOLVER);
     let first = (Side::Outside, RESOLVER, external(1, 5000));
     let second = (Side::Outside, RESOLVER, external(2, 5000));
-    let rows: [HairpinRow<'_>; 9] = [
+    let rows: [HairpinRow<'_>; 8] = [
         (two, "1", &[], &[0, 0], GateMode::Open, 0),
         (one, "1", &[inbound], &[0], GateMode::Open, 0),
         (one, "1", &[served, hairpin(1)], &[3], GateMode::Open, 0),
@@ -53,15 +52,6 @@ fn runs_have_their_legs(rt: HostRuntime) -> Result<(), Fail> {
         (PAIRED, "1", &[QUERY, second], &[0, 2], GateMode::Open, 0),
         // A slow worker is waited for: its one leg is let in at the ask after the thousand.
         (two, "64", &[lost, served], &[1, 2], GateMode::Slow, 1001),
-        // While a hairpin waits for its first worker, what goes to others is offered to them.
-        (
-            three,
-            "64",
-            &[lost, fourth],
-            &[1, 1, 1],
-            GateMode::AfterThird,
-            0,
-        ),
     ];
     for (settings, ring, sent, legs, way, wanted) in rows {
         let inputs = inputs_of(rt.alloc(), sent)?;
@@ -71,26 +61,53 @@ fn runs_have_their_legs(rt: HostRuntime) -> Result<(), Fail> {
     Ok(())
 }
 
-/// A worker that answers nothing yet holds up no other, whether its ring has room for all of its legs or for one: both workers see the
-/// other at their first leg, where the second has one leg after so many of the first.
+/// While a hairpin waits for its first worker, what goes to others is offered to them.
+#[test]
+fn others_go_on(rt: HostRuntime) -> Result<(), Fail> {
+    let fourth = (Side::Inside, host(4, 5000), RESOLVER);
+    let inputs = inputs_of(rt.alloc(), &[hairpin(2), fourth])?;
+    let legs = [1, 1, 1];
+    compared(
+        &rt,
+        THREE_ADDRESSES,
+        "64",
+        &inputs,
+        &legs,
+        GateMode::AfterThird,
+    )?;
+    Ok(())
+}
+
+/// Both workers see the other at their first leg, where the second has one leg after so many of the first.
+fn assert_meeting(rt: &impl TestRuntime, ring: &str, legs: u64) -> Result<(), Fail> {
+    let mut sent = Vec::new(rt.alloc());
+    for _ in 0..legs {
+        sent.push(QUERY)?;
+    }
+    sent.push(SECOND_QUERY)?;
+    let inputs = inputs_of(rt.alloc(), &sent)?;
+    let count = compared(
+        rt,
+        TWO_ADDRESSES,
+        ring,
+        &inputs,
+        &[legs, 1],
+        GateMode::Meeting,
+    )?;
+    assert_eq!(rt; count, 2, "ring {ring}, {legs} legs");
+    Ok(())
+}
+
+#[test]
+fn held_until_other(rt: HostRuntime) -> Result<(), Fail> {
+    assert_meeting(&rt, "64", 1)
+}
+
+/// A worker that answers nothing yet holds up no other, whether its ring has room for all of its legs or for one.
 #[test]
 fn full_ring_holds_up_no_other(rt: HostRuntime) -> Result<(), Fail> {
-    for (ring, legs) in [("64", 1), ("4", 4), ("4", 5), ("1", 100)] {
-        let mut sent = Vec::new(rt.alloc());
-        for _ in 0..legs {
-            sent.push(QUERY)?;
-        }
-        sent.push(SECOND_QUERY)?;
-        let inputs = inputs_of(rt.alloc(), &sent)?;
-        let count = compared(
-            &rt,
-            TWO_ADDRESSES,
-            ring,
-            &inputs,
-            &[legs, 1],
-            GateMode::Meeting,
-        )?;
-        assert_eq!(rt; count, 2, "ring {ring}, {legs} legs");
+    for (ring, legs) in [("4", 4), ("4", 5), ("1", 100)] {
+        assert_meeting(&rt, ring, legs)?;
     }
     Ok(())
 }

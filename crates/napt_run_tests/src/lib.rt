@@ -1,6 +1,6 @@
-//! Tests of runs, of workers on threads, of kept logs, and of the parts of the program, through what napt_run, napt_account,
-//! napt_capture, napt_pool and napt_program make public. They are a crate of their own so that the gate does not prove those
-//! crates again for them. The inputs of large runs, `sample_inputs`, are public.
+//! All `#[test]` functions: of the libraries, of runs, of workers on threads, of logs, and of the parts of the program, through what these
+//! make public. They are in one crate, above all others, so that the gate proves no other crate again for them. The inputs of large runs,
+//! `sample_inputs`, are public.
 #![tactic(auto)]
 
 #[cfg(test)]
@@ -24,6 +24,8 @@ mod kept_logs;
 #[cfg(test)]
 mod large;
 #[cfg(test)]
+mod libraries;
+#[cfg(test)]
 mod merging;
 mod packets;
 #[cfg(test)]
@@ -35,5 +37,6 @@ mod resumed_runs;
 #[cfg(test)]
 mod running_logs;
 pub mod sample_inputs;
+pub mod samples;
 #[cfg(test)]
 mod taken_answers;

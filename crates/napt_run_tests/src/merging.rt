@@ -1,7 +1,7 @@
 //! A stream gives its source back. What inputs come of two captures is told in `tests/calls`.
+use crate::samples::captures::ONE_PACKET;
 use napt_capture::{EmptySource, RecordReader, Source, Watched};
 use napt_records::{RecordStream, StreamMerger};
-use napt_samples::captures::ONE_PACKET;
 use std::test::Fail;
 
 /// Only the header is read of it.

@@ -3,6 +3,13 @@
 use napt_wire::Endpoint;
 use std::alloc::{AllocError, Global};
 
+/// From inside: a UDP packet from 10.0.0.2:5000 to 198.51.100.7:53.
+pub(crate) const UDP_QUERY: [u8; 30] = [
+    0x45, 0, 0, 30, 0, 1, 0, 0, 64, 17, 0x46, 0x92, // IPv4, length, identification, UDP, checksum
+    10, 0, 0, 2, 198, 51, 100, 7, // source, destination
+    0x13, 0x88, 0, 53, 0, 10, 0x4f, 0x77, 0x68, 0x69, // ports, length, checksum, payload
+];
+
 /// The bytes of some words, in network order.
 fn bytes_of(alloc: Global, words: &[u16]) -> Result<Vec<u8>, AllocError> {
     let mut bytes = Vec::new(alloc);

@@ -3,7 +3,6 @@
 mod batches;
 mod checked;
 mod keeper;
-mod messages;
 mod rounds;
 mod waiting;
 mod watch;

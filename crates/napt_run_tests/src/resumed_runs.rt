@@ -59,7 +59,7 @@ fn run_on(
         to_outside: to_outside.into_inner(),
         to_inside: to_inside.into_inner(),
         report: report.into_inner(),
-        state: passed.final_bindings(alloc)?,
+        state: passed.into_state_if(true, alloc)?.ok_or("a state")?,
     })
 }
 

@@ -10,11 +10,11 @@ use crate::gates::{GateMode, Hold};
 use crate::kept_logs::{SETTINGS, kept, no_log};
 use crate::packets::udp;
 use crate::resumed_runs::nothing;
+use crate::samples::hosts::{CLIENT, RESOLVER};
 use napt_account::SavedLogState;
 use napt_capture::{Watched, WriteFault};
 use napt_config::Config;
 use napt_run::{LogRunFault, LogStart, Start, State, resume_streams_with_log};
-use napt_samples::hosts::{CLIENT, RESOLVER};
 use napt_state::take_up;
 use std::alloc::{AllocError, Global};
 use std::num::NonZeroU32;
@@ -129,7 +129,7 @@ fn run_on(
     )?;
     Ok(Part {
         text: log.into_inner(),
-        state: left.passed.final_bindings(alloc)?,
+        state: left.passed.into_state_if(true, alloc)?.ok_or("a state")?,
         kept: left.log,
     })
 }

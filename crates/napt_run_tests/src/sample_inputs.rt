@@ -2,8 +2,8 @@
 //! says that memory was refused.
 
 use crate::packets::udp;
+use crate::samples::hosts::{RESOLVER, external, host};
 use napt_run::Input;
-use napt_samples::hosts::{RESOLVER, external, host};
 use napt_wire::{Endpoint, Side};
 use std::alloc::{AllocError, Global};
 

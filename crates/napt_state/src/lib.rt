@@ -11,8 +11,6 @@ mod state_checks;
 mod state_contents;
 mod state_reader;
 mod state_writer;
-#[cfg(test)]
-mod tests;
 mod text;
 mod wrong_words;
 

@@ -8,7 +8,7 @@ use crate::counted_device::CountedDevice;
 use crate::counting_gate::CountingGate;
 use crate::manual::{INSTALLED, OWN};
 use crate::progress::ProgressReport;
-use crate::stream_run::{CaptureDevices, StreamRun};
+use crate::stream_run::{CaptureDevices, StreamRemainder, StreamRun};
 use napt_program::{
     MEMORY, OptionsWithLog, ProgramCall, ProgramHost, RunDevices, RunResources, StandardStreams,
     Stop, answer_line, open, parse_words_with_log, words,
@@ -89,11 +89,10 @@ fn run<R: ProgramHost + Clock>(
     run.print_new_entries(rt, call)?;
     let answer = run.over(rt, &mut captures, &mut outputs, log);
     progress.print_end();
-    let left = answer?;
+    let StreamRemainder { state, log } = answer?;
     call.print_cuts(rt, captures.inside.tallied(), captures.outside.tallied());
-    if let Some(save) = save {
-        let state = left.passed.final_bindings(rt.alloc())?;
-        save.finish(rt, rt.alloc(), &state, left.log.as_ref())?;
+    if let (Some(save), Some(state)) = (save, state) {
+        save.finish(rt, rt.alloc(), &state, log.as_ref())?;
     }
     Ok(())
 }

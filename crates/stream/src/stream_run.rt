@@ -48,7 +48,8 @@ pub struct CaptureDevices<A, B> {
 /// The result of a run that succeeded.
 #[derive(Drop)]
 pub struct StreamRemainder {
-    pub passed: RunSummary,
+    /// The state after the run, if it is to be saved.
+    pub state: Option<State>,
     /// The position of its log, if it has one and the state is to be saved.
     pub log: Option<LogPosition>,
 }
@@ -91,6 +92,8 @@ impl<'a> StreamRun<'a> {
         requires outputs { AreOutputsFresh outputs.old }
         requires log { IsFreshLog log }
         requires named { is_some log ≡ is_some self.options.now.log }
+        ensures saved { IfOk result (λ left.
+            is_some left.state ≡ is_some self.entry.options.now.files.save) }
         ensures kept { IfOk result (λ left. is_some left.log
             ≡ (is_some log.entry && is_some self.entry.options.now.files.save)) }
         ensures stop { (streams : StandardStreams) → IfErr result
@@ -99,13 +102,16 @@ impl<'a> StreamRun<'a> {
         let is_saved = self.options.files.save.is_some();
         let Some(mut log) = log else {
             let passed = self.without_log(rt, captures, outputs)?;
-            return Ok(StreamRemainder { passed, log: None });
+            let state = passed.into_state_if(is_saved, rt.alloc())?;
+            return Ok(StreamRemainder { state, log: None });
         };
         let LoggedRunSummary { passed, log: left } = self.with_log(
             rt, captures, outputs, &mut log,
         )?;
+        // a fault of the log is reported before that of the state
+        let state = passed.into_state_if(is_saved, rt.alloc());
         let log = kept_if_saved(is_saved, left, log)?;
-        Ok(StreamRemainder { passed, log })
+        Ok(StreamRemainder { state: state?, log })
     }
 
     fn without_log<

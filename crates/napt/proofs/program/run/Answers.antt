@@ -12,6 +12,6 @@ pub returns-in_err-finish : goal.returns-in_err-finish
 returns-in_err-finish g c =
     let p = err_from_is_err_and c.from_residual-in_err-finish.result c.from_residual-in_err-finish.ensures.1 in
     let named : is_some c.args.options.now.files.save ≡ true =
-    cc (c.in_ok-config.ensures.save, ap is_some c.in-Some.is) in
+    cc (c.in_ok-config.ensures.save, ap is_some c.in-Some-Some.is-0) in
     rw (p.1, p.2) (save_stop c.args.streams c.args.options.now c.in_err-finish.field-0.0 named
     c.in_err-finish.ensures.refused)

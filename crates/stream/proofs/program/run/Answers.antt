@@ -3,13 +3,13 @@ use Rattle.std.proofs.{Common.{is_some, sym, ◌∙◌, ap}, lemmas.Result.err_f
 use Rattle.napt_program.proofs.StateLemmas.{save_stop}
 use Rattle.stream.proofs.program.run.Goals as goal
 
-pub returns-in_err-left : goal.returns-in_err-left
-returns-in_err-left g c =
-    let p = err_from_is_err_and c.from_residual-in_err-left.result c.from_residual-in_err-left.ensures.1 in
-    rw (p.1, p.2) (c.in_err-left.ensures.stop c.args.streams)
+pub returns-in_err-state : goal.returns-in_err-state
+returns-in_err-state g c =
+    let p = err_from_is_err_and c.from_residual-in_err-state.result c.from_residual-in_err-state.ensures.1 in
+    rw (p.1, p.2) (c.in_err-state.ensures.stop c.args.streams)
 
 pub returns-in_err-finish : goal.returns-in_err-finish
 returns-in_err-finish g c =
     let p = err_from_is_err_and c.from_residual-in_err-finish.result c.from_residual-in_err-finish.ensures.1 in
     rw (p.1, p.2) (save_stop c.args.streams c.args.options.now c.in_err-finish.field-0.0
-    (sym c.in_ok-config.ensures.save ∙ ap is_some c.in-Some.is) c.in_err-finish.ensures.refused)
+    (sym c.in_ok-config.ensures.save ∙ ap is_some c.in-Some-Some.is-0) c.in_err-finish.ensures.refused)

@@ -1,6 +1,6 @@
 -- translate_traced: the look-up after the leg finds the binding that its packet used.
 use Rattle.napt_sequential.proofs.LookUps.{told_there}
-use Rattle.napt_sequential.proofs.leg_trace.PassageLegTrace.tell.Goals as goal
+use Rattle.napt_sequential.proofs.leg_trace.PassageLegTrace.translate_traced.Goals as goal
 
 pub returns-clause-told : goal.returns-clause-told
 returns-clause-told c =

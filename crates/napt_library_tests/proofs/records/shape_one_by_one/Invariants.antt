@@ -1,8 +1,0 @@
--- No read failed.
-use Rattle.std.proofs.Common.{◌≡◌, ◌+◌}
-use Rattle.napt_capture.specs.FaultyDevices.{device_of, own_failed}
-use Rattle.napt_capture.specs.Watched.{failed_of}
-use Rattle.napt_library_tests.proofs.records.shape_one_by_one.Given as goal
-
-abbrev pub invariant-loop-count : goal.invariant-loop-count
-invariant-loop-count l = own_failed l.source + failed_of (device_of l.source) ≡ 0

@@ -1,0 +1,12 @@
+//! What no contract says of the libraries below a run, and no row of `tests/calls` or `tests/drawn_calls`.
+
+mod bits;
+mod captures;
+mod due;
+mod links;
+mod log_texts;
+mod messages;
+mod numbers;
+mod records;
+mod states;
+mod texts;
