@@ -197,7 +197,9 @@ def left_out(what, reason):
 
 
 def path_of(tool):
-    """Where a tool of the system is, or None."""
+    """Where a tool of the system is, or None; one with a slash is a path."""
+    if "/" in tool:
+        return tool if os.path.exists(tool) else None
     return shutil.which(tool, path=f"{os.environ.get('PATH', '')}:/usr/sbin:/sbin")
 
 

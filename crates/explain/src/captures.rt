@@ -76,9 +76,7 @@ impl RefusedRun<'_> {
         side: Side,
         head: &'a [u8],
         source: &'a mut S,
-    ) -> Result<OpenCaptures<'a, S>, Exit>
-        requires { S.failed source.old < 2 ^ 64 - 1 }
-    {
+    ) -> Result<OpenCaptures<'a, S>, Exit> {
         match RecordReader::open(rt.alloc(), source) {
             Ok(records) => Ok(OpenCaptures {
                 head,
@@ -203,10 +201,8 @@ impl<'r, 'i, 'o, A: Source, B: Source> CaptureInputs<'r, 'i, 'o, A, B> {
 
     /// What they show against themselves, once their end is reached.
     pub fn flaws(&self) -> ConfigAdvice {
-        let cuts = self.packets.cuts();
         ConfigAdvice {
-            inside: cuts.inside,
-            outside: cuts.outside,
+            cuts: self.packets.cuts(),
             holds: self.refusing.options.outside,
             back: self.back,
         }

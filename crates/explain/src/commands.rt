@@ -7,18 +7,8 @@ use std::alloc::{AllocError, Global};
 /// The command that is done where none is named.
 const FIRST: &str = "show";
 
-/// What commands do that once were options: the option, and how the command is called now.
-const EARLIER: &[(&str, &str)] = &[
-    ("saved-log", "who ADDRESS[:PORT] --from-log FILE"),
-    ("requests", "who --requests FILE"),
-    ("who", "who ADDRESS[:PORT]"),
-    ("svg", "draw FILE"),
-    ("against", "compare FILE"),
-    ("plan", "plan FILE"),
-    ("sizes", "sizes"),
-    ("blocks", "blocks"),
-    ("followed", "follow FILE --replies FILE"),
-];
+/// The commands that `napt-analysis` has in place of `explain`.
+const MOVED: [&str; 3] = ["draw", "plan", "sizes"];
 
 const SHOW: &str =
     "Prints a line for each packet, the bindings and a summary (the command where none is named)";
@@ -31,21 +21,9 @@ const LOG: &str =
     "Writes the log of the run in CSV to standard output (docs/FORMATS.md). It has each binding when it is made and when it \
 expires, each packet refused one by the quota or for lack of a free port, and then each binding that lives at the end";
 
-const PLAN: &str =
-    "Prints a table with a line for the run under each of these configurations: what is dropped, and how much there is at \
-once (docs/FORMATS.md)";
-
-const SIZES: &str =
-    "Prints how many bindings, ports and hosts there were at once, what quotas and blocks would have refused, and how long \
-bindings lived (docs/FORMATS.md)";
-
 const BLOCKS: &str =
     "Prints the block of each inside host, in CSV, as the configuration alone gives it: host, external address, first and \
 last number";
-
-const DRAW: &str =
-    "Draws the run in SVG into a file: its bindings, hairpins and drops over time, or counts of live bindings if more than \
-30 are shown";
 
 const COMPARE: &str =
     "Prints the packets that end differently under another configuration, and the counts of both; the status is 1 if one \
@@ -79,6 +57,13 @@ const HOST: &str =
 
 const WRITTEN: &str = "File to write, which nothing else may name";
 
+const REPORT: &str =
+    "File for the report of the same run, as napt writes it; standard error then tells what the captures cannot show";
+
+const PACKETS: &str =
+    "File for a row for each packet in CSV (docs/FORMATS.md): its number, time, side, outcome and cause, and the numbers of \
+the bindings through which it went out and came in";
+
 const NOT_WRITTEN: &str =
     "Never written: accepted as an option of napt or stream, and refused if that would refuse it";
 
@@ -107,19 +92,10 @@ impl CommandTexts {
         Ok(CommandTexts { list, is_named })
     }
 
-    /// The first option among them that is a command now, and how that is called.
-    pub fn earlier(&self) -> Option<(&'static str, &'static str)> {
-        if self.is_named {
-            return None;
-        }
-        EARLIER
-            .iter()
-            .find(|(option, _)| self.has_option(option))
-            .copied()
-    }
-
-    fn has_option(&self, option: &str) -> bool {
-        self.list.iter().any(|word| option_in(word) == Some(option))
+    /// The command that they name, if `napt-analysis` has it.
+    pub fn moved(&self) -> Option<&'static str> {
+        let command = self.list.get(1)?.as_str();
+        MOVED.iter().find(|name| **name == command).copied()
     }
 
     /// The command line that they are to be of.
@@ -138,15 +114,12 @@ impl CommandTexts {
             .subcommand(show(alloc, self.is_named)?)?
             .subcommand(who(alloc)?)?
             .subcommand(log(alloc)?)?
-            .subcommand(plan(alloc)?)?
-            .subcommand(configured(alloc, "sizes", SIZES)?)?
             .subcommand(
                 Command::new(alloc, "blocks")
                     .about(BLOCKS)
                     .arg(config(alloc))?
                     .arg(resume(alloc).hide(true))?,
             )?
-            .subcommand(draw(alloc)?)?
             .subcommand(compare(alloc)?)?
             .subcommand(follow(alloc)?)
     }
@@ -155,15 +128,6 @@ impl CommandTexts {
 /// Whether the first word of a call names a command, or asks for the help of them all or the version.
 fn is_name(word: &str) -> bool {
     !word.starts_with('-') || matches!(word, "-h" | "--help" | "-V" | "--version")
-}
-
-/// The long option that a word gives.
-fn option_in(word: &str) -> Option<&str> {
-    let rest = word.strip_prefix("--")?;
-    match rest.split_once('=') {
-        Some((option, _)) => Some(option),
-        None => Some(rest),
-    }
 }
 
 fn show<'a>(alloc: Global, is_named: bool) -> Result<Command<'a>, AllocError> {
@@ -220,37 +184,9 @@ fn who<'a>(alloc: Global) -> Result<Command<'a>, AllocError> {
 fn log<'a>(alloc: Global) -> Result<Command<'a>, AllocError> {
     configured(alloc, "log", LOG)?
         .arg(value(alloc, "to", "FILE", WRITTEN))?
+        .arg(value(alloc, "report", "FILE", REPORT))?
+        .arg(value(alloc, "packets", "FILE", PACKETS))?
         .arg(flag(alloc, "as-napt", AS_NAPT))
-}
-
-fn plan<'a>(alloc: Global) -> Result<Command<'a>, AllocError> {
-    captured(alloc, Command::new(alloc, "plan").about(PLAN))?
-        .arg(resume(alloc).hide(true))?
-        .arg(word(alloc, "other", "FILE", "Configurations in TOML").num_args(1..))?
-        .arg(flag(alloc, "csv", "Prints the table in CSV"))
-}
-
-fn draw<'a>(alloc: Global) -> Result<Command<'a>, AllocError> {
-    configured(alloc, "draw", DRAW)?
-        .arg(word(alloc, "file", "FILE", WRITTEN))?
-        .arg(value(
-            alloc,
-            "from",
-            "SECONDS",
-            "Starts the picture this long after the first packet [default: 0]",
-        ))?
-        .arg(value(
-            alloc,
-            "until",
-            "SECONDS",
-            "Ends the picture this long after the first packet [default: after the last packet]",
-        ))?
-        .arg(flag(
-            alloc,
-            "clock",
-            "Has the time of day (UTC) along the axis, in place of seconds since the first packet",
-        ))?
-        .arg(value(alloc, "host", "ADDRESS[:PORT]", HOST))
 }
 
 fn compare<'a>(alloc: Global) -> Result<Command<'a>, AllocError> {
@@ -275,7 +211,7 @@ fn follow<'a>(alloc: Global) -> Result<Command<'a>, AllocError> {
 /// A command over captures under a configuration.
 fn configured<'a>(alloc: Global, name: &'a str, about: &'a str) -> Result<Command<'a>, AllocError> {
     let command = Command::new(alloc, name).about(about).arg(config(alloc))?;
-    captured(alloc, command.arg(resume(alloc).hide(name == "sizes"))?)
+    captured(alloc, command.arg(resume(alloc))?)
 }
 
 /// The same with the options that name captures.

@@ -2,6 +2,7 @@
 
 use crate::options::OutputForm;
 use napt_commands::{Exit, OutsideCapture};
+use napt_records::CutFlags;
 use napt_sequential::Input;
 
 /// What is printed about a capture that ends inside a record.
@@ -13,10 +14,8 @@ const SECOND: u64 = 1_000_000_000;
 /// What captures show against themselves, once their end is reached.
 #[derive(Clone, Copy)]
 pub struct ConfigAdvice {
-    /// Whether the inside capture ends inside a record. That record is left out.
-    pub inside: bool,
-    /// The same of the outside capture.
-    pub outside: bool,
+    /// Whether each capture ends inside a record. That record is left out.
+    pub cuts: CutFlags,
     /// What the outside capture holds.
     pub holds: OutsideCapture,
     pub back: StepBack,
@@ -27,7 +26,8 @@ impl ConfigAdvice {
     /// read standard output. A step back in time is always reported there.
     pub fn tell<R: Print + Eprint>(self, rt: &R, form: OutputForm<'_>) -> Result<(), Exit> {
         self.back.tell(rt, form);
-        for (side, cut) in [("inside", self.inside), (self.holds.name(), self.outside)] {
+        let CutFlags { inside, outside } = self.cuts;
+        for (side, cut) in [("inside", inside), (self.holds.name(), outside)] {
             if cut && form.is_for_people() {
                 println!(rt; "the capture {side} {CUT}")?;
             } else if cut {

@@ -59,9 +59,7 @@ pub fn follow<R: Files + Eprint + AllocGlobal>(
 }
 
 /// Writes the capture of the inputs from outside, each with its own time, and flushes it.
-fn put_outside<W: Sink>(sink: &mut W, inputs: &[Input]) -> Result<(), WriteFault>
-    requires { W.failed sink.old < 2 ^ 64 - 1 }
-{
+fn put_outside<W: Sink>(sink: &mut W, inputs: &[Input]) -> Result<(), WriteFault> {
     let mut written = CaptureWriter::create(sink)?;
     for input in inputs {
         if input.side == Side::Outside {
@@ -77,7 +75,6 @@ fn put_record<W: Sink>(
     written: CaptureWriter,
     input: &Input,
 ) -> Result<CaptureWriter, WriteFault>
-    requires { W.failed sink.old < 2 ^ 64 - 1 }
     ensures { OnOk result (W.failed sink.new ≡ W.failed sink.old) }
 {
     let before = written.bytes();

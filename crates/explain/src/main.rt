@@ -1,9 +1,8 @@
 //! The program `explain`: what a run of `napt` does, for people to read.
 //!
-//! Each question is a command. Over captures it makes the run of `napt` on one thread, and tells what is asked: lines,
-//! the log, who had an endpoint, figures, a picture. It takes the arguments of `napt` and `stream` as they are, but
-//! never writes an output file of theirs. If they would refuse a file, `explain` prints why on standard error, and
-//! exits with the same status.
+//! Each question is a command. Over captures it makes the run of `napt` on one thread, and prints what is asked: lines,
+//! the log, who had an endpoint. It takes the arguments of `napt` and `stream` as they are, but never writes an output
+//! file of theirs. If they would refuse a file, `explain` prints why on standard error, and exits with the same status.
 #![tactic(auto)]
 
 mod captures;
@@ -13,14 +12,11 @@ mod flaws;
 mod follow_command;
 mod manual;
 mod options;
-mod picture_run;
-mod pictures;
 mod places;
 mod progress;
 mod reading;
 mod refusals;
-mod scene;
-mod setting;
+mod run_setting;
 
 use crate::commands::CommandTexts;
 use crate::manual::{INSTALLED, OWN};
@@ -28,7 +24,7 @@ use crate::options::{ExplainOptions, OutputForm, options_of};
 use crate::reading::{
     WrittenOutput, answer, configuration, open_captures, read_given, requests_of,
 };
-use crate::setting::PictureSetting;
+use crate::run_setting::RunSetting;
 use clap::Error;
 use clap::error::ErrorKind;
 use napt_attribution::{answer_by_blocks, tell_blocks};
@@ -68,9 +64,10 @@ fn explained<R: Env + Files + Input + Print + Eprint + AllocGlobal>(
 ) -> Result<(), Exit> {
     let words = CommandTexts::of(rt.alloc(), arguments(rt)?)?;
     let manual = call.manual(OWN, INSTALLED);
-    if let Some((option, now)) = words.earlier() {
-        let name = manual.name;
-        let _ = eprintln!(rt; "explain: --{option} is a command now: {name} {now}");
+    if let Some(command) = words.moved() {
+        let _ = eprintln!(rt;
+            "explain: {command} is a command of napt-analysis: napt-analysis {command} --help"
+        );
         return Err(Exit::Told(Stop::Usage));
     }
     let command_line = words.command_line(rt.alloc(), manual)?;
@@ -166,5 +163,5 @@ fn explained_run<R: Files + Input + Print + Eprint + AllocGlobal>(
     let given = read_given(rt, streams, options, written)?;
     let starts = given.starts(rt, options)?;
     let files = open_captures(rt, options)?;
-    PictureSetting::new(streams, options, &given, &starts).read(rt, files)
+    RunSetting::new(streams, options, &given, &starts).read(rt, files)
 }

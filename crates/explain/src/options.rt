@@ -1,10 +1,9 @@
 //! What a command is to do, by its arguments.
 
 use crate::manual::INSTALLED;
-use crate::scene::SceneSpan;
 use clap::ArgMatches;
 use napt_account::Party;
-use napt_attribution::{nanoseconds_of, party_of, span_of};
+use napt_attribution::{LogPaths, party_of, span_of};
 use napt_commands::{Exit, OutsideCapture};
 use napt_lines::PacketSelection;
 use napt_log_text::{Request, TimeSpan};
@@ -28,12 +27,10 @@ pub struct ExplainOptions<'m> {
     pub split: &'m str,
     /// The pieces of the log that answers requests, if that is not the log of a run.
     pub pieces: Vec<String>,
-    /// The configurations of a plan, or the one to compare with.
-    pub others: Vec<String>,
+    /// The configuration to compare with.
+    pub other: Option<String>,
     pub form: OutputForm<'m>,
     pub choice: PacketSelection,
-    /// The part of the run that is drawn.
-    pub part: SceneSpan,
     /// Whether the run that `napt` makes is asked about, whatever numbers the captured gateway had.
     pub is_of_napt: bool,
 }
@@ -97,9 +94,6 @@ impl<'m> ExplainOptions<'m> {
     fn why_anew(&self) -> Option<&'static str> {
         match (self.form, self.outside) {
             (OutputForm::Blocks, _) => Some("blocks are of the configuration alone"),
-            (OutputForm::Sizes | OutputForm::Plans { .. }, _) => {
-                Some("sizes and plan count from where a run begins anew")
-            }
             (_, OutsideCapture::Replies) => Some("replies follow a run that begins anew"),
             _ if self.files.is_stream(FileRole::Resume) => Some(NO_FILE),
             _ => None,
@@ -115,9 +109,9 @@ impl<'m> ExplainOptions<'m> {
         is_asked && !self.is_of_napt
     }
 
-    /// How many of the other configurations, of the pieces of a log, and of files of requests come from standard input.
+    /// How many of the other configuration, of the pieces of a log, and of files of requests come from standard input.
     pub fn more_from_input(&self) -> usize {
-        let named = self.others.iter().chain(&self.pieces);
+        let named = self.other.iter().chain(&self.pieces);
         let many = named.filter(|path| path.as_str() == "-").count();
         match self.form {
             OutputForm::Requests("-") => many.saturating_add(1),
@@ -137,16 +131,10 @@ pub enum OutputForm<'m> {
     Holders(Request),
     /// Who had those that the file at this path asks for.
     Requests(&'m str),
-    /// The log, into the file at this path or to standard output.
-    Log(Option<&'m str>),
-    /// A table with a line for each of several configurations, for people or in CSV.
-    Plans { is_csv: bool },
-    /// How many bindings, ports and hosts there were at once.
-    Sizes,
+    /// The log, and the files that are written in addition to it.
+    Log(LogPaths<'m>),
     /// The block of each inside host.
     Blocks,
-    /// The picture, into the file at this path.
-    Picture(&'m str),
     /// What ends differently under another configuration.
     Differences,
     /// The outside capture that follows, into the file at this path.
@@ -163,12 +151,12 @@ impl<'m> OutputForm<'m> {
         }
     }
 
-    /// What names the file that is written, and its path, if there is one.
-    pub fn written(self) -> Option<(&'static str, &'m str)> {
+    /// What names each file that `explain` alone writes, and its path, if there is one.
+    pub fn written(self) -> [(&'static str, Option<&'m str>); 2] {
         match self {
-            OutputForm::Log(Some(path)) => Some(("--to", path)),
-            OutputForm::Picture(path) | OutputForm::Followed(path) => Some(("FILE", path)),
-            _ => None,
+            OutputForm::Log(paths) => [("--to", paths.log), ("--packets", paths.packets)],
+            OutputForm::Followed(path) => [("FILE", Some(path)), ("", None)],
+            _ => [("", None), ("", None)],
         }
     }
 
@@ -192,13 +180,7 @@ impl<'m> OutputForm<'m> {
 
     /// Whether it is for people: else programs read what is written, so that it may hold nothing else.
     pub fn is_for_people(self) -> bool {
-        matches!(
-            self,
-            OutputForm::Lines
-                | OutputForm::Plans { is_csv: false }
-                | OutputForm::Sizes
-                | OutputForm::Differences
-        )
+        matches!(self, OutputForm::Lines | OutputForm::Differences)
     }
 }
 
@@ -231,10 +213,9 @@ pub fn options_of<'m, R: Eprint + AllocGlobal>(
             false => "./split",
         },
         pieces: paths_of(alloc, matches, "from-log")?,
-        others: paths_of(alloc, matches, "other")?,
+        other: file_of(alloc, matches, "other")?,
         form: form_of(rt, command, matches)?,
         choice,
-        part: part_of(rt, matches)?,
         is_of_napt: matches.get_flag("as-napt"),
     };
     refuse_states(rt, matches, &options)?;
@@ -291,19 +272,18 @@ fn form_of<'m, R: Eprint>(
     command: &str,
     matches: &'m ArgMatches<'_>,
 ) -> Result<OutputForm<'m>, Exit> {
-    let file = matches.get_str("file").unwrap_or("");
-    let flag = matches.get_flag(if command == "plan" { "csv" } else { "json" });
-    Ok(match (command, flag) {
-        ("who", _) => return asked_of(rt, matches),
-        ("log", _) => OutputForm::Log(matches.get_str("to")),
-        ("plan", is_csv) => OutputForm::Plans { is_csv },
-        ("sizes", _) => OutputForm::Sizes,
-        ("blocks", _) => OutputForm::Blocks,
-        ("draw", _) => OutputForm::Picture(file),
-        ("compare", _) => OutputForm::Differences,
-        ("follow", _) => OutputForm::Followed(file),
-        (_, false) => OutputForm::Lines,
-        (_, true) => OutputForm::Objects,
+    Ok(match command {
+        "who" => return asked_of(rt, matches),
+        "log" => OutputForm::Log(LogPaths {
+            log: matches.get_str("to"),
+            packets: matches.get_str("packets"),
+            report: matches.get_str("report"),
+        }),
+        "blocks" => OutputForm::Blocks,
+        "compare" => OutputForm::Differences,
+        "follow" => OutputForm::Followed(matches.get_str("file").unwrap_or("")),
+        _ if matches.get_flag("json") => OutputForm::Objects,
+        _ => OutputForm::Lines,
     })
 }
 
@@ -398,29 +378,8 @@ fn host_of(text: &str) -> Result<Party, &'static str> {
     )
 }
 
-fn seconds_of(text: &str) -> Result<u64, &'static str> {
-    nanoseconds_of(text).ok_or("expected seconds, as 90 or 1.5")
-}
-
 fn moment_of(text: &str) -> Result<TimeSpan, &'static str> {
     span_of(text).map_err(|no_time| no_time.words(
         "expected seconds since 1970, as 90 or 1.5, or a date, as 2026-11-26T10:02:07Z",
     ))
-}
-
-/// The part of the run that is drawn. An invalid time is reported.
-fn part_of<R: Eprint>(rt: &R, matches: &ArgMatches<'_>) -> Result<SceneSpan, Exit> {
-    let from = matches.get_str("from");
-    let from = parsed(rt, "--from ", from, from.map(seconds_of))?;
-    let until = matches.get_str("until");
-    let until = parsed(rt, "--until ", until, until.map(seconds_of))?;
-    if until.is_some_and(|until| until <= from.unwrap_or(0)) {
-        return Err(wrong(rt, "--until", "", "expected a time behind that of --from"));
-    }
-    let is_clock = matches.get_flag("clock");
-    Ok(SceneSpan {
-        from,
-        until,
-        is_clock,
-    })
 }

@@ -86,17 +86,38 @@ pub fn tell_shared<R: Eprint>(rt: &R, name: &str, role: FileRole) -> Exit {
     Exit::Told(Stop::File(role))
 }
 
-/// Refuses the file that `explain` is to write, if there is one, where it is read too or cannot be created, and prints why.
+/// Refuses a file that `explain` is to write where it is read too, is written twice or cannot be created, and prints why.
 pub fn refuse_written<R: Files + Eprint>(rt: &R, options: &ExplainOptions<'_>) -> Result<(), Exit> {
-    let Some((name, path)) = options.form.written() else {
-        return Ok(());
-    };
+    let written = options.form.written();
+    for (name, path) in written {
+        if let Some(path) = path
+            && tells_unwritable(rt, options, name, path)
+        {
+            return Err(unwritten());
+        }
+    }
+    match written {
+        [(first, Some(one)), (second, Some(other))]
+            if is_same(place_of(rt, one), place_of(rt, other)) => {
+            tell_again(rt, second, other, first);
+            Err(unwritten())
+        }
+        _ => Ok(()),
+    }
+}
+
+/// Prints why a file that `explain` is to write cannot be written, if it cannot, and returns whether it is so.
+fn tells_unwritable<R: Files + Eprint>(
+    rt: &R,
+    options: &ExplainOptions<'_>,
+    name: &str,
+    path: &str,
+) -> bool {
     if path == "-" {
         tell_again(rt, name, path, "standard output");
-    } else if !tells_output(rt, options, name, path) {
-        return Ok(());
+        return true;
     }
-    Err(unwritten())
+    tells_output(rt, options, name, path)
 }
 
 /// Refuses the log of `stream`, if one is named, where another option names its file too or it cannot be created, and

@@ -29,8 +29,8 @@ const BUILT_IN_PREFIXES: &str = "10.0.0.0/8 172.16.0.0/12 192.168.0.0/16";
 #[derive(Drop)]
 pub struct GivenLog {
     pub written: WrittenOutput,
-    /// The configurations of a plan, or the one to compare with.
-    pub others: Vec<Config>,
+    /// The one to compare with.
+    pub other: Option<Config>,
     pub asked: Vec<HolderRequest>,
 }
 
@@ -57,11 +57,14 @@ pub fn read_given<R: Files + Input + Eprint + AllocGlobal>(
         Some(written) => written,
         None => configuration(rt, options)?,
     };
-    let others = other_configurations(rt, options)?;
+    let other = match &options.other {
+        Some(path) => Some(configuration_at(rt, "FILE", path)?),
+        None => None,
+    };
     let asked = requests_of(rt, options.form)?;
     Ok(GivenLog {
         written,
-        others,
+        other,
         asked,
     })
 }
@@ -74,12 +77,12 @@ impl GivenLog {
         options: &ExplainOptions<'_>,
     ) -> Result<RunStarts<'_>, Exit> {
         let saved = saved_at(rt, options)?;
-        let other = match (options.form, self.others.first()) {
-            (OutputForm::Differences, Some(config)) => {
+        let other = match &self.other {
+            Some(config) => {
                 let saved = copied(rt.alloc(), &saved)?;
                 Some(start_under(rt, options, config, saved)?)
             }
-            _ => None,
+            None => None,
         };
         let first = start_under(rt, options, &self.written.config, saved)?;
         Ok(RunStarts { first, other })
@@ -270,18 +273,6 @@ pub fn configuration<R: Files + Input + Eprint + AllocGlobal>(
         Ok(config) => Ok(WrittenOutput { config, text: None }),
         Err(_) => Err(Exit::As(Stop::Config(ConfigFault::Memory))),
     }
-}
-
-/// The configurations beside the one of the captures. The first refusal is explained.
-fn other_configurations<R: Files + Input + Eprint + AllocGlobal>(
-    rt: &R,
-    options: &ExplainOptions<'_>,
-) -> Result<Vec<Config>, Exit> {
-    let mut others = Vec::new(rt.alloc());
-    for path in &options.others {
-        others.push(configuration_at(rt, "FILE", path)?)?;
-    }
-    Ok(others)
 }
 
 /// The configuration in a file, with what names it. A refusal is explained.

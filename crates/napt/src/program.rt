@@ -2,14 +2,15 @@
 
 ghost use Rattle.std.specs.Prelude.{◌≡◌, IfErr, OnOk, map, string_bytes};
 ghost use Rattle.napt_rules.specs.Prelude.{TakesState};
-ghost use Rattle.napt_program.specs.{CommandLine.{files_with_log, line_of_words}, Command.{IsLineStop, IsRunStop, LineIsTaken, IsStopUnderOpenGate}, Devices.AreFresh, declared.streams.StandardStreams.StandardStreams as Known};
+ghost use Rattle.napt_program.specs.{CommandLine.{files_with_log, line_of_words}, Command.{IsLineStop, IsRunStop, LineIsTaken, IsStopUnderOpenGate}, declared.streams.StandardStreams.StandardStreams as Known};
 
 use napt_pool::OpenGate;
 use napt_program::{
-    CountedSource, MEMORY, OptionsWithLog, ProgramCall, ProgramHost, RunDevices, RunResources,
-    StandardStreams, Stop, answer_line, open, parse_words, stop_of_run, words,
+    CountedSource, MEMORY, OptionsWithLog, OutputDevices, ProgramCall, ProgramHost,
+    RunDevices as OpenedDevices, RunResources, StandardStreams, Stop, answer_line, open,
+    parse_words, stop_of_run, words,
 };
-use napt_run::{RunSummary, Start, resume_captures};
+use napt_run::{Devices, NoLog, RunEnd, Start, run_captures};
 use std::alloc::Global;
 use std::io::{Read, Write};
 use std::sync::Arc;
@@ -75,8 +76,8 @@ fn run<R: ProgramHost>(
         config: &config,
         state: &state,
     };
-    let passed = run_over(rt, call, options, start, devices)?;
-    let state = passed.into_state_if(save.is_some(), rt.alloc())?;
+    let end = run_over(rt, call, options, start, devices)?;
+    let state = end.passed.into_state_if(save.is_some(), rt.alloc())?;
     if let (Some(save), Some(state)) = (save, state) {
         save.finish(rt, rt.alloc(), &state, None)?;
     }
@@ -89,36 +90,35 @@ fn run_over<R: ProgramHost, S: Read + Drop, T: Write + Drop, F: Read + Write + D
     call: ProgramCall,
     options: &OptionsWithLog,
     start: Start<'_>,
-    devices: RunDevices<S, T, F>,
-) -> Result<RunSummary, Stop>
-    requires taken { TakesState start.config.now start.state.now }
-    requires fresh { AreFresh devices }
+    opened: OpenedDevices<S, T, F>,
+) -> Result<RunEnd, Stop>
+    requires { TakesState start.config.now start.state.now }
     ensures { (streams : Known) → IfErr result
         (IsRunStop streams (files_with_log options.now)) }
 {
-    let RunDevices {
+    let OpenedDevices {
         inside,
         outside,
-        mut outputs,
-    } = devices;
+        outputs,
+    } = opened;
+    let OutputDevices {
+        to_outside,
+        to_inside,
+        report,
+    } = outputs;
     let gate = gate(rt.alloc())?;
-    let mut inside = CountedSource::over(inside, call.at_terminal);
-    let mut outside = CountedSource::over(outside, call.at_terminal);
-    let answer = resume_captures(
-        rt,
-        rt.alloc(),
-        start,
-        &mut inside,
-        &mut outside,
-        &mut outputs.to_outside,
-        &mut outputs.to_inside,
-        &mut outputs.report,
-        gate,
-    );
-    match answer {
-        Ok(passed) => {
-            call.print_cuts(rt, &inside, &outside);
-            Ok(passed)
+    let mut devices = Devices {
+        inside: CountedSource::over(inside, call.at_terminal),
+        outside: CountedSource::over(outside, call.at_terminal),
+        to_outside,
+        to_inside,
+        report,
+        log: NoLog,
+    };
+    match run_captures(rt, rt.alloc(), start, &mut devices, gate) {
+        Ok(end) => {
+            call.print_cuts(rt, &devices.inside, &devices.outside);
+            Ok(end)
         }
         Err(fault) => Err(stop_of_run(options, fault)),
     }

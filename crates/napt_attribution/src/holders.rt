@@ -4,7 +4,8 @@ use crate::answers::{AnswerBasis, Basis, tell_answers};
 use crate::requests::HolderRequest;
 use crate::wanted_endpoints::WantedEndpoints;
 use napt_account::{LogEntry, in_order_of_making};
-use napt_commands::{Exit, RunEnd};
+use napt_commands::{CommandOutput, EndedRun, Exit, Page, RunPacket};
+use napt_config::Config;
 use std::alloc::{AllocError, Global};
 
 /// What a run says to requests so far: of the bindings that ended, those that are asked about.
@@ -27,7 +28,7 @@ impl<'a> Holders<'a> {
     }
 
     /// Takes bindings that ended, and keeps those that are asked about.
-    pub fn take(&mut self, entries: &[LogEntry]) -> Result<(), AllocError> {
+    pub fn add(&mut self, entries: &[LogEntry]) -> Result<(), AllocError> {
         for listed in entries {
             if self.wanted.has(listed.entry.binding.external) {
                 self.ended.push(*listed)?;
@@ -35,11 +36,25 @@ impl<'a> Holders<'a> {
         }
         Ok(())
     }
+}
 
-    /// Prints the answers, once the run has ended. Fails with `Nobody` if a request has none.
-    pub fn tell<R: Print + AllocGlobal>(mut self, rt: &R, ending: &RunEnd<'_>) -> Result<(), Exit> {
-        self.take(&ending.living)?;
-        let entries = in_order_of_making(rt.alloc(), self.ended)?;
+impl<R: Print + AllocGlobal> CommandOutput<R> for Holders<'_> {
+    fn take(
+        &mut self,
+        _rt: &R,
+        _config: &Config,
+        passing: RunPacket<'_>,
+        _text: &mut String,
+    ) -> Result<(), Exit> {
+        self.add(&passing.step.ended)?;
+        Ok(())
+    }
+
+    /// Prints the answers. Fails with `Nobody` if a request has none.
+    fn end(self, rt: &R, _page: &mut Page, ending: &EndedRun<'_>) -> Result<(), Exit> {
+        let mut holders = self;
+        holders.add(&ending.living)?;
+        let entries = in_order_of_making(rt.alloc(), holders.ended)?;
         let known = AnswerBasis {
             entries: &entries,
             last: ending.last,
@@ -47,6 +62,6 @@ impl<'a> Holders<'a> {
             config: Some(ending.config),
             basis: Basis::Run(ending.first),
         };
-        tell_answers(rt, self.asked, known)
+        tell_answers(rt, holders.asked, known)
     }
 }

@@ -51,11 +51,6 @@ pub fn span_of(text: &str) -> Result<TimeSpan, BadTime> {
     }
 }
 
-/// Parses seconds with up to nine decimals, as nanoseconds.
-pub fn nanoseconds_of(text: &str) -> Option<u64> {
-    u64::try_from(span_of_seconds(text)?.first).ok()
-}
-
 fn span_of_seconds(text: &str) -> Option<TimeSpan> {
     let Some((seconds, decimals)) = text.split_once('.') else {
         let first = u128::from(text.parse::<u64>().ok()?).checked_mul(u128::from(SECOND))?;

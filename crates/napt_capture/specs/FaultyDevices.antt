@@ -1,5 +1,5 @@
 -- What contracts see of a device with an injected fault.
-use Rattle.std.specs.Prelude.{◌≡◌, ℕ, ◌-◌, ◌==◌, List, Option, Some, None, Result, Ok, OnOk, if◌then◌else◌}
+use Rattle.std.specs.Prelude.{◌≡◌, ℕ, ◌-◌, ◌==◌, List, length, Option, Some, None, Result, Ok, OnOk, if◌then◌else◌}
 use Rattle.napt_capture.specs.declared.faulty_device.{Faulty.Faulty, FaultPlan.FaultPlan, InjectedFault.{InjectedFault, TheVariants.{Fails, TakesNone}}}
 
 -- The underlying device.
@@ -12,7 +12,7 @@ plan_of f = f.plan
 
 -- The number of failed calls that the plan caused, without those that failed in the underlying device.
 abbrev pub own_failed : {D : Type 0} → Faulty D → ℕ
-own_failed f = f.failed
+own_failed f = length f.failures.items
 
 -- The fault that the next call meets, if it meets one.
 abbrev pub trouble_of : FaultPlan → Option InjectedFault

@@ -1,5 +1,5 @@
 -- What contracts see of a watched device.
-use Rattle.std.specs.Prelude.{ℕ, Bool}
+use Rattle.std.specs.Prelude.{ℕ, Bool, length}
 use Rattle.napt_capture.specs.declared.watched.Watched.{Watched}
 
 -- The underlying device.
@@ -8,7 +8,7 @@ device_of w = w.device
 
 -- The number of calls that failed.
 abbrev pub failed_of : {D : Type 0} → Watched D → ℕ
-failed_of w = w.failed
+failed_of w = length w.failures.items
 
 -- Whether a flush succeeded and no write was attempted since.
 abbrev pub flushed_of : {D : Type 0} → Watched D → Bool

@@ -48,7 +48,6 @@ impl CaptureWriter {
     /// Writes the header of a capture.
     #[tactic(auto, unfolding(crate::specs::Text::file_header))]
     pub fn create<W: Sink>(writer: &mut W) -> Result<CaptureWriter, WriteFault>
-        requires { W.failed writer.old < 2 ^ 64 - 1 }
         ensures puts { PutPost 0 (W.contents writer.old) (W.contents writer.new) file_header result }
         ensures count { W.failed writer.new ≡ W.failed writer.old + failed_calls result }
     {
@@ -64,7 +63,6 @@ impl CaptureWriter {
         time: u64,
         bytes: &[u8],
     ) -> Result<CaptureWriter, WriteFault>
-        requires can_fail { W.failed writer.old < 2 ^ 64 - 1 }
         requires room { self + length (record_text (entry_of_packet time bytes.now)) < 2 ^ 64 }
         requires writable { IsWritable (entry_of_packet time bytes.now) }
         ensures puts { PutPost self (W.contents writer.old) (W.contents writer.new)
@@ -77,7 +75,6 @@ impl CaptureWriter {
 
     /// Flushes the writer. A fault counts the bytes written before.
     pub fn finish<W: Sink>(self, writer: &mut W) -> Result<(), WriteFault>
-        requires { W.failed writer.old < 2 ^ 64 - 1 }
         ensures bytes { Keeps (W.contents writer.old) (W.contents writer.new) }
         ensures flushed { OnOk result (W.is_flushed writer.new) }
         ensures fault { IfErr result (λ fault. fault.written ≡ self) }
@@ -98,7 +95,6 @@ impl CaptureWriter {
         writer: &mut W,
         bytes: &[u8],
     ) -> Result<CaptureWriter, WriteFault>
-        requires can_fail { W.failed writer.old < 2 ^ 64 - 1 }
         requires room { self + length bytes.now < 2 ^ 64 }
         ensures puts { PutPost self (W.contents writer.old) (W.contents writer.new) bytes.now result }
         ensures count { W.failed writer.new ≡ W.failed writer.old + failed_calls result }
@@ -124,7 +120,6 @@ impl CaptureWriter {
     /// Writes these bytes in as many calls as it takes.
     #[inline(never)]
     fn write_rest<W: Sink>(self, writer: &mut W, bytes: &[u8]) -> Result<CaptureWriter, WriteFault>
-        requires can_fail { W.failed writer.old < 2 ^ 64 - 1 }
         requires room { self + length bytes.now < 2 ^ 64 }
         ensures puts { PutPost self (W.contents writer.old) (W.contents writer.new) bytes.now result }
         ensures count { W.failed writer.new ≡ W.failed writer.old + failed_calls result }

@@ -34,7 +34,6 @@ pub trait Source {
     /// Reads the next bytes into the front of the buffer and returns their number: 0 only at the
     /// end or for an empty buffer. A failed or interrupted read consumes nothing and is counted.
     fn read(&mut self, buffer: &mut [u8]) -> Result<usize, DeviceFault>
-        requires { failed self.old < 2 ^ 64 - 1 }
         ensures bound { ReadsAtMost result buffer.new }
         ensures bytes { ReadConsumes (remaining self.old) (remaining self.new) result buffer.new }
         ensures count { failed self.new ≡ failed self.old + failed_calls result };
@@ -54,7 +53,6 @@ pub trait Sink {
     /// Writes some bytes from the front and returns their number; they are not flushed yet. A
     /// failed write writes nothing. It is counted, and so is a return of 0 for a non-empty slice.
     fn write(&mut self, bytes: &[u8]) -> Result<usize, DeviceFault>
-        requires { failed self.old < 2 ^ 64 - 1 }
         ensures bound { WritesAtMost result bytes.now }
         ensures bytes { WriteAppends (contents self.old) (contents self.new) result bytes.now }
         ensures unflushed { IfOk result (λ count. 0 < count → ¬ is_flushed self.new) }
@@ -63,7 +61,6 @@ pub trait Sink {
 
     /// Flushes buffered bytes. If this fails, the sink is flushed only if it was before.
     fn flush(&mut self) -> Result<(), DeviceFault>
-        requires { failed self.old < 2 ^ 64 - 1 }
         ensures bytes { Keeps (contents self.old) (contents self.new) }
         ensures flushed { OnOk result (is_flushed self.new) }
         ensures held { OnErr result (is_flushed self.new → is_flushed self.old) }

@@ -2,6 +2,7 @@
 ghost use Rattle.std.specs.Prelude.{◌≡◌, ◌<◌};
 
 use crate::device::{DeviceFault, Sink, Source};
+use http_server::Log;
 
 /// What goes wrong in the call of the plan.
 #[derive(Clone, Copy, Debug, PartialEq, Eq)]
@@ -30,7 +31,8 @@ pub struct FaultPlan {
 pub struct Faulty<D> {
     device: D,
     plan: FaultPlan,
-    failed: u64,
+    /// An entry for each call of its own that failed. It takes no memory: only proofs read it.
+    failures: Log<u64, u64>,
     ghost moves_bytes: { 0 < plan.most },
 }
 
@@ -47,7 +49,7 @@ impl<D> Faulty<D> {
         Faulty {
             device,
             plan,
-            failed: 0,
+            failures: Log::new(),
         }
     }
 
@@ -58,7 +60,7 @@ impl<D> Faulty<D> {
         let Faulty {
             device,
             plan: _,
-            failed: _,
+            failures: _,
         } = self;
         device
     }
@@ -86,7 +88,6 @@ impl<D: Source> Source for Faulty<D> {
     ghost failed = { λ f. own_failed f + D.failed (device_of f) };
 
     fn read(&mut self, buffer: &mut [u8]) -> Result<usize, DeviceFault>
-        requires { own_failed self.old + D.failed (device_of self.old) < 2 ^ 64 - 1 }
         ensures bound { ReadsAtMost result buffer.new }
         ensures bytes { ReadConsumes
             (faulty_known_bytes (plan_of self.old).trouble (D.remaining (device_of self.old)))
@@ -106,7 +107,7 @@ impl<D: Source> Source for Faulty<D> {
                 self.device.read(&mut buffer[..most])
             }
             Some(InjectedFault::Fails) => {
-                self.failed += 1;
+                self.failures = self.failures.and(&0, &0);
                 Err(DeviceFault)
             }
             Some(InjectedFault::TakesNone) => Ok(0),
@@ -128,7 +129,6 @@ impl<D: Sink> Sink for Faulty<D> {
     ghost is_flushed = { λ f. D.is_flushed (device_of f) };
 
     fn write(&mut self, bytes: &[u8]) -> Result<usize, DeviceFault>
-        requires { own_failed self.old + D.failed (device_of self.old) < 2 ^ 64 - 1 }
         ensures bound { WritesAtMost result bytes.now }
         ensures bytes { WriteAppends (D.contents (device_of self.old))
             (D.contents (device_of self.new)) result bytes.now }
@@ -149,12 +149,12 @@ impl<D: Sink> Sink for Faulty<D> {
                 self.device.write(&bytes[..most])
             }
             Some(InjectedFault::Fails) => {
-                self.failed += 1;
+                self.failures = self.failures.and(&0, &0);
                 Err(DeviceFault)
             }
             Some(InjectedFault::TakesNone) => {
                 if !bytes.is_empty() {
-                    self.failed += 1;
+                    self.failures = self.failures.and(&0, &0);
                 }
                 Ok(0)
             }
@@ -165,7 +165,7 @@ impl<D: Sink> Sink for Faulty<D> {
         match self.next_trouble() {
             None | Some(InjectedFault::TakesNone) => self.device.flush(),
             Some(InjectedFault::Fails) => {
-                self.failed += 1;
+                self.failures = self.failures.and(&0, &0);
                 Err(DeviceFault)
             }
         }

@@ -62,7 +62,6 @@ impl ReadAhead {
 
     /// Reads once, after the bytes present, and returns the count: 0 only at the end of the source.
     pub(crate) fn read_more<R: Source>(&mut self, source: &mut R) -> Result<usize, DeviceFault>
-        requires can_fail { R.failed source.old < 2 ^ 64 - 1 }
         requires room { length self.old < 1048576 }
         ensures bytes { Keeps (prepend_known self.old (R.remaining source.old))
             (prepend_known self.new (R.remaining source.new)) }

@@ -47,7 +47,6 @@ pub(crate) struct RecordHeader {
 /// Returns `Read` if and only if a read failed, which was then the last one, and `Memory` if an
 /// allocation failed. Only records are allocated.
 pub fn read_capture<R: Source>(alloc: Global, reader: &mut R) -> Result<Capture, CaptureFault>
-    requires { R.failed reader.old < 2 ^ 64 - 1 }
     // If the bytes of the source are known, the result is that of reading them.
     ensures answer { IsReadResult result
         (LeavesBytes (R.remaining reader.old) (R.remaining reader.new) (ReadCapturePost result)) }
@@ -74,7 +73,6 @@ pub fn read_capture<R: Source>(alloc: Global, reader: &mut R) -> Result<Capture,
 
 /// Fills the buffer as far as the source has bytes, and returns the number of bytes read.
 fn fill<R: Source>(reader: &mut R, buffer: &mut [u8]) -> Result<usize, DeviceFault>
-    requires { R.failed reader.old < 2 ^ 64 - 1 }
     ensures bound { IfOk result (λ n. n ≤ length buffer.new) }
     ensures bytes { IfOk result (λ n. Consumes (R.remaining reader.old) (R.remaining reader.new)
         (take n buffer.new)) }
@@ -94,9 +92,7 @@ fn fill<R: Source>(reader: &mut R, buffer: &mut [u8]) -> Result<usize, DeviceFau
 
 /// Reads the header of a file and returns its byte order and time unit, or its fault.
 pub(crate) fn read_file_header<R: Source>(reader: &mut R) -> Result<CaptureFormat, CaptureFault>
-    requires { R.failed reader.old < 2 ^ 64 - 1 }
-    ensures header { IsReadResult result (LeavesBytes (R.remaining reader.old)
-        (R.remaining reader.new)
+    ensures header { IsReadResult result (LeavesBytes (R.remaining reader.old) (R.remaining reader.new)
         (λ bytes left. (format_in (take 24 bytes) ≡ result) × (left ≡ drop 24 bytes))) }
     ensures memory { result ≢ Err CaptureFault.Memory }
     ensures count { R.failed reader.new ≡ R.failed reader.old + failed_reads result }
@@ -136,7 +132,6 @@ fn read_record<R: Source>(
     asked: u64,
     number: u64,
 ) -> Result<NextRead, CaptureFault>
-    requires can_fail { R.failed reader.old < 2 ^ 64 - 1 }
     requires within { asked ≤ MOST_ASKED }
     ensures next { IsReadResult result (LeavesBytes (R.remaining reader.old)
         (R.remaining reader.new)

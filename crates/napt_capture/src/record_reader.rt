@@ -36,7 +36,6 @@ impl RecordReader {
     /// Reads the file header. Returns `NoHeader`, `BadMagic`, `BadVersion` or `BadLink` for its 24
     /// bytes, `Read` if and only if a read failed, or `Memory`, before any read, for the buffer.
     pub fn open<R: Source>(alloc: Global, source: &mut R) -> Result<RecordReader, CaptureFault>
-        requires { R.failed source.old < 2 ^ 64 - 1 }
         ensures header { IsReadResult result
             (LeavesBytes (R.remaining source.old) (R.remaining source.new) (λ bytes left.
             (format_in (take 24 bytes) ≡ spelling_of_reader result) × (left ≡ drop 24 bytes))) }
@@ -77,9 +76,7 @@ impl RecordReader {
         source: &mut R,
         vector: Vec<u8>,
     ) -> Result<NextRead, CaptureFault>
-        requires can_fail { R.failed source.old < 2 ^ 64 - 1 }
-        ensures next { IsReadResult result
-            (LeavesBytes (remaining_text self.old (R.remaining source.old))
+        ensures next { IsReadResult result (LeavesBytes (remaining_text self.old (R.remaining source.old))
             (remaining_text self.new (R.remaining source.new)) (HandsOutNext self.old result)) }
         ensures number { IfOk result (λ next. self.new.number ≡ next_number next self.old.number) }
         ensures kept { OnErr result (HandsOutNothing self.old (R.remaining source.old)
@@ -156,7 +153,6 @@ impl RecordReader {
     /// Reads until what comes next is known, or to the end of the source.
     #[inline(always)]
     fn read_ahead<R: Source>(&mut self, source: &mut R) -> Result<(), DeviceFault>
-        requires can_fail { R.failed source.old < 2 ^ 64 - 1 }
         ensures kept { HandsOutNothing self.old (R.remaining source.old)
             self.new (R.remaining source.new) }
         ensures known { OnOk result (RecordsAskSource self.new → IsAtEnd (R.remaining source.new)) }

@@ -2,14 +2,16 @@
 ghost use Rattle.std.specs.Prelude.{◌≡◌, false};
 
 use crate::device::{DeviceFault, Sink, Source};
+use http_server::Log;
 use std::io::{Read, Write};
 
-/// A std reader or writer with a count of its failed calls. Each call makes one call of the device
+/// A std reader or writer with a record of its failed calls. Each call makes one call of the device
 /// and returns its result.
 #[derive(Drop)]
 pub struct Watched<D> {
     device: D,
-    failed: u64,
+    /// An entry for each call that failed. It takes no memory: only proofs read it.
+    failures: Log<u64, u64>,
     flushed: bool,
 }
 
@@ -24,7 +26,7 @@ impl<D> Watched<D> {
     {
         Watched {
             device,
-            failed: 0,
+            failures: Log::new(),
             flushed: false,
         }
     }
@@ -35,7 +37,7 @@ impl<D> Watched<D> {
     {
         let Watched {
             device,
-            failed: _,
+            failures: _,
             flushed: _,
         } = self;
         device
@@ -53,7 +55,7 @@ impl<D: Read> Source for Watched<D> {
         match self.device.read(buffer) {
             Ok(count) => Ok(count),
             Err(_) => {
-                self.failed += 1;
+                self.failures = self.failures.and(&0, &0);
                 Err(DeviceFault)
             }
         }
@@ -75,12 +77,12 @@ impl<D: Write> Sink for Watched<D> {
         match self.device.write(bytes) {
             Ok(count) => {
                 if count == 0 && !bytes.is_empty() {
-                    self.failed += 1;
+                    self.failures = self.failures.and(&0, &0);
                 }
                 Ok(count)
             }
             Err(_) => {
-                self.failed += 1;
+                self.failures = self.failures.and(&0, &0);
                 Err(DeviceFault)
             }
         }
@@ -93,7 +95,7 @@ impl<D: Write> Sink for Watched<D> {
                 Ok(())
             }
             Err(_) => {
-                self.failed += 1;
+                self.failures = self.failures.and(&0, &0);
                 Err(DeviceFault)
             }
         }

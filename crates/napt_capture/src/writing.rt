@@ -9,7 +9,6 @@ use crate::fault::WriteFault;
 
 /// Writes a capture file with these records, and flushes the writer. It does not allocate.
 pub fn write_capture<W: Sink>(writer: &mut W, records: &[Record]) -> Result<(), WriteFault>
-    requires can_fail { W.failed writer.old < 2 ^ 64 - 1 }
     requires few { length records.now < 2 ^ 32 }
     requires writable { All IsWritable records.now }
     ensures ok { OnOk result (Appends (W.contents writer.old) (W.contents writer.new)
@@ -34,7 +33,6 @@ fn append_record<W: Sink>(
     written: CaptureWriter,
     packet: &Record,
 ) -> Result<CaptureWriter, WriteFault>
-    requires can_fail { W.failed writer.old < 2 ^ 64 - 1 }
     requires room { written + length (record_text packet.now) < 2 ^ 64 }
     requires writable { IsWritable packet.now }
     ensures puts { PutPost written (W.contents writer.old) (W.contents writer.new)
@@ -46,7 +44,6 @@ fn append_record<W: Sink>(
 
 /// Writes these bytes, and flushes the writer. It does not allocate.
 pub fn write_text<W: Sink>(writer: &mut W, bytes: &[u8]) -> Result<(), WriteFault>
-    requires { W.failed writer.old < 2 ^ 64 - 1 }
     ensures ok { OnOk result (Appends (W.contents writer.old) (W.contents writer.new) bytes.now) }
     ensures flushed { OnOk result (W.is_flushed writer.new) }
     ensures err { IfErr result (λ fault. (fault.written ≤ length bytes.now)

@@ -22,8 +22,6 @@ pub enum Exit {
     Differ,
     /// Nobody had the endpoint asked about.
     Nobody,
-    /// No packet of a plan leaves for the outside.
-    Nothing,
     /// The captures are of a gateway that had other numbers, which was already printed.
     Others,
     /// A saved log is refused, for a reason that was already printed.
@@ -32,14 +30,14 @@ pub enum Exit {
 
 impl Exit {
     /// The exit status: that of `napt`; 6 if standard output fails, as for a file; 4 if a saved log is refused, as for a
-    /// capture; 7 if captures are of a gateway with other numbers; 1 if packets differ, if nobody had an endpoint asked about, or if nothing leaves that a plan could count.
+    /// capture; 7 if captures are of a gateway with other numbers; 1 if packets differ, or if nobody had an endpoint asked about.
     pub fn status(&self) -> u8 {
         match self {
             Exit::Told(stop) | Exit::As(stop) => stop_status(stop),
             Exit::NoOutput | Exit::Output(_) => 6,
             Exit::Log => 4,
             Exit::Others => 7,
-            Exit::Differ | Exit::Nobody | Exit::Nothing => 1,
+            Exit::Differ | Exit::Nobody => 1,
         }
     }
 

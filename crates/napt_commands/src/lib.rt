@@ -2,7 +2,9 @@
 //! and what becomes of those from outside.
 #![tactic(auto)]
 
+mod command_output;
 mod counted_run;
+mod coverage;
 mod exit;
 mod files;
 mod loss_counts;
@@ -15,14 +17,16 @@ mod sorted_entries;
 mod start;
 mod warning;
 
+pub use crate::command_output::CommandOutput;
 pub use crate::counted_run::CountedRun;
+pub use crate::coverage::Coverage;
 pub use crate::exit::Exit;
 pub use crate::files::{opened, print_failed, print_unwritten, text_at, unexplained, unwritten};
 pub use crate::loss_counts::{LossCounts, SourceKind, destination_of, source_of};
 pub use crate::outside_capture::{OutsideCapture, copied};
 pub use crate::page::Page;
-pub use crate::run_packet::{Consumer, RunEnd, RunPacket, take_all};
+pub use crate::run_packet::{Consumer, EndedRun, RunPacket, take_all};
 pub use crate::seconds::Seconds;
 pub use crate::sorted_entries::SortedEntries;
 pub use crate::start::RunStart;
-pub use crate::warning::{print_warning, start_warning};
+pub use crate::warning::print_warning;

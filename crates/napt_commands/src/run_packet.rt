@@ -1,8 +1,10 @@
 //! A packet of a run as it comes by, and how a run ends.
 
 use crate::exit::Exit;
+use crate::loss_counts::LossCounts;
 use napt_account::{LogEntry, LogStep};
 use napt_config::Config;
+use napt_records::CutFlags;
 use napt_rules::Row;
 use napt_sequential::Input;
 
@@ -17,7 +19,7 @@ pub struct RunPacket<'a> {
 
 /// How a run under a configuration ended.
 #[derive(Drop)]
-pub struct RunEnd<'a> {
+pub struct EndedRun<'a> {
     pub config: &'a Config,
     /// How many packets there were.
     pub packets: u64,
@@ -27,7 +29,12 @@ pub struct RunEnd<'a> {
     pub last: u64,
     /// How far packets step back in time, in ns.
     pub later: u64,
-    /// The live bindings, in the order of the report, if they are to be printed so.
+    pub cuts: CutFlags,
+    /// What became of the packets from outside.
+    pub losses: LossCounts,
+    /// Whether those that found no binding, or were not for the gateway, seem to be answers.
+    pub are_answers: bool,
+    /// The live bindings, in the order of the report.
     pub rows: Vec<Row>,
     /// The entries of the live bindings.
     pub living: Vec<LogEntry>,

@@ -74,15 +74,6 @@ impl<'a> RunStart<'a> {
         TrackedRun::resume(alloc, self.config, &self.state, &self.log)
     }
 
-    /// The same with a log that begins there.
-    pub fn run_begun(&self, alloc: Global) -> Result<RunFromState<'a>, AllocError>
-        ensures { IfOk result (IsResumedRun self.now.rules
-            (with_redirects self.now.rules self.now.state) (record { made = 0; living = [] })) }
-    {
-        let none = SavedLogState::none(alloc);
-        TrackedRun::resume(alloc, self.config, &self.state, &none)
-    }
-
     /// The run from there, without a log. Fails only if memory is refused.
     pub fn plain_run(&self, alloc: Global) -> Result<PlainRun<'a>, AllocError>
         ensures { IfOk result (λ run. run ≡ plain_from self.now) }

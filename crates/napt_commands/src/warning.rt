@@ -18,7 +18,10 @@ pub fn print_warning<R: Eprint>(
     if !tell {
         return;
     }
-    start_warning(rt, under);
+    let _ = match under {
+        Some(path) => eprint!(rt; "explain: under {path}: "),
+        None => eprint!(rt; "explain: "),
+    };
     let (all, unmet) = (losses.all, losses.unmet());
     let _ = match outside {
         OutsideCapture::Packets => eprintln!(rt;
@@ -34,13 +37,5 @@ pub fn print_warning<R: Eprint>(
             "{} of {all} replies find no binding: are they of the same time and hosts as the inside capture?",
             losses.no_binding
         ),
-    };
-}
-
-/// Begins a warning, under a configuration where there are several.
-pub fn start_warning<R: Eprint>(rt: &R, under: Option<&str>) {
-    let _ = match under {
-        Some(path) => eprint!(rt; "explain: under {path}: "),
-        None => eprint!(rt; "explain: "),
     };
 }

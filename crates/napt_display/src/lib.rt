@@ -1,6 +1,4 @@
-//! What `explain` shows people: a run drawn in SVG (`picture`), and why napt refuses a file or drops packets, in words
-//! (`reasons`). Neither makes a run.
+//! Why napt refuses a file or drops packets, in words for people to read. It makes no run.
 #![tactic(auto)]
 
-pub mod picture;
 pub mod reasons;

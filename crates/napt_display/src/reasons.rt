@@ -12,7 +12,7 @@ mod room;
 mod spelling;
 
 pub use crate::reasons::capture::{SplitAdvice, capture_reasons};
-pub use crate::reasons::cause::{advice, meaning};
+pub use crate::reasons::cause::CauseText;
 pub use crate::reasons::config::config_reasons;
 pub use crate::reasons::inside_hosts::inside_prefixes;
 pub use crate::reasons::reason::Reason;

@@ -7,7 +7,7 @@ use crate::packet_selection::PacketSelection;
 use crate::replies::Replies;
 use napt_account::{LogNote, Party};
 use napt_commands::RunPacket;
-use napt_display::reasons::meaning;
+use napt_display::reasons::CauseText;
 use napt_log_text::JsonObject;
 use napt_records::cause_name;
 use napt_sequential::Outcome;
@@ -118,7 +118,7 @@ impl<'a> PacketLine<'a> {
                 return Ok(());
             }
         }
-        text.push_str(meaning(cause))
+        text.push_str(CauseText::of(cause).meaning)
     }
 }
 

@@ -16,10 +16,6 @@ const FROM_INSIDE: &str = "the captured gateway itself, or one host to another";
 const FROM_POOL: &str =
     "packets that the captured gateway sent back inside, or a remote; another pool would count them";
 
-/// What to do if many have no binding.
-const UNBOUND: &str =
-    "`quota`, the timers or the pool leave their hosts without a binding, or the inside capture lacks what was sent before";
-
 /// The replies of a run that followed it.
 #[derive(Clone, Copy)]
 pub struct Replies<'a> {
@@ -139,14 +135,5 @@ impl<'a> Replies<'a> {
             }
         }
         Ok(())
-    }
-}
-
-/// What to do if many replies are dropped for a cause, where that is not what it is for other packets.
-pub fn advice_of_replies(cause: Cause) -> Option<&'static str> {
-    match cause {
-        Cause::NoBinding => Some(UNBOUND),
-        Cause::NotOurs => Some("is this an outside capture? (`--outside`)"),
-        _ => None,
     }
 }

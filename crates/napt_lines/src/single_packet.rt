@@ -4,10 +4,12 @@ use crate::column_widths::ColumnWidths;
 use crate::ended_bindings::add_binding;
 use crate::lines::PacketLine;
 use crate::packet_selection::PacketSelection;
+use crate::replies::Replies;
 use napt_account::{Entry, LogEntry};
-use napt_commands::{Exit, Page, RunEnd, RunPacket, Seconds};
+use napt_commands::{CommandOutput, EndedRun, Exit, Page, RunPacket, Seconds};
+use napt_config::Config;
 use napt_program::Stop;
-use std::alloc::{AllocError, Global};
+use std::alloc::AllocError;
 use std::fmt::Write;
 
 /// A binding that the packet used: its number in the log, from 1, and its entry once it ended.
@@ -35,10 +37,12 @@ impl UsedBinding {
 }
 
 /// The packet that is shown alone.
-#[derive(Clone, Copy, Default)]
-pub struct SinglePacket {
+#[derive(Clone, Copy)]
+pub struct SinglePacket<'a> {
     /// Its number, from 1.
     number: u64,
+    choice: PacketSelection,
+    replies: Option<Replies<'a>>,
     /// Whether it came.
     is_found: bool,
     /// Whether it meets the other conditions.
@@ -48,43 +52,22 @@ pub struct SinglePacket {
     into: Option<UsedBinding>,
 }
 
-impl SinglePacket {
+impl<'a> SinglePacket<'a> {
     /// Before the first packet.
-    pub fn new(number: u64) -> SinglePacket {
+    pub fn new(
+        number: u64,
+        choice: PacketSelection,
+        replies: Option<Replies<'a>>,
+    ) -> SinglePacket<'a> {
         SinglePacket {
             number,
-            ..SinglePacket::default()
+            choice,
+            replies,
+            is_found: false,
+            is_chosen: false,
+            out: None,
+            into: None,
         }
-    }
-
-    /// Takes the next packet. The line of the one that is shown is appended, if it meets the other conditions.
-    pub fn take(
-        &mut self,
-        alloc: Global,
-        text: &mut String,
-        choice: PacketSelection,
-        line: PacketLine<'_>,
-    ) -> Result<(), AllocError> {
-        let RunPacket {
-            number,
-            input,
-            step,
-        } = line.passing;
-        self.take_entries(&step.ended);
-        if number != self.number {
-            return Ok(());
-        }
-        self.is_found = true;
-        self.is_chosen = line.is_chosen(alloc, choice)?;
-        if !self.is_chosen {
-            return Ok(());
-        }
-        let mut widths = ColumnWidths::default();
-        widths.take(number, input);
-        line.add(alloc, text, widths)?;
-        self.out = step.used.out.map(UsedBinding::at);
-        self.into = step.used.into.map(UsedBinding::at);
-        Ok(())
     }
 
     /// Takes the entries of its bindings, if they are among these.
@@ -96,14 +79,42 @@ impl SinglePacket {
             used.take(listed);
         }
     }
+}
+
+impl<R: Print + Eprint + AllocGlobal> CommandOutput<R> for SinglePacket<'_> {
+    /// Takes the next packet. The line of the one that is shown is appended, if it meets the other conditions.
+    fn take(
+        &mut self,
+        rt: &R,
+        _config: &Config,
+        passing: RunPacket<'_>,
+        text: &mut String,
+    ) -> Result<(), Exit> {
+        let RunPacket {
+            number,
+            input,
+            step,
+        } = passing;
+        self.take_entries(&step.ended);
+        if number != self.number {
+            return Ok(());
+        }
+        self.is_found = true;
+        let line = PacketLine::of(passing, self.replies);
+        self.is_chosen = line.is_chosen(rt.alloc(), self.choice)?;
+        if !self.is_chosen {
+            return Ok(());
+        }
+        let mut widths = ColumnWidths::default();
+        widths.take(number, input);
+        line.add(rt.alloc(), text, widths)?;
+        self.out = step.used.out.map(UsedBinding::at);
+        self.into = step.used.into.map(UsedBinding::at);
+        Ok(())
+    }
 
     /// Prints the bindings. A packet that did not come is reported.
-    pub fn tell<R: Print + Eprint>(
-        self,
-        rt: &R,
-        page: &mut Page,
-        ending: &RunEnd<'_>,
-    ) -> Result<(), Exit> {
+    fn end(self, rt: &R, page: &mut Page, ending: &EndedRun<'_>) -> Result<(), Exit> {
         if !self.is_found {
             let (number, packets) = (self.number, ending.packets);
             let _ = eprintln!(rt; "explain: --only {number}: there are {packets} packets");

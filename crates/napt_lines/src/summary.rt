@@ -4,16 +4,15 @@ use crate::column_widths::ColumnWidths;
 use crate::ended_bindings::{add_binding, add_end};
 use crate::lines::{PacketLine, has_party};
 use crate::packet_selection::PacketSelection;
-use crate::remotes::Remotes;
-use crate::replies::{Replies, advice_of_replies};
+use crate::replies::Replies;
 use napt_account::Entry;
-use napt_commands::{Exit, LossCounts, Page, RunEnd, RunPacket, Seconds, SortedEntries};
+use napt_commands::{CommandOutput, EndedRun, Exit, Page, RunPacket, Seconds, SortedEntries};
 use napt_config::Config;
-use napt_display::reasons::{advice, meaning};
+use napt_display::reasons::CauseText;
 use napt_records::{OutcomeCounts, cause_name};
 use napt_table::Row;
 use napt_wire::Cause;
-use std::alloc::{AllocError, Global};
+use std::alloc::AllocError;
 use std::fmt::Write;
 
 /// What to do if many packets from outside find no binding although inside packets left for their remotes.
@@ -23,97 +22,28 @@ addresses: give what inside hosts got as --replies";
 
 /// The lines of a run, and the counts for its summary.
 #[derive(Drop)]
-pub struct PacketLines {
+pub struct PacketLines<'a> {
     choice: PacketSelection,
+    /// The packets from outside, if they are replies.
+    replies: Option<Replies<'a>>,
     widths: ColumnWidths,
     counts: OutcomeCounts,
 }
 
-/// What became of the packets from outside, and whether they are replies.
-#[derive(Drop)]
-pub struct OutsideSummary<'a> {
-    pub losses: LossCounts,
-    pub remotes: Remotes,
-    pub replies: Option<Replies<'a>>,
-}
-
-impl<'a> OutsideSummary<'a> {
+impl<'a> PacketLines<'a> {
     /// Before the first packet.
-    pub fn new(
-        alloc: Global,
-        config: &Config,
-        replies: Option<Replies<'a>>,
-    ) -> Result<OutsideSummary<'a>, AllocError> {
-        Ok(OutsideSummary {
-            losses: LossCounts::new(alloc, config)?,
-            remotes: Remotes::new(alloc),
-            replies,
-        })
-    }
-
-    /// Takes the next packet, of a run under this configuration.
-    pub fn take(&mut self, config: &Config, passing: RunPacket<'_>) -> Result<(), AllocError> {
-        self.losses
-            .take(config, passing.input, &passing.step.outcome);
-        match self.replies {
-            Some(_) => Ok(()),
-            None => self.remotes.take(passing),
-        }
-    }
-}
-
-impl PacketLines {
-    /// Before the first packet.
-    pub fn new(choice: PacketSelection) -> PacketLines {
+    pub fn new(choice: PacketSelection, replies: Option<Replies<'a>>) -> PacketLines<'a> {
         PacketLines {
             choice,
+            replies,
             widths: ColumnWidths::default(),
             counts: OutcomeCounts::new(),
         }
     }
 
-    /// Takes the next packet: appends its line if it is selected, and before it the lines of the bindings that expired by
-    /// then.
-    pub fn take(
-        &mut self,
-        alloc: Global,
-        text: &mut String,
-        line: PacketLine<'_>,
-    ) -> Result<(), AllocError> {
-        let RunPacket {
-            number,
-            input,
-            step,
-        } = line.passing;
-        self.counts.count(&step.outcome);
-        self.widths.take(number, input);
-        for listed in &step.ended {
-            if self.has_chosen(&listed.entry) {
-                add_end(text, self.widths, &listed.entry)?;
-            }
-        }
-        if line.is_chosen(alloc, self.choice)? {
-            line.add(alloc, text, self.widths)?;
-        }
-        Ok(())
-    }
-
     /// Whether a binding's end is selected.
     fn has_chosen(&self, entry: &Entry) -> bool {
         !self.choice.dropped && has_party(&entry.binding, self.choice.host)
-    }
-
-    /// Prints the live bindings, and what became of the packets.
-    pub fn tell<R: Print + AllocGlobal>(
-        &self,
-        rt: &R,
-        page: &mut Page,
-        ending: &RunEnd<'_>,
-        outside: &OutsideSummary<'_>,
-    ) -> Result<(), Exit> {
-        self.tell_bindings(rt, page, ending)?;
-        self.add_counts(&mut page.text, outside)?;
-        page.end(rt)
     }
 
     /// Prints the bindings live at the last packet's time, with their ages; only those of a host or endpoint if one is
@@ -122,7 +52,7 @@ impl PacketLines {
         &self,
         rt: &R,
         page: &mut Page,
-        ending: &RunEnd<'_>,
+        ending: &EndedRun<'_>,
     ) -> Result<(), Exit> {
         let living = ending.living.iter().map(|listed| listed.entry);
         let living = SortedEntries::of(living.collect(rt.alloc())?)?;
@@ -140,17 +70,13 @@ impl PacketLines {
     }
 
     /// Appends the counts of outcomes, and what to do if more than a fifth of the packets were dropped for one cause.
-    fn add_counts(
-        &self,
-        text: &mut String,
-        outside: &OutsideSummary<'_>,
-    ) -> Result<(), AllocError> {
+    fn add_counts(&self, text: &mut String, ending: &EndedRun<'_>) -> Result<(), AllocError> {
         let counts = &self.counts;
         writeln!(text, "packets: {}", counts.packets())?;
         writeln!(text, "  {} to the outside", counts.to_outside())?;
         writeln!(text, "  {} to the inside", counts.to_inside())?;
         for cause in Cause::ALL {
-            self.add_cause(text, outside, cause)?;
+            self.add_cause(text, ending, cause)?;
         }
         Ok(())
     }
@@ -158,20 +84,20 @@ impl PacketLines {
     fn add_cause(
         &self,
         text: &mut String,
-        outside: &OutsideSummary<'_>,
+        ending: &EndedRun<'_>,
         cause: Cause,
     ) -> Result<(), AllocError> {
         let many = self.counts.dropped(cause);
         if many == 0 {
             return Ok(());
         }
-        let name = cause_name(cause);
-        writeln!(text, "  {many} dropped, {name}: {}", meaning(cause))?;
-        if let Some(replies) = outside.replies {
-            replies.add_losses(text, cause, &outside.losses)?;
+        let (name, meaning) = (cause_name(cause), CauseText::of(cause).meaning);
+        writeln!(text, "  {many} dropped, {name}: {meaning}")?;
+        if let Some(replies) = self.replies {
+            replies.add_losses(text, cause, &ending.losses)?;
         }
         if many > self.counts.packets() / 5 {
-            self.add_advice(text, outside, cause)?;
+            self.add_advice(text, ending, cause)?;
         }
         Ok(())
     }
@@ -181,24 +107,62 @@ impl PacketLines {
     fn add_advice(
         &self,
         text: &mut String,
-        outside: &OutsideSummary<'_>,
+        ending: &EndedRun<'_>,
         cause: Cause,
     ) -> Result<(), AllocError> {
-        let is_answered = outside.replies.is_none()
+        let is_answered = self.replies.is_none()
             && matches!(cause, Cause::NoBinding | Cause::NotOurs)
-            && outside.remotes.are_answers(&outside.losses);
+            && ending.are_answers;
         if is_answered {
             writeln!(text, "    many packets end so: {OTHER_NUMBERS}")?;
         }
-        let told = match outside.replies {
-            Some(_) => advice_of_replies(cause).or(advice(cause)),
-            None => advice(cause),
+        let told = CauseText::of(cause);
+        let told = match self.replies {
+            Some(_) => told.advice_of_replies.or(told.advice),
+            None => told.advice,
         };
         match told {
             Some(advice) if is_answered => writeln!(text, "    else: {advice}"),
             Some(advice) => writeln!(text, "    many packets end so: {advice}"),
             None => Ok(()),
         }
+    }
+}
+
+impl<R: Print + AllocGlobal> CommandOutput<R> for PacketLines<'_> {
+    /// Takes the next packet: appends its line if it is selected, and before it the lines of the bindings that expired by
+    /// then.
+    fn take(
+        &mut self,
+        rt: &R,
+        _config: &Config,
+        passing: RunPacket<'_>,
+        text: &mut String,
+    ) -> Result<(), Exit> {
+        let RunPacket {
+            number,
+            input,
+            step,
+        } = passing;
+        self.counts.count(&step.outcome);
+        self.widths.take(number, input);
+        for listed in &step.ended {
+            if self.has_chosen(&listed.entry) {
+                add_end(text, self.widths, &listed.entry)?;
+            }
+        }
+        let line = PacketLine::of(passing, self.replies);
+        if line.is_chosen(rt.alloc(), self.choice)? {
+            line.add(rt.alloc(), text, self.widths)?;
+        }
+        Ok(())
+    }
+
+    /// Prints the live bindings, and what became of the packets.
+    fn end(self, rt: &R, page: &mut Page, ending: &EndedRun<'_>) -> Result<(), Exit> {
+        self.tell_bindings(rt, page, ending)?;
+        self.add_counts(&mut page.text, ending)?;
+        page.end(rt)
     }
 }
 

@@ -6,7 +6,7 @@ use Rattle.napt_program.specs.declared.options.LineFault.{LineFault}
 use Rattle.napt_program.specs.declared.options.LineFault.TheVariants as fault
 use Rattle.napt_program.specs.declared.role.FileRole.TheVariants as role
 use Rattle.napt_program.specs.declared.stop.Stop.TheVariants as stop
-use Rattle.napt_records.specs.{Faults.is_shut_gate_fault, declared.Fault.{Fault, TheVariants.Capture}}
+use Rattle.napt_records.specs.{Faults.is_shut_gate_fault, declared.{Fault.{Fault, TheVariants.{Capture, Write}}, Which.TheVariants.{Log}}}
 use Rattle.napt_wire.specs.declared.Side.TheVariants.{Outside}
 
 -- A file of this role can fail: it is named, or its standard stream is closed.
@@ -19,6 +19,11 @@ can_fail streams named other = names_file named other
 abbrev pub IsOfGiven : CommandLineFiles → Fault → Type 0
 IsOfGiven named (Capture Outside fault) = is_some named.outside ≡ true
 IsOfGiven named other = Unit {0}
+
+-- A fault of the log comes only if a log is named.
+abbrev pub IsOfLog : CommandLineFiles → Fault → Type 0
+IsOfLog named (Write Log fault) = is_some named.log ≡ true
+IsOfLog named other = Unit {0}
 
 -- The stop after a fault of a run over these files. The device in place of an outside capture that is not named has no
 -- fault of its own, so memory was refused.
@@ -35,7 +40,8 @@ IsRunStop streams named (stop.LogFile refusal) = is_some named.log ≡ true
 IsRunStop streams named stop.Log = is_some named.log ≡ true
 IsRunStop streams named (stop.State refusal) = is_some named.resume ≡ true
 IsRunStop streams named stop.Save = is_some named.save ≡ true
-IsRunStop streams named (stop.Run fault) = (is_shut_gate_fault fault ≡ false) × IsOfGiven named fault
+IsRunStop streams named (stop.Run fault) =
+    (is_shut_gate_fault fault ≡ false) × IsOfGiven named fault × IsOfLog named fault
 IsRunStop streams named other = ⊥
 
 -- The text of the help or the version could not be made or printed.

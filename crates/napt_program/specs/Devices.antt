@@ -1,9 +1,9 @@
 -- The devices that are made for files, as contracts see them.
-use Rattle.std.specs.{Prelude.{◌≡◌, ℕ, List, Option, IfSome, option_map}, Io.Buffered.{reader_remaining, writer_contents}, declared.io.buffered.BufReader.BufReader}
+use Rattle.std.specs.{Prelude.{◌≡◌, ℕ, List, Option, option_map}, Io.Buffered.{reader_remaining, writer_contents}, declared.io.buffered.BufReader.BufReader}
 use Rattle.std.specs.declared.io.buffered.BufWriter.{BufWriter}
 use Rattle.either.specs.{Either.{either, left}, declared.Either.Either}
-use Rattle.napt_capture.specs.{Watched.{device_of, failed_of}, declared.watched.Watched.Watched}
-use Rattle.napt_program.specs.declared.{devices.{RunDevices.RunDevices, OutputDevices.OutputDevices}, files.RunFiles.RunFiles, log_file.LogOutput.LogOutput}
+use Rattle.napt_capture.specs.{Watched.device_of, declared.watched.Watched.Watched}
+use Rattle.napt_program.specs.declared.{devices.RunDevices.RunDevices, files.RunFiles.RunFiles}
 
 -- The bytes that a device has left to read, or that were written to it, if they are known.
 abbrev pub Bytes : Type 0
@@ -20,25 +20,6 @@ bytes_written contents made = writer_contents contents (device_of made)
 -- The bytes that were written to the device of a log, from those of the writer in it or of its pieces.
 abbrev pub log_written : {D P A : Type 0} → (D → Bytes) → (P → Bytes) → Watched (Either (BufWriter D A) P) → Bytes
 log_written contents pieces made = either (writer_contents contents) pieces (device_of made)
-
--- The number of failed calls of a device, or 0 for what replaces a device and never fails.
-abbrev pub failed_in : {D E : Type 0} → Either (Watched D) E → ℕ
-failed_in device = either failed_of (λ other. 0) device
-
--- No call of a device has failed yet.
-abbrev pub AreOutputsFresh : {T F : Type 0} → OutputDevices T F → Type 0
-AreOutputsFresh outputs = (failed_of outputs.to_outside ≡ 0)
-    × (failed_in outputs.to_inside ≡ 0)
-    × (failed_in outputs.report ≡ 0)
-
-abbrev pub AreFresh : {S T F : Type 0} → RunDevices S T F → Type 0
-AreFresh devices = (failed_of devices.inside ≡ 0)
-    × (failed_in devices.outside ≡ 0)
-    × AreOutputsFresh devices.outputs
-
--- No call of the log's device has failed yet, if there is a log.
-abbrev pub IsFreshLog : {D : Type 0} → Option (LogOutput (Watched D)) → Type 0
-IsFreshLog log = IfSome log (λ it. failed_of it.device ≡ 0)
 
 -- Each device reads or writes the bytes of its file, from the bytes of standard input and standard output, and those
 -- that a file has left to read and has written.

@@ -93,6 +93,7 @@ abbrev pub output_role : Which → FileRole
 output_role output.Outside = role.ToOutside
 output_role output.Inside = role.ToInside
 output_role output.Report = role.Report
+output_role output.Log = role.Log
 
 abbrev pub fault_text : Fault → Text
 fault_text (run.Capture side fault) = codes "capture " ++ side_name side ++ codes " " ++ capture_name fault

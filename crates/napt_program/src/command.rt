@@ -1,7 +1,7 @@
 //! The arguments of a program, and everything that it opens for its run.
 
 ghost use Rattle.std.specs.{Prelude.{◌≡◌, ◌≢◌, ◌⊎◌, [], Err, IfErr, IfOk, IfSome, None, false, is_some, true}, IoError.error_kind};
-ghost use Rattle.napt_program.specs.{CommandLine.files_with_log, Command.{IsRunStop, stop_after}, Devices.{AreFresh, IsFreshLog}};
+ghost use Rattle.napt_program.specs.{CommandLine.files_with_log, Command.{IsOfLog, IsRunStop, stop_after}};
 ghost use Rattle.napt_program.specs.{Standard.standard_again, Streams.closed_stream};
 ghost use Rattle.napt_records.specs.Faults.{is_shut_gate_fault};
 ghost use Rattle.napt_account.specs.ResumedLogRuns.{IsFew};
@@ -77,7 +77,6 @@ pub fn open<'r, R: Files + Input + Print + AllocGlobal>(
     streams: StandardStreams,
     options: &OptionsWithLog,
 ) -> Result<RunResources<Box<R::Reader>, Printer<'r, R>, R::File, LogPieces<'r, R>>, Stop>
-    ensures fresh { IfOk result (λ o. AreFresh o.devices × IsFreshLog o.log) }
     ensures taken { IfOk result (λ o. TakesState o.config o.state) }
     ensures few { IfOk result (λ o. IsFew o.kept) }
     ensures save { IfOk result (λ o. is_some o.save ≡ is_some options.now.files.save) }
@@ -135,7 +134,8 @@ fn entries_of(alloc: Global, log: Option<LogPosition>) -> SavedLogState
 /// Returns why a program stops after a fault of its run. The device in place of a missing outside
 /// capture has no fault of its own: if it could not be read, the run was refused memory.
 pub fn stop_of_run(options: &OptionsWithLog, fault: Fault) -> Stop
-    requires { is_shut_gate_fault fault ≡ false }
+    requires gate { is_shut_gate_fault fault ≡ false }
+    requires log { IsOfLog (files_with_log options.now) fault }
     ensures stop { (streams : StandardStreams) →
         IsRunStop streams (files_with_log options.now) result }
     ensures exact { result ≡ stop_after (files_with_log options.now) fault }

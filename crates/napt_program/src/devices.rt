@@ -1,9 +1,8 @@
-//! The devices of a run: its files with buffers, which count failed calls.
+//! The devices of a run: its files with buffers.
 
 ghost use Rattle.std.specs.{Prelude.{◌≡◌, IfErr, IfOk, is_some, option_map}, Io.Buffered.{reader_remaining, writer_contents}};
 ghost use Rattle.either.specs.Either.{either, is_left, left};
-ghost use Rattle.napt_capture.specs.Watched.{failed_of};
-ghost use Rattle.napt_program.specs.Devices.{AreFresh, AreOver, IsFreshLog, device_bytes_left, bytes_written, failed_in, log_written};
+ghost use Rattle.napt_program.specs.Devices.{AreOver, device_bytes_left, bytes_written, log_written};
 
 use crate::files::RunFiles;
 use crate::log_file::LogOutput;
@@ -47,7 +46,6 @@ pub fn buffered<S: Read + Drop, T: Write + Drop, F: Read + Write + Drop>(
     files: RunFiles<S, T, F>,
     held: usize,
 ) -> Result<RunDevices<S, T, F>, Stop>
-    ensures fresh { IfOk result AreFresh }
     ensures over { IfOk result
         (AreOver S.remaining T.contents F.remaining F.contents files) }
     ensures refused { IfErr result (λ stop. stop ≡ MEMORY) }
@@ -65,7 +63,6 @@ pub fn buffered<S: Read + Drop, T: Write + Drop, F: Read + Write + Drop>(
 
 /// Returns the device for a reader. Fails with `MEMORY` if memory is refused.
 fn source<D: Read + Drop>(alloc: Global, device: D) -> Result<Watched<BufReader<D>>, Stop>
-    ensures fresh { IfOk result (λ made. failed_of made ≡ 0) }
     ensures tells { IfOk result (λ made. device_bytes_left D.remaining made ≡ D.remaining device) }
     ensures refused { IfErr result (λ stop. stop ≡ MEMORY) }
 {
@@ -85,7 +82,6 @@ fn source_over<D: Read + Drop>(
     alloc: Global,
     device: Option<D>,
 ) -> Result<Either<Watched<BufReader<D>>, EmptySource>, Stop>
-    ensures fresh { IfOk result (λ made. failed_in made ≡ 0) }
     ensures given { IfOk result (λ made. is_left made ≡ is_some device) }
     ensures tells { IfOk result (λ made. option_map (device_bytes_left D.remaining) (left made)
         ≡ option_map D.remaining device) }
@@ -103,7 +99,6 @@ fn sink<D: Write + Drop>(
     device: D,
     held: usize,
 ) -> Result<Watched<BufWriter<D>>, Stop>
-    ensures fresh { IfOk result (λ made. failed_of made ≡ 0) }
     ensures shows { IfOk result (λ made. bytes_written D.contents made ≡ D.contents device) }
     ensures refused { IfErr result (λ stop. stop ≡ MEMORY) }
 {
@@ -127,7 +122,6 @@ pub(crate) fn buffered_log<D: Write + Drop, P: Write + Drop>(
     alloc: Global,
     log: Option<LogOutput<Either<D, P>>>,
 ) -> Result<Option<LogOutput<LogDevice<D, P>>>, Stop>
-    ensures fresh { IfOk result IsFreshLog }
     ensures given { IfOk result (λ made. is_some made ≡ is_some log) }
     ensures new { IfOk result (λ made.
         option_map (λ log. log.is_new) made ≡ option_map (λ log. log.is_new) log) }
@@ -155,7 +149,6 @@ fn sink_over<D: Write + Drop>(
     device: Option<D>,
     held: usize,
 ) -> Result<Either<Watched<BufWriter<D>>, NullSink>, Stop>
-    ensures fresh { IfOk result (λ made. failed_in made ≡ 0) }
     ensures given { IfOk result (λ made. is_left made ≡ is_some device) }
     ensures shows { IfOk result (λ made. option_map (bytes_written D.contents) (left made)
         ≡ option_map D.contents device) }

@@ -266,6 +266,7 @@ fn role_of(which: Which) -> FileRole
         Which::Outside => FileRole::ToOutside,
         Which::Inside => FileRole::ToInside,
         Which::Report => FileRole::Report,
+        Which::Log => FileRole::Log,
     }
 }
 

@@ -2,10 +2,12 @@
 
 ghost use Rattle.std.specs.Prelude.{◌≡◌};
 ghost use Rattle.napt_records.specs.declared.fault.Fault.TheVariants.{Run};
+ghost use Rattle.napt_sequential.specs.declared.fault.RunFault.TheVariants.{Memory};
 
 use napt_capture::{CaptureFault, WriteFault};
 use napt_sequential::RunFault;
 use napt_wire::Side;
+use std::alloc::AllocError;
 
 /// The outputs of a run over captures, in the order in which they are written.
 #[derive(Clone, Copy, Debug, PartialEq, Eq)]
@@ -16,6 +18,8 @@ pub enum Which {
     Inside,
     /// The report.
     Report,
+    /// The log, which is written as the packets arrive.
+    Log,
 }
 
 /// The reason why a run over captures ended early. After a fault of a capture or of the run,
@@ -35,5 +39,13 @@ impl From<RunFault> for Fault {
 
     fn from(refused: RunFault) -> Fault {
         Fault::Run(refused)
+    }
+}
+
+impl From<AllocError> for Fault {
+    ghost from_gives = { λ _ fault. fault ≡ Run Memory };
+
+    fn from(_error: AllocError) -> Fault {
+        Fault::Run(RunFault::Memory)
     }
 }

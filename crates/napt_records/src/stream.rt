@@ -11,7 +11,8 @@ struct OpenCapture<'a, R: Source> {
     source: &'a mut R,
     /// The fault with which reading ended early, if it did.
     fault: Option<CaptureFault>,
-    ghost can_fail: { fault ≡ None → R.failed source.now < 2 ^ 64 - 1 },
+    // So that what contracts see of the type has the ghosts of its source.
+    ghost of_source: { R.failed source.now ≡ R.failed source.now },
 }
 
 /// A capture that is read record by record.
@@ -79,7 +80,6 @@ impl<'a, R: Source> RecordStream<'a, R> {
 
     /// Returns the capture of a source from which the header has already been read.
     pub fn new(source: &'a mut R, records: RecordReader) -> RecordStream<'a, R>
-        requires { R.failed source.old < 2 ^ 64 - 1 }
         ensures name { result.live.source.ghost_name ≡ source.entry.ghost_name }
         ensures value { result.live.source.now ≡ source.old }
         ensures live { result.live.fault ≡ None }

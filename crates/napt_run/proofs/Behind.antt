@@ -9,7 +9,7 @@ use Rattle.napt_capture.specs.{declared.fault.{CaptureFault.{CaptureFault, TheVa
 use Rattle.napt_run.specs.Origins.{OriginModel, ran_by}
 use Rattle.napt_dispatch.specs.RunsThrough.{HasCome}
 use Rattle.napt_records.specs.{NewStreams.IsMergerNew, Counts.AreCountsOf, StreamMergers.{IsMergerLive, MergeEndsWith, HandsOutInputs, cut_of}, RecordMerging.MergedInputs, declared.Fault.Fault}
-use Rattle.napt_records.specs.declared.{Fault.TheVariants.{Capture, Run, Write}, Which.{Which, TheVariants.{Outside, Inside, Report}}, stream_merger.CutFlags.CutFlags}
+use Rattle.napt_records.specs.declared.{Fault.TheVariants.{Capture, Run, Write}, Which.{Which, TheVariants.{Outside, Inside, Report, Log}}, stream_merger.CutFlags.CutFlags}
 use Rattle.napt_records.{specs.declared.stream_merger.StreamMerger.StreamMerger, proofs.HeadersRead.{came_fault, came_whole, handed_front, handed_timely}}
 use Rattle.napt_records.proofs.ReaderRests.{StopsBy-then}
 use Rattle.napt_laws.specs.Dispatching.{IsFrontOf}
@@ -294,6 +294,7 @@ module _ {R Q W V : Type 0} {G : source.Ghosts R} {H : source.Ghosts Q} {S : sin
         };
       }
   failed Report fault e = absurd e.failed
+  failed Log fault e = absurd e.failed
 
   halts : RunPassesHalted origin HandsOutInputs MergeEndsWith begin old end new →
       RunHalts open_gate origin bytes others [] old new
@@ -315,6 +316,7 @@ module _ {R Q W V : Type 0} {G : source.Ghosts R} {H : source.Ghosts Q} {S : sin
   runs_to (Err (Write Outside fault)) p = fails_outside fault (early Outside fault p)
   runs_to (Err (Write Inside fault)) p = fails_inside fault (early Inside fault p)
   runs_to (Err (Write Report fault)) p = (early Report fault p).failed
+  runs_to (Err (Write Log fault)) p = (early Log fault p).failed
   runs_to (Err (Run fault)) p = (p.0, halts p.1)
 
   -- and how many reads failed
@@ -325,4 +327,5 @@ module _ {R Q W V : Type 0} {G : source.Ghosts R} {H : source.Ghosts Q} {S : sin
   reads_of (Err (Write Outside fault)) p not_run = read_somehow begin end live p.inputs p.come
   reads_of (Err (Write Inside fault)) p not_run = read_somehow begin end live p.inputs p.come
   reads_of (Err (Write Report fault)) p not_run = absurd (early Report fault p).failed
+  reads_of (Err (Write Log fault)) p not_run = absurd (early Log fault p).failed
   reads_of (Err (Run fault)) p not_run = absurd (not_run tt)

@@ -6,7 +6,7 @@ use Rattle.napt_wire.specs.declared.Side.TheVariants as sides
 use Rattle.napt_capture.specs.{Text.file_header, declared.{device.Sink.Ghosts, fault.WriteFault.WriteFault}}
 use Rattle.napt_run.specs.Origins.{OriginModel}
 use Rattle.napt_laws.specs.Dispatching.{IsFrontOf}
-use Rattle.napt_records.specs.declared.{Fault.{Fault, TheVariants.{Capture, Run, Write}}, Which.TheVariants.{Outside, Inside, Report}}
+use Rattle.napt_records.specs.declared.{Fault.{Fault, TheVariants.{Capture, Run, Write}}, Which.TheVariants.{Outside, Inside, Report, Log}}
 use Rattle.napt_rules.specs.Prelude.{Arrival}
 use Rattle.napt_run.specs.{OutputSinks.{SinkBegins, FailsToBegin}, OutputSinkLaws.{breaks_more, grows_more}, Outputs.{Breaks, OutputGrows}}
 use Rattle.napt_run.specs.{Runs.{FailsInside, FailsOutside, RunHalts, IfHeld, IsLeft, RunsTo, Writes, text_behind}, Streams.IsReading}
@@ -110,6 +110,7 @@ module _ {W V : Type 0} {S : Ghosts W} {T : Ghosts V} (open_gate : Bool) (origin
     headed (Err (Write Outside fault)) p = fails_outside fault p p.kept
     headed (Err (Write Inside fault)) p = fails_inside fault p
     headed (Err (Write Report fault)) p = absurd p
+    headed (Err (Write Log fault)) p = absurd p
     headed (Err (Run fault)) p = (p.0, halts p.1)
 
   -- or they could not be written
@@ -133,6 +134,7 @@ module _ {W V : Type 0} {S : Ghosts W} {T : Ghosts V} (open_gate : Bool) (origin
     broke = subst (λ (l : List ℕ). Breaks old.to_inside l fault new.to_inside) (sym (append-nil file_header)) broke;
   }
   unheaded old new none (Write Report fault) p = absurd p
+  unheaded old new none (Write Log fault) p = absurd p
   unheaded old new none (Capture side fault) p = absurd p
   unheaded old new none (Run fault) p = absurd p
 

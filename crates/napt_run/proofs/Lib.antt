@@ -16,7 +16,7 @@ pub mod Streamed
 pub mod Endings
 pub mod LogTaken
 pub mod Logged
-pub mod LoggedEndings
 pub mod Outputs
 pub mod Leaves
 pub mod SameAsCaptures
+pub mod Posts

@@ -20,8 +20,9 @@ use Rattle.napt_run.specs.{LogRuns.{EntersAll, EntersFront, LogFailsOver, Legs, 
 use Rattle.napt_run.specs.RunningLogs.{Adds, AreLaws, Enters, LogFails, FailsBy, FailsMore, LogGoesOnFrom, LogHalts, LogIsAt, IsFlushedAt, ending_with, left_with, rows_in, running_log_traces}
 use Rattle.napt_run.specs.{Streams.{AreTaken, DeviceGetsFrom, HasRead, IsOfRun}, declared.logged_fault.LogRunFault.{LogRunFault, TheVariants.{Run, Log}}}
 use Rattle.napt_run.specs.declared.{logging.LoggingFault.LoggingFault, output.Output.Output, capture_run.Totals.Totals, running_log.RunningLog.RunningLog}
-use Rattle.napt_run.proofs.{Endings.{IsBeforeReport, all_left}, Streamed.{IfHeld-all, IfHeld-map}, TraceFronts.{NextInput, next_input}}
+use Rattle.napt_run.proofs.{Endings.all_left, Streamed.{IfHeld-all, IfHeld-map}, TraceFronts.{NextInput, next_input}}
 use Rattle.napt_run.specs.declared.logging.LoggingFault.TheVariants as log_faults
+use Rattle.napt_run.specs.Posts.{IsBeforeReport}
 
 -- TEXTS
 
@@ -348,6 +349,8 @@ module _ {L : Type 0} {S : Ghosts L} (from : LoggedOrigin) (laws : AreLaws from.
     halted (log_faults.Run (faults.Write outputs.Inside fault)) o stop flushed =
         grind (arith, common_steps, nat_tests, on, front_part, part)
     halted (log_faults.Run (faults.Write outputs.Report fault)) o stop flushed = absurd stop
+    halted (log_faults.Run (faults.Write outputs.Log fault)) o stop flushed =
+        grind (arith, common_steps, nat_tests, on, front_part, part)
     halted (log_faults.Run (faults.Run fault)) o stop flushed = let p = on (part o) in
         record {
           same = p.same;
@@ -500,7 +503,36 @@ module _ {D : Type 0} (S : Ghosts D) (origin : OriginModel) (inside outside : Op
   -- where the run failed, whatever its fault
   of_run : (which : Which) (result : Result Totals Fault) → IsOfRun result →
       Device which (Err (faults.Run reasons.Memory)) → Device which result
-  of_run which result run p = grind (arith, common_steps, nat_tests)
+  of_run which (Ok totals) run p = absurd run
+  of_run which (Err (faults.Capture side fault)) run p = absurd run
+  of_run which (Err (faults.Run fault)) run p = record {
+    gets = p.gets;
+    count = λ no. absurd (no tt);
+    settled = λ settled. absurd settled;
+  }
+  of_run outputs.Outside (Err (faults.Write outputs.Log fault)) run p = record {
+    gets = p.gets;
+    count = λ no. absurd (no tt);
+    settled = λ settled. absurd settled;
+  }
+  of_run outputs.Inside (Err (faults.Write outputs.Log fault)) run p = record {
+    gets = p.gets;
+    count = λ no. absurd (no tt);
+    settled = λ settled. absurd settled;
+  }
+  of_run outputs.Report (Err (faults.Write outputs.Log fault)) run p = record {
+    gets = p.gets;
+    count = λ no. absurd (no tt);
+    settled = λ settled. absurd settled;
+  }
+  of_run outputs.Log (Err (faults.Write outputs.Log fault)) run p = record {
+    gets = p.gets;
+    count = λ no. absurd (no tt);
+    settled = λ settled. absurd settled;
+  }
+  of_run which (Err (faults.Write outputs.Outside fault)) run p = absurd run
+  of_run which (Err (faults.Write outputs.Inside fault)) run p = absurd run
+  of_run which (Err (faults.Write outputs.Report fault)) run p = absurd run
 
   -- where the run came to its end, and what lives could not be written
   pub device_after : (which : Which) (totals : Totals) (fault : LogRunFault) → IsOfText fault →

@@ -1,7 +1,7 @@
 -- From what was read and what was made to what the devices show.
 use native.Mathlib.Omega.{arith}
 use Rattle.std.proofs.{lemmas.{Grind.common_steps, Bool.{Decides.nat_tests, cases_Bool, le-leb, lt-leb}}, Math.Nat.lt_of_not-le}
-use Rattle.std.proofs.Common.{◌≡◌, ℕ, ◌+◌, refl, sym, ap, ap₂, ◌∙◌, subst, List, string_bytes, Option, Some, None, IfSome, IfErr, Result, Ok, Err}
+use Rattle.std.proofs.Common.{◌≡◌, ℕ, ◌+◌, refl, sym, ap, ap₂, ◌∙◌, subst, List, [], string_bytes, Option, Some, None, IfSome, IfErr, Result, Ok, Err}
 use Rattle.napt_wire.specs.declared.Side.{Side}
 use Rattle.napt_wire.specs.declared.Side.TheVariants as sides
 use Rattle.napt_capture.specs.{Contents.CaptureModel, Capture.{failed_reads, read_whole}, Reading.{LeavesBytes, IsForRecords, ReadCapturePost, IsReadResult}}
@@ -9,7 +9,7 @@ use Rattle.napt_capture.specs.declared.fault.{WriteFault.WriteFault, CaptureFaul
 use Rattle.napt_dispatch.specs.declared.workers.RunSummary.{RunSummary}
 use Rattle.napt_run.specs.Origins.{GivesState, OriginModel}
 use Rattle.napt_records.{specs.declared.{Fault.{Fault, TheVariants.{Capture, Run, Write}}, Which.Which}, proofs.ReaderRests.{StopsBy-says, StopsBy-then}}
-use Rattle.napt_records.specs.declared.Which.TheVariants.{Outside, Inside, Report}
+use Rattle.napt_records.specs.declared.Which.TheVariants.{Outside, Inside, Report, Log}
 use Rattle.napt_sequential.specs.declared.fault.RunFault.{RunFault, TheVariants.TooMany}
 use Rattle.napt_run.specs.declared.captures.{CaptureFiles.CaptureFiles, CaptureOutputs.CaptureOutputs}
 use Rattle.napt_run.specs.Captures.{Answers, AreOutputs, AreTooMany, Explains, GetsFrom, IfKnown, IsPastInside, IsReadFrom, IsReadable, CaptureIsUnread, IsWriteFaultOf, OutputIsLeft, OutputReceives, OutputShare, arrivals_of, both_by, failed_readings, share_of, text_to, texts_from, texts_by, texts_made, whole}
@@ -175,6 +175,7 @@ abbrev pub text_of : Which → CaptureOutputs → List ℕ
 text_of Outside outputs = outputs.to_outside
 text_of Inside outputs = outputs.to_inside
 text_of Report outputs = string_bytes outputs.report
+text_of Log outputs = []
 
 text_is : (which : Which) (origin : OriginModel) (captures : CaptureFiles) (outputs : CaptureOutputs) →
     AreOutputs origin captures outputs → text_of which outputs ≡ text_to which (texts_made origin captures)

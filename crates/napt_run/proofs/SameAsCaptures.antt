@@ -11,6 +11,8 @@ use Rattle.napt_records.specs.{declared.{Fault.Fault, stream_merger.{CutFlags.Cu
 use Rattle.napt_records.proofs.Merges.{merge_ends, merges_whole}
 use Rattle.napt_rules.specs.Prelude.{Arrival}
 use Rattle.napt_run.specs.{Captures.{RunTexts, arrivals_of, both_by, texts_from, texts_by, texts_made}, Files.{files_until, unless_bad, unless_refused}}
+use Rattle.napt_records.specs.declared.Which.TheVariants.{Outside, Inside}
+use Rattle.napt_run.proofs.Posts.{all_of}
 use Rattle.napt_run.specs.{StreamLaws.{OutputsAreTheSame, ReportsAreTheSame}, Streams.capture_text, declared.captures.CaptureFiles.CaptureFiles}
 
 -- what a file holds that reads as these contents
@@ -112,14 +114,16 @@ is_ok_of : (r : Result CutFlags SideFault) → IsOk r → (cuts : CutFlags) × (
 is_ok_of r is = grind (arith, common_steps, nat_tests)
 
 pub outputs_same : OutputsAreTheSame
-outputs_same origin inside outside done old new other = (
-  λ got wrote.
+outputs_same origin inside outside old new other = (
+  λ got post.
+      let wrote = all_of origin Outside (files_until inside outside) (Some old) other post in
       let (all, is, text) = ok_and (texts_from origin inside outside) _ got in
       let (cuts, end) = is_ok_of (files_until inside outside).end wrote.0 in
       let p = agree origin inside outside all cuts is end in
       let same = ap (capture_text origin sides.Outside) p.arrivals ∙ ap (λ (t : RunTexts). t.outside) p.all_is in
       appends_one old all.outside new other text (subst (λ l. Appends (Some old) other l) same wrote.1),
-  λ got wrote.
+  λ got post.
+      let wrote = all_of origin Inside (files_until inside outside) (Some old) other post in
       let (all, is, text) = ok_and (texts_from origin inside outside) _ got in
       let (cuts, end) = is_ok_of (files_until inside outside).end wrote.0 in
       let p = agree origin inside outside all cuts is end in
@@ -128,7 +132,7 @@ outputs_same origin inside outside done old new other = (
 )
 
 pub reports_same : ReportsAreTheSame
-reports_same origin inside outside done old new other got wrote =
+reports_same origin inside outside old new other got wrote =
     let (all, is, text) = ok_and (texts_from origin inside outside) _ got in
     let (cuts, end, told) = wrote in
     let p = agree origin inside outside all cuts is end in

@@ -6,7 +6,7 @@ use Rattle.napt_wire.specs.declared.Side.TheVariants as sides
 use Rattle.napt_capture.specs.{Text.file_header, declared.{device.Sink.Ghosts, fault.{CaptureFault.CaptureFault, WriteFault.WriteFault}}}
 use Rattle.napt_run.specs.Origins.{OriginModel}
 use Rattle.napt_laws.specs.Dispatching.{IsFrontOf}
-use Rattle.napt_records.specs.{RecordMerging.MergedInputs, declared.{Fault.{Fault, TheVariants.{Capture, Run, Write}}, Which.{Which, TheVariants.{Outside, Inside, Report}}}}
+use Rattle.napt_records.specs.{RecordMerging.MergedInputs, declared.{Fault.{Fault, TheVariants.{Capture, Run, Write}}, Which.{Which, TheVariants.{Outside, Inside, Report, Log}}}}
 use Rattle.napt_rules.specs.Prelude.{Arrival}
 use Rattle.napt_run.specs.{Captures.failed_writings, Outputs.{Breaks, OutputGrows}, Runs.{FailsOutside, IfHeld, IsLeft, IsToldOf, ResultSays, RunsTo, text_behind}}
 use Rattle.napt_run.specs.Files.{files_until}
@@ -183,6 +183,7 @@ module _ {W V : Type 0} {S : Ghosts W} {T : Ghosts V} (open_gate : Bool) (origin
     settled = λ settled. absurd settled;
   }
   at_outside none (Err (Write Report fault)) p = absurd p
+  at_outside none (Err (Write Log fault)) p = absurd p
   at_outside none (Err (Run fault)) p = grind (arith, common_steps, nat_tests, at_halt)
 
   -- where the output to the outside failed, the one to the inside may not be begun
@@ -214,6 +215,7 @@ module _ {W V : Type 0} {S : Ghosts W} {T : Ghosts V} (open_gate : Bool) (origin
     settled = λ settled. absurd settled;
   }
   at_inside none (Err (Write Report fault)) p = absurd p
+  at_inside none (Err (Write Log fault)) p = absurd p
   at_inside none (Err (Run fault)) p = grind (arith, common_steps, nat_tests, at_halt)
 
 -- WHERE THE DEVICES ARE LEFT

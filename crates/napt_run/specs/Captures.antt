@@ -1,6 +1,6 @@
 -- What a run over captures writes: texts, from texts. Nothing is claimed of the bytes of a reader or a writer that are
 -- not known.
-use Rattle.std.specs.Prelude.{◌≡◌, ⊤, ℕ, ◌+◌, ◌≤◌, ◌^◌, nat_le, if◌then◌else◌, List, length, take, IfSome, IsOk, IsOkAnd, string_bytes, Option, Result, Ok, Err}
+use Rattle.std.specs.Prelude.{◌≡◌, ⊤, ℕ, ◌+◌, ◌≤◌, ◌^◌, nat_le, if◌then◌else◌, List, [], length, take, IfSome, IsOk, IsOkAnd, string_bytes, Option, Result, Ok, Err}
 use Rattle.std.specs.Io.KnownBytes.{Appends}
 use Rattle.napt_wire.specs.declared.Side.{Side}
 use Rattle.napt_wire.specs.declared.Side.TheVariants as sides
@@ -8,7 +8,7 @@ use Rattle.napt_capture.specs.{Contents.CaptureModel, Capture.{failed_reads, rea
 use Rattle.napt_capture.specs.declared.fault.CaptureFault.{CaptureFault}
 use Rattle.napt_config.specs.Rules.{Rules}
 use Rattle.napt_dispatch.specs.declared.workers.RunSummary.{RunSummary}
-use Rattle.napt_records.specs.declared.{Fault.{Fault, TheVariants.{Capture, Run, Write}}, Which.{Which, TheVariants.{Outside, Inside, Report}}}
+use Rattle.napt_records.specs.declared.{Fault.{Fault, TheVariants.{Capture, Run, Write}}, Which.{Which, TheVariants.{Outside, Inside, Report, Log}}}
 use Rattle.napt_records.specs.{Output.records_to, Report.report_text, RecordMerging.merged_inputs}
 use Rattle.napt_sequential.specs.declared.fault.RunFault.TheVariants.{Memory, TooMany, Pool}
 use Rattle.napt_run.specs.{Origins.{GivesState, OriginModel, initial_origin, ran_by}, declared.captures.{CaptureFiles.CaptureFiles, CaptureOutputs.CaptureOutputs}}
@@ -67,6 +67,7 @@ abbrev pub text_to : Which → RunTexts → List ℕ
 text_to Outside all = all.outside
 text_to Inside all = all.inside
 text_to Report all = all.report
+text_to Log all = []
 
 -- how much of its text an output gets
 pub data OutputShare : Type 0 where
@@ -84,8 +85,10 @@ share_of Outside (Err (Write other fault)) = whole
 share_of Inside (Err (Write Outside fault)) = nothing
 share_of Inside (Err (Write Inside fault)) = front fault.written
 share_of Inside (Err (Write Report fault)) = whole
+share_of Inside (Err (Write Log fault)) = whole
 share_of Report (Err (Write Report fault)) = front fault.written
 share_of Report (Err (Write other fault)) = nothing
+share_of Log (Err (Write other fault)) = nothing
 
 -- a writer with these bytes before and after got this share of a text
 abbrev pub OutputReceives : OutputShare → List ℕ → Option (List ℕ) → Option (List ℕ) → Type 0
@@ -104,10 +107,6 @@ abbrev pub GetsFrom : OriginModel → Which → OutputShare → Option (List ℕ
 GetsFrom origin which nothing inside outside old new = new ≡ old
 GetsFrom origin which share inside outside old new = IfKnown inside outside (λ bytes others.
     IsOkAnd (texts_from origin bytes others) (λ all. OutputReceives share (text_to which all) old new))
-
-abbrev pub Gets : Rules → Which → OutputShare → Option (List ℕ) → Option (List ℕ) → Option (List ℕ) →
-    Option (List ℕ) → Type 0
-Gets rules which share inside outside old new = GetsFrom (initial_origin rules) which share inside outside old new
 
 -- what is returned gives the state that the run leaves
 abbrev pub OutputIsLeft : OriginModel → Option (List ℕ) → Option (List ℕ) → RunSummary → Type 0
@@ -145,6 +144,7 @@ abbrev pub Explains : Option (List ℕ) → Option (List ℕ) → Fault → Type
 Explains inside outside (Capture sides.Inside fault) = IsFaultIn inside fault
 Explains inside outside (Capture sides.Outside fault) = IsReadable inside × IsFaultIn outside fault
 Explains inside outside (Run fault) = IsReadable inside × IsReadable outside
+Explains inside outside (Write Log fault) = ⊥
 Explains inside outside (Write which fault) = IsReadable inside × IsReadable outside
 
 -- how many reads of a side's capture failed, and how many writes of an output
@@ -161,6 +161,7 @@ failed_writings which (Ok done) = 0
 failed_writings Outside (Err (Write Outside fault)) = 1
 failed_writings Inside (Err (Write Inside fault)) = 1
 failed_writings Report (Err (Write Report fault)) = 1
+failed_writings Log (Err (Write Log fault)) = 1
 failed_writings which other = 0
 
 -- BETWEEN READING AND WRITING

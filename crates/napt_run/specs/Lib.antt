@@ -26,3 +26,8 @@ pub mod LogOrigins
 pub mod RunningLogs
 pub mod RunningLogLaws
 pub mod LoggedStreams
+pub mod Posts
+pub mod Logs
+pub mod LogLaws
+pub mod DevicesPosts
+pub mod WholePosts

@@ -1,9 +1,9 @@
 -- What the log of a run goes on from, and its text.
-use Rattle.std.specs.{Prelude.{◌≡◌, ℕ, List, Bool, false, if◌then◌else◌, [], ◌++◌, Option, option_map, string_bytes}, Int.NonZero.non_zero_u32_get}
+use Rattle.std.specs.{Prelude.{◌≡◌, ℕ, List, Bool, true, false, if◌then◌else◌, [], ◌++◌, Option, None, option_map, string_bytes}, Int.NonZero.non_zero_u32_get}
 use Rattle.napt_config.specs.Rules.{Rules}
 use Rattle.napt_account.specs.{ResumedLogRuns.{LogStateModel, IsLogOf, IsTakenUp, living_from}, LogParts.LogDelta, TraceLogs.LogBeginning}
 use Rattle.napt_log_text.specs.{Logs.{LogOrigin, first_text, living_rows, log_so_far, log_so_far_from, log_text, log_text_from, rows_from}, Times.TimeText}
-use Rattle.napt_rules.specs.Prelude.{Arrival, with_redirects}
+use Rattle.napt_rules.specs.Prelude.{Arrival, State, with_redirects}
 use Rattle.napt_run.specs.{Origins.{OriginModel, origin_of}, declared.{start.Start.Start, log_start.{LogStart.LogStart, TakenLog.TakenLog}}}
 
 -- the text of a log once these inputs came, and at the end of the run over them
@@ -30,6 +30,20 @@ texts_from start log_start log =
       so_far = log_so_far_from origin.rules origin.state log each;
       whole = log_text_from origin.rules origin.state log each log_start.goes_on;
     }
+
+-- with nothing kept, the log of a run from this state is that of a run before any input, in one piece
+pub record IsFreshStart (rules : Rules) (state : State) (kept : LogStateModel) : Type 0 where
+  pub log : LogStateModel
+  pub told : LogDelta
+  pub is : IsTakenUp rules (with_redirects rules state) kept log told
+  pub texts : (let origin : LogOrigin = record { log = log; told = told; is_new = true } in let t : LogTexts = record {
+    so_far = log_so_far_from rules (with_redirects rules state) origin None;
+    whole = log_text_from rules (with_redirects rules state) origin None false;
+  } in t) ≡ texts_anew rules
+
+abbrev pub BeginsLogsAnew : State → Type 0
+BeginsLogsAnew state = (rules : Rules) (kept : LogStateModel) → kept ≡ record { made = 0; living = [] } →
+    IsFreshStart rules state kept
 
 -- STEPS
 

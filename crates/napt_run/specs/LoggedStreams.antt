@@ -3,7 +3,6 @@ use Rattle.std.specs.Prelude.{◌≡◌, ◌⊎◌, ℕ, ◌+◌, ◌-◌, ◌^�
 use Rattle.std.specs.Io.KnownBytes.{Appends}
 use Rattle.napt_wire.specs.declared.Side.{Side}
 use Rattle.napt_capture.specs.declared.{device.Sink.Ghosts, fault.CaptureFault.CaptureFault}
-use Rattle.napt_config.specs.Rules.{Rules}
 use Rattle.napt_laws.specs.Dispatching.{IsFrontOf}
 use Rattle.napt_account.specs.ResumedLogRuns.{LogStateModel, log_left}
 use Rattle.napt_records.specs.{RecordMerging.MergedInputs, declared.{Fault.Fault, Which.Which}, Faults.is_shut_gate_fault}
@@ -11,9 +10,9 @@ use Rattle.napt_records.specs.declared.Fault.TheVariants as faults
 use Rattle.napt_records.specs.declared.Which.TheVariants as outputs
 use Rattle.napt_rules.specs.Prelude.{Arrival}
 use Rattle.napt_sequential.specs.declared.fault.RunFault.TheVariants as reasons
-use Rattle.napt_run.specs.{Captures.IfKnown, Files.files_until, LogOrigins.{LogTexts, texts_anew}, Origins.{OriginModel, initial_origin}, Runs.IsToldOf}
+use Rattle.napt_run.specs.{Captures.IfKnown, Files.files_until, LogOrigins.LogTexts, Origins.OriginModel, Runs.IsToldOf}
 use Rattle.napt_run.specs.{Streams.{AreTaken, DeviceGetsFrom, Explains, IsOfRun, IsSettledBy, IsStopFault, stream_ended}, declared.logging.LoggingFault.LoggingFault}
-use Rattle.napt_run.specs.declared.{output.Output.Output, log_start.LoggedRunSummary.LoggedRunSummary, logged_fault.LogRunFault.{LogRunFault, TheVariants.{Run, Log}}, capture_run.Totals.Totals}
+use Rattle.napt_run.specs.declared.{output.Output.Output, logged_fault.LogRunFault.{LogRunFault, TheVariants.{Run, Log}}, capture_run.Totals.Totals}
 use Rattle.napt_run.specs.declared.logging.LoggingFault.TheVariants as log_faults
 
 -- a fault of the log leaves the captures and the report as one of the run does
@@ -28,11 +27,6 @@ abbrev pub DeviceGetsOrFrom : {D T : Type 0} → Ghosts D → OriginModel → Wh
 DeviceGetsOrFrom S origin which inside outside result old new =
     DeviceGetsFrom S origin which inside outside (besides_log result) old new
     ⊎ (IsOfRun (besides_log result) × (new ≡ old))
-
-abbrev pub DeviceGetsOr : {D T : Type 0} → Ghosts D → Rules → Which → Option (List ℕ) → Option (List ℕ) →
-    Result T LogRunFault → D → D → Type 0
-DeviceGetsOr S rules which inside outside result old new =
-    DeviceGetsOrFrom S (initial_origin rules) which inside outside result old new
 
 -- THE LOG
 
@@ -84,6 +78,7 @@ StreamsCountFailures (Err (Log fault)) old new = new ≡ old + 1
 StreamsCountFailures (Err (Run (faults.Run fault))) old new = FailsAtMostOnce old new
 StreamsCountFailures (Err (Run (faults.Write outputs.Outside fault))) old new = FailsAtMostOnce old new
 StreamsCountFailures (Err (Run (faults.Write outputs.Inside fault))) old new = FailsAtMostOnce old new
+StreamsCountFailures (Err (Run (faults.Write outputs.Log fault))) old new = FailsAtMostOnce old new
 StreamsCountFailures other old new = new ≡ old
 
 -- what a run leaves on the device of the log
@@ -93,19 +88,10 @@ pub record LogGetsText {L T : Type 0} (S : Ghosts L) (texts : LogTexts) (inside 
   pub counts : StreamsCountFailures result (S.failed old) (S.failed new)
   pub settled : IsSettledBy (stream_ended (besides_log result)) → S.is_flushed new
 
-abbrev pub LogGets : {L T : Type 0} → Ghosts L → Rules → Option (List ℕ) → Option (List ℕ) → Result T LogRunFault →
-    L → L → Type 0
-LogGets S rules inside outside result old new = LogGetsText S (texts_anew rules) inside outside result old new
-
 -- this is kept of the log beside the state that the run leaves
 abbrev pub LogIsKept : OriginModel → LogStateModel → Option (List ℕ) → Option (List ℕ) → LogStateModel → Type 0
 LogIsKept origin log inside outside left = IfKnown inside outside (λ bytes others.
     left ≡ log_left origin.rules origin.state log (files_until bytes others).arrivals)
-
--- a result, without its value
-abbrev pub logged_end : {T : Type 0} → Result T LogRunFault → Result (Unit {0}) LogRunFault
-logged_end (Ok given) = Ok tt
-logged_end (Err fault) = Err fault
 
 -- THE FAULT
 
@@ -145,10 +131,3 @@ pub record LogIsLeft {L : Type 0} {S : Ghosts L} (texts : LogTexts) (inside outs
     (result : Result Totals LogRunFault) (old new : Output L S) : Type 0 where
   pub same : new.device.ghost_name ≡ old.device.ghost_name
   pub gets : LogGetsText S texts inside outside result old.device.now new.device.now
-
--- and then its report was written, if that was to be
-abbrev pub reported_of : Result Totals LogRunFault → Result (Unit {0}) Fault → LogStateModel →
-    Result LoggedRunSummary LogRunFault
-reported_of (Ok totals) (Ok done) log = Ok (record { passed = totals.passed; log = log })
-reported_of (Ok totals) (Err fault) log = Err (Run fault)
-reported_of (Err fault) written log = Err fault

@@ -5,7 +5,7 @@ use Rattle.napt_wire.specs.declared.Side.TheVariants as sides
 use Rattle.napt_capture.specs.{Text.{file_header, record_text}, declared.{device.Sink.Ghosts, fault.WriteFault.WriteFault}}
 use Rattle.napt_rules.specs.declared.Outcome.{Outcome}
 use Rattle.napt_records.specs.{Output.{packet_to, record_at, IsTime}, Counts.AreCountsOf, declared.{Fault.{Fault, TheVariants.Write}, Which.Which}}
-use Rattle.napt_records.specs.declared.Which.TheVariants.{Outside, Inside, Report}
+use Rattle.napt_records.specs.declared.Which.TheVariants.{Outside, Inside, Report, Log}
 use Rattle.napt_run.specs.{Outputs.{OutputGrows, Breaks}, declared.output_sinks.{Leaving.Leaving, OutputFault.OutputFault}}
 
 -- an outcome, with the arrival time of its input
@@ -40,6 +40,7 @@ module _ {W V : Type 0} {S : Ghosts W} {T : Ghosts V} where
       OutputGrows old.to_outside (records_text sides.Outside all) new.to_outside
       × Breaks old.to_inside (records_text sides.Inside all) fault new.to_inside
   FailsBy old all Report fault new = ⊥
+  FailsBy old all Log fault new = ⊥
 
   abbrev pub SinkFails : Leaving W V S T → List TimedOutcomes → OutputFault → Leaving W V S T → Type 0
   SinkFails old all fault new = AreTimesSound old → AreTimes all → FailsBy old all fault.which fault.fault new

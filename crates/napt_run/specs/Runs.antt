@@ -4,9 +4,9 @@ use Rattle.napt_wire.specs.declared.Side.{Side}
 use Rattle.napt_wire.specs.declared.Side.TheVariants as sides
 use Rattle.napt_capture.specs.declared.{device.Sink.Ghosts, fault.{CaptureFault.CaptureFault, WriteFault.WriteFault}}
 use Rattle.napt_run.specs.Origins.{GivesState, OriginModel, ran_by}
-use Rattle.napt_dispatch.specs.{Dispatch.IsFaultUnder, RunsThrough.timed_results, declared.workers.RunSummary.RunSummary}
+use Rattle.napt_dispatch.specs.{Dispatch.IsFaultUnder, RunsThrough.timed_results}
 use Rattle.napt_records.specs.{Counts.AreCountsOf, RecordMerging.MergedInputs, declared.Fault.{Fault, TheVariants.{Capture, Run, Write}}}
-use Rattle.napt_records.specs.declared.Which.TheVariants.{Outside, Inside, Report}
+use Rattle.napt_records.specs.declared.Which.TheVariants.{Outside, Inside, Report, Log}
 use Rattle.napt_laws.specs.Dispatching.{IsFrontOf}
 use Rattle.napt_run.specs.{Captures.IfKnown, OutputSinks.{IsSettled, TimedOutcomes, records_text}, Outputs.{Breaks, OutputGrows}, Files.files_until}
 use Rattle.napt_run.specs.{Streams.{AreTaken, Explains, IsStreamFaultOf, IsStopFault}, declared.{output_sinks.Leaving.Leaving, output.Output.Output}}
@@ -86,6 +86,7 @@ module _ {W V : Type 0} {S : Ghosts W} {T : Ghosts V} (open_gate : Bool) (origin
   RunsTo (Err (Write Outside fault)) = FailsOutside fault
   RunsTo (Err (Write Inside fault)) = FailsInside fault
   RunsTo (Err (Write Report fault)) = ⊥
+  RunsTo (Err (Write Log fault)) = ⊥
   RunsTo (Err (Run fault)) = IsFaultUnder open_gate fault × RunHalts
 
 -- what the report says of all inputs
@@ -102,9 +103,3 @@ pub record ResultSays (open_gate : Bool) (origin : OriginModel) (inside outside 
   pub told : IfOk result (IsToldOf origin inside outside)
   pub fault : IfErr result (Explains inside outside)
   pub stop : IfErr result (IsStopFault open_gate)
-
--- what a run comes to, once its report is written, if that is to be
-abbrev pub passed_if : Result Totals Fault → Result (Unit {0}) Fault → Result RunSummary Fault
-passed_if (Ok totals) (Ok done) = Ok totals.passed
-passed_if (Ok totals) (Err fault) = Err fault
-passed_if (Err fault) written = Err fault

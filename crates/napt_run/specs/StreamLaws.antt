@@ -2,20 +2,20 @@
 use Rattle.std.specs.Prelude.{◌≡◌, ℕ, List, Option, Some, Ok}
 use Rattle.napt_run.specs.Origins.{OriginModel}
 use Rattle.napt_records.specs.declared.Which.TheVariants.{Outside, Inside, Report}
-use Rattle.napt_run.specs.{Captures.{GetsFrom, whole}, Streams.{Streams, Reports}}
+use Rattle.napt_run.specs.{Captures.{GetsFrom, whole}, Files.files_until, Posts.{OutputPost, capture_to}, Streams.Reports}
 
 -- what `run_captures` promises of an output, and what `run_streams` does, over the same bytes
 abbrev pub OutputsAreTheSame : Type 0
-OutputsAreTheSame = (origin : OriginModel) (inside outside : List ℕ) (done : Unit {0}) (old : List ℕ)
-    (new other : Option (List ℕ)) →
+OutputsAreTheSame = (origin : OriginModel) (inside outside : List ℕ) (old : List ℕ) (new other : Option (List ℕ)) →
     (GetsFrom origin Outside whole (Some inside) (Some outside) (Some old) new →
-    Streams origin Outside (Ok done) (Some inside) (Some outside) (Some old) other → other ≡ new)
+    OutputPost (capture_to Outside origin) Outside (Ok tt) (files_until inside outside) (Some old) other →
+    other ≡ new)
     × (GetsFrom origin Inside whole (Some inside) (Some outside) (Some old) new →
-    Streams origin Inside (Ok done) (Some inside) (Some outside) (Some old) other → other ≡ new)
+    OutputPost (capture_to Inside origin) Inside (Ok tt) (files_until inside outside) (Some old) other →
+    other ≡ new)
 
 -- and of the report
 abbrev pub ReportsAreTheSame : Type 0
-ReportsAreTheSame = (origin : OriginModel) (inside outside : List ℕ) (done : Unit {0}) (old : List ℕ)
-    (new other : Option (List ℕ)) →
+ReportsAreTheSame = (origin : OriginModel) (inside outside : List ℕ) (old : List ℕ) (new other : Option (List ℕ)) →
     GetsFrom origin Report whole (Some inside) (Some outside) (Some old) new →
-    Reports origin (Ok done) (Some inside) (Some outside) (Some old) other → other ≡ new
+    Reports origin (Ok tt) (Some inside) (Some outside) (Some old) other → other ≡ new

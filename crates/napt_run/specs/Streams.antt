@@ -7,12 +7,11 @@ use Rattle.napt_wire.specs.declared.Side.TheVariants as sides
 use Rattle.napt_capture.specs.{Capture.format_in, Reading.{LeavesBytes, IsReadResult, IsReadFault}, Text.{file_header, text}, declared.device.Source.Ghosts}
 use Rattle.napt_capture.specs.declared.{record_reader.RecordReader.RecordReader, fault.CaptureFault.{CaptureFault, TheVariants.{TooLarge, Read, Memory}}}
 use Rattle.napt_capture.specs.declared.device.Sink as sink
-use Rattle.napt_config.specs.Rules.{Rules}
 use Rattle.napt_dispatch.specs.{Dispatch.IsFaultUnder, declared.workers.RunSummary.RunSummary}
 use Rattle.napt_records.specs.{Output.records_to, Report.report_text, RecordMerging.MergedInputs, declared.{stream_merger.CutFlags.CutFlags, Fault.Fault}}
-use Rattle.napt_records.specs.declared.{Fault.TheVariants.{Capture, Run, Write}, Which.{Which, TheVariants.{Outside, Inside, Report}}}
+use Rattle.napt_records.specs.declared.{Fault.TheVariants.{Capture, Run, Write}, Which.{Which, TheVariants.{Outside, Inside, Report, Log}}}
 use Rattle.napt_laws.specs.Dispatching.{IsFrontOf}
-use Rattle.napt_run.specs.{Captures.{IfKnown, failed_readings, failed_writings}, Files.files_until, Origins.{GivesState, OriginModel, initial_origin, ran_by}}
+use Rattle.napt_run.specs.{Captures.{IfKnown, failed_readings, failed_writings}, Files.files_until, Origins.{GivesState, OriginModel, ran_by}}
 use Rattle.napt_rules.specs.Prelude.{Arrival}
 use Rattle.napt_sequential.specs.declared.fault.RunFault.TheVariants as faults
 
@@ -26,6 +25,7 @@ abbrev pub side_of : Which → Side
 side_of Outside = sides.Outside
 side_of Inside = sides.Inside
 side_of Report = sides.Inside
+side_of Log = sides.Inside
 
 -- all of the text
 abbrev pub HasAll : OriginModel → Which → MergedInputs → Option (List ℕ) → Option (List ℕ) → Type 0
@@ -54,6 +54,13 @@ AreTaken side fault all inputs =
 abbrev pub IsUnbegun : ℕ → Option (List ℕ) → Option (List ℕ) → Type 0
 IsUnbegun written old new = (written ≤ length file_header) × (new ≡ old)
 
+-- at least the header, and as much of it as a failed write left
+abbrev pub HasPart : OriginModel → Which → MergedInputs → Option (List ℕ) → Option (List ℕ) → Type 0
+HasPart origin which all old new =
+    (inputs : List Arrival) × IsFrontOf inputs all.arrivals × ((count : ℕ) × (length file_header ≤ count)
+    × (count ≤ length (capture_text origin (side_of which) inputs))
+    × Appends old new (take count (capture_text origin (side_of which) inputs)))
+
 -- writing an output failed after so many bytes
 abbrev pub HasWritten : OriginModel → Which → Which → ℕ → MergedInputs → Option (List ℕ) → Option (List ℕ) → Type 0
 HasWritten origin which Report written all old new = HasAll origin which all old new
@@ -62,13 +69,8 @@ HasWritten origin Inside Inside written all old new = HasFront origin Inside wri
 HasWritten origin Outside Inside written all old new = HasText origin Outside all old new
 HasWritten origin other Outside written all old new = HasText origin other all old new ⊎ IsUnbegun written old new
 HasWritten origin Report Inside written all old new = HasText origin Report all old new
-
--- at least the header, and as much of it as a failed write left
-abbrev pub HasPart : OriginModel → Which → MergedInputs → Option (List ℕ) → Option (List ℕ) → Type 0
-HasPart origin which all old new =
-    (inputs : List Arrival) × IsFrontOf inputs all.arrivals × ((count : ℕ) × (length file_header ≤ count)
-    × (count ≤ length (capture_text origin (side_of which) inputs))
-    × Appends old new (take count (capture_text origin (side_of which) inputs)))
+HasWritten origin Log Inside written all old new = HasText origin Log all old new
+HasWritten origin which Log written all old new = HasText origin which all old new ⊎ HasPart origin which all old new
 
 -- by the result of the run
 abbrev pub GetsOf : OriginModel → Which → Result (Unit {0}) Fault → MergedInputs → Option (List ℕ) → Option (List ℕ) →
@@ -129,9 +131,10 @@ ExplainsOf all (Write which fault) = Unit {0}
 abbrev pub Explains : Option (List ℕ) → Option (List ℕ) → Fault → Type 0
 Explains inside outside fault = IfKnown inside outside (λ bytes others. ExplainsOf (files_until bytes others) fault)
 
--- a fault of the run itself
+-- a fault of the run itself, or of its log
 abbrev pub IsOfRun : {T : Type 0} → Result T Fault → Type 0
 IsOfRun (Err (Run fault)) = Unit {0}
+IsOfRun (Err (Write Log fault)) = Unit {0}
 IsOfRun other = ⊥
 
 -- all that left is flushed
@@ -184,16 +187,6 @@ pub record ReportGetsFrom {D : Type 0} (S : sink.Ghosts D) (origin : OriginModel
   pub count : S.failed new ≡ S.failed old + failed_writings Report result
   pub settled : OnOk result (S.is_flushed new)
 
--- from the bindings that a configuration opens with
-abbrev pub DeviceGets : {D T : Type 0} → sink.Ghosts D → Rules → Which → Option (List ℕ) → Option (List ℕ) →
-    Result T Fault → D → D → Type 0
-DeviceGets S rules which inside outside result old new =
-    DeviceGetsFrom S (initial_origin rules) which inside outside result old new
-
-abbrev pub ReportGets : {D : Type 0} → sink.Ghosts D → Rules → Option (List ℕ) → Option (List ℕ) →
-    Result (Unit {0}) Fault → D → D → Type 0
-ReportGets S rules inside outside result old new = ReportGetsFrom S (initial_origin rules) inside outside result old new
-
 -- what is returned gives the state that the run leaves
 abbrev pub LeavesInTheEnd : OriginModel → Option (List ℕ) → Option (List ℕ) → RunSummary → Type 0
 LeavesInTheEnd origin inside outside passed =
@@ -224,6 +217,7 @@ IsStopFault open_gate (Capture side fault) = Unit {0}
 IsStopFault open_gate (Write Outside fault) = Unit {0}
 IsStopFault open_gate (Write Inside fault) = Unit {0}
 IsStopFault open_gate (Write Report fault) = ⊥
+IsStopFault open_gate (Write Log fault) = ⊥
 IsStopFault open_gate (Run fault) = IsFaultUnder open_gate fault
 
 -- a report could not be made or written

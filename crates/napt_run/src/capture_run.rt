@@ -17,7 +17,7 @@ use std::thread::Threads;
 
 /// What the report of a run is made from.
 #[derive(Drop)]
-pub(crate) struct Totals {
+pub struct Totals {
     pub(crate) counts: OutcomeCounts,
     pub(crate) passed: RunSummary,
     pub(crate) cuts: CutFlags,

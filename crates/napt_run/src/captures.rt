@@ -1,17 +1,20 @@
 //! A run over captures: reads both, runs in memory, and only then writes.
-ghost use Rattle.std.specs.Prelude.{◌≡◌, ◌↔◌, ◌+◌, ◌-◌, ◌^◌, ◌<◌, length, All, OnOk, IfOk, IfErr, Err, true, false};
+ghost use Rattle.std.specs.Prelude.{◌≡◌, ◌↔◌, ◌+◌, length, All, OnOk, IfOk, IfErr, Err, true, false};
 ghost use Rattle.napt_capture.specs.Text.{IsWritable};
 ghost use Rattle.napt_rules.specs.Prelude.{TakesState};
-ghost use Rattle.napt_run.specs.Captures.{Answers, AreOutputs, AreTooMany, Explains, Gets, GetsFrom, IfKnown, IsReadFrom, CaptureIsUnread, IsWriteFaultOf, OutputIsLeft, OutputReceives, failed_readings, failed_writings, output_to, share_of, texts, texts_from};
-ghost use Rattle.napt_run.specs.{Origins.origin_of, Streams.stream_ended};
+ghost use Rattle.napt_run.specs.Captures.{Answers, AreOutputs, AreTooMany, Explains, GetsFrom, IfKnown, IsReadFrom, CaptureIsUnread, IsWriteFaultOf, OutputIsLeft, OutputReceives, failed_readings, failed_writings, output_to, share_of, texts_from};
+ghost use Rattle.napt_run.specs.{Origins.origin_of, Streams.stream_ended, WholePosts.{AnswerPost, WholeEndPost, WholeFaultPost, WholeOutputsPost, WholeReadsPost}};
 ghost use Rattle.napt_sequential.specs.Faults.{is_run_gate_fault};
 ghost use Rattle.napt_records.specs.Faults.{is_shut_gate_fault};
 
+use crate::devices::Devices;
 use crate::kept_texts::KeptTexts;
-use crate::start::{OriginSetting, Start, unbegun, without_state};
+use crate::logging::NoLog;
+use crate::run_end::RunEnd;
+use crate::start::{OriginSetting, Start};
 use crate::whole_captures::RunTally;
+use napt_account::SavedLogState;
 use napt_capture::{Capture, Sink, Source, Watched, read_capture, write_text};
-use napt_config::Config;
 use napt_dispatch::RunSummary;
 use napt_pool::Gate;
 use napt_records::{Fault, RecordMerger, Which, report_of};
@@ -40,7 +43,6 @@ struct CaptureOutputs {
 /// Reads the capture of a side.
 #[tactic(auto, using(crate::proofs::Received::read_known, crate::proofs::Received::unread, crate::proofs::Received::own_readings))]
 fn read_side<R: Source>(alloc: Global, side: Side, source: &mut R) -> Result<Capture, Fault>
-    requires { R.failed source.old < 2 ^ 64 - 1 }
     ensures ok { IfOk result (IsReadFrom (R.remaining source.old)) }
     ensures err { IfErr result (CaptureIsUnread side (R.remaining source.old)) }
     ensures writable { IfOk result (λ capture. All IsWritable capture.records) }
@@ -109,7 +111,6 @@ fn output_to(side: Side) -> Which
 
 /// Writes the capture that goes to a side, and flushes it.
 fn write_side<W: Sink>(side: Side, kept: &KeptTexts, output: &mut W) -> Result<(), Fault>
-    requires { W.failed output.old < 2 ^ 64 - 1 }
     ensures bytes { OutputReceives (share_of (output_to side) result) kept.now
         (W.contents output.old) (W.contents output.new) }
     ensures flushed { OnOk result (W.is_flushed output.new) }
@@ -125,7 +126,6 @@ fn write_side<W: Sink>(side: Side, kept: &KeptTexts, output: &mut W) -> Result<(
 
 /// Writes the report, and flushes it.
 fn write_report<W: Sink>(output: &mut W, report: &str) -> Result<(), Fault>
-    requires { W.failed output.old < 2 ^ 64 - 1 }
     ensures bytes { OutputReceives (share_of Which.Report result) report.now
         (W.contents output.old) (W.contents output.new) }
     ensures flushed { OnOk result (W.is_flushed output.new) }
@@ -139,19 +139,24 @@ fn write_report<W: Sink>(output: &mut W, report: &str) -> Result<(), Fault>
     }
 }
 
-/// Translates both captures, and writes what leaves to each side, and a report: exactly what the run on one thread gives,
-/// whatever the gate, the ring size or the schedule. `EmptySource` stands for a capture that there is not, `NullSink` for an
-/// output that nobody wants.
+/// Translates both captures from a start, and writes the packets that leave to each side, and a report.
+/// The bytes are exactly those of the run on one thread, whatever the gate, the ring size or the
+/// schedule. Returns what the run leaves.
 ///
-/// Reads everything first. Then runs in memory, with one worker thread for each external address; each worker asks the gate
-/// before each leg, and the gate only decides when it goes on. The workers are closed and joined before a fault of the run
-/// is returned. Finally writes the outputs: to the outside, to the inside, the report.
+/// Reads everything first. Then runs in memory, with one worker thread for each external address; each
+/// worker asks the gate before each leg, and the gate only decides when the worker goes on. The workers
+/// are closed and joined before a fault of the run is returned. Finally writes the outputs: to the
+/// outside, to the inside, the report.
 ///
-/// Fails with `Fault::Capture` if that side's capture is refused or cannot be read, the inside first; with `Fault::Run`:
-/// `TooMany` if and only if the captures have more than 4,294,967,295 records, `Memory` if memory is refused, `Pool` if a
-/// worker could not be started or stopped early (never `GateShut` under a gate that promises yes). After these faults nothing
-/// has been written. Fails with `Fault::Write` if that output could not be written: the outputs before it are complete, it
-/// has the first `written` bytes of its text, and those after it are untouched.
+/// # Errors
+///
+/// `Fault::Capture` if that side's capture is malformed or could not be read, the inside first.
+/// `Fault::Run` with `TooMany` if and only if the captures have more than 4,294,967,295 records, with
+/// `Memory` if memory is refused, and with `Pool` if a worker could not be started or stopped early
+/// (never `GateShut` under a gate that is always open). After these faults nothing has been written.
+///
+/// `Fault::Write` if writing that output failed. The outputs before it are complete, it has the first
+/// `written` bytes of its text, and those after it are untouched. It is never the log.
 pub fn run_captures<
     T: Threads + Wait + Copy + Send + 'static,
     R: Source,
@@ -163,64 +168,37 @@ pub fn run_captures<
 >(
     rt: &T,
     alloc: Global,
-    config: &Config,
-    inside: &mut R,
-    outside: &mut Q,
-    to_outside: &mut W,
-    to_inside: &mut V,
-    report: &mut U,
+    start: Start<'_>,
+    devices: &mut Devices<R, Q, W, V, U, NoLog>,
     gate: Arc<G>,
-) -> Result<(), Fault>
-    requires inside { R.failed inside.old < 2 ^ 64 - 1 }
-    requires outside { Q.failed outside.old < 2 ^ 64 - 1 }
-    requires to_outside { W.failed to_outside.old < 2 ^ 64 - 1 }
-    requires to_inside { V.failed to_inside.old < 2 ^ 64 - 1 }
-    requires report { U.failed report.old < 2 ^ 64 - 1 }
-    ensures to_outside { Gets config.now Which.Outside (share_of Which.Outside result)
-        (R.remaining inside.old) (Q.remaining outside.old)
-        (W.contents to_outside.old) (W.contents to_outside.new) }
-    ensures to_inside { Gets config.now Which.Inside (share_of Which.Inside result)
-        (R.remaining inside.old) (Q.remaining outside.old)
-        (V.contents to_inside.old) (V.contents to_inside.new) }
-    ensures report { Gets config.now Which.Report (share_of Which.Report result)
-        (R.remaining inside.old) (Q.remaining outside.old)
-        (U.contents report.old) (U.contents report.new) }
-    ensures answer { IfKnown (R.remaining inside.old) (Q.remaining outside.old)
-        (λ bytes others. Answers (texts config.now bytes others) result) }
-    ensures fault { IfErr result
-        (Explains (R.remaining inside.old) (Q.remaining outside.old)) }
-    ensures gate { G.is_open ≡ true → IfErr result (λ fault. is_shut_gate_fault fault ≡ false) }
-    ensures inside_readings { R.failed inside.new
-        ≡ R.failed inside.old + failed_readings Side.Inside result }
-    ensures outside_readings { Q.failed outside.new
-        ≡ Q.failed outside.old + failed_readings Side.Outside result }
-    ensures outside_writings { W.failed to_outside.new
-        ≡ W.failed to_outside.old + failed_writings Which.Outside result }
-    ensures inside_writings { V.failed to_inside.new
-        ≡ V.failed to_inside.old + failed_writings Which.Inside result }
-    ensures report_writings { U.failed report.new
-        ≡ U.failed report.old + failed_writings Which.Report result }
-    ensures outside_flushed { OnOk result (W.is_flushed to_outside.new) }
-    ensures inside_flushed { OnOk result (V.is_flushed to_inside.new) }
-    ensures report_flushed { OnOk result (U.is_flushed report.new) }
+) -> Result<RunEnd, Fault>
+    requires state { TakesState start.config.now start.state.now }
+    ensures outputs { WholeOutputsPost R.Source Q.Source W.Sink V.Sink U.Sink
+        (origin_of start.entry) devices.old (stream_ended result) devices.new }
+    ensures answer { AnswerPost R.Source Q.Source (origin_of start.entry) devices.old (stream_ended result) }
+    ensures end { IfOk result (WholeEndPost R.Source Q.Source (origin_of start.entry) devices.old) }
+    ensures fault { IfErr result (WholeFaultPost R.Source Q.Source G.is_open devices.old) }
+    ensures reads { WholeReadsPost R.Source Q.Source devices.old (stream_ended result) devices.new }
 {
-    let state = unbegun(alloc);
-    let start = Start {
-        config,
-        state: &state,
-    };
-    let run = resume_captures(
-        rt, alloc, start, inside, outside, to_outside, to_inside, report, gate,
-    );
-    without_state(run)
+    let passed = run_whole(
+        rt,
+        alloc,
+        start,
+        &mut devices.inside,
+        &mut devices.outside,
+        &mut devices.to_outside,
+        &mut devices.to_inside,
+        &mut devices.report,
+        gate,
+    )?;
+    Ok(RunEnd {
+        passed,
+        log: SavedLogState::none(alloc),
+    })
 }
 
-/// Translates both captures as `run_captures` does, but goes on from a state that the configuration takes: behind its own
-/// redirects, with the bindings of the state that live or are held at its clock. Returns, once the report is written, what
-/// gives the state that the run leaves. `run_captures` is this from no bindings, at time 0.
-///
-/// Fails as `run_captures` does.
-pub fn resume_captures<
+/// Does what `run_captures` does, over the devices one by one.
+fn run_whole<
     T: Threads + Wait + Copy + Send + 'static,
     R: Source,
     Q: Source,
@@ -240,11 +218,6 @@ pub fn resume_captures<
     gate: Arc<G>,
 ) -> Result<RunSummary, Fault>
     requires taken { TakesState start.config.now start.state.now }
-    requires inside { R.failed inside.old < 2 ^ 64 - 1 }
-    requires outside { Q.failed outside.old < 2 ^ 64 - 1 }
-    requires to_outside { W.failed to_outside.old < 2 ^ 64 - 1 }
-    requires to_inside { V.failed to_inside.old < 2 ^ 64 - 1 }
-    requires report { U.failed report.old < 2 ^ 64 - 1 }
     ensures to_outside { GetsFrom (origin_of start.entry) Which.Outside
         (share_of Which.Outside (stream_ended result)) (R.remaining inside.old)
         (Q.remaining outside.old)

@@ -50,7 +50,6 @@ fn make_room(alloc: Global, full: &mut Vec<Vec<u8>>, last: &mut Vec<u8>) -> Resu
 
 /// Writes a piece behind so many bytes, flushes it, and returns how many are written then.
 fn write_piece<W: Sink>(device: &mut W, before: u64, piece: &[u8]) -> Result<u64, WriteFault>
-    requires can_fail { W.failed device.old < 2 ^ 64 - 1 }
     requires room { before + length piece.now < 2 ^ 64 }
     ensures puts { PutPost before (W.contents device.old) (W.contents device.new) piece.now result }
     ensures flushed { OnOk result (W.is_flushed device.new) }
@@ -81,7 +80,6 @@ impl KeptTexts {
     ///
     /// Fails if a write fails or accepts nothing, or a flush fails: exactly the first `written` bytes are then written.
     pub(crate) fn write_to<W: Sink>(&self, device: &mut W) -> Result<(), WriteFault>
-        requires { W.failed device.old < 2 ^ 64 - 1 }
         ensures ok { OnOk result
             (Appends (W.contents device.old) (W.contents device.new) self.now) }
         ensures flushed { OnOk result (W.is_flushed device.new) }

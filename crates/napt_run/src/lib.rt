@@ -1,7 +1,8 @@
-//! A run from captures to captures: [`run_captures`] reads both captures whole, runs in memory and then writes;
-//! [`run_streams`] reads, translates and writes as the packets arrive, in bounded memory. If both succeed, they write the
-//! same bytes ([`streams_write_the_same`]). [`run_streams_with_log`] writes the log of the run beside. [`resume_captures`],
-//! [`resume_streams`] and [`resume_streams_with_log`] do so from a state, and give the state that the run leaves.
+//! A run from captures to captures, from a [`Start`] over its [`Devices`]. [`run_captures`] reads
+//! both captures whole, runs in memory and then writes. [`run_streams`] reads, translates and writes
+//! as the packets arrive, in bounded memory, and [`run_streams_with_log`] also writes the log of the
+//! run. If both succeed, they write the same bytes ([`streams_write_the_same`]). Each returns a
+//! [`RunEnd`], from which the next run goes on.
 //!
 //! [`merge`] makes the inputs of a run from the records of both captures. [`run_plain`] takes them through the translators of
 //! all external addresses on one thread; [`run_workers`] does so by [`dispatch`], with one worker thread for each address,
@@ -10,6 +11,8 @@
 
 mod capture_run;
 mod captures;
+mod devices;
+mod initial;
 mod kept_texts;
 mod laws;
 mod log_start;
@@ -20,18 +23,22 @@ mod logging;
 mod output;
 mod output_sinks;
 mod report_output;
+mod run_end;
+mod run_log;
 mod running_log;
 mod sources;
 mod start;
 mod stream_run;
 mod streams;
 mod whole_captures;
+mod writer;
 
-pub use captures::{resume_captures, run_captures};
+pub use captures::run_captures;
+pub use devices::Devices;
+pub use initial::initial_state;
 pub use laws::streams_write_the_same;
-pub use log_start::{LogStart, LoggedRunSummary};
-pub use logged_fault::LogRunFault;
-pub use logged_streams::{resume_streams_with_log, run_streams_with_log};
+pub use log_start::LogStart;
+pub use logging::NoLog;
 pub use napt_dispatch::{RunSummary, Worker, dispatch, run_workers};
 pub use napt_records::{
     EndpointText, Fault, Which, cause_name, merge, merge_is_in_order, protocol_name, report_text,
@@ -41,5 +48,7 @@ pub use napt_sequential::{
     Input, NoTrace, Outcome, Run, RunFault, legs_are_local, places_stand_for_legs, right_answers,
     run_plain, runs_are_sound, runs_keep_the_quota, translators_are_local,
 };
+pub use run_end::RunEnd;
 pub use start::Start;
-pub use streams::{resume_streams, run_streams};
+pub use streams::{run_streams, run_streams_with_log};
+pub use writer::LogWriter;

@@ -1,4 +1,4 @@
-//! What the log of a run goes on from, and what a run with a log leaves.
+//! What the log of a run goes on from.
 
 ghost use Rattle.std.specs.Prelude.{◌≡◌, [], false, IfOk, string_bytes};
 ghost use Rattle.napt_rules.specs.Prelude.{TakesState};
@@ -8,7 +8,6 @@ ghost use Rattle.napt_run.specs.LogOrigins.{IsTakenAs};
 
 use crate::start::Start;
 use napt_account::{LogFromState, SavedLogState, TrackedLog, logs_go_on};
-use napt_dispatch::RunSummary;
 use napt_log_text::{add_first, add_opening};
 use std::alloc::{AllocError, Global};
 use std::num::NonZeroU32;
@@ -25,14 +24,6 @@ pub struct LogStart<'a> {
     pub each: Option<NonZeroU32>,
     /// Whether another run goes on with it: then there are no rows of what lives at the end.
     pub goes_on: bool,
-}
-
-/// What a run with a log leaves.
-#[derive(Drop)]
-pub struct LoggedRunSummary {
-    pub passed: RunSummary,
-    /// What is kept of the log beside the state.
-    pub log: SavedLogState,
 }
 
 /// A log before the first input of a run, and how the run's part of its text begins.

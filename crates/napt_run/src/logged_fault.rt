@@ -12,7 +12,7 @@ use std::alloc::AllocError;
 
 /// Why a run with a log failed.
 #[derive(Clone, Copy, Debug, PartialEq, Eq)]
-pub enum LogRunFault {
+pub(crate) enum LogRunFault {
     /// The run failed, a capture or an output other than the log, or memory ran out.
     Run(Fault),
     /// The log could not be written.

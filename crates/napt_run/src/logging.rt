@@ -42,11 +42,11 @@ pub(crate) trait Logging {
         enters x xs y → fails y ys fault z → fails x (xs ++ ys) fault z };
 }
 
-/// Nobody: a run without a log.
+/// A log that is not kept. It takes no memory and no time.
 #[derive(Drop)]
-pub(crate) struct Unlogged;
+pub struct NoLog;
 
-impl Logging for Unlogged {
+impl Logging for NoLog {
     ghost use Rattle.std.specs.Prelude.{⊤};
 
     type Told = NoTrace;

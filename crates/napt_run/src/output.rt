@@ -15,7 +15,8 @@ pub(crate) struct Output<'a, W: Sink> {
     pub(crate) written: u64,
     /// Whether a write or a flush failed. From then on nothing is written.
     pub(crate) is_broken: bool,
-    ghost can_fail: { is_broken ≡ false → W.failed device.now < 2 ^ 64 - 1 },
+    // So that what contracts see of the type has the ghosts of its device.
+    ghost of_device: { W.failed device.now ≡ W.failed device.now },
 }
 
 impl<'a, W: Sink> Output<'a, W> {
@@ -24,7 +25,6 @@ impl<'a, W: Sink> Output<'a, W> {
 
     /// An output over a device, with nothing written yet.
     pub(crate) fn over(device: &'a mut W) -> Output<'a, W>
-        requires { W.failed device.old < 2 ^ 64 - 1 }
         ensures same_reference { result.device.ghost_name ≡ device.entry.ghost_name }
         ensures device { result.device.now ≡ device.old }
         ensures written { result.written ≡ 0 }
@@ -142,7 +142,6 @@ impl<'a, W: Sink> Output<'a, W> {
 
 /// Writes all of these bytes, and does not flush them. The fault counts those that were written.
 fn write_all<W: Sink>(device: &mut W, bytes: &[u8]) -> Result<(), WriteFault>
-    requires { W.failed device.old < 2 ^ 64 - 1 }
     ensures ok { OnOk result (Appends (W.contents device.old) (W.contents device.new) bytes.now) }
     ensures err { IfErr result (λ fault. (fault.written ≤ length bytes.now)
         × Appends (W.contents device.old) (W.contents device.new) (take fault.written bytes.now)) }

@@ -1,5 +1,5 @@
 //! The report of a run.
-ghost use Rattle.std.specs.Prelude.{◌≡◌, ◌+◌, ◌-◌, ◌^◌, ◌<◌, List, Ok, IfErr, IfOk, OnOk};
+ghost use Rattle.std.specs.Prelude.{◌≡◌, ◌+◌, List, IfErr, OnOk};
 ghost use Rattle.napt_rules.specs.declared.Outcome.{Outcome};
 ghost use Rattle.napt_records.specs.{Counts.AreCountsOf, Report.report_of};
 ghost use Rattle.napt_run.specs.{Captures.failed_writings, Streams.{GetsReport, IsReportFault}};
@@ -16,7 +16,6 @@ pub(crate) fn write_report<U: Sink>(
     output: &mut U,
     totals: &Totals,
 ) -> Result<(), Fault>
-    requires { U.failed output.old < 2 ^ 64 - 1 }
     ensures written { (outcomes : List Outcome) → AreCountsOf outcomes totals.now.counts →
         GetsReport (report_of totals.now.cuts.inside totals.now.cuts.outside outcomes
         totals.now.passed.bindings.items) result (U.contents output.old) (U.contents output.new) }
@@ -36,29 +35,5 @@ pub(crate) fn write_report<U: Sink>(
     match write_text(output, text.as_bytes()) {
         Ok(()) => Ok(()),
         Err(fault) => Err(Fault::Write(Which::Report, fault)),
-    }
-}
-
-/// Writes the report of a run, if it succeeded.
-pub(crate) fn reported<U: Sink, E>(
-    alloc: Global,
-    told: &Result<Totals, E>,
-    output: &mut U,
-) -> Result<(), Fault>
-    requires { U.failed output.old < 2 ^ 64 - 1 }
-    ensures untouched { IfErr told.now (λ _. output.new ≡ output.old) }
-    ensures nothing { IfErr told.now (λ _. result ≡ Ok tt) }
-    ensures written { IfOk told.now (λ totals. (outcomes : List Outcome) →
-        AreCountsOf outcomes totals.counts → GetsReport (report_of totals.cuts.inside
-        totals.cuts.outside outcomes totals.passed.bindings.items) result
-        (U.contents output.old) (U.contents output.new)) }
-    ensures fault { IfErr result IsReportFault }
-    ensures flushed { OnOk told.now (OnOk result (U.is_flushed output.new)) }
-    ensures count { U.failed output.new ≡ U.failed output.old
-        + failed_writings Which.Report result }
-{
-    match told {
-        Ok(totals) => write_report(alloc, output, totals),
-        Err(_) => Ok(()),
     }
 }

@@ -34,8 +34,6 @@ impl<
         outside: &mut Q,
         both: &mut LeavingWithLog<'_, '_, '_, W, V, K>,
     ) -> Result<Totals, LoggingFault<K::Fault>>
-        requires inside { R.failed inside.old < 2 ^ 64 - 1 }
-        requires outside { Q.failed outside.old < 2 ^ 64 - 1 }
         requires sound { AreTimesSound both.old.leaving }
         requires counts { AreCountsOf [] both.old.leaving.counts }
         requires settled { IsSettled both.old.leaving }
@@ -66,8 +64,6 @@ impl<
         records: BothRecords,
         both: &mut LeavingWithLog<'_, '_, '_, W, V, K>,
     ) -> Result<Totals, LoggingFault<K::Fault>>
-        requires inside { R.failed inside.old < 2 ^ 64 - 1 }
-        requires outside { Q.failed outside.old < 2 ^ 64 - 1 }
         requires sound { AreTimesSound both.old.leaving }
         requires counts { AreCountsOf [] both.old.leaving.counts }
         ensures runs { (bytes others : Option (List ℕ)) →
@@ -97,7 +93,6 @@ impl<
 
 /// Reads the header of a side's capture.
 fn read_header<R: Source>(alloc: Global, side: Side, source: &mut R) -> Result<RecordReader, Fault>
-    requires { R.failed source.old < 2 ^ 64 - 1 }
     ensures header { IfOk result (λ records.
         IsBehindHeader R.Source records (R.remaining source.old) source.new) }
     ensures fault { IfErr result (IsHeaderFault side (R.remaining source.old)

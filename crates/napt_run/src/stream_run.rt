@@ -30,10 +30,6 @@ impl<
         to_inside: &mut V,
         log: &mut K,
     ) -> Result<Totals, LoggingFault<K::Fault>>
-        requires inside { R.failed inside.old < 2 ^ 64 - 1 }
-        requires outside { Q.failed outside.old < 2 ^ 64 - 1 }
-        requires to_outside { W.failed to_outside.old < 2 ^ 64 - 1 }
-        requires to_inside { V.failed to_inside.old < 2 ^ 64 - 1 }
         requires log { K.is_settled log.old }
         ensures to_outside { DeviceGetsFrom W.Sink (origin_of self.entry.start) Which.Outside
             (R.remaining inside.old) (Q.remaining outside.old) (as_run result)
@@ -72,8 +68,6 @@ impl<
         outside: &mut Q,
         both: &mut LeavingWithLog<'_, '_, '_, W, V, K>,
     ) -> Result<Totals, LoggingFault<K::Fault>>
-        requires inside { R.failed inside.old < 2 ^ 64 - 1 }
-        requires outside { Q.failed outside.old < 2 ^ 64 - 1 }
         requires sound { AreTimesSound both.old.leaving }
         requires written { both.old.leaving.to_outside.written ≡ 0 }
         requires counts { AreCountsOf [] both.old.leaving.counts }

@@ -6,7 +6,7 @@ ghost use Rattle.napt_records.specs.{Counts.AreCountsOf, Output.IsTimely};
 ghost use Rattle.napt_run.specs.{Origins.origin_of, Streams.capture_text, WholeCaptures.{IsTallyOf, WritesAll}};
 
 use crate::logged_output_sinks::LeavingWithLog;
-use crate::logging::Unlogged;
+use crate::logging::NoLog;
 use crate::output::Output;
 use crate::output_sinks::Leaving;
 use crate::start::OriginSetting;
@@ -38,8 +38,6 @@ impl<
         to_inside: &mut V,
     ) -> Result<RunTally, RunFault>
         requires timely { All IsTimely inputs }
-        requires to_outside { W.failed to_outside.old < 2 ^ 64 - 1 }
-        requires to_inside { V.failed to_inside.old < 2 ^ 64 - 1 }
         ensures to_outside { OnOk result (Appends (W.contents to_outside.old)
             (W.contents to_outside.new) (capture_text (origin_of self.entry.start) Side.Outside
             inputs)) }
@@ -52,8 +50,8 @@ impl<
         let ours = Output::over(to_outside);
         let theirs = Output::over(to_inside);
         let leaving = Leaving::into(ours, theirs);
-        let mut nobody = Unlogged;
-        let mut both = LeavingWithLog::over(leaving, &mut nobody);
+        let mut none = NoLog;
+        let mut both = LeavingWithLog::over(leaving, &mut none);
         let told = self.write_all(inputs, &mut both);
         let LeavingWithLog { leaving, log } = both;
         let _log = log;
@@ -71,7 +69,7 @@ impl<
     fn write_all<W: Sink, V: Sink>(
         self,
         inputs: RecordMerger,
-        both: &mut LeavingWithLog<'_, '_, '_, W, V, Unlogged>,
+        both: &mut LeavingWithLog<'_, '_, '_, W, V, NoLog>,
     ) -> Result<RunTally, RunFault>
         requires timely { All IsTimely inputs }
         requires counts { AreCountsOf [] both.old.leaving.counts }
@@ -90,7 +88,7 @@ impl<
     fn pass_all<W: Sink, V: Sink>(
         self,
         mut inputs: RecordMerger,
-        both: &mut LeavingWithLog<'_, '_, '_, W, V, Unlogged>,
+        both: &mut LeavingWithLog<'_, '_, '_, W, V, NoLog>,
     ) -> Result<RunTally, RunFault>
         requires timely { All IsTimely inputs }
         requires counts { AreCountsOf [] both.old.leaving.counts }

@@ -9,7 +9,7 @@ use crate::sample_inputs::THREE_ADDRESSES;
 use crate::samples::hosts::{CLIENT, RESOLVER, SECOND_CLIENT, external, host};
 use crate::samples::settings::TWO_ADDRESSES;
 use napt_pool::PoolFault;
-use napt_run::{Fault, LogRunFault, RunFault};
+use napt_run::{Fault, RunFault};
 use napt_wire::Endpoint;
 use std::sync::Arc;
 use std::test::Fail;
@@ -82,7 +82,7 @@ fn gate_of_a_call_stays_shut(rt: HostRuntime) -> Result<(), Fail> {
     for (call, most) in [(Call::Captures, 0), (Call::Streams, 24 + 3 * 44)] {
         let (shut, asks) = under_gate(&rt, call, TWO_ADDRESSES, &packets, GateMode::Shut(1, 3))?;
         let fault = Fault::Run(RunFault::Pool(PoolFault::GateShut(1)));
-        assert_eq!(rt; shut.answer, Err(LogRunFault::Run(fault)), "{call:?}");
+        assert_eq!(rt; shut.answer, Err(fault), "{call:?}");
         assert_eq!(rt; asks, MOST_ASKS, "{call:?}");
         assert!(rt; shut.to_outside.len() <= most, "{call:?}");
         assert!(rt; open.to_outside.starts_with(&shut.to_outside), "{call:?}");

@@ -8,9 +8,13 @@ use crate::gates::{GateMode, Hold};
 use crate::packets::udp;
 use crate::sample_inputs::{THREE_ADDRESSES, thousand_inputs};
 use crate::samples::hosts::{RESOLVER, external};
+use napt_account::SavedLogState;
 use napt_capture::{FaultPlan, Faulty, InjectedFault, Watched};
 use napt_config::Config;
-use napt_run::{Fault, LogRunFault, run_captures, run_streams, run_streams_with_log};
+use napt_run::{
+    Devices, Fault, LogStart, LogWriter, NoLog, RunEnd, Start, initial_state, run_captures,
+    run_streams, run_streams_with_log,
+};
 use std::alloc::{AllocError, Global};
 use std::ops::Range;
 use std::sync::Arc;
@@ -80,16 +84,19 @@ pub(crate) struct RunInput<'a> {
 /// What a run answers and writes.
 #[derive(Drop, PartialEq)]
 pub(crate) struct RunOutput {
-    pub(crate) answer: Result<(), LogRunFault>,
+    pub(crate) answer: Result<(), Fault>,
     pub(crate) to_outside: Vec<u8>,
     pub(crate) to_inside: Vec<u8>,
     pub(crate) report: Vec<u8>,
     pub(crate) log: Vec<u8>,
 }
 
-/// The answer of a run without a log.
-pub(crate) fn told(answer: Result<(), Fault>) -> Result<(), LogRunFault> {
-    Ok(answer?)
+/// Returns the result of a run without what the run leaves.
+fn ended(run: Result<RunEnd, Fault>) -> Result<(), Fault> {
+    match run {
+        Ok(_) => Ok(()),
+        Err(fault) => Err(fault),
+    }
 }
 
 fn config_of(alloc: Global, settings: Option<&str>) -> Result<Config, Fail> {
@@ -107,35 +114,54 @@ pub(crate) fn captured(
 ) -> Result<RunOutput, Fail> {
     let alloc = rt.alloc();
     let config = config_of(alloc, given.settings)?;
+    let state = initial_state(alloc);
+    let start = Start {
+        config: &config,
+        state: &state,
+    };
     macro_rules! on {
         ($device:ident, $text:expr) => {
             Faulty::new(Watched::new($text), plan_of(given.plans, Device::$device))
         };
     }
-    let mut inside = on!(Inside, given.inside);
-    let mut outside = on!(Outside, given.outside);
-    let mut to_outside = on!(ToOutside, Vec::new(alloc));
-    let mut to_inside = on!(ToInside, Vec::new(alloc));
-    let mut report = on!(Report, Vec::new(alloc));
-    let mut log = on!(Log, Vec::new(alloc));
-    macro_rules! answer_of {
-        ($run:ident $($log:expr)?) => {
-            $run(
-                rt, alloc, &config, &mut inside, &mut outside, &mut to_outside, &mut to_inside, &mut report, $($log,)? gate,
-            )
-        };
+    macro_rules! written_by {
+        ($run:ident, $log:expr, $left:pat => $text:expr) => {{
+            let mut devices = Devices {
+                inside: on!(Inside, given.inside),
+                outside: on!(Outside, given.outside),
+                to_outside: on!(ToOutside, Vec::new(alloc)),
+                to_inside: on!(ToInside, Vec::new(alloc)),
+                report: on!(Report, Vec::new(alloc)),
+                log: $log,
+            };
+            let run = $run(rt, alloc, start, &mut devices, gate);
+            let Devices { to_outside, to_inside, report, log: $left, .. } = devices;
+            RunOutput {
+                answer: ended(run),
+                to_outside: to_outside.into_inner().into_inner(),
+                to_inside: to_inside.into_inner().into_inner(),
+                report: report.into_inner().into_inner(),
+                log: $text,
+            }
+        }};
     }
-    let answer = match given.call {
-        Call::Captures => told(answer_of!(run_captures)),
-        Call::Streams => told(answer_of!(run_streams)),
-        Call::StreamsWithLog => answer_of!(run_streams_with_log &mut log),
+    let kept = SavedLogState::none(alloc);
+    let log_start = LogStart {
+        kept: &kept,
+        is_new: true,
+        each: None,
+        goes_on: false,
     };
-    Ok(RunOutput {
-        answer,
-        to_outside: to_outside.into_inner().into_inner(),
-        to_inside: to_inside.into_inner().into_inner(),
-        report: report.into_inner().into_inner(),
-        log: log.into_inner().into_inner(),
+    Ok(match given.call {
+        Call::Captures => written_by!(run_captures, NoLog, NoLog => Vec::new(alloc)),
+        Call::Streams => written_by!(run_streams, NoLog, NoLog => Vec::new(alloc)),
+        Call::StreamsWithLog => {
+            let log = LogWriter {
+                start: log_start,
+                device: on!(Log, Vec::new(alloc)),
+            };
+            written_by!(run_streams_with_log, log, LogWriter { device, .. } => device.into_inner().into_inner())
+        }
     })
 }
 

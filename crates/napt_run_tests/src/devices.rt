@@ -1,7 +1,7 @@
 //! Devices of a run that move a byte at a time, and go wrong at each of their calls in turn.
 
 use crate::calls::TestRuntime;
-use crate::captures::{Call, Device, HEADER, RunInput, at_most, captured, failing, told};
+use crate::captures::{Call, Device, HEADER, RunInput, at_most, captured, failing};
 use crate::gates::{GateMode, Hold};
 use crate::samples::captures::{ONE_PACKET, WRITTEN};
 use napt_capture::{CaptureFault, FaultPlan, InjectedFault, WriteFault};
@@ -49,7 +49,7 @@ fn assert_ends(
     };
     let written = captured(rt, &given, Hold::new(rt.alloc(), way)?)?;
     let (answer, [to_outside, to_inside, report]) = end;
-    assert_eq!(rt; written.answer, told(answer));
+    assert_eq!(rt; written.answer, answer);
     let texts: [(&[u8], &[u8], u16); 3] = [
         (&written.to_outside, &WRITTEN, to_outside),
         (&written.to_inside, &WRITTEN, to_inside),
@@ -98,10 +98,10 @@ fn each_write_of_a_run_goes_wrong(rt: HostRuntime) -> Result<(), Fail> {
         ] {
             for taken in 0..calls {
                 let written = u64::from(taken);
-                let lengths = match which {
-                    Which::Outside => [taken, 0, 0],
-                    Which::Inside => [70, taken, 0],
-                    Which::Report => [70, 24, taken],
+                let lengths = match device {
+                    Device::ToOutside => [taken, 0, 0],
+                    Device::ToInside => [70, taken, 0],
+                    _ => [70, 24, taken],
                 };
                 let end = (Err(Fault::Write(which, WriteFault { written })), lengths);
                 assert_ends(&rt, &[(device, slow(taken, trouble))], GateMode::Open, end)?;

@@ -5,7 +5,7 @@ use crate::gates::{GateMode, Hold};
 use crate::sample_inputs::THREE_ADDRESSES;
 use napt_capture::Watched;
 use napt_config::Config;
-use napt_run::run_streams;
+use napt_run::{Devices, NoLog, Start, initial_state, run_streams};
 use std::io;
 use std::io::Write;
 use std::test::Fail;
@@ -40,19 +40,22 @@ fn packets_that_come_together_are_flushed_together(rt: HostRuntime) -> Result<()
     let alloc = rt.alloc();
     let config = Config::read(alloc, THREE_ADDRESSES.as_bytes())?;
     let inside = sent_in(alloc, &ALL_TIMES)?;
-    let mut to_outside = Watched::new(NOTHING);
-    run_streams(
-        &rt,
-        alloc,
-        &config,
-        &mut Watched::new(inside.as_slice()),
-        &mut Watched::new(HEADER.as_slice()),
-        &mut to_outside,
-        &mut Watched::new(NOTHING),
-        &mut Watched::new(NOTHING),
-        Hold::new(alloc, GateMode::Open)?,
-    )?;
-    let Counter { bytes, flushes } = to_outside.into_inner();
+    let state = initial_state(alloc);
+    let start = Start {
+        config: &config,
+        state: &state,
+    };
+    let mut devices = Devices {
+        inside: Watched::new(inside.as_slice()),
+        outside: Watched::new(HEADER.as_slice()),
+        to_outside: Watched::new(NOTHING),
+        to_inside: Watched::new(NOTHING),
+        report: Watched::new(NOTHING),
+        log: NoLog,
+    };
+    let gate = Hold::new(alloc, GateMode::Open)?;
+    run_streams(&rt, alloc, start, &mut devices, gate)?;
+    let Counter { bytes, flushes } = devices.to_outside.into_inner();
     assert_eq!(rt; bytes, 24 + 800 * 44);
     assert!(rt; flushes < 10, "{flushes} flushes");
     Ok(())

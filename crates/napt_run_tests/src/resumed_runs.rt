@@ -8,7 +8,7 @@ use crate::gates::{GateMode, Hold};
 use crate::sample_inputs::THREE_ADDRESSES;
 use napt_capture::Watched;
 use napt_config::Config;
-use napt_run::{Fault, RunSummary, Start, State, resume_captures, resume_streams};
+use napt_run::{Devices, NoLog, Start, State, run_captures, run_streams};
 use napt_state::take_up;
 use std::alloc::Global;
 use std::ops::Range;
@@ -33,33 +33,38 @@ fn run_on(
     let alloc = rt.alloc();
     let config = Config::read(alloc, THREE_ADDRESSES.as_bytes())?;
     let (sent, replies) = (sent_in(alloc, times)?, replies_in(alloc, times)?);
-    let mut inside = Watched::new(sent.as_slice());
-    let mut outside = Watched::new(replies.as_slice());
-    let mut to_outside = Watched::new(Vec::new(alloc));
-    let mut to_inside = Watched::new(Vec::new(alloc));
-    let mut report = Watched::new(Vec::new(alloc));
     if take_up(alloc, &config, &mut state)?.is_some() {
         return Err(Fail::new("the state is not taken"));
     }
     let gate = Hold::new(alloc, GateMode::Open)?;
-    macro_rules! passed_by {
-        ($run:ident) => {
-            $run(
-                rt, alloc, Start { config: &config, state: &state }, &mut inside, &mut outside, &mut to_outside,
-                &mut to_inside, &mut report, gate,
-            )
-        };
-    }
-    let passed = if are_whole {
-        passed_by!(resume_captures)?
-    } else {
-        passed_by!(resume_streams)?
+    let start = Start {
+        config: &config,
+        state: &state,
     };
+    let mut devices = Devices {
+        inside: Watched::new(sent.as_slice()),
+        outside: Watched::new(replies.as_slice()),
+        to_outside: Watched::new(Vec::new(alloc)),
+        to_inside: Watched::new(Vec::new(alloc)),
+        report: Watched::new(Vec::new(alloc)),
+        log: NoLog,
+    };
+    let end = if are_whole {
+        run_captures(rt, alloc, start, &mut devices, gate)?
+    } else {
+        run_streams(rt, alloc, start, &mut devices, gate)?
+    };
+    let Devices {
+        to_outside,
+        to_inside,
+        report,
+        ..
+    } = devices;
     Ok(ResumedOutput {
         to_outside: to_outside.into_inner(),
         to_inside: to_inside.into_inner(),
         report: report.into_inner(),
-        state: passed.into_state_if(true, alloc)?.ok_or("a state")?,
+        state: end.passed.into_state_if(true, alloc)?.ok_or("a state")?,
     })
 }
 

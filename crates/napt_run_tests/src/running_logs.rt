@@ -14,7 +14,7 @@ use crate::samples::hosts::{CLIENT, RESOLVER};
 use napt_account::SavedLogState;
 use napt_capture::{Watched, WriteFault};
 use napt_config::Config;
-use napt_run::{LogRunFault, LogStart, Start, State, resume_streams_with_log};
+use napt_run::{Devices, Fault, LogStart, LogWriter, Start, State, Which, run_streams_with_log};
 use napt_state::take_up;
 use std::alloc::{AllocError, Global};
 use std::num::NonZeroU32;
@@ -107,30 +107,24 @@ fn run_on(
         state: &state,
     };
     let sent = sent_at(alloc, times)?;
-    let mut inside = Watched::new(sent.as_slice());
-    let mut outside = Watched::new(HEADER.as_slice());
-    let mut to_outside = Watched::new(Vec::new(alloc));
-    let mut to_inside = Watched::new(Vec::new(alloc));
-    let mut report = Watched::new(Vec::new(alloc));
-    let mut log = Watched::new(Vec::new(alloc));
+    let mut devices = Devices {
+        inside: Watched::new(sent.as_slice()),
+        outside: Watched::new(HEADER.as_slice()),
+        to_outside: Watched::new(Vec::new(alloc)),
+        to_inside: Watched::new(Vec::new(alloc)),
+        report: Watched::new(Vec::new(alloc)),
+        log: LogWriter {
+            start: log_start,
+            device: Watched::new(Vec::new(alloc)),
+        },
+    };
     let gate = Hold::new(alloc, GateMode::Open)?;
-    let left = resume_streams_with_log(
-        rt,
-        alloc,
-        start,
-        log_start,
-        &mut inside,
-        &mut outside,
-        &mut to_outside,
-        &mut to_inside,
-        &mut report,
-        &mut log,
-        gate,
-    )?;
+    let end = run_streams_with_log(rt, alloc, start, &mut devices, gate)?;
+    let LogWriter { device, .. } = devices.log;
     Ok(Part {
-        text: log.into_inner(),
-        state: left.passed.into_state_if(true, alloc)?.ok_or("a state")?,
-        kept: left.log,
+        text: device.into_inner(),
+        state: end.passed.into_state_if(true, alloc)?.ok_or("a state")?,
+        kept: end.log,
     })
 }
 
@@ -187,7 +181,10 @@ fn a_log_that_fails(rt: HostRuntime) -> Result<(), Fail> {
     for (call, length, header) in [(1, 0, 0), (2, opening, 0), (3, opening, 24)] {
         let left = run_with(&rt, SETTINGS, call)?;
         let written = length as u64;
-        assert_eq!(rt; left.answer, Err(LogRunFault::Log(WriteFault { written })));
+        assert_eq!(rt;
+            left.answer,
+            Err(Fault::Write(Which::Log, WriteFault { written }))
+        );
         assert_eq!(rt; Some(left.log.as_slice()), OPENING.as_bytes().get(..length));
         assert_eq!(rt;
             (left.to_outside.len(), left.to_inside.len()),

@@ -8,7 +8,7 @@ use crate::counted_device::CountedDevice;
 use crate::counting_gate::CountingGate;
 use crate::manual::{INSTALLED, OWN};
 use crate::progress::ProgressReport;
-use crate::stream_run::{CaptureDevices, StreamRemainder, StreamRun};
+use crate::stream_run::{CaptureDevices, StreamRemainder, StreamResult, StreamRun};
 use napt_program::{
     MEMORY, OptionsWithLog, ProgramCall, ProgramHost, RunDevices, RunResources, StandardStreams,
     Stop, answer_line, open, parse_words_with_log, words,
@@ -71,11 +71,11 @@ fn run<R: ProgramHost + Clock>(
     let RunDevices {
         inside,
         outside,
-        mut outputs,
+        outputs,
     } = devices;
     let gate = gate(rt.alloc(), config.pool().len())?;
     let progress = ProgressReport::of(rt, again(&gate)?, call);
-    let mut captures = CaptureDevices {
+    let captures = CaptureDevices {
         inside: CountedDevice::over(inside, &progress),
         outside: CountedDevice::over(outside, &progress),
     };
@@ -87,7 +87,7 @@ fn run<R: ProgramHost + Clock>(
         gate,
     };
     run.print_new_entries(rt, call)?;
-    let answer = run.over(rt, &mut captures, &mut outputs, log);
+    let StreamResult { captures, answer } = run.over(rt, captures, outputs, log);
     progress.print_end();
     let StreamRemainder { state, log } = answer?;
     call.print_cuts(rt, captures.inside.tallied(), captures.outside.tallied());

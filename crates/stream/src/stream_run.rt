@@ -1,29 +1,28 @@
 //! A run over open files, with its log if one is named.
 
-ghost use Rattle.std.specs.Prelude.{◌≡◌, ◌-◌, ◌^◌, ◌<◌, ◌&&◌, IfErr, IfOk, None, Some, if◌then◌else◌, is_some, option_map, true};
+ghost use Rattle.std.specs.Prelude.{◌≡◌, ◌&&◌, IfErr, IfOk, None, Some, false, if◌then◌else◌, is_some, option_map, true};
 ghost use Rattle.napt_account.specs.ResumedLogRuns.{IsFew};
-ghost use Rattle.napt_program.specs.{CommandLine.files_with_log, Command.{IsRunStop, IsStopUnderOpenGate}, Devices.{AreOutputsFresh, IsFreshLog}, declared.streams.StandardStreams.StandardStreams};
-ghost use Rattle.napt_capture.specs.Watched.{failed_of};
+ghost use Rattle.napt_program.specs.{CommandLine.files_with_log, Command.{IsOfLog, IsRunStop}, declared.streams.StandardStreams.StandardStreams};
 ghost use Rattle.napt_account.specs.Prelude.{TakesState};
-ghost use Rattle.napt_run.specs.LoggedStreams.{IsRunUnderOpenGate as IsLoggedUnderOpenGate};
+ghost use Rattle.napt_records.specs.Faults.{is_shut_gate_fault};
 
 use crate::counting_gate::CountingGate;
 use either::Either;
 use napt_account::SavedLogState;
-use napt_capture::Source;
+use napt_capture::{NullSink, Source, Watched};
 use napt_config::Config;
 use napt_program::{
     LogDevice, LogOutput, LogPieces, MEMORY, OptionsWithLog, OutputDevices, ProgramCall,
     ProgramHost, Stop, stop_of_run,
 };
 use napt_run::{
-    Fault, LogRunFault, LogStart, LoggedRunSummary, RunSummary, Start, State, resume_streams,
-    resume_streams_with_log,
+    Devices, Fault, LogStart, LogWriter, NoLog, RunEnd, Start, State, run_streams,
+    run_streams_with_log,
 };
 use napt_state::LogPosition;
 use std::alloc::Global;
 use std::fs::OpenFile;
-use std::io::Write;
+use std::io::{BufWriter, Write};
 use std::rt::Files;
 use std::sync::Arc;
 
@@ -43,6 +42,13 @@ pub struct StreamRun<'a> {
 pub struct CaptureDevices<A, B> {
     pub inside: A,
     pub outside: B,
+}
+
+/// The captures after a run, and the result of the run.
+#[derive(Drop)]
+pub struct StreamResult<A, B> {
+    pub captures: CaptureDevices<A, B>,
+    pub answer: Result<StreamRemainder, Stop>,
 }
 
 /// The result of a run that succeeded.
@@ -81,37 +87,24 @@ impl<'a> StreamRun<'a> {
     pub fn over<R: ProgramHost, A: Source, B: Source, T: Write + Drop, F: Write + OpenFile + Drop>(
         self,
         rt: &R,
-        captures: &mut CaptureDevices<A, B>,
-        outputs: &mut OutputDevices<T, F>,
+        captures: CaptureDevices<A, B>,
+        outputs: OutputDevices<T, F>,
         log: Option<LogOutput<LogDevice<Either<T, F>, LogPieces<'_, R>>>>,
-    ) -> Result<StreamRemainder, Stop>
+    ) -> StreamResult<A, B>
         requires taken { TakesState self.config.now self.state.now }
         requires few { IsFew self.kept.now }
-        requires inside { A.failed captures.old.inside < 2 ^ 64 - 1 }
-        requires outside { B.failed captures.old.outside < 2 ^ 64 - 1 }
-        requires outputs { AreOutputsFresh outputs.old }
-        requires log { IsFreshLog log }
         requires named { is_some log ≡ is_some self.options.now.log }
-        ensures saved { IfOk result (λ left.
+        ensures saved { IfOk result.answer (λ left.
             is_some left.state ≡ is_some self.entry.options.now.files.save) }
-        ensures kept { IfOk result (λ left. is_some left.log
+        ensures kept { IfOk result.answer (λ left. is_some left.log
             ≡ (is_some log.entry && is_some self.entry.options.now.files.save)) }
-        ensures stop { (streams : StandardStreams) → IfErr result
+        ensures stop { (streams : StandardStreams) → IfErr result.answer
             (IsRunStop streams (files_with_log self.entry.options.now)) }
     {
-        let is_saved = self.options.files.save.is_some();
-        let Some(mut log) = log else {
-            let passed = self.without_log(rt, captures, outputs)?;
-            let state = passed.into_state_if(is_saved, rt.alloc())?;
-            return Ok(StreamRemainder { state, log: None });
-        };
-        let LoggedRunSummary { passed, log: left } = self.with_log(
-            rt, captures, outputs, &mut log,
-        )?;
-        // a fault of the log is reported before that of the state
-        let state = passed.into_state_if(is_saved, rt.alloc());
-        let log = kept_if_saved(is_saved, left, log)?;
-        Ok(StreamRemainder { state: state?, log })
+        match log {
+            None => self.without_log(rt, captures, outputs),
+            Some(log) => self.with_log(rt, captures, outputs, log),
+        }
     }
 
     fn without_log<
@@ -123,88 +116,174 @@ impl<'a> StreamRun<'a> {
     >(
         self,
         rt: &R,
-        captures: &mut CaptureDevices<A, B>,
-        outputs: &mut OutputDevices<T, F>,
-    ) -> Result<RunSummary, Stop>
-        requires taken { TakesState self.config.now self.state.now }
-        requires inside { A.failed captures.old.inside < 2 ^ 64 - 1 }
-        requires outside { B.failed captures.old.outside < 2 ^ 64 - 1 }
-        requires outputs { AreOutputsFresh outputs.old }
-        ensures { (streams : StandardStreams) → IfErr result
+        captures: CaptureDevices<A, B>,
+        outputs: OutputDevices<T, F>,
+    ) -> StreamResult<A, B>
+        requires { TakesState self.config.now self.state.now }
+        ensures saved { IfOk result.answer (λ left.
+            is_some left.state ≡ is_some self.entry.options.now.files.save) }
+        ensures kept { IfOk result.answer (λ left. is_some left.log ≡ false) }
+        ensures stop { (streams : StandardStreams) → IfErr result.answer
             (IsRunStop streams (files_with_log self.entry.options.now)) }
     {
-        let answer = resume_streams(
-            rt,
-            rt.alloc(),
-            Start {
-                config: self.config,
-                state: self.state,
-            },
-            &mut captures.inside,
-            &mut captures.outside,
-            &mut outputs.to_outside,
-            &mut outputs.to_inside,
-            &mut outputs.report,
-            self.gate,
-        );
-        ended(self.options, answer)
+        let options = self.options;
+        let start = self.start();
+        let mut devices = run_devices(captures, outputs, NoLog);
+        let answer = run_streams(rt, rt.alloc(), start, &mut devices, self.gate);
+        let Devices {
+            inside,
+            outside,
+            ..
+        } = devices;
+        StreamResult {
+            captures: CaptureDevices { inside, outside },
+            answer: ended(rt.alloc(), options, answer),
+        }
     }
 
     fn with_log<R: ProgramHost, A: Source, B: Source, T: Write + Drop, F: Write + OpenFile + Drop>(
         self,
         rt: &R,
-        captures: &mut CaptureDevices<A, B>,
-        outputs: &mut OutputDevices<T, F>,
-        log: &mut LogOutput<LogDevice<Either<T, F>, LogPieces<'_, R>>>,
-    ) -> Result<LoggedRunSummary, Stop>
+        captures: CaptureDevices<A, B>,
+        outputs: OutputDevices<T, F>,
+        log: LogOutput<LogDevice<Either<T, F>, LogPieces<'_, R>>>,
+    ) -> StreamResult<A, B>
         requires taken { TakesState self.config.now self.state.now }
         requires few { IsFew self.kept.now }
-        requires inside { A.failed captures.old.inside < 2 ^ 64 - 1 }
-        requires outside { B.failed captures.old.outside < 2 ^ 64 - 1 }
-        requires outputs { AreOutputsFresh outputs.old }
-        requires log { failed_of log.old.device ≡ 0 }
         requires named { is_some self.options.now.log ≡ true }
-        ensures { (streams : StandardStreams) → IfErr result
+        ensures saved { IfOk result.answer (λ left.
+            is_some left.state ≡ is_some self.entry.options.now.files.save) }
+        ensures kept { IfOk result.answer (λ left. is_some left.log
+            ≡ is_some self.entry.options.now.files.save) }
+        ensures stop { (streams : StandardStreams) → IfErr result.answer
             (IsRunStop streams (files_with_log self.entry.options.now)) }
     {
-        let (start, log_start) = self.starts(log.is_new);
-        let answer = resume_streams_with_log(
-            rt,
-            rt.alloc(),
-            start,
-            log_start,
-            &mut captures.inside,
-            &mut captures.outside,
-            &mut outputs.to_outside,
-            &mut outputs.to_inside,
-            &mut outputs.report,
-            &mut log.device,
-            self.gate,
-        );
-        ended_with_log(self.options, answer)
+        let options = self.options;
+        let start = self.start();
+        let LogOutput { device, is_new } = log;
+        let writer = LogWriter {
+            start: self.log_start(is_new),
+            device,
+        };
+        let mut devices = run_devices(captures, outputs, writer);
+        let answer = run_streams_with_log(rt, rt.alloc(), start, &mut devices, self.gate);
+        let Devices {
+            inside,
+            outside,
+            log: LogWriter { device, .. },
+            ..
+        } = devices;
+        StreamResult {
+            captures: CaptureDevices { inside, outside },
+            answer: ended_with_log(rt.alloc(), options, answer, LogOutput { device, is_new }),
+        }
     }
 
-    /// Returns the start of the run, and of its log, which is new or already has text.
-    fn starts(&self, is_new: bool) -> (Start<'a>, LogStart<'a>)
-        ensures config { result.0.config ≡ self.now.config }
-        ensures state { result.0.state ≡ self.now.state }
-        ensures kept { result.1.kept ≡ self.now.kept }
-        ensures is_new { result.1.is_new ≡ is_new }
-        ensures goes_on { result.1.goes_on ≡ is_some self.now.options.now.files.save }
-        ensures each { result.1.each ≡ self.now.options.now.log_each }
+    /// Returns the start of the run.
+    fn start(&self) -> Start<'a>
+        ensures config { result.config ≡ self.now.config }
+        ensures state { result.state ≡ self.now.state }
     {
-        let start = Start {
+        Start {
             config: self.config,
             state: self.state,
-        };
-        let log_start = LogStart {
+        }
+    }
+
+    /// Returns the start of the run's log, which is new or already has text.
+    fn log_start(&self, is_new: bool) -> LogStart<'a>
+        ensures kept { result.kept ≡ self.now.kept }
+        ensures is_new { result.is_new ≡ is_new }
+        ensures goes_on { result.goes_on ≡ is_some self.now.options.now.files.save }
+        ensures each { result.each ≡ self.now.options.now.log_each }
+    {
+        LogStart {
             kept: self.kept,
             is_new,
             goes_on: self.options.files.save.is_some(),
             each: self.options.log_each,
-        };
-        (start, log_start)
+        }
     }
+}
+
+/// Returns the devices of a run.
+fn run_devices<A: Source, B: Source, T: Write + Drop, F: Write + Drop, L: Drop>(
+    captures: CaptureDevices<A, B>,
+    outputs: OutputDevices<T, F>,
+    log: L,
+) -> Devices<
+    A,
+    B,
+    Watched<BufWriter<Either<T, F>>>,
+    Either<Watched<BufWriter<Either<T, F>>>, NullSink>,
+    Either<Watched<BufWriter<Either<T, F>>>, NullSink>,
+    L,
+>
+    ensures { result.log ≡ log.entry }
+{
+    let CaptureDevices { inside, outside } = captures;
+    let OutputDevices {
+        to_outside,
+        to_inside,
+        report,
+    } = outputs;
+    Devices {
+        inside,
+        outside,
+        to_outside,
+        to_inside,
+        report,
+        log,
+    }
+}
+
+/// Returns the result of the program for that of a run without a log.
+fn ended(
+    alloc: Global,
+    options: &OptionsWithLog,
+    answer: Result<RunEnd, Fault>,
+) -> Result<StreamRemainder, Stop>
+    requires gate { IfErr answer (λ fault. is_shut_gate_fault fault ≡ false) }
+    requires log { IfErr answer (IsOfLog (files_with_log options.now)) }
+    ensures saved { IfOk result (λ left. is_some left.state ≡ is_some options.now.files.save) }
+    ensures kept { IfOk result (λ left. is_some left.log ≡ false) }
+    ensures stop { (streams : StandardStreams) → IfErr result
+        (IsRunStop streams (files_with_log options.now)) }
+{
+    let end = match answer {
+        Ok(end) => end,
+        Err(fault) => return Err(stop_of_run(options, fault)),
+    };
+    let state = end
+        .passed
+        .into_state_if(options.files.save.is_some(), alloc)?;
+    Ok(StreamRemainder { state, log: None })
+}
+
+/// Returns the result of the program for that of a run with a log, whose position it keeps if the
+/// state is to be saved. Fails as the run does, and with `Stop::Log` on a failed sync.
+fn ended_with_log<T: Write + Drop, F: Write + OpenFile + Drop, R: Files + AllocGlobal>(
+    alloc: Global,
+    options: &OptionsWithLog,
+    answer: Result<RunEnd, Fault>,
+    log: LogOutput<LogDevice<Either<T, F>, LogPieces<'_, R>>>,
+) -> Result<StreamRemainder, Stop>
+    requires gate { IfErr answer (λ fault. is_shut_gate_fault fault ≡ false) }
+    requires log { is_some options.now.log ≡ true }
+    ensures saved { IfOk result (λ left. is_some left.state ≡ is_some options.now.files.save) }
+    ensures kept { IfOk result (λ left. is_some left.log ≡ is_some options.now.files.save) }
+    ensures stop { (streams : StandardStreams) → IfErr result
+        (IsRunStop streams (files_with_log options.now)) }
+{
+    let end = match answer {
+        Ok(end) => end,
+        Err(fault) => return Err(stop_of_run(options, fault)),
+    };
+    let is_saved = options.files.save.is_some();
+    // A fault of the log is reported before that of the state.
+    let state = end.passed.into_state_if(is_saved, alloc);
+    let log = kept_if_saved(is_saved, end.log, log)?;
+    Ok(StreamRemainder { state: state?, log })
 }
 
 /// Returns a log's position if the state is to be saved. Fails with `Stop::Log` on a failed sync.
@@ -222,33 +301,4 @@ fn kept_if_saved<T: Write + Drop, F: Write + OpenFile + Drop, R: Files + AllocGl
     }
     let length = log.synced_length()?;
     Ok(Some(LogPosition { log: left, length }))
-}
-
-/// Returns the result of the program for that of a run without a log.
-fn ended(options: &OptionsWithLog, answer: Result<RunSummary, Fault>) -> Result<RunSummary, Stop>
-    requires { IfErr answer (λ fault. IsStopUnderOpenGate (Stop.Run fault)) }
-    ensures { (streams : StandardStreams) → IfErr result
-        (IsRunStop streams (files_with_log options.now)) }
-{
-    match answer {
-        Ok(passed) => Ok(passed),
-        Err(fault) => Err(stop_of_run(options, fault)),
-    }
-}
-
-/// Returns the result of the program for that of a run with a log.
-fn ended_with_log(
-    options: &OptionsWithLog,
-    answer: Result<LoggedRunSummary, LogRunFault>,
-) -> Result<LoggedRunSummary, Stop>
-    requires run { IfErr answer IsLoggedUnderOpenGate }
-    requires log { is_some options.now.log ≡ true }
-    ensures { (streams : StandardStreams) → IfErr result
-        (IsRunStop streams (files_with_log options.now)) }
-{
-    match answer {
-        Ok(passed) => Ok(passed),
-        Err(LogRunFault::Run(fault)) => Err(stop_of_run(options, fault)),
-        Err(LogRunFault::Log(_)) => Err(Stop::Log),
-    }
 }

@@ -44,7 +44,6 @@ fn records(alloc: Global, text: &[u8]) -> Result<Vec<Record>, CallFault> {
 
 /// Reads the header of a capture.
 fn opened<'a, R: Source>(alloc: Global, source: &'a mut R) -> Result<RecordStream<'a, R>, CallFault>
-    requires { R.failed source.old < 2 ^ 64 - 1 }
     ensures { IfOk result (λ stream. R.failed stream.live.source.now ≡ R.failed source.old) }
 {
     let records = RecordReader::open(alloc, source).map_err(|_| CallFault::Capture)?;

@@ -9,7 +9,7 @@ use crate::refused::{CallResult, System};
 use napt_capture::{CaptureFault, FaultPlan, Faulty, InjectedFault, Watched};
 use napt_config::Config;
 use napt_records::{Fault, Which};
-use napt_run::{run_captures, run_streams};
+use napt_run::{Devices, NoLog, Start, initial_state, run_captures, run_streams};
 use napt_wire::Side;
 use std::sync::Arc;
 
@@ -77,23 +77,34 @@ fn make_run(
             Faulty::new(Watched::new($text), refusal.plan(RefusingDevice::$device))
         };
     }
-    let mut inside = on!(Inside, INSIDE.as_slice());
-    let mut outside = on!(Outside, OUTSIDE.as_slice());
-    let mut to_outside = on!(ToOutside, Vec::with_capacity(alloc, ROOM)?);
-    let mut to_inside = on!(ToInside, Vec::with_capacity(alloc, ROOM)?);
-    let mut report = on!(Report, Vec::with_capacity(alloc, ROOM)?);
-    macro_rules! answer_of {
-        ($run:ident) => {
-            $run(
-                rt, alloc, config, &mut inside, &mut outside, &mut to_outside, &mut to_inside, &mut report, gate,
-            )
-        };
-    }
-    let answer = if are_whole {
-        answer_of!(run_captures)
-    } else {
-        answer_of!(run_streams)
+    let state = initial_state(alloc);
+    let start = Start {
+        config,
+        state: &state,
     };
+    let mut devices = Devices {
+        inside: on!(Inside, INSIDE.as_slice()),
+        outside: on!(Outside, OUTSIDE.as_slice()),
+        to_outside: on!(ToOutside, Vec::with_capacity(alloc, ROOM)?),
+        to_inside: on!(ToInside, Vec::with_capacity(alloc, ROOM)?),
+        report: on!(Report, Vec::with_capacity(alloc, ROOM)?),
+        log: NoLog,
+    };
+    let run = if are_whole {
+        run_captures(rt, alloc, start, &mut devices, gate)
+    } else {
+        run_streams(rt, alloc, start, &mut devices, gate)
+    };
+    let answer = match run {
+        Ok(_) => Ok(()),
+        Err(fault) => Err(fault),
+    };
+    let Devices {
+        to_outside,
+        to_inside,
+        report,
+        ..
+    } = devices;
     Ok(CallOutput {
         answer,
         to_outside: to_outside.into_inner().into_inner(),

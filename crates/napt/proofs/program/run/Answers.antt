@@ -3,10 +3,10 @@ use Rattle.std.proofs.{Common.{◌≡◌, true, is_some, ap}, lemmas.Result.err_
 use Rattle.napt_program.proofs.StateLemmas.{save_stop}
 use Rattle.napt.proofs.program.run.Goals as goal
 
-pub returns-in_err-passed : goal.returns-in_err-passed
-returns-in_err-passed g c =
-    let p = err_from_is_err_and c.from_residual-in_err-passed.result c.from_residual-in_err-passed.ensures.1 in
-    rw (p.1, p.2) (c.in_err-passed.ensures c.args.streams)
+pub returns-in_err-end : goal.returns-in_err-end
+returns-in_err-end g c =
+    let p = err_from_is_err_and c.from_residual-in_err-end.result c.from_residual-in_err-end.ensures.1 in
+    rw (p.1, p.2) (c.in_err-end.ensures c.args.streams)
 
 pub returns-in_err-finish : goal.returns-in_err-finish
 returns-in_err-finish g c =

@@ -46,8 +46,8 @@ returns-in_err-dispatcher-clause-halts g c =
     (λ start at. record {
       inputs = [];
       went = [];
-      come = inl (g.met.A.Arrivals.hands_none c.args.arrivals.now);
-      took = g.met.D.Departures.takes_none c.args.departures.now;
+      come = inl (g.met.A.InputSource.hands_none c.args.arrivals.now);
+      took = g.met.D.OutcomeSink.takes_none c.args.departures.now;
       offered_many = ap length c.requires.unoffered ∙ length-replicate (length c.args.config.now.pool) [];
       right = λ right. front_empty _;
     })

@@ -3,6 +3,6 @@ use Rattle.napt_dispatch.specs.RunsThrough.{OutcomesLeave}
 use Rattle.napt_dispatch.proofs.dispatcher.Dispatcher.advance_until.Given as goal
 
 abbrev pub invariant-loop : goal.invariant-loop
-invariant-loop g l = OutcomesLeave g.P.Telling.tells g.D.Departures.takes l.initial.pool l.initial.self
+invariant-loop g l = OutcomesLeave g.P.LegTrace.tells g.D.OutcomeSink.takes l.initial.pool l.initial.self
     l.initial.departures
     l.pool l.self l.departures

@@ -9,7 +9,7 @@ returns-then-has_room-clause-state g c =
     (record {
       went = [];
       goes = goes_none c.requires.sized;
-      took = g.met.D.Departures.takes_none c.args.departures.now;
+      took = g.met.D.OutcomeSink.takes_none c.args.departures.now;
     })
 
 pub returns-clause-state : goal.returns-clause-state

@@ -7,6 +7,6 @@ abbrev pub invariant-loop-answer : goal.invariant-loop-answer
 invariant-loop-answer g l = record {
   split : l.yielded ++ drain_items l.answer-iterator ≡ drain_items l.initial.answer-iterator;
   many : length l.self.queues ≡ length l.initial.self.queues;
-  noted : NoteAnswersPost g.P.Telling.tells l.w l.yielded l.initial.self l.self;
+  noted : NoteAnswersPost g.P.LegTrace.tells l.w l.yielded l.initial.self l.self;
   fewer : many_owed l.self.queues + length l.yielded ≡ many_owed l.initial.self.queues;
 }

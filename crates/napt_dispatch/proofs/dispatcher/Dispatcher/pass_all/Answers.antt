@@ -8,7 +8,7 @@ returns-in_err-settle g c =
     let p = err_from_is_err_and c.from_residual-in_err-settle.result c.from_residual-in_err-settle.ensures.1 in
     let r = c.in_ok-end.ensures in
     rw (p.1, p.2)
-    (reads_halt g.D.Departures.fails g.met.D.Departures.takes_more g.D.Departures.is_settled
+    (reads_halt g.D.OutcomeSink.fails g.met.D.OutcomeSink.takes_more g.D.OutcomeSink.is_settled
     c.settle.new.pool c.settle.new.self c.settle.new.departures g.G.Gate.is_open
     c.in_err-settle.field-0.0 r.reads r.took (inr (c.in_ok-end.end.fault, r.came)) c.in_err-settle.ensures.state)
 
@@ -16,7 +16,7 @@ pub returns : goal.returns
 returns g c = record {
   to_end =
       let r = c.in_ok-end.ensures in
-      reads_over g.D.Departures.fails g.met.D.Departures.takes_more g.D.Departures.is_settled _ _ _ c.in_ok-end.end
+      reads_over g.D.OutcomeSink.fails g.met.D.OutcomeSink.takes_more g.D.OutcomeSink.is_settled _ _ _ c.in_ok-end.end
       r.reads r.took c.in_ok-settle.ensures.state r.came r.clock;
   done = c.in_ok-settle.ensures.done;
   none_under_way = c.in_ok-settle.ensures.left;

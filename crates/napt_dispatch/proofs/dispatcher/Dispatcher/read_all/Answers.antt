@@ -8,11 +8,11 @@ pub loop-init : goal.loop-init
 loop-init g c = record {
   inputs = [];
   went = [];
-  handed = g.met.A.Arrivals.hands_none c.args.arrivals.now;
+  handed = g.met.A.InputSource.hands_none c.args.arrivals.now;
   clock = refl;
   reads = reads_none c.args.config.now c.args.pool.now c.args.self.now c.requires.sized c.requires.left
       c.requires.under_way;
-  took = g.met.D.Departures.takes_none c.args.departures.now;
+  took = g.met.D.OutcomeSink.takes_none c.args.departures.now;
 }
 
 pub returns-in_err-make_ready : goal.returns-in_err-make_ready
@@ -20,7 +20,7 @@ returns-in_err-make_ready g c =
     let p = err_from_is_err_and c.from_residual.result c.from_residual.ensures.1 in
     let was = c.loop.invariant in
     rw (p.1, p.2)
-    (reads_halt g.D.Departures.fails g.met.D.Departures.takes_more g.D.Departures.is_settled
+    (reads_halt g.D.OutcomeSink.fails g.met.D.OutcomeSink.takes_more g.D.OutcomeSink.is_settled
     c.make_ready.new.pool c.make_ready.new.self c.make_ready.new.departures g.G.Gate.is_open
     c.in_err-make_ready.field-0.0 was.reads was.took (inl was.handed) c.in_err-make_ready.ensures.state)
 
@@ -36,12 +36,12 @@ loop-preserved g c =
     record {
       inputs = inputs ++ input ∷ [];
       went = was.went ++ ready.went;
-      handed = g.met.A.Arrivals.hands_more c.args.arrivals.now c.loop.arrivals c.next_input.new.arrivals inputs
+      handed = g.met.A.InputSource.hands_more c.args.arrivals.now c.loop.arrivals c.next_input.new.arrivals inputs
           (input ∷ []) was.handed (rw c.in-Ok-Some.field-0-is at c.in-Ok-Some.ensures.hands);
       clock = now;
       reads = reads_more (reads_on was.reads ready.goes) now
           (rw c.next_input.ensures.same at c.in_ok-serve-in-Ok-Some.ensures.serves);
-      took = g.met.D.Departures.takes_more c.args.departures.now c.loop.departures c.make_ready.new.departures was.went
+      took = g.met.D.OutcomeSink.takes_more c.args.departures.now c.loop.departures c.make_ready.new.departures was.went
           ready.went was.took ready.took;
     }
 
@@ -49,12 +49,12 @@ pub returns-in-Ok-None : goal.returns-in-Ok-None
 returns-in-Ok-None g c =
     let was = c.loop.invariant in
     rw c.next_input.ensures.same
-    (reads_over g.D.Departures.fails g.met.D.Departures.takes_more g.D.Departures.is_settled _ _ _ c.new.result
+    (reads_over g.D.OutcomeSink.fails g.met.D.OutcomeSink.takes_more g.D.OutcomeSink.is_settled _ _ _ c.new.result
     was.reads was.took c.in_ok-make_ready.ensures.state
     (record {
       last = c.loop.arrivals;
       handed = was.handed;
-      ended = subst (λ fault. g.A.Arrivals.ends c.loop.arrivals fault c.next_input.new.arrivals) (sym c.new.ensures.1)
+      ended = subst (λ fault. g.A.InputSource.ends c.loop.arrivals fault c.next_input.new.arrivals) (sym c.new.ensures.1)
           (rw c.in-Ok-None.field-0-is at c.in-Ok-None.ensures.hands);
     })
     (c.new.ensures.0 ∙ was.clock))
@@ -63,12 +63,12 @@ pub returns-in-Err : goal.returns-in-Err
 returns-in-Err g c =
     let was = c.loop.invariant in
     rw c.next_input.ensures.same
-    (reads_over g.D.Departures.fails g.met.D.Departures.takes_more g.D.Departures.is_settled _ _ _
+    (reads_over g.D.OutcomeSink.fails g.met.D.OutcomeSink.takes_more g.D.OutcomeSink.is_settled _ _ _
     c.new-in-Err.result was.reads was.took c.in_ok-make_ready.ensures.state
     (record {
       last = c.loop.arrivals;
       handed = was.handed;
-      ended = subst (λ fault. g.A.Arrivals.ends c.loop.arrivals fault c.next_input.new.arrivals)
+      ended = subst (λ fault. g.A.InputSource.ends c.loop.arrivals fault c.next_input.new.arrivals)
           (sym c.new-in-Err.ensures.1) c.in-Err.ensures.hands;
     })
     (c.new-in-Err.ensures.0 ∙ was.clock))
@@ -85,12 +85,12 @@ returns-in_err-serve-in-Ok-Some g c =
       inputs = was.inputs;
       unread = input ∷ [];
       went = was.went ++ ready.went;
-      come = inl (g.met.A.Arrivals.hands_more c.args.arrivals.now c.loop.arrivals c.next_input.new.arrivals was.inputs
+      come = inl (g.met.A.InputSource.hands_more c.args.arrivals.now c.loop.arrivals c.next_input.new.arrivals was.inputs
           (input ∷ []) was.handed (rw c.in-Ok-Some.field-0-is at c.in-Ok-Some.ensures.hands));
       last_pool = c.make_ready.new.pool;
       last = c.make_ready.new.self;
       reads = reads_on was.reads ready.goes;
-      took = g.met.D.Departures.takes_more c.args.departures.now c.loop.departures c.make_ready.new.departures was.went
+      took = g.met.D.OutcomeSink.takes_more c.args.departures.now c.loop.departures c.make_ready.new.departures was.went
           ready.went was.took ready.took;
       halted = c.in_err-serve-in-Ok-Some.ensures.fault;
     })

@@ -8,8 +8,8 @@ abbrev pub invariant-loop : goal.invariant-loop
 invariant-loop g l = record {
   inputs : List Arrival;
   went : List (ℕ × InputResult g.row.P.Denot);
-  handed : g.A.Arrivals.hands l.initial.arrivals inputs l.arrivals;
+  handed : g.A.InputSource.hands l.initial.arrivals inputs l.arrivals;
   clock : l.clock ≡ last_clock l.initial.self.clock inputs;
-  reads : ReadInputsPost g.P.Telling.tells l.config l.initial.pool l.initial.self inputs went l.pool l.self;
-  took : g.D.Departures.takes l.initial.departures went l.departures;
+  reads : ReadInputsPost g.P.LegTrace.tells l.config l.initial.pool l.initial.self inputs went l.pool l.self;
+  took : g.D.OutcomeSink.takes l.initial.departures went l.departures;
 }

@@ -6,7 +6,7 @@ use Rattle.napt_dispatch.proofs.dispatcher.Dispatcher.ready_all.Given as goal
 abbrev pub invariant-loop-self : goal.invariant-loop-self
 invariant-loop-self g l = record {
   many : length l.self.queues ≡ length l.fn.self.queues;
-  readies : ReadyLegsPost g.P.Telling.tells l.w l.fn.self l.self;
+  readies : ReadyLegsPost g.P.LegTrace.tells l.w l.fn.self l.self;
 }
 
 abbrev pub decreases-loop-self : goal.decreases-loop-self

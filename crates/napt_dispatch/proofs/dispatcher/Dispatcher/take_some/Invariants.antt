@@ -5,6 +5,6 @@ use Rattle.napt_dispatch.proofs.dispatcher.Dispatcher.take_some.Given as goal
 
 abbrev pub invariant-loop : goal.invariant-loop
 invariant-loop g l = record {
-  state : DispatcherContinues g.P.Telling.tells l.initial.pool l.initial.self l.pool l.self;
+  state : DispatcherContinues g.P.LegTrace.tells l.initial.pool l.initial.self l.pool l.self;
   none : HasTaken l.initial.self l.self false;
 }

@@ -4,6 +4,6 @@ use Rattle.napt_dispatch.proofs.dispatcher.Dispatcher.take_there.Given as goal
 
 abbrev pub invariant-loop : goal.invariant-loop
 invariant-loop g l = record {
-  state : DispatcherContinues g.P.Telling.tells l.initial.pool l.initial.self l.pool l.self;
+  state : DispatcherContinues g.P.LegTrace.tells l.initial.pool l.initial.self l.pool l.self;
   told : HasTaken l.initial.self l.self l.any;
 }

@@ -4,8 +4,8 @@ use Rattle.napt_capture.specs.Writing.{PutErr}
 use Rattle.napt_run.proofs.Pieces.{last_fails, more_fails, room_for_last, room_for_more}
 use Rattle.napt_run.proofs.kept_texts.KeptTexts.write_to.Goals as goal
 
-pub write_piece-requires-clause-room : goal.write_piece-requires-clause-room
-write_piece-requires-clause-room g c =
+pub write_piece-requires : goal.write_piece-requires
+write_piece-requires g c =
     let same = c.deref-piece-items.ensures.value in
     let few : length (flat_map (λ piece. piece.items) c.self.inside.full.items ++ c.self.inside.last.items) < 2 ^ 64 =
     omega (arith, c.self.invariant.0, c.self.invariant.1) in
@@ -32,8 +32,8 @@ returns-in_err-written-clause-err g c =
     × Appends (g.W.Sink.contents c.args.device.now) (g.W.Sink.contents c.write_piece.new.device)
     (take fault.written l)) c.self.view_is says)
 
-pub write_piece-requires-2-clause-room : goal.write_piece-requires-2-clause-room
-write_piece-requires-2-clause-room g c =
+pub write_piece-requires-2 : goal.write_piece-requires-2
+write_piece-requires-2 g c =
     let same = c.deref-piece-items.ensures.value in
     let few : length (flat_map (λ piece. piece.items) c.self.inside.full.items ++ c.self.inside.last.items) < 2 ^ 64 =
     omega (arith, c.self.invariant.0, c.self.invariant.1) in

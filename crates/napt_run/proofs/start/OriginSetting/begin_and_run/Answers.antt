@@ -33,7 +33,7 @@ returns-clause-readings g c not_run = c.run_over.ensures.readings not_run
 pub returns-in_err-begin-clause-logs : goal.returns-in_err-begin-clause-logs
 returns-in_err-begin-clause-logs g c =
     let p = err_from_is_err_and c.from_residual.result c.from_residual.ensures.1 in
-    rw (p.1, p.2) (unbegun_logs g.K.Told.Telling.tells (origin_of c.args.self.start) g.K.Logging.enters
+    rw (p.1, p.2) (unbegun_logs g.K.Told.LegTrace.tells (origin_of c.args.self.start) g.K.Logging.enters
     g.K.Logging.fails g.K.Logging.is_settled (g.R.Source.remaining c.args.inside.now)
     (g.Q.Source.remaining c.args.outside.now) c.args.both.now.log.now
     (g.met.K.Logging.enters_none c.args.both.now.log.now)

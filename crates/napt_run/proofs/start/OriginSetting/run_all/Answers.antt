@@ -4,7 +4,7 @@ use Rattle.napt_run.proofs.start.OriginSetting.run_all.Goals as goal
 
 pub returns-clause-outputs : goal.returns-clause-outputs
 returns-clause-outputs g c =
-    passes_by g.K.Told.Telling.tells (origin_of c.args.self.start) g.A.Arrivals.hands g.A.Arrivals.ends
+    passes_by g.K.Told.LegTrace.tells (origin_of c.args.self.start) g.A.InputSource.hands g.A.InputSource.ends
     g.K.Logging.enters
     g.K.Logging.fails g.K.Logging.is_settled g.met.K.Logging.enters_more g.met.K.Logging.fails_more
     c.args.inputs.now c.args.both.now c.run_through.new.arrivals c.run_through.new.departures c.run_through.result
@@ -12,7 +12,7 @@ returns-clause-outputs g c =
 
 pub returns-clause-log : goal.returns-clause-log
 returns-clause-log g c =
-    enters_by g.K.Told.Telling.tells (origin_of c.args.self.start) g.A.Arrivals.hands g.A.Arrivals.ends
+    enters_by g.K.Told.LegTrace.tells (origin_of c.args.self.start) g.A.InputSource.hands g.A.InputSource.ends
     g.K.Logging.enters
     g.K.Logging.fails g.K.Logging.is_settled g.met.K.Logging.enters_more g.met.K.Logging.fails_more
     c.args.inputs.now c.args.both.now c.run_through.new.arrivals c.run_through.new.departures c.run_through.result
@@ -20,7 +20,7 @@ returns-clause-log g c =
 
 pub returns-clause-same : goal.returns-clause-same
 returns-clause-same g c =
-    same_place g.K.Told.Telling.tells (origin_of c.args.self.start) g.A.Arrivals.hands g.A.Arrivals.ends
+    same_place g.K.Told.LegTrace.tells (origin_of c.args.self.start) g.A.InputSource.hands g.A.InputSource.ends
     g.K.Logging.enters
     g.K.Logging.fails g.K.Logging.is_settled g.met.K.Logging.enters_more g.met.K.Logging.fails_more
     c.args.inputs.now c.args.both.now c.run_through.new.arrivals c.run_through.new.departures c.run_through.result

@@ -41,7 +41,7 @@ returns-clause-runs g c bytes others ours theirs =
 pub returns-clause-logs : goal.returns-clause-logs
 returns-clause-logs g c bytes others ours theirs =
     let at = (goal.at.returns-clause-logs g c).After-pass-passed in
-    logs_to g.K.Told.Telling.tells g.K.Logging.enters g.K.Logging.fails g.K.Logging.is_settled
+    logs_to g.K.Told.LegTrace.tells g.K.Logging.enters g.K.Logging.fails g.K.Logging.is_settled
     g.G.Gate.is_open (origin_of c.args.self.start) c.new-inputs.result c.args.both.now.leaving c.pass-passed.new.inputs
     c.pass-passed.new.both.leaving c.args.both.now.log.now c.pass-passed.new.both.log.now bytes others (live g at)
     (begun g at bytes others ours theirs) c.requires.sound c.requires.counts c.pass-passed.result

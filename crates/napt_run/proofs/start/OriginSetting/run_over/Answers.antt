@@ -23,7 +23,7 @@ returns-in_err-ours g c =
         rw is at unread.count,
         sym (add-zero (g.Q.Source.failed c.args.outside.now)),
       );
-      logs = rw is (unread_logs g.K.Told.Telling.tells (origin_of c.args.self.start) g.K.Logging.enters
+      logs = rw is (unread_logs g.K.Told.LegTrace.tells (origin_of c.args.self.start) g.K.Logging.enters
           g.K.Logging.fails
           g.K.Logging.is_settled inside outside c.args.both.now.log.now
           (g.met.K.Logging.enters_none c.args.both.now.log.now) c.requires.log sides.Inside fault
@@ -48,7 +48,7 @@ returns-in_err-theirs g c =
         c.in_ok-ours.ensures.count,
         rw is at unread.count,
       );
-      logs = rw is (unread_logs g.K.Told.Telling.tells (origin_of c.args.self.start) g.K.Logging.enters
+      logs = rw is (unread_logs g.K.Told.LegTrace.tells (origin_of c.args.self.start) g.K.Logging.enters
           g.K.Logging.fails
           g.K.Logging.is_settled inside outside c.args.both.now.log.now
           (g.met.K.Logging.enters_none c.args.both.now.log.now) c.requires.log sides.Outside fault

@@ -13,7 +13,7 @@ loop-self-preserved g c =
       handed = rw c.keep_spare.ensures
           (over_more went (pair ∷ []) c.args.self.now c.loop-self.self taken.new.self
           c.loop-self.invariant.handed (leaves_over pair c.loop-self.self taken.new.self taken.ensures));
-      took = g.met.D.Departures.takes_more c.args.departures.now c.loop-self.departures c.write.new.self went
+      took = g.met.D.OutcomeSink.takes_more c.args.departures.now c.loop-self.departures c.write.new.self went
           (pair ∷ []) c.loop-self.invariant.took c.in-Ok.ensures;
     }
 

@@ -1,0 +1,254 @@
+//! A run over captures, as the command line asks for it.
+
+use crate::captures::{CaptureInputs, OpenCaptures, RefusedRun, StartedCaptures};
+use crate::explanation::{BegunRun, Explanation};
+use crate::follow_command::follow;
+use crate::options::{ExplainOptions, OutputForm};
+use crate::reading::{GivenLog, RunStarts};
+use napt_attribution::{Holders, begin_run_log};
+use napt_capture::{EmptySource, Source, Watched};
+use napt_commands::{CommandOutput, Exit, RunStart, take_all};
+use napt_config::Config;
+use napt_lines::{PacketLines, PacketObjects, Replies, RunComparison, SinglePacket, ends_of};
+use napt_log_text::TimeStamp;
+use napt_program::{InputFiles, StandardStreams};
+use napt_sequential::Input;
+use napt_wire::{Endpoint, Side};
+use std::alloc::AllocError;
+use std::io::Read;
+use std::rt::Files;
+
+/// What is asked for, and under which configurations.
+#[derive(Clone, Copy)]
+pub struct RunSetting<'a> {
+    streams: StandardStreams,
+    options: &'a ExplainOptions<'a>,
+    given: &'a GivenLog,
+    starts: &'a RunStarts<'a>,
+}
+
+impl<'a> RunSetting<'a> {
+    pub fn new(
+        streams: StandardStreams,
+        options: &'a ExplainOptions<'a>,
+        given: &'a GivenLog,
+        starts: &'a RunStarts<'a>,
+    ) -> RunSetting<'a> {
+        RunSetting {
+            streams,
+            options,
+            given,
+            starts,
+        }
+    }
+
+    fn refusing(self) -> RefusedRun<'a> {
+        RefusedRun {
+            options: self.options,
+            written: &self.given.written,
+        }
+    }
+
+    /// Reads the captures, the header of the inside one first, and prints the run.
+    pub fn read<R: Files + Print + Eprint + AllocGlobal, S: Read + Drop, F: Read + Drop>(
+        self,
+        rt: &R,
+        files: InputFiles<S, F>,
+    ) -> Result<(), Exit> {
+        let InputFiles { inside, outside } = files;
+        let StartedCaptures { head, reader } = self.refusing().begin(rt, Side::Inside, inside)?;
+        let mut source = Watched::new(head.as_slice().chain(reader));
+        let inside = self.refusing().open(rt, Side::Inside, &head, &mut source)?;
+        match outside {
+            Some(outside) => {
+                let StartedCaptures { head, reader } = self
+                    .refusing()
+                    .begin(rt, Side::Outside, outside)?;
+                let mut source = Watched::new(head.as_slice().chain(reader));
+                let outside = self.refusing().open(rt, Side::Outside, &head, &mut source)?;
+                self.explain_both(rt, inside, outside)
+            }
+            None => {
+                let mut source = EmptySource::new();
+                let outside = self.refusing().open(rt, Side::Outside, &[], &mut source)?;
+                self.explain_both(rt, inside, outside)
+            }
+        }
+    }
+
+    /// Explains the packets of two captures.
+    fn explain_both<R: Files + Print + Eprint + AllocGlobal, A: Source, B: Source>(
+        self,
+        rt: &R,
+        inside: OpenCaptures<'_, A>,
+        outside: OpenCaptures<'_, B>,
+    ) -> Result<(), Exit> {
+        let clock = self.starts.first.clock();
+        let mut captures = CaptureInputs::of(rt.alloc(), self.refusing(), clock, inside, outside);
+        let told = self.explain(rt, &mut captures);
+        captures.close();
+        told
+    }
+
+    /// Explains the packets of the captures.
+    fn explain<R: Files + Print + Eprint + AllocGlobal, A: Source, B: Source>(
+        self,
+        rt: &R,
+        captures: &mut CaptureInputs<'_, '_, '_, A, B>,
+    ) -> Result<(), Exit> {
+        if !self.streams.output {
+            return Err(Exit::NoOutput);
+        }
+        match (self.options.form, &self.starts.other) {
+            (OutputForm::Differences, Some(other)) => self.explain_against(rt, captures, other),
+            (OutputForm::Followed(path), _) => self.write_followed(rt, captures, path),
+            _ => self.explain_run(rt, captures),
+        }
+    }
+
+    /// Explains what ends differently under another configuration.
+    fn explain_against<R: Print + Eprint + AllocGlobal, A: Source, B: Source>(
+        self,
+        rt: &R,
+        captures: &mut CaptureInputs<'_, '_, '_, A, B>,
+        other: &'a RunStart<'a>,
+    ) -> Result<(), Exit> {
+        let options = self.options;
+        let first = &self.starts.first;
+        let mut against = RunComparison::begin(rt.alloc(), options.choice, first, other)?;
+        if options.outside.follows() {
+            let inputs = captures.all(rt)?;
+            against.follow(rt, options.outside, &inputs)?;
+        } else {
+            captures.hand_over(rt, &mut against)?;
+        }
+        captures.flaws().tell(rt, options.form)?;
+        let path = options.files.config.as_ref();
+        let name = path.map_or("the built-in configuration", |path| path.as_str());
+        let other = options.other.as_ref().map_or("", |path| path.as_str());
+        against.tell(rt, options.outside, [name, other])
+    }
+
+    /// Explains the packets as they come; those of which replies follow the run once all are there.
+    fn explain_run<R: Files + Print + Eprint + AllocGlobal, A: Source, B: Source>(
+        self,
+        rt: &R,
+        captures: &mut CaptureInputs<'_, '_, '_, A, B>,
+    ) -> Result<(), Exit> {
+        let (options, start) = (self.options, &self.starts.first);
+        let alloc = rt.alloc();
+        let followed = match options.outside.follows() {
+            true => Some(FollowedInputs::read(rt, options, start.config(), captures)?),
+            false => None,
+        };
+        let (config, choice) = (start.config(), options.choice);
+        let replies = match &followed {
+            Some(followed) => Replies::of(options.outside, config, &followed.ends),
+            None => None,
+        };
+        let begun = BegunRun::of(alloc, start)?;
+        let told = ToldRun {
+            rt,
+            options,
+            captures,
+            kept: followed.as_ref().map(|followed| followed.inputs.as_slice()),
+            replies,
+        };
+        match (options.form, choice.only) {
+            (OutputForm::Objects, _) => told.explain(begun, PacketObjects { choice, replies }),
+            (OutputForm::Log(paths), _) => {
+                tell_new_entries(rt, start)?;
+                let is_held = options.is_of_gateway();
+                let log = begin_run_log(rt, paths, is_held, config, &begun.living)?;
+                told.explain(begun, log)
+            }
+            (OutputForm::Holders(_) | OutputForm::Requests(_), _) => {
+                let mut holders = Holders::of(alloc, &self.given.asked)?;
+                holders.add(&begun.ended)?;
+                told.explain(begun, holders)
+            }
+            (_, Some(number)) => told.explain(begun, SinglePacket::new(number, choice, replies)),
+            (_, None) => told.explain(begun, PacketLines::new(choice, replies)),
+        }
+    }
+
+    /// Writes the outside capture that replies make, once all packets are there.
+    fn write_followed<R: Files + Print + Eprint + AllocGlobal, A: Source, B: Source>(
+        self,
+        rt: &R,
+        captures: &mut CaptureInputs<'_, '_, '_, A, B>,
+        path: &str,
+    ) -> Result<(), Exit> {
+        let (options, start) = (self.options, &self.starts.first);
+        let inputs = captures.all(rt)?;
+        let inputs = options
+            .outside
+            .inputs_under(rt.alloc(), start.config(), inputs)?;
+        captures.flaws().tell(rt, options.form)?;
+        follow(rt, path, options.outside, start, &inputs)
+    }
+}
+
+/// The packets of a run of which replies follow it.
+#[derive(Drop)]
+struct FollowedInputs {
+    inputs: Vec<Input>,
+    /// The inside endpoint that each names, if it is a reply that reads.
+    ends: Vec<Option<Endpoint>>,
+}
+
+impl FollowedInputs {
+    /// Reads all packets, of which the replies follow the run under a configuration.
+    fn read<R: Eprint + AllocGlobal, A: Source, B: Source>(
+        rt: &R,
+        options: &ExplainOptions<'_>,
+        config: &Config,
+        captures: &mut CaptureInputs<'_, '_, '_, A, B>,
+    ) -> Result<FollowedInputs, Exit> {
+        let mut inputs = captures.all(rt)?;
+        let ends = ends_of(rt.alloc(), &mut inputs)?;
+        let inputs = options.outside.inputs_under(rt.alloc(), config, inputs)?;
+        Ok(FollowedInputs { inputs, ends })
+    }
+}
+
+/// A run that is told, over packets that come from captures, or that are kept since replies follow it.
+#[derive(Drop)]
+struct ToldRun<'a, 'c, 'r, 'i, 'o, R, A: Source, B: Source> {
+    rt: &'c R,
+    options: &'a ExplainOptions<'a>,
+    captures: &'c mut CaptureInputs<'r, 'i, 'o, A, B>,
+    kept: Option<&'c [Input]>,
+    replies: Option<Replies<'c>>,
+}
+
+impl<'a, 'c, 'r, 'i, 'o, R, A: Source, B: Source> ToldRun<'a, 'c, 'r, 'i, 'o, R, A, B> {
+    /// Hands its packets to what a command prints or writes.
+    fn explain<O: CommandOutput<R> + Drop>(self, begun: BegunRun<'a>, output: O) -> Result<(), Exit>
+    where
+        R: Files + Print + Eprint + AllocGlobal,
+    {
+        let (rt, options, captures) = (self.rt, self.options, self.captures);
+        let mut explanation = Explanation::begin(rt, options, begun, self.replies, output)?;
+        match self.kept {
+            None => captures.hand_over(rt, &mut explanation)?,
+            Some(inputs) => take_all(rt, inputs, &mut explanation)?,
+        }
+        explanation.end(rt, captures.flaws())
+    }
+}
+
+/// Tells where the log begins new entries for the bindings of the state, if what was kept of it has not theirs.
+fn tell_new_entries<R: Eprint + AllocGlobal>(
+    rt: &R,
+    start: &RunStart<'_>,
+) -> Result<(), AllocError> {
+    if start.begins_entries(rt.alloc())? {
+        let mut date = String::new(rt.alloc());
+        TimeStamp(u128::from(start.clock())).add_date(&mut date)?;
+        let _ = eprintln!(rt;
+            "explain: the log begins a new entry for each binding of the state, at {date}"
+        );
+    }
+    Ok(())
+}

@@ -1,0 +1,138 @@
+//! What `explain log` writes of a run: its log, and in addition its packets and its report.
+
+use crate::blocks::tell_needless;
+use crate::log_file::{LogFile, begin_log};
+use crate::packet_file::{PacketFile, begin_packets};
+use napt_account::LogEntry;
+use napt_commands::{CommandOutput, Coverage, EndedRun, Exit, Page, RunPacket, print_unwritten};
+use napt_config::Config;
+use napt_records::{OutcomeCounts, report_of};
+use std::fs;
+use std::io::Write;
+use std::rt::Files;
+
+/// The files that are written.
+#[derive(Clone, Copy)]
+pub struct LogPaths<'a> {
+    /// The log; standard output if absent.
+    pub log: Option<&'a str>,
+    /// A row for each packet.
+    pub packets: Option<&'a str>,
+    pub report: Option<&'a str>,
+}
+
+/// A log that is being written, with the packets and the report of its run. `W` is a file.
+#[derive(Drop)]
+pub struct RunLog<'a, W> {
+    log: LogFile<'a, W>,
+    packets: Option<PacketFile<'a, W>>,
+    report: Option<RunReport<'a>>,
+}
+
+/// The counts of a run so far, and the path of the report that they are for.
+#[derive(Drop)]
+struct RunReport<'a> {
+    path: &'a str,
+    counts: OutcomeCounts,
+    coverage: Coverage,
+}
+
+/// Begins the files of a run that begins with these bindings. If one cannot be created, prints it and the system's reason.
+pub fn begin_run_log<'a, R: Files + Print + Eprint + AllocGlobal>(
+    rt: &R,
+    paths: LogPaths<'a>,
+    is_held: bool,
+    config: &Config,
+    opening: &[LogEntry],
+) -> Result<RunLog<'a, R::File>, Exit> {
+    let log = begin_log(rt, paths.log, is_held, config, opening)?;
+    let packets = match paths.packets {
+        Some(path) => Some(begin_packets(rt, path, is_held)?),
+        None => None,
+    };
+    Ok(RunLog {
+        log,
+        packets,
+        report: paths.report.map(RunReport::new),
+    })
+}
+
+impl<'a> RunReport<'a> {
+    fn new(path: &'a str) -> RunReport<'a> {
+        RunReport {
+            path,
+            counts: OutcomeCounts::new(),
+            coverage: Coverage::default(),
+        }
+    }
+
+    /// Prints what the captures cannot show of figures, and writes the report. If that fails, prints the file and the
+    /// system's reason.
+    fn write<R: Files + Eprint + AllocGlobal>(
+        &self,
+        rt: &R,
+        ending: &EndedRun<'_>,
+    ) -> Result<(), Exit> {
+        self.coverage.tell(rt);
+        self.coverage.tell_living(rt, &ending.living);
+        let cuts = ending.cuts;
+        let text = report_of(
+            rt.alloc(),
+            &self.counts,
+            &ending.rows,
+            cuts.inside,
+            cuts.outside,
+        )?;
+        match fs::write(rt, self.path, text.as_str()) {
+            Ok(()) => Ok(()),
+            Err(error) => Err(print_unwritten(rt, "--report", self.path, &error)),
+        }
+    }
+}
+
+impl<R: Files + Print + Eprint + AllocGlobal, W: Write + Drop> CommandOutput<R> for RunLog<'_, W> {
+    fn take(
+        &mut self,
+        rt: &R,
+        config: &Config,
+        passing: RunPacket<'_>,
+        _text: &mut String,
+    ) -> Result<(), Exit> {
+        if let Some(packets) = &mut self.packets {
+            packets.take(rt, passing)?;
+        }
+        if let Some(report) = &mut self.report {
+            report.counts.count(&passing.step.outcome);
+            report.coverage.take(passing.input, passing.step);
+        }
+        self.log.take(rt, config, passing)
+    }
+
+    /// Writes the rows so far, unless they are held until the end.
+    fn settle(&mut self, rt: &R) -> Result<(), Exit> {
+        if let Some(packets) = &mut self.packets {
+            packets.rows.settle(rt)?;
+        }
+        self.log.rows.settle(rt)
+    }
+
+    /// Writes what needs the end, and all that is not written yet. Says if nobody needs the log, unless figures are made of it.
+    fn end(self, rt: &R, _page: &mut Page, ending: &EndedRun<'_>) -> Result<(), Exit> {
+        let RunLog {
+            mut log,
+            mut packets,
+            report,
+        } = self;
+        if let Some(packets) = &mut packets {
+            packets.rows.finish(rt)?;
+        }
+        log.finish(rt, ending.config, &ending.living)?;
+        match &report {
+            Some(report) => report.write(rt, ending),
+            None => {
+                tell_needless(rt, ending.config);
+                Ok(())
+            }
+        }
+    }
+}

@@ -1,0 +1,92 @@
+//! How much captures show: what figures of a run need and captures may lack.
+
+use napt_account::{LogEntry, LogStep};
+use napt_sequential::{Input, Outcome};
+use napt_wire::{Cause, Side};
+
+const SECOND: u64 = 1_000_000_000;
+
+/// What captures hold, and how many bindings of a run end in them. Redirects do not count.
+#[derive(Clone, Copy, Default)]
+pub struct Coverage {
+    from_inside: u64,
+    from_outside: u64,
+    /// Packets that are shorter than they say.
+    truncated: u64,
+    made: u64,
+    ended: u64,
+    /// The longest time from the last packet of a binding to its end, in ns.
+    longest: u64,
+    /// The times of the first and the latest packet, in ns.
+    first: Option<u64>,
+    last: u64,
+}
+
+impl Coverage {
+    /// Takes the next packet, and what it did.
+    pub fn take(&mut self, input: &Input, step: &LogStep) {
+        let many = match input.side {
+            Side::Inside => &mut self.from_inside,
+            Side::Outside => &mut self.from_outside,
+        };
+        *many = many.saturating_add(1);
+        if let Outcome::Dropped(Cause::Truncated) = &step.outcome {
+            self.truncated = self.truncated.saturating_add(1);
+        }
+        self.made = self.made.saturating_add(step.made.len() as u64);
+        self.ended = self.ended.saturating_add(step.ended.len() as u64);
+        self.end(&step.ended);
+        self.first = self.first.or(Some(input.clock));
+        self.last = self.last.max(input.clock);
+    }
+
+    /// Reports what the captures lack, whatever the configuration is.
+    pub fn tell<R: Eprint>(self, rt: &R) {
+        if self.from_inside == 0 {
+            let _ = eprintln!(rt;
+                "explain: no packet comes from inside: figures of bindings say nothing"
+            );
+        } else if self.from_outside == 0 {
+            let _ = eprintln!(rt;
+                "explain: no packet comes from outside: connections count as never answered, and end early"
+            );
+        }
+        let all = self.from_inside.saturating_add(self.from_outside);
+        if self.truncated > all / 100 {
+            let truncated = self.truncated;
+            let _ = eprintln!(rt;
+                "explain: {truncated} of {all} packets are truncated: take captures without a snapshot length"
+            );
+        }
+    }
+
+    /// Takes bindings that end, or would if no more packets came.
+    fn end(&mut self, entries: &[LogEntry]) {
+        for LogEntry { entry, .. } in entries {
+            let end = u64::try_from(entry.end.unwrap_or(0)).unwrap_or(u64::MAX);
+            self.longest = self.longest.max(end.saturating_sub(entry.last));
+        }
+    }
+
+    /// Reports that half of the bindings had not ended at the end, at which these live, or that the captures are shorter
+    /// than a timer.
+    pub fn tell_living<R: Eprint>(mut self, rt: &R, entries: &[LogEntry]) {
+        self.end(entries);
+        let (living, made) = (self.made.saturating_sub(self.ended), self.made);
+        let span = self.last.saturating_sub(self.first.unwrap_or(0));
+        let is_half = living > made / 2;
+        if !is_half && span >= self.longest {
+            return;
+        }
+        let (span, longest) = (span / SECOND, self.longest / SECOND);
+        let _ = match is_half {
+            true => eprintln!(rt;
+                "explain: {living} of {made} bindings have not ended when the captures do, after {span} s: more at once may come"
+            ),
+            false => eprintln!(rt;
+                "explain: the captures span {span} s, less than the {longest} s that a binding lives behind its last packet: \
+more at once may come"
+            ),
+        };
+    }
+}

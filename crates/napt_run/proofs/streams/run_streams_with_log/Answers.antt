@@ -1,0 +1,56 @@
+use Rattle.std.proofs.lemmas.Result.{err_from_is_err_and}
+use Rattle.napt_run.specs.LogLaws.{log_unreported}
+use Rattle.napt_run.proofs.{Endings.{left_told, report_failed, report_unbegun, report_written}, Posts.{inside_after, outside_after, reads_after, report_explained}}
+use Rattle.napt_run.proofs.streams.run_streams_with_log.Goals as goal
+
+-- the run failed
+pub returns-in_err-ran : goal.returns-in_err-ran
+returns-in_err-ran g c =
+    let p = err_from_is_err_and c.from_residual.result c.from_residual.ensures.1 in
+    let ran = c.in_err-ran.ensures in
+    rw (p.1, p.2) (record {
+      outputs = record {
+        to_outside = ran.to_outside;
+        to_inside = ran.to_inside;
+        report = report_unbegun g.U.Sink _ _ _ _ _ ran.unreported;
+      };
+      log = ran.log;
+      end = tt;
+      fault = ran.fault;
+      reads = ran.reads;
+    })
+
+-- or its report
+pub returns-in_err-write_report : goal.returns-in_err-write_report
+returns-in_err-write_report g c =
+    let p = err_from_is_err_and c.from_residual-in_err-write_report.result
+    c.from_residual-in_err-write_report.ensures.1 in
+    let ran = c.in_ok-ran.ensures in
+    let wrote = c.in_err-write_report.ensures in
+    let fault = c.in_err-write_report.field-0.0 in
+    rw (p.1, p.2) (record {
+      outputs = record {
+        to_outside = outside_after g.W.Sink _ _ _ _ fault wrote.fault _ _ ran.to_outside;
+        to_inside = inside_after g.V.Sink _ _ _ _ fault wrote.fault _ _ ran.to_inside;
+        report = report_failed g.U.Sink _ _ _ _ _ _ ran.told fault wrote.fault wrote.written wrote.count;
+      };
+      log = log_unreported g.L.Sink _ _ _ _ fault _ _ wrote.fault ran.log;
+      end = tt;
+      fault = report_explained _ _ _ _ fault wrote.fault;
+      reads = reads_after g.R.Source.failed g.Q.Source.failed _ _ _ _ fault wrote.fault ran.reads;
+    })
+
+pub returns : goal.returns
+returns g c =
+    let ran = c.in_ok-ran.ensures in
+    let wrote = c.in_ok-write_report.ensures in record {
+      outputs = record {
+        to_outside = ran.to_outside;
+        to_inside = ran.to_inside;
+        report = report_written g.U.Sink _ _ _ _ _ _ ran.told wrote.written wrote.count wrote.flushed;
+      };
+      log = ran.log;
+      end = left_told _ _ _ _ ran.told;
+      fault = tt;
+      reads = ran.reads;
+    }

@@ -1,0 +1,13 @@
+//! What a run leaves.
+
+use napt_account::SavedLogState;
+use napt_dispatch::RunSummary;
+
+/// What a run leaves. The next run goes on from there.
+#[derive(Drop)]
+pub struct RunEnd {
+    /// The counts of the run, with the bindings at its end, from which its state is made.
+    pub passed: RunSummary,
+    /// What is saved of the log with the state. It has no entries if the run keeps no log.
+    pub log: SavedLogState,
+}
