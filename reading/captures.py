@@ -49,7 +49,10 @@ SENT = 4
 # what an IPv4 header has up to its destination (RFC 791), in bytes
 LEAST_HEADER = 20
 IPV4, VLAN_TAGS = 0x0800, (0x8100, 0x88A8, 0x9100)
-OTHERS = {0x0806: "ARP", 0x86DD: "IPv6"}
+# and what to do about frames of a dial-up line
+OF_PPP = "PPP, which are not read: capture at the ppp interface itself (tcpdump -i ppp0)"
+OTHERS = {0x0806: "ARP", 0x86DD: "IPv6", 0x8864: f"of ether type 0x8864, {OF_PPP}"}
+OF_LINKS = dict.fromkeys((9, 50, 51), OF_PPP)
 LEAST_ETHER_TYPE = 0x0600
 
 
@@ -255,7 +258,7 @@ def after_link_header(link, data):
     if link in RAW:
         return 0
     if link not in WITH_ETHER_TYPE:
-        raise LeftOut(f"of link type {link}, which is not read")
+        raise LeftOut(f"of link type {link}, {OF_LINKS.get(link, 'which is not read')}")
     at, place = WITH_ETHER_TYPE[link]
     ether_type = number_at(data, place)
     while ether_type in VLAN_TAGS:
