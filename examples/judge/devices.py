@@ -1,5 +1,4 @@
 """Devices under test: napt in virtual time, a gateway between two interfaces, and gateways in network namespaces of their own."""
-import collections
 import contextlib
 import ctypes
 import os
