@@ -1,5 +1,4 @@
 """The command line of judge."""
-import argparse
 import gc
 import os
 import pathlib

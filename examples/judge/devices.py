@@ -1,5 +1,4 @@
 """Devices under test: napt in virtual time, a gateway between two interfaces, and gateways in network namespaces of their own."""
-import collections
 import contextlib
 import ctypes
 import os
@@ -26,6 +25,8 @@ LIBC = ctypes.CDLL(None, use_errno=True)
 HOSTS, NEXT_HOP, EXTERNAL = number_of("10.0.1.0"), "203.0.113.254", "203.0.113.{}"
 INSIDE_GATEWAY, GUESTS, GUEST_GATEWAY = "10.255.255.254", number_of("10.0.2.0"), "10.0.2.2"
 OUTSIDE_MTU = 1400
+# a packet that has not left after so many seconds never will: the machine may be busy
+LATE = 0.2
 
 
 class Device:
@@ -172,7 +173,7 @@ class Live(Device):
         self.keep(side, time.time_ns(), packet)
         with contextlib.suppress(OSError):
             self.ports[side].send(self.ports[side].gateway, IPV4, packet)
-        return self.receive(0.08 if found else 0.01, found)
+        return self.receive(LATE if found else 0.01, found)
 
     def close(self):
         self.receive(0.5, None)
