@@ -85,9 +85,9 @@ impl<'a> RunSetting<'a> {
     ) -> Result<(), Exit> {
         let clock = self.starts.first.clock();
         let mut captures = CaptureInputs::of(rt.alloc(), self.refusing(), clock, inside, outside);
-        let told = self.explain(rt, &mut captures);
+        let answer = self.explain(rt, &mut captures);
         captures.close();
-        told
+        answer
     }
 
     /// Explains the packets of the captures.
@@ -147,28 +147,31 @@ impl<'a> RunSetting<'a> {
             None => None,
         };
         let begun = BegunRun::of(alloc, start)?;
-        let told = ToldRun {
-            rt,
+        let packets = RunPackets {
             options,
-            captures,
             kept: followed.as_ref().map(|followed| followed.inputs.as_slice()),
             replies,
         };
         match (options.form, choice.only) {
-            (OutputForm::Objects, _) => told.explain(begun, PacketObjects { choice, replies }),
+            (OutputForm::Objects, _) => {
+                packets.explain(rt, captures, begun, PacketObjects { choice, replies })
+            }
             (OutputForm::Log(paths), _) => {
                 tell_new_entries(rt, start)?;
                 let is_held = options.is_of_gateway();
                 let log = begin_run_log(rt, paths, is_held, config, &begun.living)?;
-                told.explain(begun, log)
+                packets.explain(rt, captures, begun, log)
             }
             (OutputForm::Holders(_) | OutputForm::Requests(_), _) => {
                 let mut holders = Holders::of(alloc, &self.given.asked)?;
                 holders.add(&begun.ended)?;
-                told.explain(begun, holders)
+                packets.explain(rt, captures, begun, holders)
             }
-            (_, Some(number)) => told.explain(begun, SinglePacket::new(number, choice, replies)),
-            (_, None) => told.explain(begun, PacketLines::new(choice, replies)),
+            (_, Some(number)) => {
+                let output = SinglePacket::new(number, choice, replies);
+                packets.explain(rt, captures, begun, output)
+            }
+            (_, None) => { packets.explain(rt, captures, begun, PacketLines::new(choice, replies)) }
         }
     }
 
@@ -212,24 +215,27 @@ impl FollowedInputs {
     }
 }
 
-/// A run that is told, over packets that come from captures, or that are kept since replies follow it.
-#[derive(Drop)]
-struct ToldRun<'a, 'c, 'r, 'i, 'o, R, A: Source, B: Source> {
-    rt: &'c R,
+/// The packets of a run that is explained: they come from captures, or were kept since replies follow the run.
+#[derive(Clone, Copy)]
+struct RunPackets<'a, 'k> {
     options: &'a ExplainOptions<'a>,
-    captures: &'c mut CaptureInputs<'r, 'i, 'o, A, B>,
-    kept: Option<&'c [Input]>,
-    replies: Option<Replies<'c>>,
+    kept: Option<&'k [Input]>,
+    replies: Option<Replies<'k>>,
 }
 
-impl<'a, 'c, 'r, 'i, 'o, R, A: Source, B: Source> ToldRun<'a, 'c, 'r, 'i, 'o, R, A, B> {
-    /// Hands its packets to what a command prints or writes.
-    fn explain<O: CommandOutput<R> + Drop>(self, begun: BegunRun<'a>, output: O) -> Result<(), Exit>
+impl<'a, 'k> RunPackets<'a, 'k> {
+    /// Hands the packets to what a command prints or writes.
+    fn explain<R, A: Source, B: Source, O: CommandOutput<R> + Drop>(
+        self,
+        rt: &R,
+        captures: &mut CaptureInputs<'_, '_, '_, A, B>,
+        begun: BegunRun<'a>,
+        output: O,
+    ) -> Result<(), Exit>
     where
         R: Files + Print + Eprint + AllocGlobal,
     {
-        let (rt, options, captures) = (self.rt, self.options, self.captures);
-        let mut explanation = Explanation::begin(rt, options, begun, self.replies, output)?;
+        let mut explanation = Explanation::begin(rt, self.options, begun, self.replies, output)?;
         match self.kept {
             None => captures.hand_over(rt, &mut explanation)?,
             Some(inputs) => take_all(rt, inputs, &mut explanation)?,
@@ -238,7 +244,7 @@ impl<'a, 'c, 'r, 'i, 'o, R, A: Source, B: Source> ToldRun<'a, 'c, 'r, 'i, 'o, R,
     }
 }
 
-/// Tells where the log begins new entries for the bindings of the state, if what was kept of it has not theirs.
+/// Prints where the log begins new entries for the bindings of the state, if the saved log does not have them.
 fn tell_new_entries<R: Eprint + AllocGlobal>(
     rt: &R,
     start: &RunStart<'_>,
