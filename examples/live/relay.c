@@ -3,6 +3,7 @@
 #include <dirent.h>
 #include <errno.h>
 #include <fcntl.h>
+#include <inttypes.h>
 #include <linux/if_tun.h>
 #include <net/if.h>
 #include <poll.h>
@@ -28,7 +29,7 @@ static const char HELP[] =
     "Runs a translator between two TUN devices: what they receive goes to it as captures over pipes, while it comes, and\n"
     "what it writes leaves through them.\n"
     "\n"
-    "usage: %s [--keep DIR] [--ready-fd N] INSIDE OUTSIDE PROGRAM [WORD ..]\n"
+    "usage: %s [--keep DIR] [--state FILE] [--ready-fd N] INSIDE OUTSIDE PROGRAM [WORD ..]\n"
     "       %s --help | --version\n"
     "\n"
     "INSIDE and OUTSIDE are the names of TUN devices that are there; NAME@FILE is one of another network namespace, as\n"
@@ -37,10 +38,13 @@ static const char HELP[] =
     "says that it is ready.\n"
     "\n"
     "  --keep DIR      keeps the captures that went to PROGRAM and came from it in DIR, named after its options, as\n"
-    "                  inside.pcap. If one of an earlier run is there, the relay ends at once; with --resume among the words\n"
-    "                  it takes the next number instead, as inside-2.pcap. If it ends before it is ready, it leaves none. If\n"
-    "                  one cannot be written any more, as on a full disk, a line says so, and the captures end as after\n"
-    "                  SIGTERM\n"
+    "                  inside.pcap. If one of an earlier run is there, the relay ends at once; with --state, or with --resume\n"
+    "                  among the words, it takes the next number instead, as inside-2.pcap. If it ends before it is ready, it\n"
+    "                  leaves none. If one cannot be written any more, as on a full disk, a line says so, and the captures end\n"
+    "                  as after SIGTERM\n"
+    "  --state FILE    the run goes on from the state FILE, and its own takes that place last: PROGRAM gets --resume FILE and\n"
+    "                  --save FILE.saved, which is renamed where all has ended in good order, and FILE.begun is removed. A\n"
+    "                  relay that is killed leaves both as they were, though PROGRAM takes that for the end of the captures\n"
     "  --ready-fd N    writes the line 'ready' to the open file N too, and closes it; it is closed without the line where the\n"
     "                  relay ends before\n"
     "\n"
@@ -56,9 +60,10 @@ static const char HELP[] =
     "SIGTERM, SIGINT and SIGHUP end the captures: what came is translated and leaves, and PROGRAM writes the report, the log\n"
     "(--log FILE of the words) and the state (--save FILE) to their ends. PROGRAM itself is started so that it ignores these\n"
     "signals. Started again with --resume FILE it goes on with the bindings and the log, also under another configuration or\n"
-    "as another version. Where a device is deleted a line says so, and the captures end too. Where PROGRAM ends by itself the\n"
-    "relay ends too. The status is that of PROGRAM; it is 1 where a device, a folder or PROGRAM cannot be opened, a device is\n"
-    "deleted or a capture cannot be kept, and 2 for a mistake in the words.\n";
+    "as another version. If it is earlier than the time of that state, a line says so. Where a device is deleted a line says\n"
+    "so, and the captures end too. Where PROGRAM ends by itself the relay ends too. The status is that of PROGRAM; it is 1\n"
+    "where a device, a folder or PROGRAM cannot be opened, a device is deleted or a capture cannot be kept, and 2 for a mistake\n"
+    "in the words.\n";
 
 enum {
     HEADER_BYTES = 24,
@@ -94,6 +99,12 @@ static void fail(int status, const char *format, ...) {
 static void *some(void *memory) {
     if (!memory) fail(1, "memory ran out");
     return memory;
+}
+
+static char *joined(const char *front, const char *end) {
+    char *both;
+    if (asprintf(&both, "%s%s", front, end) < 0) some(NULL);
+    return both;
 }
 
 // BYTES THAT WAIT
@@ -155,6 +166,25 @@ static void watch_clock(void) {
     said = apart;
     fprintf(stderr, "%s: the system's clock was set: it differs by %+.1f s from the times of packets, which go on as before\n", name,
             (double)apart / (double)SECOND);
+}
+
+// Writes a time in nanoseconds as a date (RFC 3339).
+static const char *date_of(char date[40], uint64_t time) {
+    time_t seconds = (time_t)(time / SECOND);
+    size_t many = strftime(date, 40, "%Y-%m-%dT%H:%M:%S", gmtime(&seconds));
+    snprintf(date + many, 40 - many, ".%09" PRIu64 "Z", time % SECOND);
+    return date;
+}
+
+// Says where the clock is behind that of the state from which the program goes on.
+static void compare_clock(const char *path) {
+    uint64_t saved, time = now();
+    char dates[2][40];
+    FILE *state = fopen(path, "re");
+    if (state && fscanf(state, "clock %" SCNu64, &saved) == 1 && time < saved)
+        fprintf(stderr, "%s: it is %s, earlier than the state's time, %s: until then packets count as at that time, and no timer ends\n",
+                name, date_of(dates[0], time), date_of(dates[1], saved));
+    if (state) fclose(state);
 }
 
 // DEVICES
@@ -353,6 +383,7 @@ static Side side_of(Device *device, const Folder *folder, const char *option) {
     fcntl(side.pipe, F_SETFL, O_NONBLOCK);
     put(&side.waiting, HEADER, HEADER_BYTES);
     keep(&side.kept, HEADER, HEADER_BYTES);
+    flush_kept(&side.kept);
     return side;
 }
 
@@ -499,6 +530,9 @@ typedef struct {
     Side sides[2];
     Exit exits[2];
     Report report;
+    // the state from which the run goes on and whose place its own takes, or NULL, where the program saves that, and what its start noted
+    const char *state;
+    char *saved, *begun;
     pid_t program;
     int ready_fd;
     // signals that were blocked at first: those that end the captures come while the relay waits, and at no other time
@@ -524,24 +558,30 @@ static void take_report(Relay *relay, char **words, int *many) {
     *many = kept;
 }
 
-// Whether the words have --resume.
-static bool resumes(char **words, int many) {
-    for (int at = 0; at < many; at++)
-        if (strcmp(words[at], "--resume") == 0 || strncmp(words[at], "--resume=", 9) == 0) return true;
-    return false;
+// The file of --resume among the words, or NULL.
+static const char *resumed(char **words, int many) {
+    for (int at = 0; at < many; at++) {
+        if (strcmp(words[at], "--resume") == 0 && at + 1 < many) return words[at + 1];
+        if (strncmp(words[at], "--resume=", 9) == 0) return words[at] + 9;
+    }
+    return NULL;
+}
+
+static void add_words(char **words, int *many, const char *option, const char *value) {
+    words[(*many)++] = some(strdup(option));
+    words[(*many)++] = some(strdup(value));
 }
 
 static void add_option(char **words, int *many, const char *option, int end) {
     char path[32];
     snprintf(path, sizeof path, "/dev/fd/%d", end);
-    words[(*many)++] = some(strdup(option));
-    words[(*many)++] = some(strdup(path));
+    add_words(words, many, option, path);
     fcntl(end, F_SETFD, 0);
 }
 
 // Starts the program with its ends of the pipes.
 static void start(Relay *relay, char **given, int many) {
-    char **words = some(calloc((size_t)many + 11, sizeof *words));
+    char **words = some(calloc((size_t)many + 15, sizeof *words));
     memcpy(words, given, (size_t)many * sizeof *words);
     relay->program = fork();
     if (relay->program < 0) fail(1, "fork: %s", strerror(errno));
@@ -557,6 +597,8 @@ static void start(Relay *relay, char **given, int many) {
         add_option(words, &many, "--to-inside", relay->exits[0].far);
         add_option(words, &many, "--to-outside", relay->exits[1].far);
         if (relay->report.path) add_option(words, &many, "--report", relay->report.far);
+        if (relay->state) add_words(words, &many, "--resume", relay->state);
+        if (relay->state) add_words(words, &many, "--save", relay->saved);
         // nor does another key of a terminal end or stop it
         setpgid(0, 0);
         execvp(words[0], words);
@@ -675,6 +717,10 @@ static int end_of(Relay *relay) {
     bool is_written = write_report(&relay->report, relay->sides[0].clocks + relay->sides[1].clocks);
     if (WIFSIGNALED(status)) fail(128 + WTERMSIG(status), "the program was ended by signal %d", WTERMSIG(status));
     int told = WEXITSTATUS(status);
+    if (told == 0 && relay->state) {
+        if (rename(relay->saved, relay->state)) fail(1, "%s: %s", relay->state, strerror(errno));
+        unlink(relay->begun);
+    }
     if (told == 0 && !is_written) fail(1, "%s: the report cannot be written", relay->report.path);
     return told || (are_whole && are_there) ? told : 1;
 }
@@ -710,6 +756,8 @@ int main(int many, char **words) {
     for (; at + 1 < many && strncmp(words[at], "--", 2) == 0; at += 2) {
         if (strcmp(words[at], "--keep") == 0)
             folder.path = words[at + 1];
+        else if (strcmp(words[at], "--state") == 0)
+            relay.state = words[at + 1];
         else if (strcmp(words[at], "--ready-fd") == 0)
             relay.ready_fd = file_number(words[at + 1]);
         else
@@ -718,10 +766,16 @@ int main(int many, char **words) {
     if (many - at < 3 || words[at][0] == '-') fail(2, "unknown words (see %s --help)", name);
     Device devices[2] = {open_device(words[at]), open_device(words[at + 1])};
     int left = many - at - 2;
+    if (relay.state) {
+        relay.saved = joined(relay.state, ".saved");
+        relay.begun = joined(relay.state, ".begun");
+    }
     take_report(&relay, words + at + 2, &left);
     open_report(&relay.report);
     note_signals(&relay);
-    if (folder.path && resumes(words + at + 2, left)) number_on(&folder);
+    const char *state = relay.state ? relay.state : resumed(words + at + 2, left);
+    if (folder.path && state) number_on(&folder);
+    if (state) compare_clock(state);
     for (int side = 0; side < 2; side++) {
         relay.sides[side] = side_of(&devices[side], &folder, OPTIONS[side]);
         relay.exits[side] = exit_of(&devices[side], &folder, OPTIONS[2 + side]);

@@ -219,7 +219,7 @@ fn run_devices<A: Source, B: Source, T: Write + Drop, F: Write + Drop, L: Drop>(
     Either<Watched<BufWriter<Either<T, F>>>, NullSink>,
     L,
 >
-    ensures { result.log ≡ log.entry }
+    ensures { result.log ≡ log }
 {
     let CaptureDevices { inside, outside } = captures;
     let OutputDevices {

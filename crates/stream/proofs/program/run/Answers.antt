@@ -1,12 +1,14 @@
 -- run: a fault of the run or of saving its state is a stop of the files that the options name.
-use Rattle.std.proofs.{Common.{is_some, sym, ◌∙◌, ap}, lemmas.Result.err_from_is_err_and}
+use Rattle.std.proofs.{Common.{IfErr, is_some, sym, ◌∙◌, ap, subst}, lemmas.Result.err_from_is_err_and}
+use Rattle.napt_program.specs.{CommandLine.files_with_log, Command.IsRunStop}
 use Rattle.napt_program.proofs.StateLemmas.{save_stop}
 use Rattle.stream.proofs.program.run.Goals as goal
 
 pub returns-in_err-state : goal.returns-in_err-state
 returns-in_err-state g c =
     let p = err_from_is_err_and c.from_residual-in_err-state.result c.from_residual-in_err-state.ensures.1 in
-    rw (p.1, p.2) (c.in_err-state.ensures.stop c.args.streams)
+    rw (p.1, p.2) (subst (λ r. IfErr r (IsRunStop c.args.streams (files_with_log c.args.options.now)))
+    c.in_err-state.is (c.over.ensures.stop c.args.streams))
 
 pub returns-in_err-finish : goal.returns-in_err-finish
 returns-in_err-finish g c =
