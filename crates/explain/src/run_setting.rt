@@ -8,12 +8,11 @@ use crate::reading::{GivenLog, RunStarts};
 use napt_attribution::{Holders, begin_run_log};
 use napt_capture::{EmptySource, Source, Watched};
 use napt_commands::{CommandOutput, Exit, RunStart, take_all};
-use napt_config::Config;
 use napt_lines::{PacketLines, PacketObjects, Replies, RunComparison, SinglePacket, ends_of};
 use napt_log_text::TimeStamp;
 use napt_program::{InputFiles, StandardStreams};
 use napt_sequential::Input;
-use napt_wire::{Endpoint, Side};
+use napt_wire::Side;
 use std::alloc::AllocError;
 use std::io::Read;
 use std::rt::Files;
@@ -129,27 +128,37 @@ impl<'a> RunSetting<'a> {
         against.tell(rt, options.outside, [name, other])
     }
 
-    /// Explains the packets as they come; those of which replies follow the run once all are there.
+    /// Explains the packets as they come, or once all are there if replies follow the run.
     fn explain_run<R: Files + Print + Eprint + AllocGlobal, A: Source, B: Source>(
         self,
         rt: &R,
         captures: &mut CaptureInputs<'_, '_, '_, A, B>,
     ) -> Result<(), Exit> {
+        let (options, config) = (self.options, self.starts.first.config());
+        if !options.outside.follows() {
+            return self.explain_packets(rt, captures, None, None);
+        }
+        let mut inputs = captures.all(rt)?;
+        let ends = ends_of(rt.alloc(), &mut inputs)?;
+        let inputs = options.outside.inputs_under(rt.alloc(), config, inputs)?;
+        let replies = Replies::of(options.outside, config, &ends);
+        self.explain_packets(rt, captures, Some(inputs.as_slice()), replies)
+    }
+
+    /// Explains the packets, which were kept or else come from the captures, by what the command prints or writes.
+    fn explain_packets<R: Files + Print + Eprint + AllocGlobal, A: Source, B: Source>(
+        self,
+        rt: &R,
+        captures: &mut CaptureInputs<'_, '_, '_, A, B>,
+        kept: Option<&[Input]>,
+        replies: Option<Replies<'_>>,
+    ) -> Result<(), Exit> {
         let (options, start) = (self.options, &self.starts.first);
-        let alloc = rt.alloc();
-        let followed = match options.outside.follows() {
-            true => Some(FollowedInputs::read(rt, options, start.config(), captures)?),
-            false => None,
-        };
-        let (config, choice) = (start.config(), options.choice);
-        let replies = match &followed {
-            Some(followed) => Replies::of(options.outside, config, &followed.ends),
-            None => None,
-        };
+        let (alloc, choice) = (rt.alloc(), options.choice);
         let begun = BegunRun::of(alloc, start)?;
         let packets = RunPackets {
             options,
-            kept: followed.as_ref().map(|followed| followed.inputs.as_slice()),
+            kept,
             replies,
         };
         match (options.form, choice.only) {
@@ -159,7 +168,7 @@ impl<'a> RunSetting<'a> {
             (OutputForm::Log(paths), _) => {
                 tell_new_entries(rt, start)?;
                 let is_held = options.is_of_gateway();
-                let log = begin_run_log(rt, paths, is_held, config, &begun.living)?;
+                let log = begin_run_log(rt, paths, is_held, start.config(), &begun.living)?;
                 packets.explain(rt, captures, begun, log)
             }
             (OutputForm::Holders(_) | OutputForm::Requests(_), _) => {
@@ -192,38 +201,15 @@ impl<'a> RunSetting<'a> {
     }
 }
 
-/// The packets of a run of which replies follow it.
-#[derive(Drop)]
-struct FollowedInputs {
-    inputs: Vec<Input>,
-    /// The inside endpoint that each names, if it is a reply that reads.
-    ends: Vec<Option<Endpoint>>,
-}
-
-impl FollowedInputs {
-    /// Reads all packets, of which the replies follow the run under a configuration.
-    fn read<R: Eprint + AllocGlobal, A: Source, B: Source>(
-        rt: &R,
-        options: &ExplainOptions<'_>,
-        config: &Config,
-        captures: &mut CaptureInputs<'_, '_, '_, A, B>,
-    ) -> Result<FollowedInputs, Exit> {
-        let mut inputs = captures.all(rt)?;
-        let ends = ends_of(rt.alloc(), &mut inputs)?;
-        let inputs = options.outside.inputs_under(rt.alloc(), config, inputs)?;
-        Ok(FollowedInputs { inputs, ends })
-    }
-}
-
 /// The packets of a run that is explained: they come from captures, or were kept since replies follow the run.
 #[derive(Clone, Copy)]
-struct RunPackets<'a, 'k> {
+struct RunPackets<'a, 'i, 'k> {
     options: &'a ExplainOptions<'a>,
-    kept: Option<&'k [Input]>,
+    kept: Option<&'i [Input]>,
     replies: Option<Replies<'k>>,
 }
 
-impl<'a, 'k> RunPackets<'a, 'k> {
+impl<'a, 'i, 'k> RunPackets<'a, 'i, 'k> {
     /// Hands the packets to what a command prints or writes.
     fn explain<R, A: Source, B: Source, O: CommandOutput<R> + Drop>(
         self,
